@@ -3,7 +3,8 @@ ghost use Rattle.smith_text.specs.Written.{Keeps};
 
 use crate::sink::Sink;
 use crate::text_form::TextForm;
-use smith_types::{EntityType, ExportKind, GlobalType, MemoryType, TableType};
+use crate::types::TypeUse;
+use smith_types::{EntityType, ExportKind, GlobalType, MemoryType, SubType, TableType};
 use std::fmt;
 
 // Returns the address type of 64 bits, with a space after it, or nothing for the address type of 32
@@ -74,19 +75,25 @@ fn keyword_of(entity: &EntityType) -> &'static str {
     }
 }
 
-// The text after the keyword of an external type.
+// The text after the keyword of an external type, with the parameters and the results of a function
+// type that is one of `signatures`.
 #[derive(Drop)]
-struct Details<'a>(&'a EntityType);
+struct Details<'a> {
+    entity: &'a EntityType,
+    signatures: &'a [SubType],
+}
 
 impl TextForm for Details<'_> {
     fn write_text<S: Sink>(&self, sink: &mut S) -> fmt::Result {
-        match self.0 {
+        match self.entity {
             EntityType::Global(global) => global.write_text(sink),
             EntityType::Table(table) => table.write_text(sink),
             EntityType::Memory(memory) => memory.write_text(sink),
-            EntityType::Tag(index) | EntityType::Func(index) => {
-                ("(type ", index, ")").write_text(sink)
+            EntityType::Tag(index) | EntityType::Func(index) => TypeUse {
+                index: *index,
+                signatures: self.signatures,
             }
+            .write_text(sink),
         }
     }
 }
@@ -95,22 +102,32 @@ impl TextForm for Details<'_> {
 impl TextForm for EntityType {
     fn write_text<S: Sink>(&self, sink: &mut S) -> fmt::Result {
         let opening = ("(", keyword_of(self), " ");
-        (opening, Details(self), ")").write_text(sink)
+        let details = Details {
+            entity: self,
+            signatures: &[],
+        };
+        (opening, details, ")").write_text(sink)
     }
 }
 
-/// The type of an import, with the index that the import has.
+/// The type of an import, with the index that the import has, and with the parameters and the
+/// results of a function type that is one of `signatures`.
 #[derive(Drop)]
 pub(crate) struct Indexed<'a> {
     pub(crate) entity: &'a EntityType,
     pub(crate) index: u32,
+    pub(crate) signatures: &'a [SubType],
 }
 
 /// The section Text Format, Imports.
 impl TextForm for Indexed<'_> {
     fn write_text<S: Sink>(&self, sink: &mut S) -> fmt::Result {
         let opening = ("(", keyword_of(self.entity), (" (;", self.index, ";) "));
-        (opening, Details(self.entity), ")").write_text(sink)
+        let details = Details {
+            entity: self.entity,
+            signatures: self.signatures,
+        };
+        (opening, details, ")").write_text(sink)
     }
 }
 

@@ -4,8 +4,10 @@ ghost use Rattle.smith_syntax.specs.declared.code.Code.{Code};
 
 use crate::sink::Sink;
 use crate::text_form::{Listed, TextForm};
-use smith_types::{Code, Instructions};
+use crate::types::TypeUse;
+use smith_types::{Code, Instructions, SubType};
 use std::fmt;
+use wasm_smith::Module;
 
 // Writes the check of a counter of fuel: a trap at 0, else 1 is subtracted.
 fn write_check<S: Sink>(global: u32, sink: &mut S) -> fmt::Result
@@ -81,12 +83,18 @@ impl BodyText for OwnBodies {
     }
 }
 
-/// Writes the functions that a module defines, the last of those whose types are `types`: the
-/// bodies are `code`, and `bodies` writes their instructions. The section Text Format, Functions.
+// Returns the use of the type of the function `place`, if there is one, with its parameters and its
+// results if it is one of `signatures`.
+fn type_use<'a>(types: &[u32], place: usize, signatures: &'a [SubType]) -> Option<TypeUse<'a>> {
+    let index = *types.get(place)?;
+    Some(TypeUse { index, signatures })
+}
+
+/// Writes the functions that `module` defines, with the parameters and the results of the types
+/// among `signatures`. `bodies` writes their instructions. The section Text Format, Functions.
 pub(crate) fn write_functions<B: BodyText, S: Sink>(
-    types: &[u32],
-    code: &[Code],
-    fuel_globals: &[u32],
+    module: &Module,
+    signatures: &[SubType],
     bodies: &B,
     sink: &mut S,
 ) -> fmt::Result
@@ -94,13 +102,14 @@ pub(crate) fn write_functions<B: BodyText, S: Sink>(
     ensures fault { S.failed sink.new ≡ is_err result }
     ensures keeps { OnOk result (Keeps S.has sink.old sink.new) }
 {
+    let (types, code) = (module.funcs(), module.code());
     let imported = types.len().saturating_sub(code.len());
     for (place, body) in code.iter().enumerate() {
         let index = imported.saturating_add(place);
+        let ty = type_use(types, index, signatures);
         let locals = Listed("    (local", body.locals.as_slice(), ")\n");
-        let opening = ("  (func (;", index, ";) (type ");
-        (opening, types.get(index), (")\n", locals)).write_text(sink)?;
-        bodies.write_body(place, body, fuel_globals, sink)?;
+        (("  (func (;", index, ";) "), ty, ("\n", locals)).write_text(sink)?;
+        bodies.write_body(place, body, module.fuel_globals(), sink)?;
         sink.write_str("  )\n")?;
     }
     Ok(())

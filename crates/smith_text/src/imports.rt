@@ -4,12 +4,14 @@ ghost use Rattle.smith_text.specs.Written.{Keeps};
 use crate::entities::Indexed;
 use crate::sink::Sink;
 use crate::text_form::{Repeated, TextForm};
-use smith_types::{EntityType, Import, ImportItem, Imports, Items, Name};
+use smith_types::{EntityType, Import, ImportItem, Imports, Items, Name, SubType};
 use std::fmt;
 
-/// The number of imports of each kind so far, which is the index of the next one.
-#[derive(Default, Drop)]
-struct NextIndices {
+/// The number of imports of each kind so far, which is the index of the next one, and the types
+/// that are written with their parameters and results.
+#[derive(Drop)]
+struct NextIndices<'a> {
+    signatures: &'a [SubType],
     globals: u32,
     tables: u32,
     memories: u32,
@@ -17,9 +19,21 @@ struct NextIndices {
     funcs: u32,
 }
 
-impl NextIndices {
+impl<'a> NextIndices<'a> {
+    // Returns the indices of the first imports.
+    fn new(signatures: &'a [SubType]) -> Self {
+        NextIndices {
+            signatures,
+            globals: 0,
+            tables: 0,
+            memories: 0,
+            tags: 0,
+            funcs: 0,
+        }
+    }
+
     // Returns `entity` with the next index of its kind, and counts that index.
-    fn take<'a>(&mut self, entity: &'a EntityType) -> Indexed<'a> {
+    fn take(&mut self, entity: &'a EntityType) -> Indexed<'a> {
         let next = match entity {
             EntityType::Global(_) => &mut self.globals,
             EntityType::Table(_) => &mut self.tables,
@@ -29,11 +43,19 @@ impl NextIndices {
         };
         let index = *next;
         *next = index.saturating_add(1);
-        Indexed { entity, index }
+        Indexed {
+            entity,
+            index,
+            signatures: self.signatures,
+        }
     }
 }
 
-fn write_single<S: Sink>(import: &Import, indices: &mut NextIndices, sink: &mut S) -> fmt::Result
+fn write_single<'a, S: Sink>(
+    import: &'a Import,
+    indices: &mut NextIndices<'a>,
+    sink: &mut S,
+) -> fmt::Result
     requires open { S.failed sink.old ≡ false }
     ensures fault { S.failed sink.new ≡ is_err result }
     ensures keeps { OnOk result (Keeps S.has sink.old sink.new) }
@@ -44,10 +66,10 @@ fn write_single<S: Sink>(import: &Import, indices: &mut NextIndices, sink: &mut 
 }
 
 // Writes a group whose imports have types of their own.
-fn write_typed_group<S: Sink>(
+fn write_typed_group<'a, S: Sink>(
     module: &Name,
-    items: &Items<ImportItem>,
-    indices: &mut NextIndices,
+    items: &'a Items<ImportItem>,
+    indices: &mut NextIndices<'a>,
     sink: &mut S,
 ) -> fmt::Result
     requires open { S.failed sink.old ≡ false }
@@ -63,11 +85,11 @@ fn write_typed_group<S: Sink>(
 }
 
 // Writes a group whose imports have one type.
-fn write_uniform_group<S: Sink>(
+fn write_uniform_group<'a, S: Sink>(
     module: &Name,
-    entity_type: &EntityType,
+    entity_type: &'a EntityType,
     names: &Items<Name>,
-    indices: &mut NextIndices,
+    indices: &mut NextIndices<'a>,
     sink: &mut S,
 ) -> fmt::Result
     requires open { S.failed sink.old ≡ false }
@@ -82,7 +104,11 @@ fn write_uniform_group<S: Sink>(
     ("    ", entity_type, "\n  )\n").write_text(sink)
 }
 
-fn write_group<S: Sink>(group: &Imports, indices: &mut NextIndices, sink: &mut S) -> fmt::Result
+fn write_group<'a, S: Sink>(
+    group: &'a Imports,
+    indices: &mut NextIndices<'a>,
+    sink: &mut S,
+) -> fmt::Result
     requires open { S.failed sink.old ≡ false }
     ensures fault { S.failed sink.new ≡ is_err result }
     ensures keeps { OnOk result (Keeps S.has sink.old sink.new) }
@@ -98,14 +124,19 @@ fn write_group<S: Sink>(group: &Imports, indices: &mut NextIndices, sink: &mut S
     }
 }
 
-/// Writes the imports of a module. The section Text Format, Imports; groups as the compact imports
-/// proposal writes them.
-pub(crate) fn write_imports<S: Sink>(imports: &[Imports], sink: &mut S) -> fmt::Result
+/// Writes the imports of a module, with the parameters and the results of the function types among
+/// `signatures`. The section Text Format, Imports; groups as the compact imports proposal writes
+/// them.
+pub(crate) fn write_imports<S: Sink>(
+    imports: &[Imports],
+    signatures: &[SubType],
+    sink: &mut S,
+) -> fmt::Result
     requires open { S.failed sink.old ≡ false }
     ensures fault { S.failed sink.new ≡ is_err result }
     ensures keeps { OnOk result (Keeps S.has sink.old sink.new) }
 {
-    let mut indices = NextIndices::default();
+    let mut indices = NextIndices::new(signatures);
     for group in imports {
         write_group(group, &mut indices, sink)?;
     }

@@ -19,6 +19,7 @@ mod values;
 
 pub use constants::write_const_instr;
 pub use functions::{BodyText, OwnBodies};
-pub use module::{text, text_with_bodies, write_with_bodies};
+pub use module::{Layout, text, text_with_bodies, write_with_bodies};
 pub use sink::{FromFmt, Sink};
 pub use text_form::{TextForm, text_of};
+pub use types::TypeUse;

@@ -4,16 +4,39 @@ ghost use Rattle.smith_text.specs.Written.{Keeps, Writes};
 
 use crate::functions::{BodyText, OwnBodies, write_functions};
 use crate::imports::write_imports;
-use crate::notes::write_notes;
+use crate::notes::{write_notes, write_raw_bodies};
 use crate::segments::{write_data_segments, write_element_segments};
 use crate::sink::{FromFmt, Sink};
 use crate::text_form::TextForm;
-use crate::types::write_types;
+use crate::types::{TypeUse, write_types};
 use smith_bytes::Error;
-use smith_types::{ConstInstr, ExportKind, GlobalType, Items, MemoryType, Name, TableType};
+use smith_types::{
+    ConstInstr, ExportKind, GlobalType, Items, MemoryType, Name, SubType, TableType,
+};
 use std::alloc::Global;
 use std::fmt;
 use wasm_smith::Module;
+
+/// The form of the text of a module.
+#[derive(Clone, Copy, Debug, PartialEq, Eq)]
+pub enum Layout {
+    /// Function types by their indices alone. After the module, comments state values that the text
+    /// format cannot express.
+    Notes,
+    /// Function types by their indices, with their parameters and their results. After the module,
+    /// comments have raw bodies alone.
+    Signatures,
+}
+
+impl Layout {
+    /// Returns the types of `module` whose parameters and results are written where they are used.
+    pub fn signatures<'a>(self, module: &'a Module) -> &'a [SubType] {
+        match self {
+            Layout::Notes => &[],
+            Layout::Signatures => module.types(),
+        }
+    }
+}
 
 // Returns the number of items that a module imports, and those of `all` that it defines, which are
 // the last `defined`.
@@ -57,16 +80,24 @@ fn write_memories<S: Sink>(memories: &[MemoryType], defined: usize, sink: &mut S
     Ok(())
 }
 
-// Writes those of `tags` that a module defines, the last `defined`. The section Text Format, Tags.
-fn write_tags<S: Sink>(tags: &[u32], defined: usize, sink: &mut S) -> fmt::Result
+// Writes those of `tags` that a module defines, the last `defined`, with the parameters of the types
+// among `signatures`. The section Text Format, Tags.
+fn write_tags<S: Sink>(
+    tags: &[u32],
+    defined: usize,
+    signatures: &[SubType],
+    sink: &mut S,
+) -> fmt::Result
     requires open { S.failed sink.old ≡ false }
     ensures fault { S.failed sink.new ≡ is_err result }
     ensures keeps { OnOk result (Keeps S.has sink.old sink.new) }
 {
     let (imported, defined) = split_defined(tags, defined);
-    for (place, ty) in defined.iter().enumerate() {
-        let opening = ("  (tag (;", imported.saturating_add(place), ";) (type ");
-        (opening, ty, "))\n").write_text(sink)?;
+    for (place, index) in defined.iter().enumerate() {
+        let opening = ("  (tag (;", imported.saturating_add(place), ";) ");
+        let index = *index;
+        let ty = TypeUse { index, signatures };
+        (opening, ty, ")\n").write_text(sink)?;
     }
     Ok(())
 }
@@ -111,8 +142,20 @@ fn write_exports<S: Sink>(
     }
 }
 
-/// Writes `module` to `sink` as [`TextForm::write_text`] does. `bodies` writes the instructions of
-/// its bodies. Requires that no write to `sink` has failed.
+/// Writes what follows a module: all notes, or only its raw bodies.
+fn write_end<S: Sink>(module: &Module, layout: Layout, sink: &mut S) -> fmt::Result
+    requires open { S.failed sink.old ≡ false }
+    ensures fault { S.failed sink.new ≡ is_err result }
+    ensures keeps { OnOk result (Keeps S.has sink.old sink.new) }
+{
+    match layout {
+        Layout::Notes => write_notes(module, sink),
+        Layout::Signatures => write_raw_bodies(module, sink),
+    }
+}
+
+/// Writes `module` to `sink` in the form `layout`. `bodies` writes the instructions of its bodies.
+/// Requires that no write to `sink` has failed.
 ///
 /// # Errors
 ///
@@ -120,34 +163,34 @@ fn write_exports<S: Sink>(
 pub fn write_with_bodies<B: BodyText, S: Sink>(
     module: &Module,
     bodies: &B,
+    layout: Layout,
     sink: &mut S,
 ) -> fmt::Result
     requires open { S.failed sink.old ≡ false }
     ensures fault { S.failed sink.new ≡ is_err result }
     ensures writes { OnOk result (Writes S.has sink.old 1 sink.new) }
 {
+    let signatures = layout.signatures(module);
     sink.write_str("(module\n")?;
     write_types(module.types(), module.rec_groups(), sink)?;
-    write_imports(module.imports(), sink)?;
+    write_imports(module.imports(), signatures, sink)?;
     write_tables(module.tables(), module.defined_tables(), sink)?;
     write_memories(module.memories(), module.num_defined_memories(), sink)?;
-    write_tags(module.tags(), module.num_defined_tags(), sink)?;
+    write_tags(module.tags(), module.num_defined_tags(), signatures, sink)?;
     write_globals(module.globals(), module.defined_globals(), sink)?;
     write_exports(module.exports(), module.start(), sink)?;
     write_element_segments(module.elems(), sink)?;
-    let fuel_globals = module.fuel_globals();
-    write_functions(module.funcs(), module.code(), fuel_globals, bodies, sink)?;
+    write_functions(module, signatures, bodies, sink)?;
     write_data_segments(module.data(), sink)?;
     sink.write_str(")\n")?;
-    write_notes(module, sink)
+    write_end(module, layout, sink)
 }
 
 /// The section Text Format, Modules: one field per line, in the order of the sections of the binary
-/// format, with functions in the place of their bodies. Lines of comments follow for values that
-/// the text format cannot express.
+/// format, with functions in the place of their bodies, in the form [`Layout::Notes`].
 impl TextForm for Module {
     fn write_text<S: Sink>(&self, sink: &mut S) -> fmt::Result {
-        write_with_bodies(self, &OwnBodies, sink)
+        write_with_bodies(self, &OwnBodies, Layout::Notes, sink)
     }
 }
 
@@ -160,12 +203,13 @@ pub fn text_with_bodies<B: BodyText>(
     alloc: Global,
     module: &Module,
     bodies: &B,
+    layout: Layout,
 ) -> Result<String, Error>
     ensures memory { IfErr result (λ e. e ≡ Error.Memory) }
     ensures some { IfOk result (λ text. 1 ≤ length (string_bytes text)) }
 {
     let mut sink = FromFmt::new(String::new(alloc));
-    match write_with_bodies(module, bodies, &mut sink) {
+    match write_with_bodies(module, bodies, layout, &mut sink) {
         Ok(()) => Ok(sink.into_string()),
         Err(fmt::Error) => Err(Error::Memory),
     }
@@ -180,5 +224,5 @@ pub fn text(alloc: Global, module: &Module) -> Result<String, Error>
     ensures memory { IfErr result (λ e. e ≡ Error.Memory) }
     ensures some { IfOk result (λ text. 1 ≤ length (string_bytes text)) }
 {
-    text_with_bodies(alloc, module, &OwnBodies)
+    text_with_bodies(alloc, module, &OwnBodies, Layout::Notes)
 }

@@ -3,7 +3,7 @@ ghost use Rattle.smith_text.specs.Written.{Keeps};
 
 use crate::sink::Sink;
 use crate::text_form::TextForm;
-use smith_types::{Code, Instructions};
+use smith_types::Instructions;
 use std::fmt;
 use wasm_smith::Module;
 
@@ -20,13 +20,15 @@ fn write_raw_body<S: Sink>(index: usize, bytes: &[u8], sink: &mut S) -> fmt::Res
     sink.write_str("\n")
 }
 
-// Writes the lines of the raw bodies among `code`, of which the first is that of the function
-// `start`.
-fn write_raw_bodies<S: Sink>(start: usize, code: &[Code], sink: &mut S) -> fmt::Result
+/// Writes the raw bodies of a module, in lines of comments: the index of the function, and the
+/// bytes.
+pub(crate) fn write_raw_bodies<S: Sink>(module: &Module, sink: &mut S) -> fmt::Result
     requires open { S.failed sink.old ≡ false }
     ensures fault { S.failed sink.new ≡ is_err result }
     ensures keeps { OnOk result (Keeps S.has sink.old sink.new) }
 {
+    let code = module.code();
+    let start = module.funcs().len().saturating_sub(code.len());
     for (place, body) in code.iter().enumerate() {
         if let Instructions::Arbitrary(bytes) = &body.instructions {
             write_raw_body(start.saturating_add(place), bytes.as_slice(), sink)?;
@@ -53,8 +55,7 @@ pub(crate) fn write_notes<S: Sink>(module: &Module, sink: &mut S) -> fmt::Result
         (";; fuel-globals", module.fuel_globals(), "\n"),
     );
     (flags, numbers).write_text(sink)?;
-    let code = module.code();
-    write_raw_bodies(module.funcs().len().saturating_sub(code.len()), code, sink)?;
+    write_raw_bodies(module, sink)?;
     let values32 = (
         ";; interesting-values32",
         module.interesting_values32(),

@@ -47,13 +47,23 @@ impl TextForm for StructType {
     }
 }
 
+// The parameters and the results of a function type, each list in one pair of parentheses.
+#[derive(Drop)]
+struct Signature<'a>(&'a FuncType);
+
+impl TextForm for Signature<'_> {
+    fn write_text<S: Sink>(&self, sink: &mut S) -> fmt::Result {
+        let params = Listed(" (param", self.0.params.as_slice(), ")");
+        let results = Listed(" (result", self.0.results.as_slice(), ")");
+        (params, results).write_text(sink)
+    }
+}
+
 /// The section Text Format, Composite Types: a function type, with the abbreviations that list its
 /// parameters and its results.
 impl TextForm for FuncType {
     fn write_text<S: Sink>(&self, sink: &mut S) -> fmt::Result {
-        let params = Listed(" (param", self.params.as_slice(), ")");
-        let results = Listed(" (result", self.results.as_slice(), ")");
-        ("(func", params, (results, ")")).write_text(sink)
+        ("(func", Signature(self), ")").write_text(sink)
     }
 }
 
@@ -89,6 +99,32 @@ impl TextForm for SubType {
         let opening = if self.is_final { "(sub final" } else { "(sub" };
         let body = (" ", &self.composite_type, ")");
         (opening, self.supertype.as_slice(), body).write_text(sink)
+    }
+}
+
+/// The use of the function type `index`, with its parameters and its results if it is one of
+/// `signatures`.
+#[derive(Drop)]
+pub struct TypeUse<'a> {
+    /// The index of the type.
+    pub index: u32,
+    /// The types of the module, or none if the index is written alone.
+    pub signatures: &'a [SubType],
+}
+
+// Returns the parameters and the results of the type `index`, if it is a function type of `types`.
+fn signature_of(types: &[SubType], index: u32) -> Option<Signature<'_>> {
+    match &types.get(index as usize)?.composite_type.inner {
+        CompositeInnerType::Func(function) => Some(Signature(function)),
+        _ => None,
+    }
+}
+
+/// The section Text Format, Type Uses.
+impl TextForm for TypeUse<'_> {
+    fn write_text<S: Sink>(&self, sink: &mut S) -> fmt::Result {
+        let signature = signature_of(self.signatures, self.index);
+        (("(type ", self.index, ")"), signature).write_text(sink)
     }
 }
 

@@ -2,11 +2,12 @@ ghost use Rattle.std.specs.Prelude.{◌≡◌, false, is_err, length, OnOk};
 ghost use Rattle.smith_text.specs.Written.{Keeps, Writes};
 
 use smith_instr::{BlockType, BranchCast, Catch};
-use smith_text::{Sink, TextForm};
+use smith_text::{Sink, TextForm, TypeUse};
+use smith_types::SubType;
 use std::fmt;
 
 // Writes the type of a block after a space, or nothing if it is empty.
-fn write_block_type<S: Sink>(ty: BlockType, sink: &mut S) -> fmt::Result
+fn write_block_type<S: Sink>(ty: BlockType, signatures: &[SubType], sink: &mut S) -> fmt::Result
     requires open { S.failed sink.old ≡ false }
     ensures fault { S.failed sink.new ≡ is_err result }
     ensures keeps { OnOk result (Keeps S.has sink.old sink.new) }
@@ -14,18 +15,23 @@ fn write_block_type<S: Sink>(ty: BlockType, sink: &mut S) -> fmt::Result
     match ty {
         BlockType::Empty => Ok(()),
         BlockType::Value(value) => (" (result ", value, ")").write_text(sink),
-        BlockType::Func(index) => (" (type ", index, ")").write_text(sink),
+        BlockType::Func(index) => (" ", TypeUse { index, signatures }).write_text(sink),
     }
 }
 
 /// Writes `keyword`, and after it the type `ty` of a block or of a result.
-pub(crate) fn write_block<S: Sink>(keyword: &str, ty: BlockType, sink: &mut S) -> fmt::Result
+pub(crate) fn write_block<S: Sink>(
+    keyword: &str,
+    ty: BlockType,
+    signatures: &[SubType],
+    sink: &mut S,
+) -> fmt::Result
     requires open { S.failed sink.old ≡ false }
     ensures fault { S.failed sink.new ≡ is_err result }
     ensures writes { OnOk result (Writes S.has sink.old (length keyword.now) sink.new) }
 {
     sink.write_str(keyword)?;
-    write_block_type(ty, sink)
+    write_block_type(ty, signatures, sink)
 }
 
 // Writes a clause of `try_table` after a space.
@@ -46,13 +52,14 @@ fn write_catch<S: Sink>(clause: Catch, sink: &mut S) -> fmt::Result
 pub(crate) fn write_try_table<S: Sink>(
     ty: BlockType,
     clauses: &[Catch],
+    signatures: &[SubType],
     sink: &mut S,
 ) -> fmt::Result
     requires open { S.failed sink.old ≡ false }
     ensures fault { S.failed sink.new ≡ is_err result }
     ensures writes { OnOk result (Writes S.has sink.old 1 sink.new) }
 {
-    write_block("try_table", ty, sink)?;
+    write_block("try_table", ty, signatures, sink)?;
     for clause in clauses {
         write_catch(*clause, sink)?;
     }
@@ -89,12 +96,13 @@ pub(crate) fn write_branch_cast<S: Sink>(
 pub(crate) fn write_indirect<S: Sink>(
     keyword: &str,
     table: u32,
-    ty: u32,
+    ty: TypeUse<'_>,
     sink: &mut S,
 ) -> fmt::Result
     requires open { S.failed sink.old ≡ false }
     ensures fault { S.failed sink.new ≡ is_err result }
     ensures writes { OnOk result (Writes S.has sink.old 1 sink.new) }
 {
-    write!(sink, "{keyword} {table} (type {ty})")
+    write!(sink, "{keyword} {table} ")?;
+    ty.write_text(sink)
 }

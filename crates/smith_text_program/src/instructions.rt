@@ -13,20 +13,30 @@ use crate::numeric::write_numeric;
 use crate::references::{write_aggregate, write_reference, write_table};
 use crate::vector::write_vector;
 use smith_instr::{BlockType, Instr};
-use smith_text::{Sink, write_const_instr};
-use smith_types::ConstInstr;
+use smith_text::{Sink, TypeUse, write_const_instr};
+use smith_types::{ConstInstr, SubType};
 use std::fmt;
+
+// Returns the use of the type `index`, with its parameters and results if it is one of `signatures`.
+fn use_of(index: u32, signatures: &[SubType]) -> TypeUse<'_> {
+    TypeUse { index, signatures }
+}
 
 /// Writes `instruction` in its plain form, without a line break: the standard's section Text
 /// Format, Instructions.
 ///
-/// Indices are numbers, and blocks have no labels of their own. No write to `sink` may have failed
+/// Indices are numbers, and blocks have no labels of their own. The function types among
+/// `signatures` are written with their parameters and results. No write to `sink` may have failed
 /// before.
 ///
 /// # Errors
 ///
 /// Returns the error of the first write that fails. Nothing is written after it.
-pub fn write_instr<S: Sink>(instruction: &Instr, sink: &mut S) -> fmt::Result
+pub fn write_instr<S: Sink>(
+    instruction: &Instr,
+    signatures: &[SubType],
+    sink: &mut S,
+) -> fmt::Result
     requires open { S.failed sink.old ≡ false }
     ensures fault { S.failed sink.new ≡ is_err result }
     ensures writes { OnOk result (Writes S.has sink.old 1 sink.new) }
@@ -34,12 +44,12 @@ pub fn write_instr<S: Sink>(instruction: &Instr, sink: &mut S) -> fmt::Result
     match instruction {
         Instr::Unreachable => sink.write_str("unreachable"),
         Instr::Nop => sink.write_str("nop"),
-        Instr::Block(ty) => write_block("block", *ty, sink),
-        Instr::Loop(ty) => write_block("loop", *ty, sink),
-        Instr::If(ty) => write_block("if", *ty, sink),
+        Instr::Block(ty) => write_block("block", *ty, signatures, sink),
+        Instr::Loop(ty) => write_block("loop", *ty, signatures, sink),
+        Instr::If(ty) => write_block("if", *ty, signatures, sink),
         Instr::Else => sink.write_str("else"),
         Instr::End => sink.write_str("end"),
-        Instr::TryTable(ty, clauses) => write_try_table(*ty, clauses.as_slice(), sink),
+        Instr::TryTable(ty, clauses) => write_try_table(*ty, clauses.as_slice(), signatures, sink),
         Instr::Throw(tag) => write_indexed("throw", *tag, sink),
         Instr::ThrowRef => sink.write_str("throw_ref"),
         Instr::Br(label) => write_indexed("br", *label, sink),
@@ -51,16 +61,23 @@ pub fn write_instr<S: Sink>(instruction: &Instr, sink: &mut S) -> fmt::Result
         Instr::BrOnCastFail(cast) => write_branch_cast("br_on_cast_fail", *cast, sink),
         Instr::Return => sink.write_str("return"),
         Instr::Call(function) => write_indexed("call", *function, sink),
-        Instr::CallIndirect { table, ty } => write_indirect("call_indirect", *table, *ty, sink),
+        Instr::CallIndirect { table, ty } => {
+            write_indirect("call_indirect", *table, use_of(*ty, signatures), sink)
+        }
         Instr::CallRef(ty) => write_indexed("call_ref", *ty, sink),
         Instr::ReturnCall(function) => write_indexed("return_call", *function, sink),
         Instr::ReturnCallIndirect { table, ty } => {
-            write_indirect("return_call_indirect", *table, *ty, sink)
+            write_indirect(
+                "return_call_indirect",
+                *table,
+                use_of(*ty, signatures),
+                sink,
+            )
         }
         Instr::ReturnCallRef(ty) => write_indexed("return_call_ref", *ty, sink),
         Instr::Drop => sink.write_str("drop"),
         Instr::Select => sink.write_str("select"),
-        Instr::SelectTyped(ty) => write_block("select", BlockType::Value(*ty), sink),
+        Instr::SelectTyped(ty) => write_block("select", BlockType::Value(*ty), &[], sink),
         Instr::LocalGet(local) => write_indexed("local.get", *local, sink),
         Instr::LocalSet(local) => write_indexed("local.set", *local, sink),
         Instr::LocalTee(local) => write_indexed("local.tee", *local, sink),

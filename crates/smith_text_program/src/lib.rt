@@ -17,5 +17,5 @@ mod vector;
 
 pub use instructions::write_instr;
 pub use lines::{write_counted_instrs, write_instrs};
-pub use program::{text, write_program};
-pub use smith_text::{FromFmt, Sink};
+pub use program::{text, text_in, write_program};
+pub use smith_text::{FromFmt, Layout, Sink};

@@ -12,6 +12,7 @@ ghost use Rattle.smith_text.specs.Written.{Writes};
 use crate::instructions::write_instr;
 use smith_instr::{BlockType, Instr, IntBinary, NumericInstr};
 use smith_text::Sink;
+use smith_types::SubType;
 use std::fmt;
 
 // Returns the depth at which `instruction` is written, if the instructions before it are at the
@@ -51,7 +52,12 @@ fn write_indent<S: Sink>(depth: usize, sink: &mut S) -> fmt::Result
 
 // Writes the line of `instruction`, if those before it are at the depth `depth`. Returns the depth
 // of those after it.
-fn write_line<S: Sink>(instruction: &Instr, depth: usize, sink: &mut S) -> Result<usize, fmt::Error>
+fn write_line<S: Sink>(
+    instruction: &Instr,
+    signatures: &[SubType],
+    depth: usize,
+    sink: &mut S,
+) -> Result<usize, fmt::Error>
     requires open { S.failed sink.old ≡ false }
     ensures fault { S.failed sink.new ≡ is_err result }
     ensures writes { OnOk result (Writes S.has sink.old (line_size instruction.now depth) sink.new) }
@@ -59,26 +65,32 @@ fn write_line<S: Sink>(instruction: &Instr, depth: usize, sink: &mut S) -> Resul
 {
     let level = depth_at(instruction, depth);
     write_indent(level, sink)?;
-    write_instr(instruction, sink)?;
+    write_instr(instruction, signatures, sink)?;
     sink.write_str("\n")?;
     Ok(depth_after(instruction, level))
 }
 
 /// Writes `instructions` in their plain form, one line each. The first is at the depth `depth`, at
-/// two spaces per level, and those of a block are one level deeper than its start and its end. No
-/// write to `sink` may have failed before.
+/// two spaces per level, and those of a block are one level deeper than its start and its end. The
+/// function types among `signatures` are written with their parameters and results. No write to
+/// `sink` may have failed before.
 ///
 /// # Errors
 ///
 /// Returns the error of the first write that fails. Nothing is written after it.
-pub fn write_instrs<S: Sink>(instructions: &[Instr], depth: usize, sink: &mut S) -> fmt::Result
+pub fn write_instrs<S: Sink>(
+    instructions: &[Instr],
+    signatures: &[SubType],
+    depth: usize,
+    sink: &mut S,
+) -> fmt::Result
     requires open { S.failed sink.old ≡ false }
     ensures fault { S.failed sink.new ≡ is_err result }
     ensures writes { OnOk result (Writes S.has sink.old (lines_size instructions.now 0 depth) sink.new) }
 {
     let mut level = depth;
     for instruction in instructions {
-        level = write_line(instruction, level, sink)?;
+        level = write_line(instruction, signatures, level, sink)?;
     }
     Ok(())
 }
@@ -114,7 +126,7 @@ fn write_check<S: Sink>(counter: u32, depth: usize, sink: &mut S) -> fmt::Result
         Instr::Numeric(NumericInstr::I32Binary(IntBinary::Sub)),
         Instr::GlobalSet(counter),
     ];
-    write_instrs(&check, depth, sink)
+    write_instrs(&check, &[], depth, sink)
 }
 
 // Returns the counters that are checked after `instruction`: all of `counters` after the start of a
@@ -132,6 +144,7 @@ fn checked_after<'a>(instruction: &Instr, counters: &'a [u32]) -> &'a [u32]
 fn write_lines<S: Sink>(
     instructions: &[Instr],
     counters: &[u32],
+    signatures: &[SubType],
     depth: usize,
     sink: &mut S,
 ) -> fmt::Result
@@ -142,7 +155,7 @@ fn write_lines<S: Sink>(
 {
     let mut level = depth;
     for instruction in instructions {
-        level = write_line(instruction, level, sink)?;
+        level = write_line(instruction, signatures, level, sink)?;
         write_checks(checked_after(instruction, counters), level, sink)?;
     }
     Ok(())
@@ -158,6 +171,7 @@ fn write_lines<S: Sink>(
 pub fn write_counted_instrs<S: Sink>(
     instructions: &[Instr],
     counters: &[u32],
+    signatures: &[SubType],
     depth: usize,
     sink: &mut S,
 ) -> fmt::Result
@@ -167,5 +181,5 @@ pub fn write_counted_instrs<S: Sink>(
         (checks_size (length counters.now) + lines_size instructions.now (length counters.now) depth) sink.new) }
 {
     write_checks(counters, depth, sink)?;
-    write_lines(instructions, counters, depth, sink)
+    write_lines(instructions, counters, signatures, depth, sink)
 }

@@ -16,8 +16,8 @@ ghost use Rattle.smith_text.specs.Written.{Writes};
 use crate::lines::write_counted_instrs;
 use smith_bytes::Error;
 use smith_program::{Body, Program};
-use smith_text::{BodyText, OwnBodies, Sink, text_with_bodies, write_with_bodies};
-use smith_types::Code;
+use smith_text::{BodyText, Layout, OwnBodies, Sink, text_with_bodies, write_with_bodies};
+use smith_types::{Code, SubType};
 use std::alloc::Global;
 use std::fmt;
 
@@ -28,6 +28,7 @@ const DEPTH: usize = 2;
 #[derive(Clone, Copy)]
 struct Bodies<'a> {
     bodies: &'a [Body],
+    signatures: &'a [SubType],
 }
 
 impl<'a> BodyText for Bodies<'a> {
@@ -42,21 +43,24 @@ impl<'a> BodyText for Bodies<'a> {
     ) -> fmt::Result {
         match self.bodies.get(place) {
             Some(Body::Drawn(instructions)) => {
-                write_counted_instrs(instructions.as_slice(), fuel_globals, DEPTH, sink)
+                let instructions = instructions.as_slice();
+                write_counted_instrs(instructions, fuel_globals, self.signatures, DEPTH, sink)
             }
             _ => OwnBodies.write_body(place, body, fuel_globals, sink),
         }
     }
 }
 
-// Returns the bodies of `program`.
-fn bodies_of(program: &Program) -> Bodies<'_> {
+// Returns the bodies of `program`, for its text in the form `layout`.
+fn bodies_of(program: &Program, layout: Layout) -> Bodies<'_> {
     Bodies {
         bodies: program.bodies.as_slice(),
+        signatures: layout.signatures(&program.module),
     }
 }
 
-/// Writes `program` in the text format to `sink`. Requires that no write to it has failed.
+/// Writes `program` in the text format to `sink`, in the form `layout`. Requires that no write to it
+/// has failed.
 ///
 /// All parts but the bodies are written as the text of the module. The checks of its counters of
 /// fuel are written at the start of each drawn body, and after each `loop` in it.
@@ -64,15 +68,28 @@ fn bodies_of(program: &Program) -> Bodies<'_> {
 /// # Errors
 ///
 /// Returns the error of the first write that fails. Nothing is written after it.
-pub fn write_program<S: Sink>(program: &Program, sink: &mut S) -> fmt::Result
+pub fn write_program<S: Sink>(program: &Program, layout: Layout, sink: &mut S) -> fmt::Result
     requires open { S.failed sink.old ≡ false }
     ensures fault { S.failed sink.new ≡ is_err result }
     ensures writes { OnOk result (Writes S.has sink.old 1 sink.new) }
 {
-    write_with_bodies(&program.module, &bodies_of(program), sink)
+    write_with_bodies(&program.module, &bodies_of(program, layout), layout, sink)
 }
 
-/// Returns the text of `program`, as [`write_program`] writes it, allocated from `alloc`.
+/// Returns the text of `program` in the form `layout`, as [`write_program`] writes it, allocated from
+/// `alloc`.
+///
+/// # Errors
+///
+/// Returns `Memory` if an allocation fails.
+pub fn text_in(alloc: Global, program: &Program, layout: Layout) -> Result<String, Error>
+    ensures memory { IfErr result (λ e. e ≡ Error.Memory) }
+    ensures some { IfOk result (λ text. 1 ≤ length (string_bytes text)) }
+{
+    text_with_bodies(alloc, &program.module, &bodies_of(program, layout), layout)
+}
+
+/// Returns the text of `program` in the form [`Layout::Notes`], allocated from `alloc`.
 ///
 /// # Errors
 ///
@@ -81,5 +98,5 @@ pub fn text(alloc: Global, program: &Program) -> Result<String, Error>
     ensures memory { IfErr result (λ e. e ≡ Error.Memory) }
     ensures some { IfOk result (λ text. 1 ≤ length (string_bytes text)) }
 {
-    text_with_bodies(alloc, &program.module, &bodies_of(program))
+    text_in(alloc, program, Layout::Notes)
 }

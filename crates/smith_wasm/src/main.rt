@@ -10,6 +10,7 @@ mod corpus;
 mod failure;
 mod fields;
 mod files;
+mod help;
 mod request;
 mod warnings;
 mod words;
@@ -41,7 +42,7 @@ fn run(rt: &HostRuntime) -> Result<u8, Failure> {
             answered.and(Ok(0))
         }
         Err(error) => {
-            let printed = error.print(rt);
+            let printed = help::print(rt, &error);
             let status = error.exit_code() as u8;
             drop(error);
             printed?;

@@ -4,7 +4,7 @@ use Rattle.smith_text.proofs.module.write_with_bodies.Goals as goal
 
 -- the first text is written, and nothing is lost after it
 pub returns-clause-writes : goal.returns-clause-writes
-returns-clause-writes g c = on_ok_weaker c.write_notes.result
+returns-clause-writes g c = on_ok_weaker c.write_end.result
     (λ keeps before after held low high. keeps after (c.in_ok-write_str-2.ensures.writes after after (
     c.in_ok-write_data_segments.ensures.keeps after (
     c.in_ok-write_functions.ensures.keeps after (
@@ -18,4 +18,4 @@ returns-clause-writes g c = on_ok_weaker c.write_notes.result
     c.in_ok-write_types.ensures.keeps after (
     c.in_ok-write_str.ensures.writes before after held low (omega arith)))))))))))
     ) (omega arith) (omega arith)))
-    c.write_notes.ensures.keeps
+    c.write_end.ensures.keeps
