@@ -1,5 +1,5 @@
 ghost use Rattle.std.specs.Prelude.{◌≡◌, ◌<◌, ◌^◌, length, nat_lt, List, IsOk, IfOk, IfErr};
-ghost use Rattle.smith_syntax.specs.declared.composite_type.SubType.{SubType as Type};
+ghost use Rattle.smith_syntax.specs.declared.composite_type.SubType.{SubType as ListedType};
 ghost use Rattle.smith_types.specs.Entities.{IsTagValid};
 ghost use Rattle.smith_types.specs.KindCounts.{is_function, gives_nothing, indices_in};
 ghost use Rattle.smith_draw_types.specs.Choices.{chosen_at};
@@ -89,7 +89,7 @@ pub fn list_types(alloc: Global, for_use: TypeUse, types: &[SubType]) -> Result<
 
 /// Returns the set of the types that are suitable for `for_use`.
 fn types_of(for_use: TypeUse) -> TypeSet
-    ensures { (types : List Type) → indices_in types result ≡ types_for for_use types }
+    ensures { (types : List ListedType) → indices_in types result ≡ types_for for_use types }
 {
     match for_use {
         TypeUse::Tag => TypeSet::WithoutResults,
