@@ -26,9 +26,6 @@ pub returns-in-Func-clause-fit : goal.returns-in-Func-clause-fit
 returns-in-Func-clause-fit c =
     fit_without_references c.args.config.now c.args.types.now.types (spaces_of c.args.imported.now) _ (func_fit c.args.config.now c.args.types.now c.requires.may c.choose_type-in-Func.result c.choose_type-in-Func.ensures.usable) refl refl
 
-pub choose_type-in-Func-requires : goal.choose_type-in-Func-requires
-choose_type-in-Func-requires c = record { some = ltb-true _ _ (rw c.in-Func.is at c.requires.kind) }
-
 pub returns-in-Global-clause-fit : goal.returns-in-Global-clause-fit
 returns-in-Global-clause-fit c =
     let standing = c.reference_scope_after-standing.ensures in
