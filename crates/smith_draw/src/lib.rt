@@ -16,7 +16,7 @@ pub use smith_draw_types::{
     arbitrary_storage_type, arbitrary_struct_type, arbitrary_sub_type,
     arbitrary_sub_type_of_super_type, arbitrary_super_type_of_heap_type,
     arbitrary_super_type_of_ref_type, arbitrary_super_type_of_val_type, arbitrary_table_type,
-    arbitrary_tag_type, arbitrary_types, arbitrary_valtype, choose, choose_enabled,
+    arbitrary_tag_type, arbitrary_types, arbitrary_valtype, choose, choose_enabled, choose_type,
     clone_rec_group, count_enabled, count_types, draw_global_type, draw_locals,
-    draw_matching_ref_type, draw_ref_type, draw_table_type, gradually_grow, list_types,
+    draw_matching_ref_type, draw_ref_type, draw_table_type, gradually_grow, has_type, list_types,
 };

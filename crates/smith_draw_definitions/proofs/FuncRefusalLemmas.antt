@@ -16,7 +16,8 @@ use Rattle.smith_bytes.specs.declared.error.Error.TheVariants as errors
 use Rattle.smith_bytes.specs.declared.error.Why.TheVariants.{Unmet}
 use Rattle.smith_bytes.specs.declared.error.Count.TheVariants as counts
 use Rattle.smith_module_rules.specs.Refusals.{MayRefuse}
-use Rattle.smith_draw_types.specs.TypeUses.{is_function, places_from, is_unshared_function, func_types}
+use Rattle.smith_types.specs.KindCounts.{is_function}
+use Rattle.smith_draw_types.specs.TypeUses.{places_from, is_unshared_function, func_types}
 
 -- without garbage collection only unshared functions are enabled
 plain : (features_gc shared : Bool) (inner : CompositeInnerType) → (is_function inner ≡ false → features_gc ≡ true) → features_gc ≡ false → (shared ≡ true → ⊥) → (is_function inner && not shared) ≡ true

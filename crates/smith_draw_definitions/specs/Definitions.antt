@@ -1,6 +1,6 @@
 -- The items of each kind that are defined after the items before, and the bytes that they take.
 -- Rules of this project.
-use Rattle.std.specs.Prelude.{ℕ, ◌+◌, ◌-◌, ◌&&◌, ◌==◌, nat_lt, nat_le, Option, Some, List, [], ◌++◌, map, take, length, Result, Ok, Err, if◌then◌else◌, unwrap_or}
+use Rattle.std.specs.Prelude.{ℕ, ◌+◌, ◌-◌, Bool, ◌&&◌, ◌==◌, nat_lt, nat_le, Option, Some, List, [], ◌++◌, map, take, length, Result, Ok, Err, if◌then◌else◌, unwrap_or}
 use Rattle.smith_bytes.specs.declared.error.Count.{Count}
 use Rattle.smith_bytes.specs.declared.error.Count.TheVariants as counts
 use Rattle.smith_bytes.specs.declared.error.Why.{Why}
@@ -25,6 +25,7 @@ use Rattle.smith_draw_types.specs.TableTypes.{table_type_at}
 use Rattle.smith_draw_types.specs.TypeUses.{types_for}
 use Rattle.smith_bytes.specs.Steps.{◌>>=◌}
 use Rattle.smith_draw_definitions.specs.declared.definitions.Definitions.{Definitions}
+use Rattle.smith_draw_types.specs.declared.type_use.TypeUse.{TypeUse}
 use Rattle.smith_draw_types.specs.declared.type_use.TypeUse.TheVariants as uses
 
 -- the items of a kind that are defined after `before` items: they are drawn one after another until
@@ -46,9 +47,13 @@ type_indices_at count choices least most before bytes =
     if length choices == 0 then (if nat_lt (length before) least then Err (Unmet count) else Ok (before, bytes))
     else Ok (appended_to before (items_defined_at (λ _. chosen_at 0 choices) least most (length before) bytes))
 
+-- the types for a use, if it is enabled
+abbrev pub types_if : Bool → TypeUse → List SubType → List ℕ
+types_if on for_use types = if on then types_for for_use types else []
+
 -- the types that tags may have: function types without results, if exceptions are enabled
 abbrev pub tag_types : Config → List SubType → List ℕ
-tag_types config types = if config.exceptions_enabled then types_for uses.Tag types else []
+tag_types config types = types_if config.exceptions_enabled uses.Tag types
 
 unfoldable pub tags_at : Config → List SubType → List ℕ → List ℕ → Result (List ℕ × List ℕ) Why
 tags_at config types before bytes = type_indices_at counts.Tags (tag_types config types) config.min_tags config.max_tags before bytes

@@ -101,8 +101,8 @@ pub fn define(
     let globals_defined = definitions.globals.len();
     let imported_funcs = funcs_before - definitions.num_funcs;
     let imported_globals = globals_before - globals_defined;
-    define_tags(alloc, config, types, &mut spaces.tags, u)?;
-    define_funcs(alloc, config, types, &mut spaces.funcs, u)?;
+    define_tags(config, types, &mut spaces.tags, u)?;
+    define_funcs(config, types, &mut spaces.funcs, u)?;
     let func_types = spaces.funcs.as_slice();
     note_defined(config, types, func_types, funcs_before, grounds);
     let scope = reference_scope(types, func_types, imported_funcs, &[], 0);

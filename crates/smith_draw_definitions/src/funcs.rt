@@ -19,14 +19,12 @@ ghost use Rattle.smith_module_rules.specs.Refusals.{MayRefuse};
 use crate::typed_entities::define_typed;
 use smith_bytes::{Count, Error, Unstructured, Why};
 use smith_config::Config;
-use smith_draw_types::{KeptGrounds, TypeUse, list_types};
+use smith_draw_types::{KeptGrounds, TypeUse};
 use smith_types::{Items, TypeSpace};
-use std::alloc::Global;
 
 /// Adds functions to the end of `funcs`.
 #[tactic(auto, unfolding(crate::specs::Definitions::funcs_at))]
 fn push_funcs(
-    alloc: Global,
     config: &Config,
     types: &TypeSpace,
     funcs: &mut Items<u32>,
@@ -40,10 +38,11 @@ fn push_funcs(
         × (length (func_types types.now.types) ≡ 0))) }
     ensures left { KeepsPieces u.old u.new }
 {
-    let choices = list_types(alloc, TypeUse::DefinedFunc, types.types())?;
     define_typed(
         Count::Funcs,
-        choices.as_slice(),
+        TypeUse::DefinedFunc,
+        true,
+        types,
         config.min_funcs,
         config.max_funcs,
         funcs,
@@ -54,7 +53,6 @@ fn push_funcs(
 /// Adds functions to the end of `funcs`, until there are at least `min_funcs` and at most
 /// `max_funcs` of `config`.
 pub(crate) fn define_funcs(
-    alloc: Global,
     config: &Config,
     types: &TypeSpace,
     funcs: &mut Items<u32>,
@@ -82,7 +80,7 @@ pub(crate) fn define_funcs(
         → OnOk result (Takes (SpellsFuncs config.now types.now.types) u.old funcs.new u.new) }
     ensures left { KeepsPieces u.old u.new }
 {
-    push_funcs(alloc, config, types, funcs, u)
+    push_funcs(config, types, funcs, u)
 }
 
 /// Notes the functions of `funcs` from the index `before` in `grounds`. All of them are defined.

@@ -1,4 +1,4 @@
-ghost use Rattle.std.specs.Prelude.{◌≡◌, ◌<◌, ◌^◌, [], length, IsTrue, IfOk, IfErr, OnOk, All};
+ghost use Rattle.std.specs.Prelude.{◌≡◌, ◌<◌, ◌^◌, [], length, IsTrue, IfErr, OnOk, All};
 ghost use Rattle.smith_bytes.specs.Source.{KeepsPieces};
 ghost use Rattle.smith_bytes.specs.Takes.{Takes};
 ghost use Rattle.smith_types.specs.Entities.{IsTagValid};
@@ -6,34 +6,19 @@ ghost use Rattle.smith_config.specs.Faults.{Passes};
 ghost use Rattle.smith_bytes.specs.Steps.{ReturnsWhy};
 ghost use Rattle.smith_bytes.specs.Spelling.{SpellsEmpty};
 ghost use Rattle.smith_draw_definitions.specs.Defined.{IsFilled};
-ghost use Rattle.smith_draw_definitions.specs.Definitions.{tag_types, tags_at};
+ghost use Rattle.smith_draw_definitions.specs.Definitions.{tags_at};
 ghost use Rattle.smith_draw_types.specs.SpelledParts.{SpellsNoTag};
 ghost use Rattle.smith_module_rules.specs.Refusals.{MayRefuse};
 
 use crate::typed_entities::define_typed;
 use smith_bytes::{Count, Error, Unstructured};
 use smith_config::Config;
-use smith_draw_types::{TypeUse, list_types};
-use smith_types::{Items, SubType, TypeSpace};
-use std::alloc::Global;
-
-/// Lists the indices of the types that tags may have. Returns an empty list, without reading
-/// `types`, if `config` has no exceptions.
-fn tag_types(alloc: Global, config: &Config, types: &[SubType]) -> Result<Items<u32>, Error>
-    requires few { length types.now < 2 ^ 32 }
-    ensures exact { IfOk result (λ indices. indices ≡ tag_types config.now types.now) }
-    ensures memory { IfErr result (λ e. e ≡ Error.Memory) }
-{
-    if config.exceptions_enabled {
-        return list_types(alloc, TypeUse::Tag, types);
-    }
-    Ok(Items::new(alloc))
-}
+use smith_draw_types::TypeUse;
+use smith_types::{Items, TypeSpace};
 
 /// Adds tags to the end of `tags`.
 #[tactic(auto, unfolding(crate::specs::Definitions::tags_at))]
 fn push_tags(
-    alloc: Global,
     config: &Config,
     types: &TypeSpace,
     tags: &mut Items<u32>,
@@ -45,10 +30,11 @@ fn push_tags(
     ensures refusal { IfErr result (MayRefuse config.now) }
     ensures left { KeepsPieces u.old u.new }
 {
-    let choices = tag_types(alloc, config, types.types())?;
     define_typed(
         Count::Tags,
-        choices.as_slice(),
+        TypeUse::Tag,
+        config.exceptions_enabled,
+        types,
         config.min_tags,
         config.max_tags,
         tags,
@@ -59,7 +45,6 @@ fn push_tags(
 /// Adds tags to the end of `tags`, until there are at least `min_tags` and at most `max_tags` of
 /// `config`.
 pub(crate) fn define_tags(
-    alloc: Global,
     config: &Config,
     types: &TypeSpace,
     tags: &mut Items<u32>,
@@ -86,5 +71,5 @@ pub(crate) fn define_tags(
         (SpellsEmpty (SpellsNoTag config.now types.now.types)) u.old tags.new u.new) }
     ensures left { KeepsPieces u.old u.new }
 {
-    push_tags(alloc, config, types, tags, u)
+    push_tags(config, types, tags, u)
 }

@@ -19,11 +19,8 @@ use Rattle.smith_config.specs.declared.config.Config.{Config}
 use Rattle.smith_config.specs.Features.{features_of}
 use Rattle.smith_config.specs.EntityBounds.{IsTableWithin, IsMemoryWithin}
 use Rattle.smith_draw_types.specs.Choices.{enabled, chosen_at}
-use Rattle.smith_draw_types.specs.TypeUses.{types_for, IsUsable}
-use Rattle.smith_draw_types.specs.declared.type_use.TypeUse.{TypeUse}
 use Rattle.smith_draw_types.proofs.EnabledLemmas.{enabled_all}
 use Rattle.smith_draw_types.proofs.SupertypeLemmas.{chosen_of}
-use Rattle.smith_draw_types.proofs.TypeUseLemmas.{types_usable}
 use Rattle.smith_draw_imports.specs.Imported.{MayImport, IsEntityFit, IsFitBeside, MayImportKind}
 use Rattle.smith_types.specs.Floats.{HasNoFloatValue}
 use Rattle.smith_config.specs.Granted.{HasGroundedElements, HasGroundedValue}
@@ -53,10 +50,6 @@ first_holds false b both = both
 pub second_holds : (a b : Bool) → (a && b) ≡ true → b ≡ true
 second_holds true b both = both
 second_holds false b both = absurd cc
-
--- a type chosen for a use is suitable for it
-pub chosen_usable : (for_use : TypeUse) (types : List SubType) (bytes : List ℕ) → 0 < length (types_for for_use types) → IsUsable for_use types (chosen_at 0 (types_for for_use types) bytes).0
-chosen_usable for_use types bytes some = chosen_of (IsUsable for_use types) 0 (types_for for_use types) bytes some (types_usable for_use types)
 
 -- an entity other than a table and a global has no references to ground
 pub fit_without_references : (config : Config) (types : List SubType) (spaces : EntitySpaces) (added : EntityType) → IsEntityFit config types added → table_of added ≡ [] → global_of added ≡ [] → IsFitBeside config types spaces added

@@ -10,13 +10,12 @@ ghost use Rattle.smith_draw_imports.specs.ImportedEntities.{has_room, may_import
 ghost use Rattle.smith_draw_imports.specs.ImportedEntities.{entity_of_kind_at, fits, entity_at, again};
 
 use crate::import_kinds::{draw_kind, has_room};
-use crate::import_types::ImportTypes;
 use crate::imports_so_far::Imported;
 use smith_bytes::{Error, Unstructured};
 use smith_config::Config;
 use smith_draw_types::{
-    Entities, KeptGrounds, ReferenceScope, Spaces, arbitrary_memtype, choose, draw_global_type,
-    draw_table_type,
+    Entities, KeptGrounds, ReferenceScope, Spaces, TypeUse, arbitrary_memtype, choose_type,
+    draw_global_type, draw_table_type,
 };
 use smith_types::{EntityType, ExportKind, TypeSpace};
 
@@ -59,7 +58,7 @@ fn reference_scope_after<'a>(
 #[tactic(auto, unfolding(crate::specs::ImportedEntities::entity_of_kind_at))]
 fn draw_entity_of_kind(
     config: &Config,
-    types: &ImportTypes<'_>,
+    types: &TypeSpace,
     imported: &Imported,
     grounds: &KeptGrounds,
     kind: ExportKind,
@@ -75,10 +74,10 @@ fn draw_entity_of_kind(
     ensures kind { IfOk result (λ added. entity_kind added ≡ kind) }
     ensures fit { IfOk result (IsFitBeside config.now types.now.types (spaces_of imported.now)) }
 {
-    let standing = reference_scope_after(config, types.space(), imported, grounds);
+    let standing = reference_scope_after(config, types, imported, grounds);
     match kind {
-        ExportKind::Tag => Ok(EntityType::Tag(choose(types.for_tags(), u))),
-        ExportKind::Func => Ok(EntityType::Func(choose(types.for_funcs(), u))),
+        ExportKind::Tag => Ok(EntityType::Tag(choose_type(TypeUse::Tag, types, u))),
+        ExportKind::Func => Ok(EntityType::Func(choose_type(TypeUse::ImportedFunc, types, u))),
         ExportKind::Global => Ok(EntityType::Global(draw_global_type(config, &standing, u))),
         ExportKind::Memory => Ok(EntityType::Memory(arbitrary_memtype(config, u)?)),
         ExportKind::Table => Ok(EntityType::Table(draw_table_type(config, &standing, u))),
@@ -124,7 +123,7 @@ fn if_fits(
 #[tactic(auto, unfolding(crate::specs::ImportedEntities::entity_at))]
 pub(crate) fn draw_entity(
     config: &Config,
-    types: &ImportTypes<'_>,
+    types: &TypeSpace,
     imported: &Imported,
     grounds: &KeptGrounds,
     u: &mut Unstructured<'_>,
@@ -144,7 +143,7 @@ pub(crate) fn draw_entity(
         return Ok(None);
     };
     let added = draw_entity_of_kind(config, types, imported, grounds, kind, u)?;
-    Ok(if_fits(config, types.space(), imported, added))
+    Ok(if_fits(config, types, imported, added))
 }
 
 /// Returns the entity `added` if its kind has room and an import of it fits after `imported`, or

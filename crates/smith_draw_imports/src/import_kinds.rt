@@ -3,12 +3,11 @@ ghost use Rattle.smith_draw_types.specs.Drawing.{AlwaysDraws};
 ghost use Rattle.smith_draw_imports.specs.Imported.{MayImportKind, spaces_of};
 ghost use Rattle.smith_draw_imports.specs.ImportedEntities.{has_room, may_import, kind_row, kind_at};
 
-use crate::import_types::ImportTypes;
 use crate::imports_so_far::Imported;
 use smith_bytes::Unstructured;
 use smith_config::Config;
-use smith_draw_types::{choose_enabled, count_enabled};
-use smith_types::ExportKind;
+use smith_draw_types::{TypeUse, choose_enabled, count_enabled, has_type};
+use smith_types::{ExportKind, TypeSpace};
 
 /// Returns whether `config` allows another entity of the kind `kind` after `imported`.
 pub fn has_room(config: &Config, imported: &Imported, kind: ExportKind) -> bool
@@ -23,12 +22,12 @@ pub fn has_room(config: &Config, imported: &Imported, kind: ExportKind) -> bool
     }
 }
 
-fn may_import(config: &Config, types: &ImportTypes<'_>, kind: ExportKind) -> bool
+fn may_import(config: &Config, types: &TypeSpace, kind: ExportKind) -> bool
     ensures { result ≡ may_import config.now types.now.types kind }
 {
     match kind {
-        ExportKind::Tag => config.exceptions_enabled && !types.for_tags().is_empty(),
-        ExportKind::Func => !types.for_funcs().is_empty(),
+        ExportKind::Tag => config.exceptions_enabled && has_type(TypeUse::Tag, types),
+        ExportKind::Func => has_type(TypeUse::ImportedFunc, types),
         _ => true,
     }
 }
@@ -36,7 +35,7 @@ fn may_import(config: &Config, types: &ImportTypes<'_>, kind: ExportKind) -> boo
 /// Returns `kind`, and whether another entity of that kind may be imported.
 fn kind_row(
     config: &Config,
-    types: &ImportTypes<'_>,
+    types: &TypeSpace,
     imported: &Imported,
     kind: ExportKind,
 ) -> (ExportKind, bool)
@@ -50,7 +49,7 @@ fn kind_row(
 #[tactic(auto, using(smith_draw_types::proofs::EnabledLemmas::length_enabled), unfolding(crate::specs::ImportedEntities::kind_at))]
 pub(crate) fn draw_kind(
     config: &Config,
-    types: &ImportTypes<'_>,
+    types: &TypeSpace,
     imported: &Imported,
     u: &mut Unstructured<'_>,
 ) -> Option<ExportKind>

@@ -30,7 +30,6 @@ ghost use Rattle.smith_draw_imports.specs.Importing.{group_of_kind_at, group_at,
 use crate::import_entities::{draw_entity, repeat_entity};
 use crate::import_groups::{GroupKind, draw_group_kind, has_imports, module_name, push_import};
 use crate::import_names::draw_import_name;
-use crate::import_types::ImportTypes;
 use crate::imports_so_far::Imported;
 use smith_bytes::{Count, Error, Unstructured, Why, goes_on, limited_string};
 use smith_config::Config;
@@ -55,7 +54,7 @@ fn note_import(types: &TypeSpace, grounds: &mut KeptGrounds, added: EntityType)
 /// after `imported`, or no kind has room.
 fn draw_next_entity(
     config: &Config,
-    types: &ImportTypes<'_>,
+    types: &TypeSpace,
     imported: &Imported,
     grounds: &KeptGrounds,
     group: &Imports,
@@ -76,7 +75,7 @@ fn draw_next_entity(
     match group {
         Imports::Compact2 { entity_type, .. } => Ok(repeat_entity(
             config,
-            types.space(),
+            types,
             imported,
             *entity_type,
         )),
@@ -90,7 +89,7 @@ fn fill(
     alloc: Global,
     config: &Config,
     distinct: bool,
-    types: &ImportTypes<'_>,
+    types: &TypeSpace,
     imported: &mut Imported,
     grounds: &mut KeptGrounds,
     group: &mut Imports,
@@ -139,8 +138,8 @@ fn fill(
             return Ok(false);
         };
         let name = draw_import_name(alloc, distinct, module_name(group), &mut imported.pairs, u)?;
-        imported.count_entity(types.space(), added)?;
-        note_import(types.space(), grounds, added);
+        imported.count_entity(types, added)?;
+        note_import(types, grounds, added);
         push_import(group, name, added)?;
     }
     Ok(true)
@@ -153,7 +152,7 @@ fn add_filled(
     alloc: Global,
     config: &Config,
     distinct: bool,
-    types: &ImportTypes<'_>,
+    types: &TypeSpace,
     imported: &mut Imported,
     grounds: &mut KeptGrounds,
     mut group: Imports,
@@ -200,7 +199,7 @@ fn add_single(
     alloc: Global,
     config: &Config,
     distinct: bool,
-    types: &ImportTypes<'_>,
+    types: &TypeSpace,
     imported: &mut Imported,
     grounds: &mut KeptGrounds,
     module: Name,
@@ -236,8 +235,8 @@ fn add_single(
         return Ok(false);
     };
     let name = draw_import_name(alloc, distinct, &module, &mut imported.pairs, u)?;
-    imported.count_entity(types.space(), entity_type)?;
-    note_import(types.space(), grounds, entity_type);
+    imported.count_entity(types, entity_type)?;
+    note_import(types, grounds, entity_type);
     imported.groups.push(Imports::Single(Import {
         module,
         name,
@@ -253,7 +252,7 @@ fn add_of_one_type(
     alloc: Global,
     config: &Config,
     distinct: bool,
-    types: &ImportTypes<'_>,
+    types: &TypeSpace,
     imported: &mut Imported,
     grounds: &mut KeptGrounds,
     module: Name,
@@ -301,7 +300,7 @@ fn add_group(
     alloc: Global,
     config: &Config,
     distinct: bool,
-    types: &ImportTypes<'_>,
+    types: &TypeSpace,
     imported: &mut Imported,
     grounds: &mut KeptGrounds,
     u: &mut Unstructured<'_>,
@@ -355,7 +354,7 @@ fn add_groups(
     alloc: Global,
     config: &Config,
     distinct: bool,
-    types: &ImportTypes<'_>,
+    types: &TypeSpace,
     imported: &mut Imported,
     grounds: &mut KeptGrounds,
     u: &mut Unstructured<'_>,
@@ -392,39 +391,6 @@ fn add_groups(
     Ok(())
 }
 
-/// Lists the types that an import may have, and adds groups of imports to `imported`. Does nothing
-/// if `max_imports` is 0.
-fn add_all_groups(
-    alloc: Global,
-    config: &Config,
-    distinct: bool,
-    types: &TypeSpace,
-    imported: &mut Imported,
-    grounds: &mut KeptGrounds,
-    u: &mut Unstructured<'_>,
-) -> Result<(), Error>
-    requires may { MayImport config.now types.now }
-    requires kept { AreKeptGrounds
-        (import_scope config.now types.now.types (spaces_of imported.old)) grounds.old }
-    requires so_far { IsImported config.now types.now.types distinct imported.old }
-    ensures exact { OnOk result (groups_at config.now types.now.types distinct
-        (config.now.max_imports + length u.old + 1) imported.old.groups u.old
-        ≡ (imported.new.groups, u.new)) }
-    ensures so_far { OnOk result (IsImported config.now types.now.types distinct imported.new) }
-    ensures kept { OnOk result (AreKeptGrounds
-        (import_scope config.now types.now.types (spaces_of imported.new)) grounds.new) }
-    ensures least { OnOk result
-        (imported.new.count < config.now.min_imports → MayEnd config.now imported.new.count) }
-    ensures memory { IfErr result (λ e. e ≡ Error.Memory) }
-    ensures left { KeepsPieces u.old u.new }
-{
-    if config.max_imports == 0 {
-        return Ok(());
-    }
-    let types = ImportTypes::new(alloc, types)?;
-    add_groups(alloc, config, distinct, &types, imported, grounds, u)
-}
-
 /// Draws imports into `imported`, which is empty. Fails if there are fewer than `config`
 /// requires.
 #[tactic(auto, unfolding(crate::specs::Importing::imports_at))]
@@ -450,7 +416,7 @@ fn draw_imports(
     ensures refusal { IfErr result (MayRefuseImports config.now) }
     ensures left { KeepsPieces u.old u.new }
 {
-    add_all_groups(alloc, config, distinct, types, imported, grounds, u)?;
+    add_groups(alloc, config, distinct, types, imported, grounds, u)?;
     if imported.count < config.min_imports {
         return Err(Error::IncorrectFormat(Why::Unmet(Count::Imports)));
     }

@@ -9,7 +9,6 @@ mod import_entities;
 mod import_groups;
 mod import_kinds;
 mod import_names;
-mod import_types;
 mod imports;
 mod imports_so_far;
 

@@ -1,5 +1,5 @@
 -- The types counted for tags and functions are suitable for them.
-use Rattle.std.proofs.Common.{◌≡◌, ℕ, suc, Bool, true, false, cond, List, [], ◌∷◌, ◌++◌, length, refl, arith, append_assoc, length-append, ◌||◌, ltb, lt-ltb}
+use Rattle.std.proofs.Common.{◌≡◌, ◌∙◌, ap, ℕ, suc, ◌+◌, Bool, true, false, not, ◌&&◌, cond, List, [], ◌∷◌, ◌++◌, length, refl, arith, append_assoc, length-append, ◌||◌, ltb, lt-ltb}
 use Rattle.std.specs.Prelude.{◌==◌, Some, slice_get, All}
 use Rattle.std.specs.List.{AllByRecursion as ByRecursion, list_any}
 use Rattle.std.proofs.lemmas.Bool.{eqb-true}
@@ -8,6 +8,9 @@ use Rattle.smith_syntax.specs.declared.value_type.ValType.{ValType}
 use Rattle.smith_syntax.specs.declared.composite_type.CompositeInnerType.{CompositeInnerType}
 use Rattle.smith_syntax.specs.declared.composite_type.CompositeInnerType.TheVariants.{Array, Func, Struct}
 use Rattle.smith_syntax.specs.declared.composite_type.SubType.{SubType}
+use Rattle.smith_syntax.specs.declared.value_type.AbstractHeapType.TheVariants as heap
+use Rattle.smith_types.specs.KindCounts.{is_inner_of_kind, is_function, is_in, indices_from, indices_in}
+use Rattle.smith_types.specs.declared.kind_counts.TypeSet.TheVariants.{OfKind, Functions, WithoutResults}
 use Rattle.smith_types.proofs.ListLemmas.{slice_get-last, slice_get-grown}
 use Rattle.smith_draw_types.specs.TypeUses.{is_tag_type, is_unshared_function, places_from, may_be_used, types_for, IsUsable}
 use Rattle.smith_draw_types.specs.declared.type_use.TypeUse.{TypeUse}
@@ -57,6 +60,35 @@ usable_by DefinedFunc types n t (Struct structure) at is on = absurd (cc (rw is 
 pub types_usable : (for_use : TypeUse) (types : List SubType) → All (IsUsable for_use types) (types_for for_use types)
 types_usable for_use types =
     All-weaker (IsPassing (may_be_used for_use) types) (IsUsable for_use types) (λ n h. usable_by for_use types n h.item h.item.composite_type.inner h.stands refl h.passes) (types_for for_use types) (places_pass (may_be_used for_use) types)
+
+-- the types of a use, as the set that a type space counts
+index_turn : (b c : Bool) (n : ℕ) (xs ys : List ℕ) → b ≡ c → xs ≡ ys → cond b (n ∷ xs) xs ≡ cond c (n ∷ ys) ys
+index_turn b c n xs ys same rest = rw (same, rest) refl
+
+indices_are_places : (f g : SubType → Bool) → ((t : SubType) → f t ≡ g t) → (n : ℕ) (types : List SubType) → indices_from f n types ≡ places_from g n types
+indices_are_places f g same n [] = refl
+indices_are_places f g same n (t ∷ types) =
+    let next : n + 1 ≡ suc n = omega arith in
+    index_turn (f t) (g t) n _ _ (same t) (ap (λ (m : ℕ). indices_from f m types) next ∙ indices_are_places f g same (suc n) types)
+
+pub tag_indices : (types : List SubType) → indices_in types WithoutResults ≡ types_for Tag types
+unfolding is_tag_type
+tag_indices types = indices_are_places (is_in WithoutResults) (may_be_used Tag) (λ t. refl) 0 types
+
+pub function_indices : (types : List SubType) → indices_in types Functions ≡ types_for ImportedFunc types
+function_indices types = indices_are_places (is_in Functions) (may_be_used ImportedFunc) (λ t. refl) 0 types
+
+unshared_by : (is_shared : Bool) (inner : CompositeInnerType) → is_inner_of_kind false heap.Func is_shared inner ≡ (is_function inner && not is_shared)
+unshared_by true (Func f) = refl
+unshared_by false (Func f) = refl
+unshared_by true (Array a) = refl
+unshared_by false (Array a) = refl
+unshared_by true (Struct s) = refl
+unshared_by false (Struct s) = refl
+
+pub unshared_function_indices : (types : List SubType) → indices_in types (OfKind false heap.Func) ≡ types_for DefinedFunc types
+unfolding is_unshared_function
+unshared_function_indices types = indices_are_places (is_in (OfKind false heap.Func)) (may_be_used DefinedFunc) (λ t. unshared_by t.composite_type.shared t.composite_type.inner) 0 types
 
 any_turn : (b : Bool) (n : ℕ) (places : List ℕ) (any : Bool) → ltb 0 (length places) ≡ any → ltb 0 (length (cond b (n ∷ places) places)) ≡ (b || any)
 any_turn true n places any e = lt-ltb 0 (length (n ∷ places)) (omega arith)

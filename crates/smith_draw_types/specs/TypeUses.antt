@@ -5,18 +5,9 @@ use Rattle.smith_syntax.specs.declared.composite_type.CompositeInnerType.{Compos
 use Rattle.smith_syntax.specs.declared.composite_type.CompositeInnerType.TheVariants.{Func}
 use Rattle.smith_syntax.specs.declared.composite_type.SubType.{SubType}
 use Rattle.smith_types.specs.Entities.{IsTagValid, IsFuncTypeIndex}
+use Rattle.smith_types.specs.KindCounts.{is_function, gives_nothing}
 use Rattle.smith_draw_types.specs.declared.type_use.TypeUse.{TypeUse}
 use Rattle.smith_draw_types.specs.declared.type_use.TypeUse.TheVariants.{Tag, ImportedFunc, DefinedFunc}
-
--- whether a composite type is a function
-abbrev pub is_function : CompositeInnerType → Bool
-is_function (Func function) = true
-is_function _ = false
-
--- whether a composite type is a function without results
-abbrev pub gives_nothing : CompositeInnerType → Bool
-gives_nothing (Func function) = length function.results == 0
-gives_nothing _ = false
 
 -- whether a tag may have the type: a function type without results
 unfoldable pub is_tag_type : SubType → Bool

@@ -56,5 +56,5 @@ pub use super_type::{
     arbitrary_super_type_of_val_type,
 };
 pub use table_type::{arbitrary_table_type, draw_table_type};
-pub use type_use::{TypeUse, arbitrary_tag_type, count_types, list_types};
+pub use type_use::{TypeUse, arbitrary_tag_type, choose_type, count_types, has_type, list_types};
 pub use value_type::{arbitrary_heap_type, arbitrary_ref_type, arbitrary_valtype, draw_ref_type};

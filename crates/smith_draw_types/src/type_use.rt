@@ -1,15 +1,17 @@
-ghost use Rattle.std.specs.Prelude.{◌≡◌, ◌<◌, ◌^◌, length, slice_index_or, IsOk, IfOk, IfErr};
+ghost use Rattle.std.specs.Prelude.{◌≡◌, ◌<◌, ◌^◌, length, nat_lt, List, IsOk, IfOk, IfErr};
+ghost use Rattle.smith_syntax.specs.declared.composite_type.SubType.{SubType as ListedType};
 ghost use Rattle.smith_types.specs.Entities.{IsTagValid};
+ghost use Rattle.smith_types.specs.KindCounts.{is_function, gives_nothing, indices_in};
 ghost use Rattle.smith_draw_types.specs.Choices.{chosen_at};
 ghost use Rattle.smith_draw_types.specs.Drawing.{AlwaysDraws, Draws};
-ghost use Rattle.smith_draw_types.specs.TypeUses.{is_function, gives_nothing, is_tag_type};
-ghost use Rattle.smith_draw_types.specs.TypeUses.{is_unshared_function, may_be_used, types_for, IsUsable};
+ghost use Rattle.smith_draw_types.specs.TypeUses.{is_tag_type, is_unshared_function};
+ghost use Rattle.smith_draw_types.specs.TypeUses.{may_be_used, types_for, IsUsable};
 ghost use Rattle.smith_draw_types.specs.declared.type_use.TypeUse.TheVariants.{Tag};
 
 use crate::spaces::Spaces;
 use smith_bytes::{Error, Unstructured};
 use smith_config::Config;
-use smith_types::{CompositeInnerType, Items, SubType};
+use smith_types::{AbstractHeapType, CompositeInnerType, Items, SubType, TypeSet, TypeSpace};
 use std::alloc::Global;
 
 /// A use of a function type.
@@ -85,35 +87,39 @@ pub fn list_types(alloc: Global, for_use: TypeUse, types: &[SubType]) -> Result<
     Ok(indices)
 }
 
-/// Returns the index of the type at `place` among those of `types` that are suitable for `for_use`.
-fn type_at(for_use: TypeUse, types: &[SubType], mut place: usize) -> u32
-    requires { length types.now < 2 ^ 32 }
-    ensures { result ≡ slice_index_or (types_for for_use types.now) place 0 }
+/// Returns the set of the types that are suitable for `for_use`.
+fn types_of(for_use: TypeUse) -> TypeSet
+    ensures { (types : List ListedType) → indices_in types result ≡ types_for for_use types }
 {
-    for (index, t) in types.iter().enumerate() {
-        if !may_be_used(for_use, t) {
-            continue;
-        }
-        if place == 0 {
-            return index as u32;
-        }
-        place -= 1;
+    match for_use {
+        TypeUse::Tag => TypeSet::WithoutResults,
+        TypeUse::ImportedFunc => TypeSet::Functions,
+        TypeUse::DefinedFunc => TypeSet::OfKind {
+            shared: false,
+            kind: AbstractHeapType::Func,
+        },
     }
-    0
 }
 
-/// Chooses a type of `types` that is suitable for `for_use` and returns its index.
-#[tactic(auto, unfolding(crate::specs::Choices::chosen_at))]
-fn choose_type(for_use: TypeUse, types: &[SubType], u: &mut Unstructured<'_>) -> u32
-    requires few { length types.now < 2 ^ 32 }
-    requires some { 0 < length (types_for for_use types.now) }
-    ensures draws { AlwaysDraws (chosen_at 0 (types_for for_use types.now) u.old)
-        result u.old u.new }
-    ensures usable { IsUsable for_use types.now result }
+/// Returns whether some type of `space` is suitable for `for_use`, in constant time.
+pub fn has_type(for_use: TypeUse, space: &TypeSpace) -> bool
+    ensures { result ≡ nat_lt 0 (length (types_for for_use space.now.types)) }
 {
-    let last = count_types(for_use, types) - 1;
+    space.count_in(types_of(for_use)) > 0
+}
+
+/// Chooses a type of `space` that is suitable for `for_use` and returns its index, in time
+/// logarithmic in the number of types. Requires such a type to exist: [`has_type`] holds.
+pub fn choose_type(for_use: TypeUse, space: &TypeSpace, u: &mut Unstructured<'_>) -> u32
+    requires some { 0 < length (types_for for_use space.now.types) }
+    ensures draws { AlwaysDraws (chosen_at 0 (types_for for_use space.now.types) u.old)
+        result u.old u.new }
+    ensures usable { IsUsable for_use space.now.types result }
+{
+    let set = types_of(for_use);
+    let last = space.count_in(set) - 1;
     let place = u.int_in_range(0..=last);
-    type_at(for_use, types, place)
+    space.index_in(set, place)
 }
 
 /// Draws the type of a tag: the index of a function type without results in the types of `spaces`.
@@ -135,5 +141,5 @@ pub fn arbitrary_tag_type(
         result u.old u.new }
     ensures valid { IfOk result (IsTagValid spaces.now.types.now.types) }
 {
-    Ok(choose_type(TypeUse::Tag, spaces.types.types(), u))
+    Ok(choose_type(TypeUse::Tag, spaces.types, u))
 }

@@ -3,16 +3,16 @@ use Rattle.std.proofs.Common.{◌≡◌, ◌↔◌, ℕ, suc, ◌+◌, ◌-◌, 
 use Rattle.std.specs.Prelude.{nat_eq}
 use Rattle.std.proofs.lemmas.Bool.{eqb-true, eq-eqb}
 use Rattle.std.proofs.lemmas.Option.{slice_get_within, slice_get-get_or}
-use Rattle.std.proofs.lemmas.List.{length-append, length-map, take-append-le, take_all, get_or-map}
+use Rattle.std.proofs.lemmas.List.{length-append, length-map, length-take-le, take-append-le, take_all, get_or-map}
 use Rattle.smith_syntax.specs.declared.composite_type.SubType.{SubType}
 use Rattle.smith_types.specs.declared.place.Place.{Place}
 use Rattle.smith_syntax.specs.declared.value_type.HeapType.TheVariants.{Concrete}
 use Rattle.smith_types.specs.Types.{IsOrderly}
 use Rattle.smith_types.specs.GroupedTypes.{MayFollow, HasDepth, root, deeper, AreDepths}
 use Rattle.smith_types.specs.declared.kind_counts.KindCounts.{KindCounts}
-use Rattle.smith_syntax.specs.declared.value_type.AbstractHeapType.{AbstractHeapType}
+use Rattle.smith_types.specs.declared.kind_counts.TypeSet.{TypeSet}
 use Rattle.smith_syntax.specs.Kinds.{shared}
-use Rattle.smith_types.specs.KindCounts.{is_of_kind, indices_of_kind, count_where, kind_count_at, counts_with, AreCounts}
+use Rattle.smith_types.specs.KindCounts.{is_in, indices_in, count_where, count_in, counts_with, AreCounts}
 use Rattle.smith_types.proofs.KindCountLemmas.{AreCounts-push, AreCounts-none, count_most, length_indices}
 use Rattle.smith_types.specs.Places.{last_counts_from, last_counts, IsAncestor, IsLink, IsPlace, ArePlaces, IsClimb, depths_in}
 use Rattle.smith_types.specs.Subtyping.{IsBelow, itself}
@@ -23,7 +23,7 @@ use Rattle.smith_types.proofs.SpaceLemmas.{HasDepth-grown, HasDepth-le, depth_al
 use Rattle.smith_types.proofs.WalkLemmas.{below_depth, below_level}
 
 abbrev pub no_place : Place
-no_place = record { supertype = 0; jump = 0; depth = 0; counts = record { arrays = 0; funcs = 0; structs = 0; shared_arrays = 0; shared_funcs = 0; shared_structs = 0 } }
+no_place = record { supertype = 0; jump = 0; depth = 0; counts = record { arrays = 0; funcs = 0; structs = 0; shared_arrays = 0; shared_funcs = 0; shared_structs = 0; without_results = 0 } }
 
 -- a place, in the form of the code
 pub place_read : (types : List SubType) (places : List Place) (i : ℕ) (place d : Place) → ArePlaces types places → i < length types → place ≡ get_or places i d → IsPlace types i place
@@ -33,12 +33,12 @@ place_read types places i place d known inside read =
 pub place_at : (types : List SubType) (places : List Place) (i : ℕ) → ArePlaces types places → i < length types → IsPlace types i (get_or places i no_place)
 place_at types places i known inside = place_read types places i (get_or places i no_place) no_place known inside refl
 
--- the number of types of a kind up to a type, in the form of the code
-pub count_read : (types now : List SubType) (places : List Place) (i n : ℕ) (place d : Place) (s : Bool) (kind : AbstractHeapType) → types ≡ now → ArePlaces types places → i < length now → place ≡ get_or places i d → n ≡ kind_count_at place.counts s kind
-    → n ≡ count_where (is_of_kind s kind) (take (suc i) now)
-count_read types now places i n place d s kind view known inside read is =
-    subst (λ xs. n ≡ count_where (is_of_kind s kind) (take (suc i) xs)) view
-    (is ∙ (place_read types places i place d known (rw view inside) read).counts.each s kind)
+-- the number of types in a set up to a type, in the form of the code
+pub count_read : (types now : List SubType) (places : List Place) (i n : ℕ) (place d : Place) (set : TypeSet) → types ≡ now → ArePlaces types places → i < length now → place ≡ get_or places i d → n ≡ count_in place.counts set
+    → n ≡ count_where (is_in set) (take (suc i) now)
+count_read types now places i n place d set view known inside read is =
+    subst (λ xs. n ≡ count_where (is_in set) (take (suc i) xs)) view
+    (is ∙ (place_read types places i place d known (rw view inside) read).counts.each set)
 
 -- the depths of the places are those of the types
 pub depths_known : (types : List SubType) (places : List Place) → ArePlaces types places → AreDepths types (depths_in places)
@@ -196,21 +196,36 @@ counts_known types (p ∷ places) known =
     let all : take (suc last) types ≡ types = take_all (suc last) types (omega (arith, end)) in
     subst (λ c. AreCounts types c) (last_counts-last no_place.counts (p ∷ places) p (omega arith)) (rw all at place.counts)
 
--- the number of types of a kind, in the form of the code
-pub count_of_all : (types now : List SubType) (places : List Place) (s : Bool) (kind : AbstractHeapType) (n : ℕ) → types ≡ now → ArePlaces types places → n ≡ kind_count_at (last_counts places) s kind → n ≡ length (indices_of_kind now s kind)
-count_of_all types now places s kind n view known is =
-    subst (λ xs. n ≡ length (indices_of_kind xs s kind)) view
-    (is ∙ (counts_known types places known).each s kind ∙ sym (length_indices (is_of_kind s kind) 0 types))
+-- the number of types in a set, in the form of the code
+pub count_of_all : (types now : List SubType) (places : List Place) (set : TypeSet) (n : ℕ) → types ≡ now → ArePlaces types places → n ≡ count_in (last_counts places) set → n ≡ length (indices_in now set)
+count_of_all types now places set n view known is =
+    subst (λ xs. n ≡ length (indices_in xs set)) view
+    (is ∙ (counts_known types places known).each set ∙ sym (length_indices (is_in set) 0 types))
+
+-- a count of all types, or of those up to one of them, is an index
+pub count_fits : (types : List SubType) (places : List Place) (set : TypeSet) → ArePlaces types places → length types < 2 ^ 32 → count_in (last_counts places) set < 2 ^ 32
+count_fits types places set known few =
+    let is = (counts_known types places known).each set in
+    let most = count_most (is_in set) types in
+    omega (arith, is, most, few)
+
+pub count_up_to_fits : (types now : List SubType) (places : List Place) (i : ℕ) (place d : Place) (set : TypeSet) → types ≡ now → ArePlaces types places → length types < 2 ^ 32 → i < length now → place ≡ get_or places i d → count_in place.counts set < 2 ^ 32
+count_up_to_fits types now places i place d set view known few inside read =
+    let is = count_read types now places i (count_in place.counts set) place d set view known inside read refl in
+    let most = count_most (is_in set) (take (suc i) now) in
+    let long : length (take (suc i) now) ≡ suc i = length-take-le (suc i) now (omega (arith, inside)) in
+    let same : length types ≡ length now = ap (λ xs. length xs) view in
+    omega (arith, is, most, long, same, inside, few)
 
 -- the counts with one more type
 pub counts_more : (types : List SubType) (places : List Place) (t : SubType) → ArePlaces types places → AreCounts (types ++ t ∷ []) (counts_with (shared t) t.composite_type.inner (last_counts places))
 counts_more types places t known = AreCounts-push types t (last_counts places) (counts_known types places known)
 
 -- no count is at its limit
-pub counts_room : (types : List SubType) (places : List Place) (t : SubType) → ArePlaces types places → MayFollow types t → (s : Bool) (kind : AbstractHeapType) → kind_count_at (last_counts places) s kind + 1 < 2 ^ 32
-counts_room types places t known follows s kind =
-    let is = (counts_known types places known).each s kind in
-    let most = count_most (is_of_kind s kind) types in
+pub counts_room : (types : List SubType) (places : List Place) (t : SubType) → ArePlaces types places → MayFollow types t → (set : TypeSet) → count_in (last_counts places) set + 1 < 2 ^ 32
+counts_room types places t known follows set =
+    let is = (counts_known types places known).each set in
+    let most = count_most (is_in set) types in
     let few : length types + 1 < 2 ^ 32 = follows.room in
     omega (arith, is, most, few)
 

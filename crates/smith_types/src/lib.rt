@@ -24,6 +24,7 @@ pub use entity_spaces::{EntitySpaces, imported_spaces_of};
 pub use func_grounds::FuncGrounds;
 pub use ground::{are_defaultable, is_defaultable, unpack};
 pub use grouped_types::type_space_of;
+pub use kind_counts::TypeSet;
 pub use smith_syntax::{
     AbstractHeapType, ArrayType, CloneIn, Code, CompositeInnerType, CompositeType, ConstInstr,
     DataSegment, DataSegmentKind, ElementKind, ElementSegment, Elements, EntityType, Exact,

@@ -32,7 +32,7 @@ ghost use Rattle.smith_types.specs.GroupedTypes.{extensible_from};
 ghost use Rattle.smith_types.specs.Places.{IsPlace, ArePlaces, AreBeside, depths_in};
 ghost use Rattle.smith_types.specs.Families.{direct_subtypes, AreFamilies};
 ghost use Rattle.smith_types.specs.Grounded.{IsGroundedBy, IsGroundedByStructs};
-ghost use Rattle.smith_types.specs.KindCounts.{indices_of_kind};
+ghost use Rattle.smith_types.specs.KindCounts.{indices_of_kind, indices_in};
 ghost use Rattle.smith_types.specs.Sizes.{value_count};
 ghost use Rattle.smith_types.specs.Matching.{IsCompositeMatch, IsInnerInRange};
 ghost use Rattle.smith_syntax.specs.declared.value_type.HeapType.TheVariants.{Concrete};
@@ -41,6 +41,7 @@ ghost use Rattle.smith_types.specs.Subtyping.{IsValInRange};
 
 use crate::family::{Family, extend_families, join_family};
 use crate::ground::{Ground, GroundKinds, is_ground, no_grounds, note_ground};
+use crate::kind_counts::TypeSet;
 use crate::matching::composite_type_is_match;
 use crate::place::{Place, find_ancestor, last_counts, place_of};
 use crate::subtyping::{
@@ -206,6 +207,32 @@ impl TypeSpace {
         find_ancestor(types, places, index, depth)
     }
 
+    /// Returns the number of types in `set`.
+    pub fn count_in(&self, set: TypeSet) -> u32
+        ensures { result ≡ length (indices_in self.now.types set) }
+    {
+        last_counts(self.places.as_slice()).count(set)
+    }
+
+    /// Returns the index of the type at position `place`, from 0, among those counted by
+    /// [`TypeSpace::count_in`], in index order. Requires `place` to be less than that count.
+    pub fn index_in(&self, set: TypeSet, place: u32) -> u32
+        requires { place < length (indices_in self.now.types set) }
+        ensures { slice_get (indices_in self.now.types set) place ≡ Some result }
+    {
+        let mut low = 0;
+        let mut high = self.places.len() - 1;
+        while low < high {
+            let middle = low + (high - low) / 2;
+            if place < self.places[middle].counts.count(set) {
+                high = middle;
+            } else {
+                low = middle + 1;
+            }
+        }
+        low as u32
+    }
+
     /// Returns the number of types of the kind `kind` with the sharedness `shared`.
     ///
     /// The kinds of types are `Array`, `Func` and `Struct`. Returns 0 for any other abstract heap
@@ -213,7 +240,7 @@ impl TypeSpace {
     pub fn count_of_kind(&self, shared: bool, kind: AbstractHeapType) -> u32
         ensures { result ≡ length (indices_of_kind self.now.types shared kind) }
     {
-        last_counts(self.places.as_slice()).count(shared, kind)
+        self.count_in(TypeSet::OfKind { shared, kind })
     }
 
     /// Returns the index of the type at position `place`, from 0, among those counted by
@@ -222,17 +249,7 @@ impl TypeSpace {
         requires { place < length (indices_of_kind self.now.types shared kind) }
         ensures { slice_get (indices_of_kind self.now.types shared kind) place ≡ Some result }
     {
-        let mut low = 0;
-        let mut high = self.places.len() - 1;
-        while low < high {
-            let middle = low + (high - low) / 2;
-            if place < self.places[middle].counts.count(shared, kind) {
-                high = middle;
-            } else {
-                low = middle + 1;
-            }
-        }
-        low as u32
+        self.index_in(TypeSet::OfKind { shared, kind }, place)
     }
 
     /// Returns the number of types that declare the type `index` as their supertype. Returns 0 if

@@ -1,36 +1,34 @@
-use Rattle.std.proofs.Common.{◌≡◌, ◌<◌, [], length, nat_lt, refl, sym, ap, subst}
+use Rattle.std.proofs.Common.{[], length, nat_lt, refl, sym, ap}
 use Rattle.std.proofs.lemmas.List.Elements.{All-nil, All-cons}
 use Rattle.std.proofs.lemmas.Bool.{ltb-true}
-use Rattle.smith_types.specs.Entities.{IsTagValid, IsFuncTypeIndex}
 use Rattle.smith_types.specs.Expressions.{Context}
-use Rattle.smith_draw_types.specs.Choices.{chosen_at}
 use Rattle.smith_draw_types.specs.TypeUses.{types_for}
-use Rattle.smith_draw_types.specs.declared.type_use.TypeUse.TheVariants.{Tag, ImportedFunc}
+use Rattle.smith_draw_types.specs.declared.type_use.TypeUse.TheVariants.{Tag}
 use Rattle.smith_draw_types.proofs.CallerLemmas.{passes_but_imports}
 use Rattle.smith_config.specs.Granted.{HasGroundedElements, HasGroundedValue}
 use Rattle.smith_draw_imports.specs.Imported.{spaces_of}
 use Rattle.smith_draw_imports.specs.ImportedEntities.{import_scope}
-use Rattle.smith_draw_imports.proofs.ImportedEntityLemmas.{first_holds, second_holds, chosen_usable, fit_without_references, tag_fit, func_fit, global_fit, memory_fit, table_fit}
+use Rattle.smith_draw_imports.proofs.ImportedEntityLemmas.{first_holds, second_holds, fit_without_references, tag_fit, func_fit, global_fit, memory_fit, table_fit}
 use Rattle.smith_draw_imports.proofs.import_entities.draw_entity_of_kind.Goals as goal
 
 pub returns-in-Tag-clause-fit : goal.returns-in-Tag-clause-fit
 returns-in-Tag-clause-fit c =
     let types = c.args.types.now.types in
     let offered = rw c.in-Tag.is at c.requires.kind in
-    let some : 0 < length (types_for Tag types) = ltb-true _ _ (second_holds c.args.config.now.exceptions_enabled (nat_lt 0 (length (types_for Tag types))) offered) in
-    let exact : chosen_at 0 (types_for Tag types) c.args.u.now ≡ (c.choose.result, c.choose.new.u) = rw c.for_tags.ensures at (c.choose.ensures.exact 0) in
-    fit_without_references c.args.config.now c.args.types.now.types (spaces_of c.args.imported.now) _ (tag_fit c.args.config.now c.args.types.now c.requires.may c.choose.result (first_holds c.args.config.now.exceptions_enabled (nat_lt 0 (length (types_for Tag types))) offered) (subst (λ drawn. IsTagValid types drawn.0) exact (chosen_usable Tag types c.args.u.now some))) refl refl
+    fit_without_references c.args.config.now c.args.types.now.types (spaces_of c.args.imported.now) _ (tag_fit c.args.config.now c.args.types.now c.requires.may c.choose_type.result (first_holds c.args.config.now.exceptions_enabled (nat_lt 0 (length (types_for Tag types))) offered) c.choose_type.ensures.usable) refl refl
+
+pub choose_type-requires : goal.choose_type-requires
+choose_type-requires c =
+    let offered = rw c.in-Tag.is at c.requires.kind in
+    record { some = ltb-true _ _ (second_holds c.args.config.now.exceptions_enabled (nat_lt 0 (length (types_for Tag c.args.types.now.types))) offered) }
 
 pub returns-in-Func-clause-fit : goal.returns-in-Func-clause-fit
 returns-in-Func-clause-fit c =
-    let types = c.args.types.now.types in
-    let some : 0 < length (types_for ImportedFunc types) = ltb-true _ _ (rw c.in-Func.is at c.requires.kind) in
-    let exact : chosen_at 0 (types_for ImportedFunc types) c.args.u.now ≡ (c.choose-in-Func.result, c.choose-in-Func.new.u) = rw c.for_funcs.ensures at (c.choose-in-Func.ensures.exact 0) in
-    fit_without_references c.args.config.now c.args.types.now.types (spaces_of c.args.imported.now) _ (func_fit c.args.config.now c.args.types.now c.requires.may c.choose-in-Func.result (subst (λ drawn. IsFuncTypeIndex types drawn.0) exact (chosen_usable ImportedFunc types c.args.u.now some))) refl refl
+    fit_without_references c.args.config.now c.args.types.now.types (spaces_of c.args.imported.now) _ (func_fit c.args.config.now c.args.types.now c.requires.may c.choose_type-in-Func.result c.choose_type-in-Func.ensures.usable) refl refl
 
 pub returns-in-Global-clause-fit : goal.returns-in-Global-clause-fit
 returns-in-Global-clause-fit c =
-    let standing = rw c.space.ensures at c.reference_scope_after-standing.ensures in
+    let standing = c.reference_scope_after-standing.ensures in
     let valid = c.draw_global_type.ensures.valid c.args.types.now (sym (ap (λ (context : Context). context.types) standing)) c.requires.may.valid in
     let Elements = HasGroundedElements c.args.config.now (import_scope c.args.config.now c.args.types.now.types (spaces_of c.args.imported.now)) in
     let Values = HasGroundedValue c.args.config.now (import_scope c.args.config.now c.args.types.now.types (spaces_of c.args.imported.now)) in
@@ -48,7 +46,7 @@ pub returns-in-Table-clause-fit : goal.returns-in-Table-clause-fit
 returns-in-Table-clause-fit c =
     let Elements = HasGroundedElements c.args.config.now (import_scope c.args.config.now c.args.types.now.types (spaces_of c.args.imported.now)) in
     let Values = HasGroundedValue c.args.config.now (import_scope c.args.config.now c.args.types.now.types (spaces_of c.args.imported.now)) in
-    let standing = rw c.space.ensures at c.reference_scope_after-standing.ensures in
+    let standing = c.reference_scope_after-standing.ensures in
     record {
       entity = table_fit c.args.config.now c.args.types.now c.requires.may _ (c.draw_table_type.ensures.valid c.args.types.now (sym (ap (λ (context : Context). context.types) standing)) c.requires.may.valid) c.draw_table_type.ensures.within;
       grounded_tables = All-cons Elements _ [] (rw standing at c.draw_table_type.ensures.grounded) (All-nil Elements);

@@ -20,7 +20,7 @@ returns-clause-so_far c =
     let imports = flattened c.args.imported.now.groups in
     let one = import_of c.args.«module» c.in_ok-name.name c.in-Some.entity_type in
     let next : IsNext c.args.config.now c.args.types.now.types (spaces_of c.args.imported.now) c.args.imported.now.type_size c.in-Some.entity_type = rw c.in-Some.is at c.in_ok-entity_type.ensures.next in
-    single_added one old (c.in_ok-name.ensures.pairs imports one old.counts.pairs refl refl) (rw c.space.ensures at c.in_ok-count_entity.ensures.counted) c.in_ok-push.ensures.ok next c.requires.room (c.in_ok-name.ensures.fresh imports old.counts.pairs)
+    single_added one old (c.in_ok-name.ensures.pairs imports one old.counts.pairs refl refl) c.in_ok-count_entity.ensures.counted c.in_ok-push.ensures.ok next c.requires.room (c.in_ok-name.ensures.fresh imports old.counts.pairs)
 
 pub returns-clause-advances : goal.returns-clause-advances
 returns-clause-advances c = λ on.
@@ -31,6 +31,6 @@ returns-clause-advances c = λ on.
 
 pub returns-clause-kept : goal.returns-clause-kept
 returns-clause-kept c =
-    let counted = rw c.space.ensures at c.in_ok-count_entity.ensures.counted in
-    let noted = rw c.space-2.ensures at (c.note_import.ensures c.args.config.now (spaces_of c.args.imported.now)) in
+    let counted = c.in_ok-count_entity.ensures.counted in
+    let noted = c.note_import.ensures c.args.config.now (spaces_of c.args.imported.now) in
     subst (λ (spaces : EntitySpaces). AreKeptGrounds (import_scope c.args.config.now c.args.types.now.types spaces) c.note_import.new.grounds) (sym counted.spaces) (noted c.requires.kept)

@@ -24,7 +24,7 @@ returns-in_default-clause-exact c =
 pub count_entity-requires : goal.count_entity-requires
 count_entity-requires c =
     let next : IsNext c.args.config.now c.args.types.now.types (spaces_of c.loop-imported.imported) c.loop-imported.imported.type_size c.in-Some.added = rw c.in-Some.is at c.in_ok-added.ensures.next in
-    record { typed = rw c.space.ensures next.fit.entity.typed; count = omega (arith, c.requires.may.passes.few counts.Imports); fits = rw c.space.ensures next.sum }
+    record { typed = next.fit.entity.typed; count = omega (arith, c.requires.may.passes.few counts.Imports); fits = next.sum }
 
 pub loop-imported-preserved : goal.loop-imported-preserved
 loop-imported-preserved c =
@@ -40,9 +40,9 @@ loop-imported-preserved c =
     let pairs = c.in_ok-name.ensures.pairs imports one i.counts.pairs (sym c.module_name.ensures) refl in
     let grown : before ++ imports_of (with_import group c.in_ok-name.name c.in-Some.added) ≡ imports ++ one ∷ [] =
     ap (λ (xs : List Import). before ++ xs) (import_added group c.in_ok-name.name c.in-Some.added i.ready.compact of_group) ∙ sym (append_assoc before (imports_of group) (one ∷ [])) in
-    let counted = rw c.space.ensures at c.in_ok-count_entity.ensures.counted in
+    let counted = c.in_ok-count_entity.ensures.counted in
     let count : c.count_entity.new.self.count ≡ c.loop-imported.imported.count + 1 = counted.count in
-    let noted = rw c.space-in-loop-imported.ensures at (c.note_import.ensures c.args.config.now (spaces_of c.loop-imported.imported)) in
+    let noted = c.note_import.ensures c.args.config.now (spaces_of c.loop-imported.imported) in
     record {
       kept = subst (λ (spaces : EntitySpaces). AreKeptGrounds (import_scope c.args.config.now c.args.types.now.types spaces) c.note_import.new.grounds) (sym counted.spaces) (noted i.kept);
       ready = rw (c.in_ok-push_import.ensures.ok, counted.spaces) (ready_more c.args.config.now c.args.types.now.types (spaces_of c.loop-imported.imported) group c.in_ok-name.name c.in-Some.added i.ready);

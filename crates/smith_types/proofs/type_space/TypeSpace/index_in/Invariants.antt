@@ -1,13 +1,13 @@
 use Rattle.std.proofs.Common.{◌-◌, ◌<◌, ◌≤◌, suc, length, take}
-use Rattle.smith_types.specs.KindCounts.{is_of_kind, count_where}
-use Rattle.smith_types.proofs.type_space.TypeSpace.index_of_kind.Given as goal
+use Rattle.smith_types.specs.KindCounts.{is_in, count_where}
+use Rattle.smith_types.proofs.type_space.TypeSpace.index_in.Given as goal
 
 abbrev pub invariant-loop-low : goal.invariant-loop-low
 invariant-loop-low l = record {
   ordered : l.low ≤ l.high;
   inside : l.high < length l.self.types;
-  least : count_where (is_of_kind l.shared l.kind) (take l.low l.self.types) ≤ l.place;
-  most : l.place < count_where (is_of_kind l.shared l.kind) (take (suc l.high) l.self.types);
+  least : count_where (is_in l.set) (take l.low l.self.types) ≤ l.place;
+  most : l.place < count_where (is_in l.set) (take (suc l.high) l.self.types);
 }
 
 abbrev pub decreases-loop-low : goal.decreases-loop-low
