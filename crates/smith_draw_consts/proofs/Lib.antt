@@ -7,6 +7,7 @@ pub mod ReadableLemmas
 pub mod ConstScopeLemmas
 pub mod ConstOfferLemmas
 pub mod ConstFoundLemmas
+pub mod KeptWayLemmas
 pub mod ConstNodeLemmas
 pub mod PuttingLemmas
 pub mod ExtendedLemmas

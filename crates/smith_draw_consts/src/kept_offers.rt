@@ -10,11 +10,13 @@ ghost use Rattle.smith_draw_consts.specs.KeptOffers.{AreAllRead, AreFewRead, Are
 ghost use Rattle.smith_draw_consts.specs.KeptOffers.{AreKeptOffers, AreManyKept, HasReadAll, IsCounted};
 ghost use Rattle.smith_draw_consts.specs.KeptOffers.{IsEntry, IsFor, IsKeptAt, IsKnown, IsTested};
 ghost use Rattle.smith_draw_consts.specs.KeptOffers.{IsWhole, IsWholeAt, IsWiderOffer, MayOffer};
+ghost use Rattle.smith_draw_consts.specs.KeptOffers.{AreWaysWhole, HasCountedWays, IsKeptWays};
 ghost use Rattle.smith_draw_consts.specs.KeptOffers.{offered_before};
 ghost use Rattle.smith_draw_consts.specs.declared.read_items.ReadItems.{ReadItems as Read};
 
 use crate::block_counts::BlockCounts;
 use crate::few_items::{FewItems, MOST};
+use crate::kept_ways::{KeptTypes, KeptWays};
 use crate::knowledge::Known;
 use crate::read_items::ReadItems;
 use crate::references::{is_offered, widest};
@@ -25,10 +27,11 @@ use std::alloc::Global;
 use std::mem;
 
 /// The globals and functions that have been read, and the counts of those offered for each wanted
-/// type. All draws together look at each global and each function once.
+/// type, with the ways to create values of it. All draws together look at each global and each
+/// function once.
 ///
 /// If there are few globals and functions, their types are recorded, and each draw tests these.
-/// Nothing is counted or allocated.
+/// Nothing is counted or allocated. If there are few types, each draw tests them too.
 ///
 /// If there are many, each is put into a class. A first draw of a type tests each class and counts
 /// the items of the classes that are offered. Each later draw tests the classes of a few items at
@@ -36,6 +39,9 @@ use std::mem;
 ///
 /// For a type of unshared references, a first draw counts only the globals near one that is offered
 /// for the top of its hierarchy.
+///
+/// If there are many types, a first draw of a type of references tests each of them and counts the
+/// ways to create a value by it. Each later draw tests a few types at most.
 ///
 /// Initialisers of tables and of globals may share one value: an entry that has counted defined
 /// globals is not used where only imported globals are visible.
@@ -45,6 +51,8 @@ pub struct KeptOffers {
     few: FewItems,
     // The classes and counts, once there are many globals and functions.
     many: Option<ManyItems>,
+    // The counts of the ways to create values, once there are many types.
+    types: Option<KeptTypes>,
 }
 
 /// The classes of the globals and functions read so far, and an entry for each wanted type.
@@ -77,6 +85,7 @@ impl KeptOffers {
         KeptOffers {
             few: FewItems::new(),
             many: None,
+            types: None,
         }
     }
 
@@ -123,6 +132,85 @@ impl KeptOffers {
             Some(many) => Known::Many(&many.items, &many.kept[place]),
             None => Known::Few(&self.few),
         }
+    }
+
+    /// Reads the types of `scope` that have not been read, if there are many, and counts the ways
+    /// to create a value of the type `wanted`. Returns the position of the entry for `wanted`, or
+    /// `None` if nothing is counted.
+    pub(crate) fn look_at_types(
+        &mut self,
+        alloc: Global,
+        scope: &Scope<'_>,
+        wanted: ValType,
+        fuel: u32,
+    ) -> Result<Option<usize>, Error>
+        requires scope { IsScope (context_of scope.now) }
+        requires upper { IsValInRange (context_of scope.now).types wanted }
+        requires kept { AreKeptOffers (context_of scope.now) self.old }
+        ensures kept { OnOk result (AreKeptOffers (context_of scope.now) self.new) }
+        ensures few { OnOk result (self.new.few ≡ self.old.few) }
+        ensures many { OnOk result (self.new.many ≡ self.old.many) }
+        ensures counted { IfOk result (λ place.
+            HasCountedWays (context_of scope.now) wanted fuel place self.new.types) }
+        ensures memory { IfErr result (λ e. e ≡ Error.Memory) }
+    {
+        if !are_counted(scope, wanted) {
+            return Ok(None);
+        }
+        count_types(&mut self.types, alloc, scope, wanted, fuel)
+    }
+
+    /// Returns the counts of the entry at `place`: the position that `look_at_types` returned.
+    pub(crate) fn ways_at(&self, place: Option<usize>) -> Option<&KeptWays>
+        requires { (context : Context) × (wanted : Wanted) × (fuel : ℕ)
+            × HasCountedWays context wanted fuel place self.now.types }
+        ensures { (context : Context) (wanted : Wanted) (fuel : ℕ)
+            → HasCountedWays context wanted fuel place self.now.types
+            → IfSome result (λ ways. AreWaysWhole context wanted fuel ways.now) }
+    {
+        match (place, &self.types) {
+            (Some(place), Some(types)) => Some(&types.entries[place]),
+            _ => None,
+        }
+    }
+}
+
+/// Returns whether the ways to create a value of the type `wanted` are counted: it is a type of
+/// references, and there are many types.
+fn are_counted(scope: &Scope<'_>, wanted: ValType) -> bool {
+    scope.config.gc_enabled
+        && matches!(wanted, ValType::Ref(_))
+        && scope.spaces.types.types().len() > MOST
+}
+
+/// Counts in `types` the ways to create a value of the type `wanted` by the types of `scope` that
+/// have not been read. Returns the position of the entry for `wanted`.
+fn count_types(
+    types: &mut Option<KeptTypes>,
+    alloc: Global,
+    scope: &Scope<'_>,
+    wanted: ValType,
+    fuel: u32,
+) -> Result<Option<usize>, Error>
+    requires scope { IsScope (context_of scope.now) }
+    requires upper { IsValInRange (context_of scope.now).types wanted }
+    requires kept { IfSome types.old (λ kept.
+        All (IsKeptWays (context_of scope.now)) kept.entries.items) }
+    ensures kept { OnOk result (IfSome types.new (λ kept.
+        All (IsKeptWays (context_of scope.now)) kept.entries.items)) }
+    ensures counted { IfOk result (λ place.
+        HasCountedWays (context_of scope.now) wanted fuel place types.new) }
+    ensures memory { IfErr result (λ e. e ≡ Error.Memory) }
+{
+    if types.is_none() {
+        drop(types.replace(KeptTypes::new(alloc)));
+    }
+    match types {
+        Some(kept) => {
+            let place = kept.look(alloc, scope, wanted, fuel)?;
+            Ok(Some(place))
+        }
+        None => unreachable!(),
     }
 }
 
