@@ -8,6 +8,7 @@ pub mod ConstScopeLemmas
 pub mod ConstOfferLemmas
 pub mod ConstFoundLemmas
 pub mod KeptWayLemmas
+pub mod OnlyTypeLemmas
 pub mod ConstNodeLemmas
 pub mod PuttingLemmas
 pub mod ExtendedLemmas

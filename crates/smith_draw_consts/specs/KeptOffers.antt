@@ -3,7 +3,7 @@ use Rattle.std.specs.Prelude.{◌≡◌, ℕ, ◌+◌, ◌*◌, ◌/◌, ◌<◌
 use Rattle.std.specs.Borrow.{Bor}
 use Rattle.std.specs.List.{range_with_len}
 use Rattle.smith_types.specs.Subtyping.{IsValInRange}
-use Rattle.smith_types.specs.Expressions.{Context, function_reference}
+use Rattle.smith_types.specs.Expressions.{Context, created, function_reference}
 use Rattle.smith_syntax.specs.declared.composite_type.SubType.{SubType}
 use Rattle.smith_syntax.specs.declared.entity_type.GlobalType.{GlobalType}
 use Rattle.smith_syntax.specs.declared.value_type.ValType.{ValType}
@@ -119,6 +119,11 @@ pub record IsFewWhole (context : Context) (few : FewItems) : Type 0 where
 pub record AreManyKept (context : Context) (many : ManyItems) : Type 0 where
   pub items : AreItemsRead context many.items
   pub entries : All (IsEntry context many.items) many.kept.items
+
+-- a reference to a created value is a subtype of the wanted type only if the value is of this type
+pub record IsOnlyType (context : Context) (wanted : ValType) (index : ℕ) : Type 0 where
+  pub there : index < length context.types
+  pub only : (other : ℕ) → is_val_below context.types (created context other) wanted ≡ true → other ≡ index
 
 -- the ways to create values by the types read so far are counted: by struct types, or by array types
 pub record AreWaysCounted (context : Context) (wanted : ValType) (fuel : ℕ) (arrays : Bool) (counts : BlockCounts) : Type 0 where

@@ -19,7 +19,7 @@ use crate::few_items::{FewItems, MOST};
 use crate::kept_ways::{KeptTypes, KeptWays};
 use crate::knowledge::Known;
 use crate::read_items::ReadItems;
-use crate::references::{is_offered, widest};
+use crate::references::{is_offered, only_type, widest};
 use crate::scope::Scope;
 use smith_bytes::Error;
 use smith_types::{Items, TypeSpace, ValType, is_same};
@@ -41,7 +41,8 @@ use std::mem;
 /// for the top of its hierarchy.
 ///
 /// If there are many types, a first draw of a type of references tests each of them and counts the
-/// ways to create a value by it. Each later draw tests a few types at most.
+/// ways to create a value by it. Each later draw tests a few types at most. So does each draw of a
+/// reference to a type without subtypes, for which nothing is counted.
 ///
 /// Initialisers of tables and of globals may share one value: an entry that has counted defined
 /// globals is not used where only imported globals are visible.
@@ -176,11 +177,14 @@ impl KeptOffers {
 }
 
 /// Returns whether the ways to create a value of the type `wanted` are counted: it is a type of
-/// references, and there are many types.
-fn are_counted(scope: &Scope<'_>, wanted: ValType) -> bool {
+/// references, there are many types, and values of more than one of them may be offered.
+fn are_counted(scope: &Scope<'_>, wanted: ValType) -> bool
+    requires { IsValInRange (context_of scope.now).types wanted }
+{
     scope.config.gc_enabled
         && matches!(wanted, ValType::Ref(_))
         && scope.spaces.types.types().len() > MOST
+        && only_type(scope, wanted).is_none()
 }
 
 /// Counts in `types` the ways to create a value of the type `wanted` by the types of `scope` that

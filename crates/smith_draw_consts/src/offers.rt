@@ -34,7 +34,7 @@ ghost use Rattle.smith_draw_consts.specs.KeptOffers.{AreWaysWhole, IsKnown};
 use crate::kept_ways::KeptWays;
 use crate::knowledge::{Known, kind_of_function, kind_of_global};
 use crate::node_choice::Choice;
-use crate::references::{gives, i31, is_below, is_offered};
+use crate::references::{gives, i31, is_below, is_offered, only_type};
 use crate::scope::Scope;
 use smith_config::Config;
 use smith_types::{
@@ -240,6 +240,28 @@ fn past_types(
         Some(kept) => {
             let (first, place) = kept.counts(fuel, arrays).search_from(place);
             past_types_from(scope, wanted, fuel, arrays, first, place)
+        }
+        None => past_few_types(scope, wanted, fuel, arrays, place),
+    }
+}
+
+/// Searches the types as [`past_types`] does, without counts.
+fn past_few_types(
+    scope: &Scope<'_>,
+    wanted: ValType,
+    fuel: u32,
+    arrays: bool,
+    place: usize,
+) -> Result<usize, Choice>
+    requires scope { IsScope (context_of scope.now) }
+    requires upper { IsValInRange (context_of scope.now).types wanted }
+    ensures { result ≡ past (types_offers (context_of scope.now) wanted fuel arrays) place }
+{
+    let types = scope.spaces.types.types();
+    match only_type(scope, wanted) {
+        Some(index) => {
+            let inner = &types[index as usize].composite_type.inner;
+            past_type(scope, wanted, fuel, arrays, index, inner, place)
         }
         None => past_types_from(scope, wanted, fuel, arrays, 0, place),
     }

@@ -62,13 +62,13 @@ kept_alike config types spaces defined one other kept all =
       types = IfSome_then kept.types all.types
           (λ each are.
           All-weaker (IsKeptWays (scope_beside config types spaces defined one)) (IsKeptWays (scope_beside config types spaces defined other))
-              (λ ways entry. record {
-                wanted = entry.wanted;
-                bare_structs = record { seen = entry.bare_structs.seen; counted = entry.bare_structs.counted };
-                structs = record { seen = entry.structs.seen; counted = entry.structs.counted };
-                arrays = record { seen = entry.arrays.seen; counted = entry.arrays.counted };
-              })
-              each.entries.items are);
+          (λ ways entry. record {
+            wanted = entry.wanted;
+            bare_structs = record { seen = entry.bare_structs.seen; counted = entry.bare_structs.counted };
+            structs = record { seen = entry.structs.seen; counted = entry.structs.counted };
+            arrays = record { seen = entry.arrays.seen; counted = entry.arrays.counted };
+          })
+          each.entries.items are);
     }
 
 module _ (config : Config) (space : GroupedTypes) (spaces : EntitySpaces) (defined : Definitions) (allow : Bool) (may : MayDefineMore config space spaces defined 1) where
