@@ -16,6 +16,12 @@ use smith_bytes::Error;
 use smith_types::{CompositeInnerType, ValType, is_same};
 use std::alloc::Global;
 
+/// The number of entries for which there is always room.
+const LEAST_ENTRIES: usize = 32;
+
+/// The number of types that all entries together may have read before entries are replaced.
+const MOST_READ: usize = 1 << 22;
+
 /// The ways to create values by struct types and array types, counted for each wanted type.
 #[derive(Drop)]
 pub(crate) struct KeptTypes {
@@ -66,13 +72,15 @@ impl KeptTypes {
             AreWaysWholeAt (context_of scope.now) self.new.entries.items place wanted fuel) }
         ensures memory { IfErr result (λ e. e ≡ Error.Memory) }
     {
-        let place = self.place_of(alloc, wanted)?;
+        let types = scope.spaces.types.types().len();
+        let place = self.place_of(alloc, wanted, types)?;
         self.entries[place].look(scope, fuel)?;
         Ok(place)
     }
 
-    /// Returns the position of the entry for the type `wanted`, and adds one if none is found.
-    fn place_of(&mut self, alloc: Global, wanted: ValType) -> Result<usize, Error>
+    /// Returns the position of the entry for the type `wanted`, and begins one if none is found. At
+    /// most `types` types will be read for it.
+    fn place_of(&mut self, alloc: Global, wanted: ValType, types: usize) -> Result<usize, Error>
         ensures kept { (context : Context) → IsValInRange context.types wanted
             → All (IsKeptWays context) self.old.entries.items
             → OnOk result (All (IsKeptWays context) self.new.entries.items) }
@@ -85,11 +93,36 @@ impl KeptTypes {
         if is_for(self.entries.as_slice(), hint, wanted) {
             return Ok(hint);
         }
-        let place = self.entries.len();
-        self.entries.push(KeptWays::new(alloc, wanted))?;
+        let place = begin_entry(&mut self.entries, alloc, wanted, types, slot)?;
         self.hints[slot] = place.min(u32::MAX as usize) as u32;
         Ok(place)
     }
+}
+
+/// Adds an entry for the type `wanted` to `entries`, for which at most `types` types will be read.
+/// If all entries together may have read too many, this one replaces another, as chosen by `slot`.
+/// Returns its position.
+fn begin_entry(
+    entries: &mut Vec<KeptWays>,
+    alloc: Global,
+    wanted: ValType,
+    types: usize,
+    slot: usize,
+) -> Result<usize, Error>
+    ensures kept { (context : Context) → IsValInRange context.types wanted
+        → All (IsKeptWays context) entries.old.items
+        → OnOk result (All (IsKeptWays context) entries.new.items) }
+    ensures place { IfOk result (λ place. AreWaysFor entries.new.items place wanted) }
+    ensures memory { IfErr result (λ e. e ≡ Error.Memory) }
+{
+    let count = entries.len();
+    if count < LEAST_ENTRIES || count < MOST_READ / types.max(1) {
+        entries.push(KeptWays::new(alloc, wanted))?;
+        return Ok(count);
+    }
+    let place = slot % count;
+    entries[place] = KeptWays::new(alloc, wanted);
+    Ok(place)
 }
 
 /// Returns whether the entry at `place` exists and is for the type `wanted`.
