@@ -20,7 +20,7 @@ use std::alloc::Global;
 const LEAST_ENTRIES: usize = 32;
 
 /// The number of types that all entries together may have read before entries are replaced.
-const MOST_READ: usize = 1 << 22;
+const MOST_READ: usize = 1 << 23;
 
 /// The ways to create values by struct types and array types, counted for each wanted type.
 #[derive(Drop)]
