@@ -15,6 +15,7 @@ ghost use Rattle.smith_draw_consts.specs.KeptOffers.{offered_before};
 ghost use Rattle.smith_draw_consts.specs.declared.read_items.ReadItems.{ReadItems as Read};
 
 use crate::block_counts::BlockCounts;
+use crate::classes::{make_room, slot_of};
 use crate::few_items::{FewItems, MOST};
 use crate::kept_ways::{KeptTypes, KeptWays};
 use crate::knowledge::Known;
@@ -62,6 +63,8 @@ pub(crate) struct ManyItems {
     kept: Vec<KeptOffer>,
     // The classes of the globals and functions.
     items: ReadItems,
+    // The entry to try first for a type, at the position that `slot_of` gives.
+    hints: Vec<u32>,
 }
 
 /// The counts of globals and functions offered for values of one type, among those read so far.
@@ -226,6 +229,7 @@ impl ManyItems {
         ManyItems {
             kept: Vec::new(alloc),
             items: ReadItems::new(alloc),
+            hints: Vec::new(alloc),
         }
     }
 
@@ -303,12 +307,51 @@ impl ManyItems {
             → OnOk result (IsKeptAt self.new.kept.items at other visible) }
         ensures memory { IfErr result (λ e. e ≡ Error.Memory) }
     {
-        if let Some(place) = find(self.kept.as_slice(), wanted, visible) {
-            return Ok(place);
-        }
-        let place = self.kept.len();
-        self.kept.push(KeptOffer::new(alloc, wanted))?;
+        let slot = slot_of(Some(wanted));
+        make_room(&mut self.hints, slot)?;
+        let hint = self.hints[slot] as usize;
+        let place = find_or_begin(&mut self.kept, alloc, wanted, visible, hint)?;
+        self.hints[slot] = place.min(u32::MAX as usize) as u32;
         Ok(place)
+    }
+}
+
+/// Returns the position of the entry in `kept` for the type `wanted` that has read no global past
+/// the first `visible`, and adds one if there is none. Tests the entry at `hint` first.
+fn find_or_begin(
+    kept: &mut Vec<KeptOffer>,
+    alloc: Global,
+    wanted: ValType,
+    visible: usize,
+    hint: usize,
+) -> Result<usize, Error>
+    ensures kept { (context : Context) (items : Read) → IsValInRange context.types wanted
+        → All (IsEntry context items) kept.old.items
+        → OnOk result (All (IsEntry context items) kept.new.items) }
+    ensures place { IfOk result (λ place. IsKeptAt kept.new.items place wanted visible) }
+    ensures still { (at : ℕ) (other : Wanted) → IsKeptAt kept.old.items at other visible
+        → OnOk result (IsKeptAt kept.new.items at other visible) }
+    ensures memory { IfErr result (λ e. e ≡ Error.Memory) }
+{
+    if is_entry_at(kept.as_slice(), hint, wanted, visible) {
+        return Ok(hint);
+    }
+    if let Some(place) = find(kept.as_slice(), wanted, visible) {
+        return Ok(place);
+    }
+    let place = kept.len();
+    kept.push(KeptOffer::new(alloc, wanted))?;
+    Ok(place)
+}
+
+/// Returns whether the entry at `place` exists, is for the type `wanted`, and has read no global
+/// past the first `visible`.
+fn is_entry_at(kept: &[KeptOffer], place: usize, wanted: ValType, visible: usize) -> bool
+    ensures { IsTrue result → IsKeptAt kept.now place wanted visible }
+{
+    match kept.get(place) {
+        Some(found) => found.is_for(wanted, visible),
+        None => false,
     }
 }
 
