@@ -102,7 +102,7 @@ few_taken zero xs = omega arith
 few_taken (suc n) [] = omega arith
 few_taken (suc n) (x ∷ xs) = let more = few_taken n xs in omega arith
 
-few_type : (context : Context) (wanted : ValType) (fuel : ℕ) (arrays : Bool) (index : ℕ) (i : CompositeInnerType) → length (type_offers context wanted fuel arrays index i) ≤ 3
+pub few_type : (context : Context) (wanted : ValType) (fuel : ℕ) (arrays : Bool) (index : ℕ) (i : CompositeInnerType) → length (type_offers context wanted fuel arrays index i) ≤ 3
 few_type context wanted fuel arrays index i = search rules
 
 few_types : (context : Context) (wanted : ValType) (fuel : ℕ) (arrays : Bool) → length (types_offers context wanted fuel arrays) ≤ 3 * length context.types

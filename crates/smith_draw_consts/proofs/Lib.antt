@@ -7,6 +7,8 @@ pub mod ReadableLemmas
 pub mod ConstScopeLemmas
 pub mod ConstOfferLemmas
 pub mod ConstFoundLemmas
+pub mod KeptWayLemmas
+pub mod OnlyTypeLemmas
 pub mod ConstNodeLemmas
 pub mod PuttingLemmas
 pub mod ExtendedLemmas

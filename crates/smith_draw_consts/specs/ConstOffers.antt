@@ -56,9 +56,13 @@ type_offers context wanted fuel false index (inner.Struct structure) = if is_val
 type_offers context wanted fuel true index (inner.Array array) = if nat_lt 0 fuel && is_val_below context.types (created context index) wanted then array_ways index array.0 else []
 type_offers context wanted fuel arrays index _ = []
 
+-- the same, given the type at the index
+abbrev pub ways_by : Context → ValType → ℕ → Bool → ℕ → SubType → List Choice
+ways_by context wanted fuel arrays index t = type_offers context wanted fuel arrays index t.composite_type.inner
+
 -- the ways to create values of each existing type, of structs or of arrays
 abbrev pub types_offers : Context → ValType → ℕ → Bool → List Choice
-types_offers context wanted fuel arrays = each_from (λ index (t : SubType). type_offers context wanted fuel arrays index t.composite_type.inner) 0 context.types
+types_offers context wanted fuel arrays = each_from (ways_by context wanted fuel arrays) 0 context.types
 
 -- conversions to a heap type
 abbrev pub conversions_to : HeapType → List Choice

@@ -1,14 +1,14 @@
 -- The record of the globals and functions that are offered, kept for many draws.
-use Rattle.std.specs.Prelude.{◌≡◌, ℕ, ◌+◌, ◌*◌, ◌/◌, ◌<◌, ◌≤◌, ◌≢◌, ◌⊎◌, min, Bool, false, IsTrue, Option, None, Some, IfSome, List, [], ◌∷◌, ◌++◌, map, take, length, slice_get, slice_index, All, if◌then◌else◌}
+use Rattle.std.specs.Prelude.{◌≡◌, ℕ, ◌+◌, ◌*◌, ◌/◌, ◌<◌, ◌≤◌, ◌≢◌, ◌⊎◌, min, Bool, true, false, IsTrue, Option, None, Some, IfSome, List, [], ◌∷◌, ◌++◌, map, take, length, slice_get, slice_index, All, if◌then◌else◌}
 use Rattle.std.specs.Borrow.{Bor}
 use Rattle.std.specs.List.{range_with_len}
 use Rattle.smith_types.specs.Subtyping.{IsValInRange}
-use Rattle.smith_types.specs.Expressions.{Context, function_reference}
+use Rattle.smith_types.specs.Expressions.{Context, created, function_reference}
 use Rattle.smith_syntax.specs.declared.composite_type.SubType.{SubType}
 use Rattle.smith_syntax.specs.declared.entity_type.GlobalType.{GlobalType}
 use Rattle.smith_syntax.specs.declared.value_type.ValType.{ValType}
 use Rattle.smith_draw_types.specs.Below.{is_val_below}
-use Rattle.smith_draw_consts.specs.ConstOffers.{each_from, global_offers, function_offers}
+use Rattle.smith_draw_consts.specs.ConstOffers.{each_from, global_offers, function_offers, ways_by}
 use Rattle.smith_draw_consts.specs.declared.block_counts.BlockCounts.{BlockCounts}
 use Rattle.smith_draw_consts.specs.declared.classes.Classes.{Classes}
 use Rattle.smith_draw_consts.specs.declared.node_choice.Choice.{Choice}
@@ -16,6 +16,8 @@ use Rattle.smith_draw_consts.specs.declared.kept_offers.KeptOffer.{KeptOffer}
 use Rattle.smith_draw_consts.specs.declared.few_items.FewItems.{FewItems}
 use Rattle.smith_draw_consts.specs.declared.kept_offers.KeptOffers.{KeptOffers}
 use Rattle.smith_draw_consts.specs.declared.kept_offers.ManyItems.{ManyItems}
+use Rattle.smith_draw_consts.specs.declared.kept_ways.KeptTypes.{KeptTypes}
+use Rattle.smith_draw_consts.specs.declared.kept_ways.KeptWays.{KeptWays}
 use Rattle.smith_draw_consts.specs.declared.knowledge.Known.{Known}
 use Rattle.smith_draw_consts.specs.declared.knowledge.Known.TheVariants.{Few, Many}
 use Rattle.smith_draw_consts.specs.declared.read_items.ReadItems.{ReadItems}
@@ -118,10 +120,53 @@ pub record AreManyKept (context : Context) (many : ManyItems) : Type 0 where
   pub items : AreItemsRead context many.items
   pub entries : All (IsEntry context many.items) many.kept.items
 
+-- a reference to a created value is a subtype of the wanted type only if the value is of this type
+pub record IsOnlyType (context : Context) (wanted : ValType) (index : ℕ) : Type 0 where
+  pub there : index < length context.types
+  pub only : (other : ℕ) → is_val_below context.types (created context other) wanted ≡ true → other ≡ index
+
+-- the ways to create values by the types read so far are counted: by struct types, or by array types
+pub record AreWaysCounted (context : Context) (wanted : ValType) (fuel : ℕ) (arrays : Bool) (counts : BlockCounts) : Type 0 where
+  pub seen : counts.seen ≤ length context.types
+  pub counted : IsCounted (offered_before (ways_by context wanted fuel arrays) context.types) counts
+
+-- the entry for a type counts the ways to create values of that type, without fuel and with it
+pub record IsKeptWays (context : Context) (ways : KeptWays) : Type 0 where
+  pub wanted : IsValInRange context.types ways.wanted
+  pub bare_structs : AreWaysCounted context ways.wanted 0 false ways.bare_structs
+  pub structs : AreWaysCounted context ways.wanted 1 false ways.structs
+  pub arrays : AreWaysCounted context ways.wanted 1 true ways.arrays
+
+-- the ways by all existing types are counted
+pub record AreAllCounted (context : Context) (wanted : ValType) (fuel : ℕ) (arrays : Bool) (counts : BlockCounts) : Type 0 where
+  pub seen : counts.seen ≡ length context.types
+  pub counted : IsCounted (offered_before (ways_by context wanted fuel arrays) context.types) counts
+
+-- the entry counts all ways that there are with this fuel to create values of this type
+pub record AreWaysWhole (context : Context) (wanted : ValType) (fuel : ℕ) (ways : KeptWays) : Type 0 where
+  pub bare_structs : fuel ≡ 0 → AreAllCounted context wanted fuel false ways.bare_structs
+  pub structs : 0 < fuel → AreAllCounted context wanted fuel false ways.structs
+  pub arrays : 0 < fuel → AreAllCounted context wanted fuel true ways.arrays
+
+-- the entry at this position is for this type
+abbrev pub AreWaysFor : List KeptWays → ℕ → ValType → Type 0
+AreWaysFor kept place wanted = (ways : KeptWays) × (slice_get kept place ≡ Some ways) × (ways.wanted ≡ wanted)
+
+-- the entry at this position counts all ways
+abbrev pub AreWaysWholeAt : Context → List KeptWays → ℕ → ValType → ℕ → Type 0
+AreWaysWholeAt context kept place wanted fuel = (ways : KeptWays) × (slice_get kept place ≡ Some ways) × AreWaysWhole context wanted fuel ways
+
+-- so does the entry at this position, if there is one
+abbrev pub HasCountedWays : Context → ValType → ℕ → Option ℕ → Option KeptTypes → Type 0
+HasCountedWays context wanted fuel None kept = Unit {0}
+HasCountedWays context wanted fuel (Some place) None = ⊥
+HasCountedWays context wanted fuel (Some place) (Some kept) = AreWaysWholeAt context kept.entries.items place wanted fuel
+
 -- all that is recorded is correct
 pub record AreKeptOffers (context : Context) (kept : KeptOffers) : Type 0 where
   pub few : AreFewRead context kept.few
   pub many : IfSome kept.many (AreManyKept context)
+  pub types : IfSome kept.types (λ types. All (IsKeptWays context) types.entries.items)
 
 -- the entry is for this type, and has read no global past the first `visible`
 abbrev pub IsFor : ValType → ℕ → KeptOffer → Type 0

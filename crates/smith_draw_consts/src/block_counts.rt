@@ -19,7 +19,7 @@ pub(crate) struct BlockCounts {
     // The number of those that are on offer.
     total: usize,
     // The number of those on offer before each block.
-    starts: Items<u32>,
+    starts: Items<usize>,
 }
 
 impl BlockCounts {
@@ -48,7 +48,7 @@ impl BlockCounts {
     pub fn read_to(&mut self, end: usize, offered: usize) -> Result<(), Error>
         requires some { self.old.seen < end }
         requires one_block { end ≤ 8 * (self.old.seen / 8 + 1) }
-        requires few { self.old.total + offered < 2 ^ 32 }
+        requires few { self.old.total + offered < 2 ^ 64 }
         ensures counted { (before : ℕ → ℕ) → IsCounted before self.old
             → before end ≡ before self.old.seen + offered
             → OnOk result (IsCounted before self.new) }
@@ -56,7 +56,7 @@ impl BlockCounts {
         ensures memory { IfErr result (λ e. e ≡ Error.Memory) }
     {
         if self.seen % BLOCK == 0 {
-            self.starts.push(self.total as u32)?;
+            self.starts.push(self.total)?;
         }
         self.seen = end;
         self.total += offered;
@@ -71,7 +71,7 @@ impl BlockCounts {
     {
         let starts = self.starts.as_slice();
         if block < starts.len() {
-            return starts[block] as usize;
+            return starts[block];
         }
         self.total
     }
@@ -107,12 +107,12 @@ impl BlockCounts {
         }
         let starts = self.starts.as_slice();
         let block = block_of(starts, place);
-        (block * BLOCK, place - starts[block] as usize)
+        (block * BLOCK, place - starts[block])
     }
 }
 
 /// Returns the last block that starts, by `starts`, with at most `place` items on offer before it.
-fn block_of(starts: &[u32], place: usize) -> usize
+fn block_of(starts: &[usize], place: usize) -> usize
     requires some { 0 < length starts.now }
     requires first { slice_index starts.now 0 ≤ place }
     ensures inside { result < length starts.now }
@@ -123,7 +123,7 @@ fn block_of(starts: &[u32], place: usize) -> usize
     let mut end = starts.len();
     while end - block > 1 {
         let middle = block + (end - block) / 2;
-        if starts[middle] as usize <= place {
+        if starts[middle] <= place {
             block = middle;
         } else {
             end = middle;

@@ -111,7 +111,7 @@ fn is_same_kind(a: Option<ValType>, b: Option<ValType>) -> bool
 }
 
 /// Appends to `hints` until there is one at the position `slot`.
-fn make_room(hints: &mut Vec<u32>, slot: usize) -> Result<(), Error>
+pub(crate) fn make_room(hints: &mut Vec<u32>, slot: usize) -> Result<(), Error>
     ensures room { OnOk result (slot < vec_len hints.new) }
     ensures memory { IfErr result (λ e. e ≡ Error.Memory) }
 {
@@ -122,7 +122,7 @@ fn make_room(hints: &mut Vec<u32>, slot: usize) -> Result<(), Error>
 }
 
 /// Returns the position of the hint for the type `kind`. Two types have different positions.
-fn slot_of(kind: Option<ValType>) -> usize {
+pub(crate) fn slot_of(kind: Option<ValType>) -> usize {
     match kind {
         None => 0,
         Some(ValType::I32) => 1,

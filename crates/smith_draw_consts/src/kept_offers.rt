@@ -10,14 +10,17 @@ ghost use Rattle.smith_draw_consts.specs.KeptOffers.{AreAllRead, AreFewRead, Are
 ghost use Rattle.smith_draw_consts.specs.KeptOffers.{AreKeptOffers, AreManyKept, HasReadAll, IsCounted};
 ghost use Rattle.smith_draw_consts.specs.KeptOffers.{IsEntry, IsFor, IsKeptAt, IsKnown, IsTested};
 ghost use Rattle.smith_draw_consts.specs.KeptOffers.{IsWhole, IsWholeAt, IsWiderOffer, MayOffer};
+ghost use Rattle.smith_draw_consts.specs.KeptOffers.{AreWaysWhole, HasCountedWays, IsKeptWays};
 ghost use Rattle.smith_draw_consts.specs.KeptOffers.{offered_before};
 ghost use Rattle.smith_draw_consts.specs.declared.read_items.ReadItems.{ReadItems as Read};
 
 use crate::block_counts::BlockCounts;
+use crate::classes::{make_room, slot_of};
 use crate::few_items::{FewItems, MOST};
+use crate::kept_ways::{KeptTypes, KeptWays};
 use crate::knowledge::Known;
 use crate::read_items::ReadItems;
-use crate::references::{is_offered, widest};
+use crate::references::{is_offered, only_type, widest};
 use crate::scope::Scope;
 use smith_bytes::Error;
 use smith_types::{Items, TypeSpace, ValType, is_same};
@@ -25,10 +28,11 @@ use std::alloc::Global;
 use std::mem;
 
 /// The globals and functions that have been read, and the counts of those offered for each wanted
-/// type. All draws together look at each global and each function once.
+/// type, with the ways to create values of it. All draws together look at each global and each
+/// function once.
 ///
 /// If there are few globals and functions, their types are recorded, and each draw tests these.
-/// Nothing is counted or allocated.
+/// Nothing is counted or allocated. If there are few types, each draw tests them too.
 ///
 /// If there are many, each is put into a class. A first draw of a type tests each class and counts
 /// the items of the classes that are offered. Each later draw tests the classes of a few items at
@@ -36,6 +40,10 @@ use std::mem;
 ///
 /// For a type of unshared references, a first draw counts only the globals near one that is offered
 /// for the top of its hierarchy.
+///
+/// If there are many types, a first draw of a type of references tests each of them and counts the
+/// ways to create a value by it. Each later draw tests a few types at most. So does each draw of a
+/// reference to a type without subtypes, for which nothing is counted.
 ///
 /// Initialisers of tables and of globals may share one value: an entry that has counted defined
 /// globals is not used where only imported globals are visible.
@@ -45,6 +53,8 @@ pub struct KeptOffers {
     few: FewItems,
     // The classes and counts, once there are many globals and functions.
     many: Option<ManyItems>,
+    // The counts of the ways to create values, once there are many types.
+    types: Option<KeptTypes>,
 }
 
 /// The classes of the globals and functions read so far, and an entry for each wanted type.
@@ -53,6 +63,8 @@ pub(crate) struct ManyItems {
     kept: Vec<KeptOffer>,
     // The classes of the globals and functions.
     items: ReadItems,
+    // The entry to try first for a type, at the position that `slot_of` gives.
+    hints: Vec<u32>,
 }
 
 /// The counts of globals and functions offered for values of one type, among those read so far.
@@ -77,6 +89,7 @@ impl KeptOffers {
         KeptOffers {
             few: FewItems::new(),
             many: None,
+            types: None,
         }
     }
 
@@ -124,6 +137,88 @@ impl KeptOffers {
             None => Known::Few(&self.few),
         }
     }
+
+    /// Reads the types of `scope` that have not been read, if there are many, and counts the ways
+    /// to create a value of the type `wanted`. Returns the position of the entry for `wanted`, or
+    /// `None` if nothing is counted.
+    pub(crate) fn look_at_types(
+        &mut self,
+        alloc: Global,
+        scope: &Scope<'_>,
+        wanted: ValType,
+        fuel: u32,
+    ) -> Result<Option<usize>, Error>
+        requires scope { IsScope (context_of scope.now) }
+        requires upper { IsValInRange (context_of scope.now).types wanted }
+        requires kept { AreKeptOffers (context_of scope.now) self.old }
+        ensures kept { OnOk result (AreKeptOffers (context_of scope.now) self.new) }
+        ensures few { OnOk result (self.new.few ≡ self.old.few) }
+        ensures many { OnOk result (self.new.many ≡ self.old.many) }
+        ensures counted { IfOk result (λ place.
+            HasCountedWays (context_of scope.now) wanted fuel place self.new.types) }
+        ensures memory { IfErr result (λ e. e ≡ Error.Memory) }
+    {
+        if !are_counted(scope, wanted) {
+            return Ok(None);
+        }
+        count_types(&mut self.types, alloc, scope, wanted, fuel)
+    }
+
+    /// Returns the counts of the entry at `place`: the position that `look_at_types` returned.
+    pub(crate) fn ways_at(&self, place: Option<usize>) -> Option<&KeptWays>
+        requires { (context : Context) × (wanted : Wanted) × (fuel : ℕ)
+            × HasCountedWays context wanted fuel place self.now.types }
+        ensures { (context : Context) (wanted : Wanted) (fuel : ℕ)
+            → HasCountedWays context wanted fuel place self.now.types
+            → IfSome result (λ ways. AreWaysWhole context wanted fuel ways.now) }
+    {
+        match (place, &self.types) {
+            (Some(place), Some(types)) => Some(&types.entries[place]),
+            _ => None,
+        }
+    }
+}
+
+/// Returns whether the ways to create a value of the type `wanted` are counted: it is a type of
+/// references, there are many types, and values of more than one of them may be offered.
+fn are_counted(scope: &Scope<'_>, wanted: ValType) -> bool
+    requires { IsValInRange (context_of scope.now).types wanted }
+{
+    scope.config.gc_enabled
+        && matches!(wanted, ValType::Ref(_))
+        && scope.spaces.types.types().len() > MOST
+        && only_type(scope, wanted).is_none()
+}
+
+/// Counts in `types` the ways to create a value of the type `wanted` by the types of `scope` that
+/// have not been read. Returns the position of the entry for `wanted`.
+fn count_types(
+    types: &mut Option<KeptTypes>,
+    alloc: Global,
+    scope: &Scope<'_>,
+    wanted: ValType,
+    fuel: u32,
+) -> Result<Option<usize>, Error>
+    requires scope { IsScope (context_of scope.now) }
+    requires upper { IsValInRange (context_of scope.now).types wanted }
+    requires kept { IfSome types.old (λ kept.
+        All (IsKeptWays (context_of scope.now)) kept.entries.items) }
+    ensures kept { OnOk result (IfSome types.new (λ kept.
+        All (IsKeptWays (context_of scope.now)) kept.entries.items)) }
+    ensures counted { IfOk result (λ place.
+        HasCountedWays (context_of scope.now) wanted fuel place types.new) }
+    ensures memory { IfErr result (λ e. e ≡ Error.Memory) }
+{
+    if types.is_none() {
+        drop(types.replace(KeptTypes::new(alloc)));
+    }
+    match types {
+        Some(kept) => {
+            let place = kept.look(alloc, scope, wanted, fuel)?;
+            Ok(Some(place))
+        }
+        None => unreachable!(),
+    }
 }
 
 impl ManyItems {
@@ -134,6 +229,7 @@ impl ManyItems {
         ManyItems {
             kept: Vec::new(alloc),
             items: ReadItems::new(alloc),
+            hints: Vec::new(alloc),
         }
     }
 
@@ -211,12 +307,51 @@ impl ManyItems {
             → OnOk result (IsKeptAt self.new.kept.items at other visible) }
         ensures memory { IfErr result (λ e. e ≡ Error.Memory) }
     {
-        if let Some(place) = find(self.kept.as_slice(), wanted, visible) {
-            return Ok(place);
-        }
-        let place = self.kept.len();
-        self.kept.push(KeptOffer::new(alloc, wanted))?;
+        let slot = slot_of(Some(wanted));
+        make_room(&mut self.hints, slot)?;
+        let hint = self.hints[slot] as usize;
+        let place = find_or_begin(&mut self.kept, alloc, wanted, visible, hint)?;
+        self.hints[slot] = place.min(u32::MAX as usize) as u32;
         Ok(place)
+    }
+}
+
+/// Returns the position of the entry in `kept` for the type `wanted` that has read no global past
+/// the first `visible`, and adds one if there is none. Tests the entry at `hint` first.
+fn find_or_begin(
+    kept: &mut Vec<KeptOffer>,
+    alloc: Global,
+    wanted: ValType,
+    visible: usize,
+    hint: usize,
+) -> Result<usize, Error>
+    ensures kept { (context : Context) (items : Read) → IsValInRange context.types wanted
+        → All (IsEntry context items) kept.old.items
+        → OnOk result (All (IsEntry context items) kept.new.items) }
+    ensures place { IfOk result (λ place. IsKeptAt kept.new.items place wanted visible) }
+    ensures still { (at : ℕ) (other : Wanted) → IsKeptAt kept.old.items at other visible
+        → OnOk result (IsKeptAt kept.new.items at other visible) }
+    ensures memory { IfErr result (λ e. e ≡ Error.Memory) }
+{
+    if is_entry_at(kept.as_slice(), hint, wanted, visible) {
+        return Ok(hint);
+    }
+    if let Some(place) = find(kept.as_slice(), wanted, visible) {
+        return Ok(place);
+    }
+    let place = kept.len();
+    kept.push(KeptOffer::new(alloc, wanted))?;
+    Ok(place)
+}
+
+/// Returns whether the entry at `place` exists, is for the type `wanted`, and has read no global
+/// past the first `visible`.
+fn is_entry_at(kept: &[KeptOffer], place: usize, wanted: ValType, visible: usize) -> bool
+    ensures { IsTrue result → IsKeptAt kept.now place wanted visible }
+{
+    match kept.get(place) {
+        Some(found) => found.is_for(wanted, visible),
+        None => false,
     }
 }
 

@@ -14,6 +14,7 @@ mod expression;
 mod extended_constant;
 mod few_items;
 mod kept_offers;
+mod kept_ways;
 mod knowledge;
 mod node;
 mod node_choice;

@@ -1,4 +1,4 @@
-ghost use Rattle.std.specs.Prelude.{◌≡◌, [], ◌∷◌, length, Some, None, IfOk, IfErr, OnOk};
+ghost use Rattle.std.specs.Prelude.{◌≡◌, [], ◌∷◌, length, Some, None, IfOk, IfErr, IfSome, OnOk};
 ghost use Rattle.smith_bytes.specs.Source.{KeepsPieces};
 ghost use Rattle.smith_bytes.specs.Draws.{choose_at};
 ghost use Rattle.smith_types.specs.Subtyping.{IsValInRange};
@@ -7,9 +7,10 @@ ghost use Rattle.smith_draw_consts.specs.ConstScopes.{context_of, IsScope};
 ghost use Rattle.smith_draw_consts.specs.ConstOffers.{offers};
 ghost use Rattle.smith_draw_consts.specs.ConstBounds.{MayRefuseConstExpr};
 ghost use Rattle.smith_draw_consts.specs.ConstSteps.{IsFit};
-ghost use Rattle.smith_draw_consts.specs.KeptOffers.{AreKeptOffers, IsKnown};
+ghost use Rattle.smith_draw_consts.specs.KeptOffers.{AreKeptOffers, AreWaysWhole, IsKnown};
 
 use crate::kept_offers::KeptOffers;
+use crate::kept_ways::KeptWays;
 use crate::knowledge::Known;
 use crate::node_choice::Choice;
 use crate::offers::past_offers;
@@ -19,20 +20,28 @@ use smith_types::ValType;
 use std::alloc::Global;
 
 /// Counts the choices offered for a value of the type `wanted`.
-fn count_offers(scope: &Scope<'_>, known: Known<'_>, wanted: ValType, fuel: u32) -> usize
+fn count_offers(
+    scope: &Scope<'_>,
+    known: Known<'_>,
+    ways: Option<&KeptWays>,
+    wanted: ValType,
+    fuel: u32,
+) -> usize
     requires scope { IsScope (context_of scope.now) }
     requires upper { IsValInRange (context_of scope.now).types wanted }
     requires known { IsKnown (context_of scope.now) wanted known }
+    requires ways { IfSome ways (λ kept.
+        AreWaysWhole (context_of scope.now) wanted fuel kept.now) }
     ensures { result ≡ length (offers scope.now.config.now (context_of scope.now) wanted fuel) }
 {
-    match past_offers(scope, known, wanted, fuel, usize::MAX) {
+    match past_offers(scope, known, ways, wanted, fuel, usize::MAX) {
         Ok(rest) => usize::MAX - rest,
         Err(_) => usize::MAX,
     }
 }
 
-/// Chooses how to produce a value of the type `wanted`. Records in `kept` the globals and functions
-/// that it reads.
+/// Chooses how to produce a value of the type `wanted`. Records in `kept` the globals, the functions
+/// and the types that it reads.
 pub(crate) fn choose_offer(
     alloc: Global,
     scope: &Scope<'_>,
@@ -62,13 +71,23 @@ pub(crate) fn choose_offer(
     ensures left { KeepsPieces u.old u.new }
 {
     let place = kept.look(alloc, scope, wanted)?;
-    choose_among(scope, kept.known_at(place), wanted, fuel, u)
+    let types = kept.look_at_types(alloc, scope, wanted, fuel)?;
+    choose_among(
+        scope,
+        kept.known_at(place),
+        kept.ways_at(types),
+        wanted,
+        fuel,
+        u,
+    )
 }
 
-/// Chooses how to produce a value of the type `wanted`, with the globals and functions in `known`.
+/// Chooses how to produce a value of the type `wanted`, with the globals and functions in `known`
+/// and, if there are many types, the counts in `ways`.
 fn choose_among(
     scope: &Scope<'_>,
     known: Known<'_>,
+    ways: Option<&KeptWays>,
     wanted: ValType,
     fuel: u32,
     u: &mut Unstructured<'_>,
@@ -77,6 +96,8 @@ fn choose_among(
     requires wanted { IsValTypeValid (context_of scope.now).features
         (length (context_of scope.now).types) wanted }
     requires known { IsKnown (context_of scope.now) wanted known }
+    requires ways { IfSome ways (λ kept.
+        AreWaysWhole (context_of scope.now) wanted fuel kept.now) }
     ensures exact { IfOk result (λ choice.
         choose_at (offers scope.now.config.now (context_of scope.now) wanted fuel) u.old
         ≡ (Some choice, u.new)) }
@@ -88,12 +109,12 @@ fn choose_among(
         (MayRefuseConstExpr scope.now.config.now (context_of scope.now) wanted) }
     ensures left { KeepsPieces u.old u.new }
 {
-    let count = count_offers(scope, known, wanted, fuel);
+    let count = count_offers(scope, known, ways, wanted, fuel);
     if count == 0 {
         return Err(Error::EmptyChoose);
     }
     let place = u.int_in_range(0..=count - 1);
-    match past_offers(scope, known, wanted, fuel, place) {
+    match past_offers(scope, known, ways, wanted, fuel, place) {
         Ok(_) => Err(Error::EmptyChoose),
         Err(choice) => Ok(choice),
     }

@@ -1,5 +1,5 @@
 ghost use Rattle.std.specs.Prelude.{◌≡◌, ◌<◌, ◌≤◌, ◌++◌, [], ◌∷◌, length, take, drop, Some, IfOk};
-ghost use Rattle.std.specs.Prelude.{IfErr};
+ghost use Rattle.std.specs.Prelude.{IfErr, IfSome};
 ghost use Rattle.smith_types.specs.Subtyping.{IsValInRange};
 ghost use Rattle.smith_types.specs.Expressions.{unpacked};
 ghost use Rattle.smith_types.specs.Grounded.{is_defaultable, are_defaultable};
@@ -16,6 +16,7 @@ ghost use Rattle.smith_draw_consts.specs.ConstOffers.{
   array_ways,
   type_offers,
   types_offers,
+  ways_by,
   conversions,
   conversions_to,
   other_offers,
@@ -24,15 +25,16 @@ ghost use Rattle.smith_draw_consts.specs.ConstOffers.{
   constant_offers,
   offers,
 };
-ghost use Rattle.smith_draw_consts.specs.KeptOffers.{IsKnown};
+ghost use Rattle.smith_draw_consts.specs.KeptOffers.{AreWaysWhole, IsKnown};
 
 // Each of these functions searches the choices of one kind for the one at `place`, counted from the
 // first of them. It returns that choice as an `Err`, so that `?` ends the search. If there are too
 // few choices, it returns the place, counted from the end of them, as an `Ok`.
 
+use crate::kept_ways::KeptWays;
 use crate::knowledge::{Known, kind_of_function, kind_of_global};
 use crate::node_choice::Choice;
-use crate::references::{gives, i31, is_below, is_offered};
+use crate::references::{gives, i31, is_below, is_offered, only_type};
 use crate::scope::Scope;
 use smith_config::Config;
 use smith_types::{
@@ -45,6 +47,7 @@ use smith_types::{
 pub(crate) fn past_offers(
     scope: &Scope<'_>,
     known: Known<'_>,
+    ways: Option<&KeptWays>,
     wanted: ValType,
     fuel: u32,
     place: usize,
@@ -52,11 +55,13 @@ pub(crate) fn past_offers(
     requires scope { IsScope (context_of scope.now) }
     requires upper { IsValInRange (context_of scope.now).types wanted }
     requires known { IsKnown (context_of scope.now) wanted known }
+    requires ways { IfSome ways (λ kept.
+        AreWaysWhole (context_of scope.now) wanted fuel kept.now) }
     ensures { result ≡ past (offers scope.now.config.now (context_of scope.now) wanted fuel) place }
 {
     let place = past_globals(scope, known, wanted, place)?;
     let place = past_constants(scope, wanted, place)?;
-    past_references(scope, known, wanted, fuel, place)
+    past_references(scope, known, ways, wanted, fuel, place)
 }
 
 fn past_globals(
@@ -119,6 +124,7 @@ fn past_constants(scope: &Scope<'_>, wanted: ValType, place: usize) -> Result<us
 fn past_references(
     scope: &Scope<'_>,
     known: Known<'_>,
+    ways: Option<&KeptWays>,
     wanted: ValType,
     fuel: u32,
     place: usize,
@@ -126,6 +132,8 @@ fn past_references(
     requires scope { IsScope (context_of scope.now) }
     requires upper { IsValInRange (context_of scope.now).types wanted }
     requires known { IsKnown (context_of scope.now) wanted known }
+    requires ways { IfSome ways (λ kept.
+        AreWaysWhole (context_of scope.now) wanted fuel kept.now) }
     ensures { result
         ≡ past (reference_offers scope.now.config.now (context_of scope.now) wanted fuel) place }
 {
@@ -135,7 +143,7 @@ fn past_references(
             if !scope.config.gc_enabled {
                 return Ok(place);
             }
-            past_created(scope, reference, fuel, place)
+            past_created(scope, ways, reference, fuel, place)
         }
         _ => Ok(place),
     }
@@ -192,24 +200,53 @@ fn past_functions_from(
 #[tactic(auto, using(crate::proofs::ConstFoundLemmas::past_append, crate::proofs::ConstFoundLemmas::past_front), unfolding(crate::specs::ConstOffers::past))]
 fn past_created(
     scope: &Scope<'_>,
+    ways: Option<&KeptWays>,
     wanted: RefType,
     fuel: u32,
     place: usize,
 ) -> Result<usize, Choice>
     requires scope { IsScope (context_of scope.now) }
     requires upper { IsValInRange (context_of scope.now).types (Ref wanted) }
+    requires ways { IfSome ways (λ kept.
+        AreWaysWhole (context_of scope.now) (Ref wanted) fuel kept.now) }
     ensures { result
         ≡ past (created_offers scope.now.config.now (context_of scope.now) wanted fuel) place }
 {
-    let place = past_types(scope, ValType::Ref(wanted), fuel, false, place)?;
-    let place = past_types(scope, ValType::Ref(wanted), fuel, true, place)?;
+    let place = past_types(scope, ways, ValType::Ref(wanted), fuel, false, place)?;
+    let place = past_types(scope, ways, ValType::Ref(wanted), fuel, true, place)?;
     past_others(scope, wanted, fuel, place)
 }
 
 /// Searches the ways to create a value of each struct type, or of each array type if `arrays` is
 /// `true`.
-#[tactic(auto, using(crate::proofs::ConstFoundLemmas::past_append, crate::proofs::ConstFoundLemmas::past_front), unfolding(crate::specs::ConstOffers::past))]
 fn past_types(
+    scope: &Scope<'_>,
+    ways: Option<&KeptWays>,
+    wanted: ValType,
+    fuel: u32,
+    arrays: bool,
+    place: usize,
+) -> Result<usize, Choice>
+    requires scope { IsScope (context_of scope.now) }
+    requires upper { IsValInRange (context_of scope.now).types wanted }
+    requires ways { IfSome ways (λ kept.
+        AreWaysWhole (context_of scope.now) wanted fuel kept.now) }
+    ensures { result ≡ past (types_offers (context_of scope.now) wanted fuel arrays) place }
+{
+    if arrays && fuel == 0 {
+        return Ok(place);
+    }
+    match ways {
+        Some(kept) => {
+            let (first, place) = kept.counts(fuel, arrays).search_from(place);
+            past_types_from(scope, wanted, fuel, arrays, first, place)
+        }
+        None => past_few_types(scope, wanted, fuel, arrays, place),
+    }
+}
+
+/// Searches the types as [`past_types`] does, without counts.
+fn past_few_types(
     scope: &Scope<'_>,
     wanted: ValType,
     fuel: u32,
@@ -221,16 +258,44 @@ fn past_types(
     ensures { result ≡ past (types_offers (context_of scope.now) wanted fuel arrays) place }
 {
     let types = scope.spaces.types.types();
+    match only_type(scope, wanted) {
+        Some(index) => {
+            let inner = &types[index as usize].composite_type.inner;
+            past_type(scope, wanted, fuel, arrays, index, inner, place)
+        }
+        None => past_types_from(scope, wanted, fuel, arrays, 0, place),
+    }
+}
+
+/// Searches the types from the index `first` on.
+#[tactic(auto, using(crate::proofs::ConstFoundLemmas::past_append, crate::proofs::ConstFoundLemmas::past_front), unfolding(crate::specs::ConstOffers::past))]
+fn past_types_from(
+    scope: &Scope<'_>,
+    wanted: ValType,
+    fuel: u32,
+    arrays: bool,
+    first: usize,
+    place: usize,
+) -> Result<usize, Choice>
+    requires scope { IsScope (context_of scope.now) }
+    requires upper { IsValInRange (context_of scope.now).types wanted }
+    requires first { first ≤ length (context_of scope.now).types }
+    ensures { result ≡ past (each_from (ways_by (context_of scope.now) wanted fuel arrays) first
+        (drop first (context_of scope.now).types)) place }
+{
+    let types = scope.spaces.types.types();
     let mut rest = place;
-    for index in 0..types.len() {
+    for index in first..types.len() {
         let inner = &types[index].composite_type.inner;
         rest = past_type(scope, wanted, fuel, arrays, index as u32, inner, rest)?;
     }
     Ok(rest)
 }
 
+/// Searches the ways to create a value of the type `inner` with the index `index`: a struct type,
+/// or an array type if `arrays` is `true`.
 #[tactic(auto, using(crate::proofs::ConstFoundLemmas::past_append, crate::proofs::ConstFoundLemmas::past_front), unfolding(crate::specs::ConstOffers::past))]
-fn past_type(
+pub(crate) fn past_type(
     scope: &Scope<'_>,
     wanted: ValType,
     fuel: u32,

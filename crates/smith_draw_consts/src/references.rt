@@ -6,7 +6,7 @@ ghost use Rattle.smith_syntax.specs.declared.value_type.AbstractHeapType.TheVari
 ghost use Rattle.smith_syntax.specs.declared.composite_type.SubType.{SubType};
 ghost use Rattle.smith_draw_types.specs.Below.{is_val_below};
 ghost use Rattle.smith_draw_consts.specs.ConstScopes.{context_of};
-ghost use Rattle.smith_draw_consts.specs.KeptOffers.{is_offered, readable};
+ghost use Rattle.smith_draw_consts.specs.KeptOffers.{IsOnlyType, is_offered, readable};
 
 use crate::scope::Scope;
 use smith_types::{AbstractHeapType, GlobalType, HeapType, RefType, TypeSpace, ValType};
@@ -93,6 +93,27 @@ pub(crate) fn gives(scope: &Scope<'_>, index: u32, wanted: ValType) -> bool
         ≡ is_val_below (context_of scope.now).types (created (context_of scope.now) index) wanted }
 {
     is_below(scope.spaces.types, created_type(scope, index), wanted)
+}
+
+/// Returns the index of the only type whose created values may be of the type `wanted`, if `wanted`
+/// refers to an exact type or to a type without subtypes.
+pub(crate) fn only_type(scope: &Scope<'_>, wanted: ValType) -> Option<u32>
+    requires upper { IsValInRange (context_of scope.now).types wanted }
+    ensures { IfSome result (IsOnlyType (context_of scope.now) wanted) }
+{
+    let ValType::Ref(reference) = wanted else {
+        return None;
+    };
+    match reference.heap_type {
+        HeapType::Exact(index) => Some(index),
+        HeapType::Concrete(index) => {
+            if scope.spaces.types.count_of_direct_subtypes(index) > 0 {
+                return None;
+            }
+            Some(index)
+        }
+        HeapType::Abstract { .. } => None,
+    }
 }
 
 /// Returns the type of nullable references to the unshared type `ty`.

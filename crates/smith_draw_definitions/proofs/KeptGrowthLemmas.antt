@@ -1,30 +1,36 @@
--- The kept globals and functions stay correct, as types, globals and functions are added.
-use Rattle.std.proofs.Common.{◌≡◌, ℕ, ◌+◌, ◌<◌, ◌≤◌, Bool, List, [], ◌∷◌, ◌++◌, Option, Some, None, take, length, refl, sym, ap, ◌∙◌, subst, arith}
-use Rattle.std.specs.Prelude.{All, IfSome, not, ◌&&◌, nat_le, if◌then◌else◌, slice_get}
-use Rattle.std.proofs.lemmas.List.{length-append, take-append-le}
+-- The kept globals, functions and types stay correct, as types, globals and functions are added.
+use Rattle.std.proofs.Common.{◌≡◌, ℕ, ◌+◌, ◌<◌, ◌≤◌, Bool, true, false, List, [], ◌∷◌, ◌++◌, Option, Some, None, take, length, refl, sym, ap, ◌∙◌, subst, arith}
+use Rattle.std.specs.Prelude.{All, IfSome, not, ◌&&◌, nat_le, nat_lt, if◌then◌else◌, slice_get}
+use Rattle.std.proofs.lemmas.List.{length-append, length-take-le, take-append-le}
 use Rattle.std.proofs.lemmas.List.Elements.{All-head, All-tail, All-take, All-weaker}
 use Rattle.std.proofs.lemmas.Option.{get_or_from_slice_get, slice_get_within}
 use Rattle.smith_types.specs.Entities.{IsFuncTypeIndex, IsGlobalValid}
-use Rattle.smith_types.specs.Expressions.{Context, reference_to, function_reference}
+use Rattle.smith_types.specs.Expressions.{Context, reference_to, created, function_reference}
 use Rattle.smith_types.specs.Grown.{Extends}
 use Rattle.smith_types.specs.Subtyping.{IsValInRange}
 use Rattle.smith_types.specs.Types.{IsOrderly}
 use Rattle.smith_syntax.specs.declared.value_type.HeapType.TheVariants.{Concrete, Exact}
 use Rattle.smith_syntax.specs.declared.value_type.ValType.{ValType}
+use Rattle.smith_syntax.specs.declared.composite_type.CompositeInnerType.{CompositeInnerType}
+use Rattle.smith_syntax.specs.declared.composite_type.CompositeInnerType.TheVariants as inner
 use Rattle.smith_syntax.specs.declared.composite_type.SubType.{SubType}
 use Rattle.smith_syntax.specs.declared.entity_type.GlobalType.{GlobalType}
 use Rattle.smith_validity.proofs.ReferredTypeLemmas.{value_in_range}
 use Rattle.smith_draw_types.specs.Below.{is_val_below}
-use Rattle.smith_draw_consts.specs.ConstOffers.{each_from, offered_if, global_offers, function_offers}
-use Rattle.smith_draw_consts.specs.KeptOffers.{AreClasses, AreFewRead, AreFlags, AreItemsRead, AreKeptOffers, AreManyKept, AreRecorded, IsEntry, IsKeptOffer, is_offered, offered_before, readable}
+use Rattle.smith_draw_consts.specs.ConstOffers.{each_from, offered_if, global_offers, function_offers, struct_ways, array_ways, type_offers, ways_by}
+use Rattle.smith_draw_consts.specs.KeptOffers.{AreClasses, AreFewRead, AreFlags, AreItemsRead, AreKeptOffers, AreManyKept, AreRecorded, AreWaysCounted, IsEntry, IsKeptOffer, IsKeptWays, is_offered, offered_before, readable}
+use Rattle.smith_draw_consts.specs.declared.block_counts.BlockCounts.{BlockCounts}
 use Rattle.smith_draw_consts.specs.declared.classes.Classes.{Classes}
 use Rattle.smith_draw_consts.specs.declared.few_items.FewItems.{FewItems}
 use Rattle.smith_draw_consts.specs.declared.kept_offers.KeptOffer.{KeptOffer}
 use Rattle.smith_draw_consts.specs.declared.kept_offers.KeptOffers.{KeptOffers}
 use Rattle.smith_draw_consts.specs.declared.kept_offers.ManyItems.{ManyItems}
+use Rattle.smith_draw_consts.specs.declared.kept_ways.KeptTypes.{KeptTypes}
+use Rattle.smith_draw_consts.specs.declared.kept_ways.KeptWays.{KeptWays}
 use Rattle.smith_draw_consts.specs.declared.read_items.ReadItems.{ReadItems}
 use Rattle.smith_draw_consts.proofs.BlockCountLemmas.{counted_alike}
 use Rattle.smith_draw_consts.proofs.ClassLemmas.{get_within_front}
+use Rattle.smith_draw_consts.proofs.KeptWayLemmas.{each_near}
 use Rattle.smith_draw_types.proofs.GroundingLemmas.{within_reference}
 use Rattle.smith_draw_definitions.proofs.BelowGrowthLemmas.{value_longer, value_same}
 
@@ -161,6 +167,47 @@ module _ (old new : Context) (valid : AreValidOver old) (more : HasMore old new)
     entries = All-weaker (IsEntry old many.items) (IsEntry new many.items) (entry_grown many.items are.items) many.kept.items are.entries;
   }
 
-  -- the kept globals and functions are correct
+  created_same : (index : ℕ) → created new index ≡ created old index
+  created_same index = λ i. reference_to (if (more.features i).custom_descriptors then Exact index else Concrete index)
+
+  -- a type is created for the same wanted types
+  made_same : (wanted : ValType) → IsValInRange old.types wanted → (index : ℕ) → index < length old.types → is_val_below old.types (created old index) wanted ≡ is_val_below new.types (created new index) wanted
+  made_same wanted upper index inside =
+      let lower = within_reference old.types index true old.features.custom_descriptors inside in
+      sym (ap (λ (reference : ValType). is_val_below new.types reference wanted) (created_same index) ∙ below_same (created old index) wanted lower upper)
+
+  ways_same : (wanted : ValType) (fuel : ℕ) (arrays : Bool) → IsValInRange old.types wanted → (index : ℕ) (i : CompositeInnerType) → index < length old.types → type_offers old wanted fuel arrays index i ≡ type_offers new wanted fuel arrays index i
+  ways_same wanted fuel false upper index (inner.Struct structure) inside = ap (λ (below : Bool). if below then struct_ways fuel index structure.fields else []) (made_same wanted upper index inside)
+  ways_same wanted fuel false upper index (inner.Array array) inside = refl
+  ways_same wanted fuel false upper index (inner.Func function) inside = refl
+  ways_same wanted fuel true upper index (inner.Struct structure) inside = refl
+  ways_same wanted fuel true upper index (inner.Array array) inside = ap (λ (below : Bool). if nat_lt 0 fuel && below then array_ways index array.0 else []) (made_same wanted upper index inside)
+  ways_same wanted fuel true upper index (inner.Func function) inside = refl
+
+  counted_grown : (wanted : ValType) (fuel : ℕ) (arrays : Bool) (counts : BlockCounts) → IsValInRange old.types wanted → AreWaysCounted old wanted fuel arrays counts → AreWaysCounted new wanted fuel arrays counts
+  counted_grown wanted fuel arrays counts upper are = record {
+    seen = no_shorter counts.seen old.types new.types more.types are.seen;
+    counted =
+        counted_alike (offered_before (ways_by old wanted fuel arrays) old.types) (offered_before (ways_by new wanted fuel arrays) new.types) counts
+        (λ n read.
+        let inside : n ≤ length old.types = omega (arith, read, are.seen) in
+        ap length (each_near (length old.types) (ways_by old wanted fuel arrays) (ways_by new wanted fuel arrays) (λ i t. ways_same wanted fuel arrays upper i t.composite_type.inner) 0 (take n old.types) (omega (arith, length-take-le n old.types inside, inside)))
+        ∙ ap (λ (xs : List SubType). length (each_from (ways_by new wanted fuel arrays) 0 xs)) (seen_same n old.types new.types more.types inside))
+        are.counted;
+  }
+
+  ways_grown : (ways : KeptWays) → IsKeptWays old ways → IsKeptWays new ways
+  ways_grown ways kept = record {
+    wanted = subst (λ (xs : List SubType). IsValInRange xs ways.wanted) (sym more.types.parts) (value_longer old.types more.types.more ways.wanted kept.wanted);
+    bare_structs = counted_grown ways.wanted 0 false ways.bare_structs kept.wanted kept.bare_structs;
+    structs = counted_grown ways.wanted 1 false ways.structs kept.wanted kept.structs;
+    arrays = counted_grown ways.wanted 1 true ways.arrays kept.wanted kept.arrays;
+  }
+
+  types_grown : (types : Option KeptTypes) → IfSome types (λ kept. All (IsKeptWays old) kept.entries.items) → IfSome types (λ kept. All (IsKeptWays new) kept.entries.items)
+  types_grown None are = tt
+  types_grown (Some kept) are = All-weaker (IsKeptWays old) (IsKeptWays new) ways_grown kept.entries.items are
+
+  -- the kept globals, functions and types are correct
   pub kept_grown : (kept : KeptOffers) → AreKeptOffers old kept → AreKeptOffers new kept
-  kept_grown kept are = record { few = few_grown kept.few are.few; many = many_grown kept.many are.many }
+  kept_grown kept are = record { few = few_grown kept.few are.few; many = many_grown kept.many are.many; types = types_grown kept.types are.types }

@@ -14,7 +14,7 @@ use Rattle.smith_syntax.specs.declared.entity_type.EntityType.{EntityType}
 use Rattle.smith_syntax.specs.declared.entity_type.GlobalType.{GlobalType}
 use Rattle.smith_config.specs.declared.config.Config.{Config}
 use Rattle.smith_config.specs.Features.{features_of}
-use Rattle.smith_draw_consts.specs.KeptOffers.{AreItemsRead, AreKeptOffers, IsEntry}
+use Rattle.smith_draw_consts.specs.KeptOffers.{AreItemsRead, AreKeptOffers, IsEntry, IsKeptWays}
 use Rattle.smith_draw_consts.specs.declared.kept_offers.KeptOffers.{KeptOffers}
 use Rattle.smith_draw_consts.specs.declared.read_items.ReadItems.{ReadItems}
 use Rattle.smith_draw_definitions.specs.Definitions.{InitialiserScope, global_scope}
@@ -59,6 +59,16 @@ kept_alike config types spaces defined one other kept all =
                 })
                 many.kept.items are.entries;
           });
+      types = IfSome_then kept.types all.types
+          (λ each are.
+          All-weaker (IsKeptWays (scope_beside config types spaces defined one)) (IsKeptWays (scope_beside config types spaces defined other))
+          (λ ways entry. record {
+            wanted = entry.wanted;
+            bare_structs = record { seen = entry.bare_structs.seen; counted = entry.bare_structs.counted };
+            structs = record { seen = entry.structs.seen; counted = entry.structs.counted };
+            arrays = record { seen = entry.arrays.seen; counted = entry.arrays.counted };
+          })
+          each.entries.items are);
     }
 
 module _ (config : Config) (space : GroupedTypes) (spaces : EntitySpaces) (defined : Definitions) (allow : Bool) (may : MayDefineMore config space spaces defined 1) where

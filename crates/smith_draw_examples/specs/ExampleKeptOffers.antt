@@ -13,6 +13,7 @@ use Rattle.smith_draw_consts.specs.declared.few_items.FewItems.{FewItems}
 use Rattle.smith_draw_consts.specs.declared.kept_offers.KeptOffer.{KeptOffer}
 use Rattle.smith_draw_consts.specs.declared.kept_offers.KeptOffers.{KeptOffers}
 use Rattle.smith_draw_consts.specs.declared.kept_offers.ManyItems.{ManyItems}
+use Rattle.smith_draw_consts.specs.declared.kept_ways.KeptWays.{KeptWays}
 
 -- the counts of items read: all, those offered, and those offered before each block
 abbrev pub counts : ℕ → ℕ → List ℕ → BlockCounts
@@ -63,3 +64,11 @@ HasFewAlone kept globals funcs = HasFew kept.few globals funcs × (kept.many ≡
 -- no global and no function is in a class, and the entries are given
 abbrev pub HasEntries : ManyItems → List KeptOffer → Type 0
 HasEntries many entries = HasClasses many.items.globals [] [] × HasClasses many.items.funcs [] [] × (many.kept.items ≡ entries)
+
+-- the type of references that may refer to any struct and any array
+abbrev pub to_any : ValType
+to_any = Ref (nullable (plain heap.Any))
+
+-- the entry for a type: the counts of ways by structs without fuel, by structs and by arrays
+abbrev pub ways_for : ValType → BlockCounts → BlockCounts → BlockCounts → KeptWays
+ways_for wanted bare_structs structs arrays = record { wanted = wanted; bare_structs = bare_structs; structs = structs; arrays = arrays }

@@ -7,6 +7,7 @@ mod composite_types;
 mod entity_types;
 mod function_sizes;
 mod kept_offers;
+mod kept_ways;
 mod locals;
 mod offered_lists;
 mod offers;

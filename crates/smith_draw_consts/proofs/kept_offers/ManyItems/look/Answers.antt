@@ -8,7 +8,7 @@ use Rattle.smith_draw_consts.proofs.KeptOfferLemmas.{offer_there, whole_for}
 use Rattle.smith_draw_consts.proofs.kept_offers.ManyItems.look.Goals as goal
 use Rattle.smith_draw_consts.proofs.kept_offers.ManyItems.look.Goals.{In_ok-read}
 
-read : (c : In_ok-read) → AreManyKept (context_of c.args.scope.now) (record { kept = c.place_of.new.self.kept; items = c.read.new.self })
+read : (c : In_ok-read) → AreManyKept (context_of c.args.scope.now) (record c.place_of.new.self { items = c.read.new.self })
 read c =
     let context = context_of c.args.scope.now in
     record {
