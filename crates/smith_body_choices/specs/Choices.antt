@@ -61,7 +61,7 @@ abbrev pub ending_families : List EndingFamily
 ending_families =
     ending.Leaving ∷
     ending.Leaving ∷
-    ending.Leaving ∷
+    ending.TailCall ∷
     ending.TailCall ∷
     ending.Throw ∷
     ending.Throw ∷

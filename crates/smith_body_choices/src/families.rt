@@ -283,7 +283,7 @@ pub(crate) fn ending_families<'a>() -> &'a [EndingFamily]
     &[
         EndingFamily::Leaving,
         EndingFamily::Leaving,
-        EndingFamily::Leaving,
+        EndingFamily::TailCall,
         EndingFamily::TailCall,
         EndingFamily::Throw,
         EndingFamily::Throw,
