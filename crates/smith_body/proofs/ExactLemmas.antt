@@ -1,6 +1,7 @@
 -- The drawn instructions are those that the bytes produce, one part after another.
-use Rattle.std.proofs.Common.{◌≡◌, ℕ, zero, suc, ◌+◌, ◌-◌, ◌<◌, ◌≤◌, true, false, List, [], ◌∷◌, ◌++◌, Option, Some, None, length, get_or, replicate, take, drop, drop-cons, refl, sym, ap, ◌∙◌, arith}
+use Rattle.std.proofs.Common.{◌≡◌, ℕ, zero, suc, ◌+◌, ◌-◌, ◌%◌, ◌<◌, ◌≤◌, Bool, true, false, List, [], ◌∷◌, ◌++◌, Option, Some, None, length, get_or, replicate, take, drop, drop-cons, refl, sym, ap, ◌∙◌, arith}
 use Rattle.std.specs.Prelude.{option_to_list, ◌==◌}
+use Rattle.std.proofs.lemmas.Bool.{ne_eqb}
 use Rattle.smith_bytes.specs.Draws.{range_at}
 use Rattle.smith_config.specs.declared.config.Config.{Config}
 use Rattle.smith_syntax.specs.declared.value_type.ValType.{ValType}
@@ -9,8 +10,8 @@ use Rattle.smith_instr.specs.declared.control.BlockType.{BlockType}
 use Rattle.smith_instr.specs.declared.control.Catch.{Catch}
 use Rattle.smith_instr.specs.declared.instr.Instr.{Instr}
 use Rattle.smith_instr.specs.declared.instr.Instr.TheVariants as instr
-use Rattle.smith_body.specs.Bodies.{Drawing, State, begun, body_at, drawing_at, dropped, enclosed_at, ended, head_at, inside_at, leaf_in, node_at, statement_at, statements_within, value_at, values_at, whole_at, written}
-use Rattle.smith_body_choices.specs.Choices.{allowed_choice_at, statement_choice_at}
+use Rattle.smith_body.specs.Bodies.{Drawing, State, begun, body_at, drawing_at, dropped, enclosed_at, ended, ended_by, ending_at, head_at, inside_at, leaf_in, node_at, results_at, statement_at, statements_within, value_at, values_at, written}
+use Rattle.smith_body_choices.specs.Choices.{allowed_choice_at, ending_choice_at, statement_choice_at}
 use Rattle.smith_body.specs.DraftSteps.{IsDrawn, IsEnded, IsOpened, IsWritten, state_of}
 use Rattle.smith_body_leaves.specs.Leaves.{leaf_at}
 use Rattle.smith_body_nodes.specs.Nodes.{is_node_allowed, label_of, opened}
@@ -101,11 +102,47 @@ pub head_if : (draw : Drawing) (head : Head) (ty : BlockType) (sides : Sides) (s
 unfolding head_at
 head_if draw head ty sides sets s is = rw is refl
 
+-- an instruction after which nothing is reached, if one was chosen that is allowed
+chosen_end : (config : Config) (depth : ℕ) (s : State) (rest : List ℕ) (chosen : Option Node) → 0 < depth → ending_choice_at s.context s.bytes ≡ (chosen, rest)
+    → (drawing_at config depth).ending s ≡ ended_by config (drawing_at config (depth - 1)) chosen (record s { bytes = rest })
+unfolding drawing_at ending_at
+chosen_end config zero s rest chosen deep is = absurd (omega arith)
+chosen_end config (suc depth) s rest chosen deep is = let less : suc depth - 1 ≡ depth = omega arith in rw (less, is) refl
+
+pub no_ending : (config : Config) (depth : ℕ) (s : State) (rest : List ℕ) → 0 < depth → ending_choice_at s.context s.bytes ≡ (None, rest) → (drawing_at config depth).ending s ≡ (false, record s { bytes = rest })
+no_ending config depth s rest deep is = chosen_end config depth s rest None deep is
+
+pub forbidden_ending : (config : Config) (depth : ℕ) (s : State) (rest : List ℕ) (node : Node) → 0 < depth → ending_choice_at s.context s.bytes ≡ (Some node, rest) → is_node_allowed s.context.features config node ≡ false
+    → (drawing_at config depth).ending s ≡ (false, record s { bytes = rest })
+forbidden_ending config depth s rest node deep is forbidden = chosen_end config depth s rest (Some node) deep is ∙ rw forbidden refl
+
+pub chosen_ending : (config : Config) (depth : ℕ) (s t : State) (rest : List ℕ) (node : Node) → 0 < depth → ending_choice_at s.context s.bytes ≡ (Some node, rest) → is_node_allowed s.context.features config node ≡ true
+    → node_at (drawing_at config (depth - 1)) node (record s { bytes = rest }) ≡ t → (drawing_at config depth).ending s ≡ (true, t)
+chosen_ending config depth s t rest node deep is allowed after = chosen_end config depth s rest (Some node) deep is ∙ rw (allowed, after) refl
+
+-- statements and the results, or an ending in their place
+pub results_drawn : (draw : Drawing) (results : List ValType) (s t : State) → draw.statements s ≡ (false, t) → results_at draw results s ≡ values_at draw results t
+unfolding results_at
+results_drawn draw results s t stopped = rw stopped refl
+
+pub results_still : (draw : Drawing) (results : List ValType) (s t u : State) → draw.statements s ≡ (true, t) → draw.ending t ≡ (false, u) → results_at draw results s ≡ values_at draw results u
+unfolding results_at
+results_still draw results s t u stopped is = rw (stopped, is) refl
+
+pub results_ended : (draw : Drawing) (results : List ValType) (s t u : State) (number : ℕ) (left : List ℕ) → draw.statements s ≡ (true, t) → draw.ending t ≡ (true, u) → range_at 0 7 u.bytes ≡ (number, left) → number < 7
+    → results_at draw results s ≡ record u { bytes = left }
+unfolding results_at
+results_ended draw results s t u number left stopped is drawn less = rw (stopped, is, drawn, ne_eqb number 7 (λ same. absurd (omega arith))) refl
+
+pub results_dead : (draw : Drawing) (results : List ValType) (s t u v : State) (left : List ℕ) (ends : Bool) → draw.statements s ≡ (true, t) → draw.ending t ≡ (true, u) → range_at 0 7 u.bytes ≡ (7, left)
+    → draw.statements (record u { bytes = left }) ≡ (ends, v) → results_at draw results s ≡ values_at draw results v
+unfolding results_at
+results_dead draw results s t u v left ends stopped is drawn after = rw (stopped, is, drawn, after) refl
+
 -- the inside of a block
-pub inside_exact : (draw : Drawing) (sides : Sides) (s dropping statements : State) → dropped (length sides.params) s ≡ dropping → draw.statements dropping ≡ statements → inside_at draw sides s ≡ values_at draw sides.results statements
+pub inside_exact : (draw : Drawing) (sides : Sides) (s dropping : State) → dropped (length sides.params) s ≡ dropping → inside_at draw sides s ≡ results_at draw sides.results dropping
 unfolding inside_at
-inside_exact draw sides s dropping statements first second =
-    ap (λ (s : State). values_at draw sides.results (draw.statements s)) first ∙ ap (λ (s : State). values_at draw sides.results s) second
+inside_exact draw sides s dropping is = ap (λ (s : State). results_at draw sides.results s) is
 
 -- a block that was opened
 entered_exact : (scope : Scope) (opening : Instr) (label : List ValType) (old entered : Draft) (bytes : List ℕ) → IsOpened opening label old entered
@@ -179,7 +216,7 @@ unfolding statement_at
 forbidden_statement config below s node left chosen forbidden = rw (chosen, forbidden) refl
 
 -- the remaining statements, at most one for each unit of the budget
-pub record AreLeft (statement : State → State) (whole s : State) : Type 0 where
+pub record AreLeft (statement : State → State) (whole : Bool × State) (s : State) : Type 0 where
   pub most : ℕ
   pub few : s.budget ≤ most
   pub same : whole ≡ statements_within statement most s
@@ -187,41 +224,50 @@ pub record AreLeft (statement : State → State) (whole s : State) : Type 0 wher
 pub all_left : (statement : State → State) (s : State) → AreLeft statement (statements_within statement s.budget s) s
 all_left statement s = record { most = s.budget; few = omega arith; same = refl }
 
-without_budget : (statement : State → State) (most : ℕ) (s : State) → s.budget ≡ 0 → statements_within statement most s ≡ s
+without_budget : (statement : State → State) (most : ℕ) (s : State) → s.budget ≡ 0 → statements_within statement most s ≡ (false, s)
 without_budget statement zero s none = refl
 without_budget statement (suc most) s none = let test : (s.budget == 0) ≡ true = ap (λ (n : ℕ). n == 0) none in rw test refl
 
-pub none_left : (statement : State → State) (whole s : State) → s.budget ≡ 0 → AreLeft statement whole s → whole ≡ s
+pub none_left : (statement : State → State) (whole : Bool × State) (s : State) → s.budget ≡ 0 → AreLeft statement whole s → whole ≡ (false, s)
 none_left statement whole s none all = all.same ∙ without_budget statement all.most s none
 
-one_statement : (statement : State → State) (most number : ℕ) (s : State) (left : List ℕ) → 0 < s.budget → s.budget ≤ most → range_at 0 3 s.bytes ≡ (number, left) → 0 < number
+one_statement : (statement : State → State) (most number : ℕ) (s : State) (left : List ℕ) → 0 < s.budget → s.budget ≤ most → range_at 0 127 s.bytes ≡ (number, left) → ¬ (number ≡ 124) → 0 < number % 4
     → statements_within statement most s ≡ statements_within statement (most - 1) (statement (record s { bytes = left }))
-one_statement statement zero number s left paid few drawn more = absurd (omega arith)
-one_statement statement (suc most) number s left paid few drawn more =
+one_statement statement zero number s left paid few drawn other more = absurd (omega arith)
+one_statement statement (suc most) number s left paid few drawn other more =
     let less : suc most - 1 ≡ most = omega arith in
-    rw (less, not_zero s.budget paid, drawn, not_zero number more) refl
+    rw (less, not_zero s.budget paid, drawn, ne_eqb number 124 other, not_zero (number % 4) more) refl
 
-last_statement : (statement : State → State) (most number : ℕ) (s : State) (left : List ℕ) → 0 < s.budget → s.budget ≤ most → range_at 0 3 s.bytes ≡ (number, left) → number ≡ 0 → statements_within statement most s ≡ record s { bytes = left }
-last_statement statement zero number s left paid few drawn none = absurd (omega arith)
-last_statement statement (suc most) number s left paid few drawn none =
-    let drawn' : range_at 0 3 s.bytes ≡ (0, left) = drawn ∙ ap (λ (n : ℕ). (n, left)) none in
-    rw (not_zero s.budget paid, drawn') refl
+ending_statement : (statement : State → State) (most : ℕ) (s : State) (left : List ℕ) → 0 < s.budget → s.budget ≤ most → range_at 0 127 s.bytes ≡ (124, left) → statements_within statement most s ≡ (true, record s { bytes = left })
+ending_statement statement zero s left paid few drawn = absurd (omega arith)
+ending_statement statement (suc most) s left paid few drawn = rw (not_zero s.budget paid, drawn) refl
 
-pub one_less : (statement : State → State) (whole s t : State) (number : ℕ) (left : List ℕ) → 0 < s.budget → range_at 0 3 s.bytes ≡ (number, left) → 0 < number → statement (record s { bytes = left }) ≡ t → t.budget < s.budget
-    → AreLeft statement whole s → AreLeft statement whole t
-one_less statement whole s t number left paid drawn more is less all =
+last_statement : (statement : State → State) (most number : ℕ) (s : State) (left : List ℕ) → 0 < s.budget → s.budget ≤ most → range_at 0 127 s.bytes ≡ (number, left) → ¬ (number ≡ 124) → number % 4 ≡ 0
+    → statements_within statement most s ≡ (false, record s { bytes = left })
+last_statement statement zero number s left paid few drawn other none = absurd (omega arith)
+last_statement statement (suc most) number s left paid few drawn other none =
+    let test : (number % 4 == 0) ≡ true = ap (λ (n : ℕ). n == 0) none in
+    rw (not_zero s.budget paid, drawn, ne_eqb number 124 other, test) refl
+
+pub one_less : (statement : State → State) (whole : Bool × State) (s t : State) (number : ℕ) (left : List ℕ) → 0 < s.budget → range_at 0 127 s.bytes ≡ (number, left) → ¬ (number ≡ 124) → 0 < number % 4
+    → statement (record s { bytes = left }) ≡ t → t.budget < s.budget → AreLeft statement whole s → AreLeft statement whole t
+one_less statement whole s t number left paid drawn other more is less all =
     let few = all.few in
     record {
       most = all.most - 1;
       few = omega arith;
-      same = all.same ∙ (one_statement statement all.most number s left paid all.few drawn more ∙ ap (λ (s : State). statements_within statement (all.most - 1) s) is);
+      same = all.same ∙ (one_statement statement all.most number s left paid all.few drawn other more ∙ ap (λ (s : State). statements_within statement (all.most - 1) s) is);
     }
 
-pub stopped : (statement : State → State) (whole s : State) (number : ℕ) (left : List ℕ) → 0 < s.budget → range_at 0 3 s.bytes ≡ (number, left) → number ≡ 0 → AreLeft statement whole s → whole ≡ record s { bytes = left }
-stopped statement whole s number left paid drawn none all = all.same ∙ last_statement statement all.most number s left paid all.few drawn none
+pub ending_next : (statement : State → State) (whole : Bool × State) (s : State) (left : List ℕ) → 0 < s.budget → range_at 0 127 s.bytes ≡ (124, left) → AreLeft statement whole s → whole ≡ (true, record s { bytes = left })
+ending_next statement whole s left paid drawn all = all.same ∙ ending_statement statement all.most s left paid all.few drawn
+
+pub stopped : (statement : State → State) (whole : Bool × State) (s : State) (number : ℕ) (left : List ℕ) → 0 < s.budget → range_at 0 127 s.bytes ≡ (number, left) → ¬ (number ≡ 124) → number % 4 ≡ 0
+    → AreLeft statement whole s → whole ≡ (false, record s { bytes = left })
+stopped statement whole s number left paid drawn other none all = all.same ∙ last_statement statement all.most number s left paid all.few drawn other none
 
 -- the statements of a depth
-pub last_statements : (config : Config) (depth : ℕ) (s : State) → depth ≡ 0 → (drawing_at config depth).statements s ≡ s
+pub last_statements : (config : Config) (depth : ℕ) (s : State) → depth ≡ 0 → (drawing_at config depth).statements s ≡ (false, s)
 unfolding drawing_at
 last_statements config zero s last = refl
 last_statements config (suc depth) s last = absurd (omega arith)
@@ -231,17 +277,13 @@ unfolding drawing_at
 deep_statements config zero s deep = absurd (omega arith)
 deep_statements config (suc depth) s deep = let less : suc depth - 1 ≡ depth = omega arith in rw less refl
 
-pub whole_exact : (draw : Drawing) (results : List ValType) (s statements rest : State) → draw.statements s ≡ statements → values_at draw results statements ≡ rest → whole_at draw results s ≡ rest
-unfolding whole_at
-whole_exact draw results s statements rest first second = ap (λ (s : State). values_at draw results s) first ∙ second
-
 -- a body
-pub body_exact : (config : Config) (context : BodyContext) (budget : ℕ) (bytes : List ℕ) (start rest : State) → 0 < budget → whole_at (drawing_at config 40) context.results start ≡ rest → start ≡ begun context budget bytes
+pub body_exact : (config : Config) (context : BodyContext) (budget : ℕ) (bytes : List ℕ) (start rest : State) → 0 < budget → results_at (drawing_at config 40) context.results start ≡ rest → start ≡ begun context budget bytes
     → body_at config context budget bytes ≡ ended rest
 unfolding body_at
 body_exact config context budget bytes start rest some drawn begin =
-    let whole : ended (whole_at (drawing_at config 40) context.results (begun context budget bytes)) ≡ ended rest =
-    ap (λ (s : State). ended (whole_at (drawing_at config 40) context.results s)) (sym begin) ∙ ap (λ (s : State). ended s) drawn in
+    let whole : ended (results_at (drawing_at config 40) context.results (begun context budget bytes)) ≡ ended rest =
+    ap (λ (s : State). ended (results_at (drawing_at config 40) context.results s)) (sym begin) ∙ ap (λ (s : State). ended s) drawn in
     rw (not_zero budget some) whole
 
 pub body_stops : (config : Config) (context : BodyContext) (budget : ℕ) (bytes : List ℕ) → budget ≡ 0 → body_at config context budget bytes ≡ (instr.Unreachable ∷ [], bytes)

@@ -1,12 +1,12 @@
 -- The body that the bytes produce. Rules of this project.
-use Rattle.std.specs.Prelude.{ℕ, zero, suc, ◌-◌, ◌==◌, Option, Some, None, option_to_list, List, [], ◌∷◌, ◌++◌, length, replicate, if◌then◌else◌}
+use Rattle.std.specs.Prelude.{ℕ, zero, suc, ◌-◌, ◌%◌, ◌==◌, not, Bool, true, false, Option, Some, None, option_to_list, List, [], ◌∷◌, ◌++◌, length, replicate, if◌then◌else◌}
 use Rattle.smith_bytes.specs.Draws.{range_at}
 use Rattle.smith_config.specs.declared.config.Config.{Config}
 use Rattle.smith_syntax.specs.declared.value_type.ValType.{ValType}
 use Rattle.smith_instr.specs.Contexts.{BodyContext, labelled}
 use Rattle.smith_instr.specs.declared.instr.Instr.{Instr}
 use Rattle.smith_instr.specs.declared.instr.Instr.TheVariants as instr
-use Rattle.smith_body_choices.specs.Choices.{allowed_choice_at, statement_choice_at}
+use Rattle.smith_body_choices.specs.Choices.{allowed_choice_at, ending_choice_at, statement_choice_at}
 use Rattle.smith_body_leaves.specs.Leaves.{leaf_at}
 use Rattle.smith_body_nodes.specs.Nodes.{is_node_allowed, label_of, opened}
 use Rattle.smith_body_nodes.specs.declared.node.Head.{Head}
@@ -23,10 +23,12 @@ pub record State : Type 0 where
   pub budget : ℕ
   pub bytes : List ℕ
 
--- the draw of a value of a type, and the draw of statements
+-- the draws of a value of a type; of statements, with whether they end by a draw of an instruction
+-- after which nothing is reached; and of such an instruction, with whether there is one
 pub record Drawing : Type 0 where
   pub value : ValType → State → State
-  pub statements : State → State
+  pub statements : State → Bool × State
+  pub ending : State → Bool × State
 
 abbrev pub written : Instr → State → State
 written instruction s = record s { out = s.out ++ instruction ∷ [] }
@@ -39,9 +41,22 @@ abbrev pub values_at : Drawing → List ValType → State → State
 values_at draw [] s = s
 values_at draw (wanted ∷ more) s = values_at draw more (draw.value wanted s)
 
--- the inside of a block: its parameters are dropped, then there are statements, then its results
+-- statements and then the results, or in their place an instruction after which nothing is reached:
+-- one of eight times more statements and the results follow it
+unfoldable pub results_at : Drawing → List ValType → State → State
+results_at draw results s =
+    let statements = draw.statements s in
+    let ending = draw.ending statements.1 in
+    let more = range_at 0 7 ending.1.bytes in
+    let after = record ending.1 { bytes = more.1 } in
+    if not statements.0 then values_at draw results statements.1
+    else if not ending.0 then values_at draw results ending.1
+    else if more.0 == 7 then values_at draw results (draw.statements after).1
+    else after
+
+-- the inside of a block: its parameters are dropped, then there are statements and its results
 unfoldable pub inside_at : Drawing → Sides → State → State
-inside_at draw sides s = values_at draw sides.results (draw.statements (dropped (length sides.params) s))
+inside_at draw sides s = results_at draw sides.results (dropped (length sides.params) s)
 
 -- the inside of a block with its label; locals that are set in a block are not set after it
 unfoldable pub enclosed_at : Drawing → List ValType → Sides → State → State
@@ -91,26 +106,36 @@ statement_at config below s =
     let chosen = statement_choice_at config s.context s.bytes in
     allowed_at config below chosen.0 (record s { bytes = chosen.1 })
 
--- at most `most` statements, until the budget is spent or a drawn number is 0
-abbrev pub statements_within : (State → State) → ℕ → State → State
-statements_within statement zero s = s
+-- at most `most` statements, until the budget is spent or a drawn number is a multiple of 4: whether
+-- it is 124
+abbrev pub statements_within : (State → State) → ℕ → State → Bool × State
+statements_within statement zero s = (false, s)
 statements_within statement (suc most) s =
-    let more = range_at 0 3 s.bytes in
-    let next = record s { bytes = more.1 } in
-    if s.budget == 0 then s else if more.0 == 0 then next else statements_within statement most (statement next)
+    let number = range_at 0 127 s.bytes in
+    let next = record s { bytes = number.1 } in
+    if s.budget == 0 then (false, s)
+    else if number.0 == 124 then (true, next)
+    else if number.0 % 4 == 0 then (false, next)
+    else statements_within statement most (statement next)
+
+-- the node that was chosen as an ending, if one was and it is allowed
+abbrev pub ended_by : Config → Drawing → Option Node → State → Bool × State
+ended_by config below None s = (false, s)
+ended_by config below (Some node) s = if is_node_allowed s.context.features config node then (true, node_at below node s) else (false, s)
+
+-- an instruction after which nothing is reached, by the draws one level deeper
+unfoldable pub ending_at : Config → Drawing → State → Bool × State
+ending_at config below s = let chosen = ending_choice_at s.context s.bytes in ended_by config below chosen.0 (record s { bytes = chosen.1 })
 
 -- the draws at a depth, by those one level deeper: at the last level there are no statements, and
 -- values have no operands
 unfoldable pub drawing_at : Config → ℕ → Drawing
-drawing_at config zero = record { value = leaf_in config; statements = λ s. s }
+drawing_at config zero = record { value = leaf_in config; statements = λ s. (false, s); ending = λ s. (false, s) }
 drawing_at config (suc depth) = record {
   value = λ wanted s. value_at config (drawing_at config depth) wanted s;
   statements = λ s. statements_within (statement_at config (drawing_at config depth)) s.budget s;
+  ending = λ s. ending_at config (drawing_at config depth) s;
 }
-
--- the inside of a body: statements, then the results
-unfoldable pub whole_at : Drawing → List ValType → State → State
-whole_at draw results s = values_at draw results (draw.statements s)
 
 -- the state in which a body begins, and its result at the end
 abbrev pub begun : BodyContext → ℕ → List ℕ → State
@@ -123,4 +148,4 @@ ended s = (s.out, s.bytes)
 -- `unreachable`
 unfoldable pub body_at : Config → BodyContext → ℕ → List ℕ → List Instr × List ℕ
 body_at config context budget bytes =
-    if budget == 0 then (instr.Unreachable ∷ [], bytes) else ended (whole_at (drawing_at config 40) context.results (begun context budget bytes))
+    if budget == 0 then (instr.Unreachable ∷ [], bytes) else ended (results_at (drawing_at config 40) context.results (begun context budget bytes))

@@ -9,7 +9,7 @@ ghost use Rattle.smith_body.specs.Stops.{HasNeededStops};
 ghost use Rattle.smith_body_nodes.specs.Scopes.{IsScope, bare, kinds_of_bodies, most};
 ghost use Rattle.smith_body_nodes.specs.Traps.{IsTrapless};
 
-use crate::draws::draw_whole;
+use crate::draws::draw_results;
 use smith_body_nodes::{Draft, Scope, SetLocals};
 use smith_bytes::{Error, Unstructured};
 use smith_instr::Instr;
@@ -94,7 +94,7 @@ fn draw_some(
         labels,
         budget,
     };
-    draw_whole(alloc, scope, DEPTH, &mut draft, u)?;
+    draw_results(alloc, scope, scope.results, DEPTH, &mut draft, u)?;
     let Draft {
         out,
         set: _,

@@ -1,5 +1,5 @@
 ghost use Rattle.std.specs.Prelude.{◌≡◌, ◌++◌, ◌+◌, ◌-◌, ◌<◌, ◌≤◌, [], ◌∷◌, All, List, length};
-ghost use Rattle.std.specs.Prelude.{IfErr, OnOk, option_to_list};
+ghost use Rattle.std.specs.Prelude.{IfErr, IfOk, IsTrue, OnOk, option_to_list};
 ghost use Rattle.smith_bytes.specs.Source.{KeepsPieces};
 ghost use Rattle.smith_syntax.specs.declared.value_type.ValType.{ValType as Val};
 ghost use Rattle.smith_syntax.specs.declared.value_type.ValType.TheVariants.{I32};
@@ -7,7 +7,7 @@ ghost use Rattle.smith_instr.specs.Contexts.{AreBelow, AreValid, IsBlockType, Is
 ghost use Rattle.smith_instr.specs.InstrTypes.{IsCatch};
 ghost use Rattle.smith_instr.specs.declared.instr.Instr.TheVariants as instr;
 ghost use Rattle.smith_body.specs.Bodies.{drawing_at, enclosed_at, head_at, inside_at, node_at};
-ghost use Rattle.smith_body.specs.Bodies.{statement_at, values_at, whole_at, written};
+ghost use Rattle.smith_body.specs.Bodies.{results_at, statement_at, values_at, written};
 ghost use Rattle.smith_body.specs.DraftSteps.{IsDrawn, state_of};
 ghost use Rattle.smith_body_nodes.specs.Nodes.{AreSidesValid, HasHeadType, IsHeadAllowed};
 ghost use Rattle.smith_body_nodes.specs.Nodes.{IsHeadValid, IsNode, IsNodeAllowed, MayOpen};
@@ -19,7 +19,7 @@ ghost use Rattle.smith_body_nodes.specs.Traps.{IsNoStop};
 
 use crate::leaf::write_leaf;
 use crate::writes::{drop_values, write_else, write_end, write_opening, write_plain};
-use smith_body_choices::{choose_allowed, choose_statement};
+use smith_body_choices::{choose_allowed, choose_ending, choose_statement};
 use smith_body_nodes::{Draft, Head, Node, Opening, Scope, Sides, is_node_allowed};
 use smith_bytes::{Error, Unstructured};
 use smith_instr::{BlockType, Catch, Instr};
@@ -292,8 +292,78 @@ fn draw_inside(
     ensures left { KeepsPieces u.old u.new }
 {
     drop_values(sides.params.len(), draft)?;
-    draw_statements(alloc, scope, depth, draft, u)?;
-    draw_values(alloc, scope, sides.results.as_slice(), depth, draft, u)
+    draw_results(alloc, scope, sides.results.as_slice(), depth, draft, u)
+}
+
+/// Draws statements and the results of a block, or seldom in their place an instruction after which
+/// nothing is reached. One of eight times, more statements and the results follow it.
+#[cycle(body)]
+pub(crate) fn draw_results(
+    alloc: Global,
+    scope: &Scope<'_>,
+    wanted: &[ValType],
+    depth: u32,
+    draft: &mut Draft,
+    u: &mut Unstructured<'_>,
+) -> Result<(), Error>
+    requires scope { IsScope (bare scope.now) }
+    requires labels { AreLabels scope.now draft.old.labels.items }
+    requires valid { AreValid (bare scope.now) wanted.now }
+    ensures exact { OnOk result (results_at (drawing_at scope.now.config.now depth) wanted.now
+        (state_of scope.now draft.old u.old) ≡ state_of scope.now draft.new u.new) }
+    ensures drawn { OnOk result
+        (IsDrawn scope.now [] wanted.now (length wanted.now) draft.old draft.new) }
+    ensures memory { IfErr result (λ e. e ≡ Error.Memory) }
+    ensures left { KeepsPieces u.old u.new }
+{
+    let ends = draw_statements(alloc, scope, depth, draft, u)?;
+    if !ends {
+        return draw_values(alloc, scope, wanted, depth, draft, u);
+    }
+    let ended = draw_ending(alloc, scope, depth, draft, u)?;
+    if !ended {
+        return draw_values(alloc, scope, wanted, depth, draft, u);
+    }
+    let number = u.int_in_range(0..=7u8);
+    if number < 7 {
+        return Ok(());
+    }
+    let _ends = draw_statements(alloc, scope, depth, draft, u)?;
+    draw_values(alloc, scope, wanted, depth, draft, u)
+}
+
+/// Draws an instruction after which nothing is reached, which may come in place of any values, at
+/// most `depth` instructions deep. Returns whether there is one.
+#[cycle(body)]
+fn draw_ending(
+    alloc: Global,
+    scope: &Scope<'_>,
+    depth: u32,
+    draft: &mut Draft,
+    u: &mut Unstructured<'_>,
+) -> Result<bool, Error>
+    requires scope { IsScope (bare scope.now) }
+    requires labels { AreLabels scope.now draft.old.labels.items }
+    requires deep { 0 < depth }
+    requires paid { 0 < draft.old.budget }
+    ensures exact { IfOk result (λ ended. (drawing_at scope.now.config.now depth).ending
+        (state_of scope.now draft.old u.old) ≡ (ended, state_of scope.now draft.new u.new)) }
+    ensures drawn { OnOk result (IsDrawn scope.now [] [] 0 draft.old draft.new) }
+    ensures any { (values : List Val) → AreValid (bare scope.now) values
+        → IfOk result (λ ended. IsTrue ended
+        → IsDrawn scope.now [] values 0 draft.old draft.new) }
+    ensures memory { IfErr result (λ e. e ≡ Error.Memory) }
+    ensures left { KeepsPieces u.old u.new }
+{
+    let chosen = choose_ending(alloc, scope, draft, u)?;
+    let Some(node) = chosen else {
+        return Ok(false);
+    };
+    if !is_node_allowed(scope, &node) {
+        return Ok(false);
+    }
+    draw_node(alloc, scope, node, depth - 1, draft, u)?;
+    Ok(true)
 }
 
 /// Draws values of the types `wanted`, in order.
@@ -353,7 +423,7 @@ fn draw_statement(
 }
 
 /// Draws instructions that leave the stack unchanged, until the budget is spent or a number drawn
-/// from 0 to 3 is 0.
+/// from 0 to 127 is a multiple of 4. Returns whether it is 124.
 #[cycle(body)]
 fn draw_statements(
     alloc: Global,
@@ -361,46 +431,29 @@ fn draw_statements(
     depth: u32,
     draft: &mut Draft,
     u: &mut Unstructured<'_>,
-) -> Result<(), Error>
+) -> Result<bool, Error>
     requires scope { IsScope (bare scope.now) }
     requires labels { AreLabels scope.now draft.old.labels.items }
-    ensures exact { OnOk result
-        ((drawing_at scope.now.config.now depth).statements (state_of scope.now draft.old u.old)
-        ≡ state_of scope.now draft.new u.new) }
+    ensures exact { IfOk result (λ ends. (drawing_at scope.now.config.now depth).statements
+        (state_of scope.now draft.old u.old) ≡ (ends, state_of scope.now draft.new u.new)) }
     ensures drawn { OnOk result (IsDrawn scope.now [] [] 0 draft.old draft.new) }
+    ensures deep { IfOk result (λ ends. IsTrue ends → 0 < depth) }
+    ensures paid { IfOk result (λ ends. IsTrue ends → 0 < draft.new.budget) }
     ensures memory { IfErr result (λ e. e ≡ Error.Memory) }
     ensures left { KeepsPieces u.old u.new }
 {
     if depth == 0 {
-        return Ok(());
+        return Ok(false);
     }
     while draft.budget > 0 {
-        if u.int_in_range(0..=3u8) == 0 {
-            return Ok(());
+        let number = u.int_in_range(0..=127u8);
+        if number == 124 {
+            return Ok(true);
+        }
+        if number % 4 == 0 {
+            return Ok(false);
         }
         draw_statement(alloc, scope, depth, draft, u)?;
     }
-    Ok(())
-}
-
-/// Draws the instructions inside a body, which leave the results of `scope`.
-pub(crate) fn draw_whole(
-    alloc: Global,
-    scope: &Scope<'_>,
-    depth: u32,
-    draft: &mut Draft,
-    u: &mut Unstructured<'_>,
-) -> Result<(), Error>
-    requires scope { IsScope (bare scope.now) }
-    requires labels { AreLabels scope.now draft.old.labels.items }
-    ensures exact { OnOk result (whole_at (drawing_at scope.now.config.now depth)
-        scope.now.results.now (state_of scope.now draft.old u.old)
-        ≡ state_of scope.now draft.new u.new) }
-    ensures drawn { OnOk result (IsDrawn scope.now [] scope.now.results.now
-        (length scope.now.results.now) draft.old draft.new) }
-    ensures memory { IfErr result (λ e. e ≡ Error.Memory) }
-    ensures left { KeepsPieces u.old u.new }
-{
-    draw_statements(alloc, scope, depth, draft, u)?;
-    draw_values(alloc, scope, scope.results, depth, draft, u)
+    Ok(false)
 }

@@ -11,4 +11,4 @@ mod tail_calls;
 pub use calls::{
     choose_any_by_reference, choose_any_indirect, choose_by_reference, choose_indirect,
 };
-pub use tail_calls::{choose_any_tail_call, choose_tail_call};
+pub use tail_calls::choose_tail_call;

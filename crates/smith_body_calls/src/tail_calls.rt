@@ -3,7 +3,6 @@ ghost use Rattle.smith_bytes.specs.Source.{KeepsPieces};
 ghost use Rattle.smith_syntax.specs.declared.value_type.ValType.{ValType as Val};
 ghost use Rattle.smith_instr.specs.Contexts.{AreValid};
 ghost use Rattle.smith_body_control.specs.CallChoices.{is_returnable, return_call_at, tail_call_at};
-ghost use Rattle.smith_body_nodes.specs.Chosen.{or_nop};
 ghost use Rattle.smith_body_nodes.specs.Nodes.{IsNode, IsOffer};
 ghost use Rattle.smith_body_nodes.specs.Offered.{chunk_at};
 ghost use Rattle.smith_body_nodes.specs.Scopes.{IsScope, bare, indexed, where_stands};
@@ -11,7 +10,7 @@ ghost use Rattle.smith_body_nodes.specs.Scopes.{IsScope, bare, indexed, where_st
 use crate::calls::{choose_by_reference, choose_indirect};
 use smith_body_control::{Outcome, is_fit};
 use smith_body_nodes::{
-    Draft, Node, Offer, Scope, choose_in_chunk, function_of, indexed_count, or_nop, plain,
+    Draft, Node, Offer, Scope, choose_in_chunk, function_of, indexed_count, plain,
 };
 use smith_bytes::{Error, Unstructured};
 use smith_instr::Instr;
@@ -113,22 +112,4 @@ pub fn choose_tail_call(
         return choose_indirect(alloc, scope, Outcome::Returned, draft, u);
     }
     choose_by_reference(alloc, scope, Outcome::Returned, draft, u)
-}
-
-/// Chooses a tail call, or `nop` if there is none.
-pub fn choose_any_tail_call(
-    alloc: Global,
-    scope: &Scope<'_>,
-    draft: &Draft,
-    u: &mut Unstructured<'_>,
-) -> Result<Node, Error>
-    requires scope { IsScope (bare scope.now) }
-    ensures exact { IfOk result (λ node.
-        or_nop (tail_call_at (where_stands scope.now draft.now) u.old) ≡ (node, u.new)) }
-    ensures node { IfOk result (IsNode (where_stands scope.now draft.now) draft.now.set.items []) }
-    ensures memory { IfErr result (λ e. e ≡ Error.Memory) }
-    ensures left { KeepsPieces u.old u.new }
-{
-    let chosen = choose_tail_call(alloc, scope, draft, u)?;
-    or_nop(alloc, chosen)
 }

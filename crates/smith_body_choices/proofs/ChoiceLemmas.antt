@@ -1,6 +1,7 @@
 -- The chosen node, by the drawn places.
 use Rattle.std.specs.Prelude.{slice_get, slice_index_or, option_map}
 use Rattle.std.proofs.Common.{◌≡◌, ℕ, zero, suc, ◌+◌, ◌-◌, ◌<◌, ◌≤◌, true, false, List, [], ◌∷◌, Option, Some, None, length, get_or, refl, ap, ◌∙◌, arith}
+use Rattle.std.proofs.lemmas.Bool.{ne_eqb}
 use Rattle.std.proofs.lemmas.Option.{slice_get-get_or, slice_get_past}
 use Rattle.smith_bytes.specs.Draws.{choose_at, range_at}
 use Rattle.smith_syntax.specs.declared.value_type.ValType.{ValType}
@@ -11,13 +12,16 @@ use Rattle.smith_config.specs.declared.config.Config.{Config}
 use Rattle.smith_draw_types.specs.Choices.{chosen_at}
 use Rattle.smith_instr.specs.Contexts.{BodyContext}
 use Rattle.smith_instr.specs.declared.instr.Instr.TheVariants as instr
+use Rattle.smith_body_control.specs.BlockChoices.{block_at}
 use Rattle.smith_body_nodes.specs.Chosen.{or_nop, giving}
 use Rattle.smith_body_nodes.specs.Nodes.{is_node_allowed, node_of, setting}
 use Rattle.smith_body_nodes.specs.Offered.{chunk_at, function_at, is_callable, is_local_below, is_mutable, offered}
 use Rattle.smith_body_nodes.specs.Scopes.{indexed}
 use Rattle.smith_body_nodes.specs.declared.node.Node.{Node}
 use Rattle.smith_body_nodes.proofs.ChosenLemmas.{same_item, chosen_by, no_count, no_index}
-use Rattle.smith_body_choices.specs.Choices.{allowed_choice_at, any_call_at, any_call_node, call_at, call_node, drop_at, dropped_at, dropped_types, global_set_at, global_set_node, set_at, set_node, statement_choice_at, statement_families, statement_of, tee_at, tee_node, value_choice_at, value_families, value_of}
+use Rattle.smith_body_choices.specs.Choices.{allowed_choice_at, any_call_at, any_call_node, call_at, call_node, drop_at, dropped_at, dropped_types, ending_choice_at, ending_families, ending_of, ending_value_at, global_set_at, global_set_node, set_at, set_node, statement_choice_at, statement_families, statement_of, tee_at, tee_node, value_choice_at, value_families, value_of}
+use Rattle.smith_body_choices.specs.declared.families.EndingFamily.{EndingFamily}
+use Rattle.smith_body_choices.specs.declared.families.EndingFamily.TheVariants as ending
 use Rattle.smith_body_choices.specs.declared.families.StatementFamily.{StatementFamily}
 use Rattle.smith_body_choices.specs.declared.families.StatementFamily.TheVariants as statement
 use Rattle.smith_body_choices.specs.declared.families.ValueFamily.{ValueFamily}
@@ -127,6 +131,20 @@ pub statement_by : (config : Config) (context : BodyContext) (bytes left : List 
 unfolding statement_choice_at
 statement_by config context bytes left families drawn_family family are drawn is =
     chosen_by (λ family bytes. or_nop (statement_of config context family bytes)) statement.Nop statement_families families bytes left drawn_family family are drawn is
+
+-- an instruction after which nothing is reached, by its drawn family, and in place of a value
+pub ending_by : (context : BodyContext) (bytes left : List ℕ) (families : List EndingFamily) (drawn_family family : EndingFamily) → families ≡ ending_families → chosen_at ending.Leaving families bytes ≡ (drawn_family, left) → drawn_family ≡ family
+    → ending_choice_at context bytes ≡ ending_of context family left
+unfolding ending_choice_at
+ending_by context bytes left families drawn_family family are drawn is = chosen_by (ending_of context) ending.Leaving ending_families families bytes left drawn_family family are drawn is
+
+pub ending_value_block : (context : BodyContext) (wanted : ValType) (bytes left : List ℕ) (number : ℕ) → range_at 0 7 bytes ≡ (number, left) → number < 7 → ending_value_at context wanted bytes ≡ block_at wanted left
+unfolding ending_value_at
+ending_value_block context wanted bytes left number drawn less = rw (drawn, ne_eqb number 7 (λ same. absurd (omega arith))) refl
+
+pub ending_value_ends : (context : BodyContext) (wanted : ValType) (bytes left : List ℕ) → range_at 0 7 bytes ≡ (7, left) → ending_value_at context wanted bytes ≡ ending_choice_at context left
+unfolding ending_value_at
+ending_value_ends context wanted bytes left drawn = rw drawn refl
 
 -- the chosen node is allowed, or there is none
 pub allowed_node : (config : Config) (context : BodyContext) (wanted : ValType) (bytes left : List ℕ) (node : Node) → value_choice_at config context wanted bytes ≡ (Some node, left) → is_node_allowed context.features config node ≡ true

@@ -1,6 +1,7 @@
 -- Calls, drops, and instructions on locals and globals leave the values of their definitions.
 use Rattle.std.specs.Prelude.{slice_get, All}
 use Rattle.std.proofs.Common.{◌≡◌, ℕ, ◌-◌, ◌<◌, ◌≤◌, true, List, [], ◌∷◌, ◌++◌, Option, Some, length, get_or, drop, refl, sym, subst, ap, ◌∙◌, arith}
+use Rattle.std.proofs.lemmas.List.{append-nil}
 use Rattle.std.proofs.lemmas.List.Elements.{All-drop}
 use Rattle.std.proofs.lemmas.Option.{same_Some, slice_get-get_or, slice_get_within}
 use Rattle.smith_types.specs.Subtyping.{IsValBelow}
@@ -118,3 +119,19 @@ call_for context set wanted index function orderly params results valid callable
     let same : length function.results ≡ length (wanted ∷ drop 1 function.results) = zip_length _ function.results (wanted ∷ drop 1 function.results) zip in
     let less : length (drop 1 function.results) ≡ length function.results - 1 = omega arith in
     rw (← less) (call_node context set (wanted ∷ []) (drop 1 function.results) index function params (one_valid context wanted valid) (All-drop (IsValid context) 1 function.results results) (function_there context index function at) zip (omega arith))
+
+-- `unreachable` in place of any values
+pub stop_node : (context : BodyContext) (set : List ℕ) (values : List ValType) → AreValid context values → IsNode context set values (node_of [] instr.Unreachable 0)
+stop_node context set values valid = record {
+  results = values;
+  dropped = [];
+  typed = λ more. ([], refl, valid);
+  below = rw append-nil (below_themselves context.types values);
+  given = valid;
+  spare = no_valid context;
+  drops = refl;
+  sets_local = refl;
+  few = let wide = three_wide context.types in omega arith;
+  valid = no_valid context;
+  inside = tt;
+}

@@ -1,6 +1,6 @@
 -- The node that the bytes choose. The choices, their order and their weights are rules of this
 -- project.
-use Rattle.std.specs.Prelude.{ℕ, ◌-◌, Option, Some, None, option_map, List, [], ◌∷◌, length, slice_get, if◌then◌else◌}
+use Rattle.std.specs.Prelude.{ℕ, ◌-◌, ◌==◌, Option, Some, None, option_map, List, [], ◌∷◌, length, slice_get, if◌then◌else◌}
 use Rattle.smith_bytes.specs.Draws.{range_at, choose_at}
 use Rattle.smith_syntax.specs.Features.{Features}
 use Rattle.smith_syntax.specs.declared.value_type.ValType.{ValType}
@@ -33,6 +33,8 @@ use Rattle.smith_body_reference_branches.specs.CastBranchChoices.{cast_branch_at
 use Rattle.smith_body_casts.specs.CastChoices.{cast_choice_at}
 use Rattle.smith_body_aggregates.specs.CreationChoices.{creation_at}
 use Rattle.smith_body_aggregates.specs.FieldChoices.{field_read_at, field_write_at}
+use Rattle.smith_body_choices.specs.declared.families.EndingFamily.{EndingFamily}
+use Rattle.smith_body_choices.specs.declared.families.EndingFamily.TheVariants as ending
 use Rattle.smith_body_choices.specs.declared.families.StatementFamily.{StatementFamily}
 use Rattle.smith_body_choices.specs.declared.families.StatementFamily.TheVariants as statement
 use Rattle.smith_body_choices.specs.declared.families.ValueFamily.{ValueFamily}
@@ -53,6 +55,37 @@ call_node context index =
 unfoldable pub call_at : BodyContext → ValType → List ℕ → Chosen
 call_at context wanted bytes = giving (call_node context) (chunk_at (is_callable context wanted) (indexed (length context.funcs)) bytes)
 
+-- the families of instructions after which nothing is reached; the number of times that each is
+-- listed is its weight
+abbrev pub ending_families : List EndingFamily
+ending_families =
+    ending.Leaving ∷
+    ending.Leaving ∷
+    ending.TailCall ∷
+    ending.TailCall ∷
+    ending.Throw ∷
+    ending.Throw ∷
+    ending.Table ∷
+    ending.Unreachable ∷
+    []
+
+-- an instruction of such a family; none if there is none
+abbrev pub ending_of : BodyContext → EndingFamily → List ℕ → Chosen
+ending_of context ending.Leaving bytes = leaving_at context bytes
+ending_of context ending.TailCall bytes = tail_call_at context bytes
+ending_of context ending.Throw bytes = any_throw_at context bytes
+ending_of context ending.Table bytes = table_at context bytes
+ending_of context ending.Unreachable bytes = (Some (node_of [] instr.Unreachable 0), bytes)
+
+unfoldable pub ending_choice_at : BodyContext → List ℕ → Chosen
+ending_choice_at context bytes = let family = chosen_at ending.Leaving ending_families bytes in ending_of context family.0 family.1
+
+-- in place of a value one of eight times such an instruction, else a block
+unfoldable pub ending_value_at : BodyContext → ValType → List ℕ → Chosen
+ending_value_at context wanted bytes =
+    let number = range_at 0 7 bytes in
+    if number.0 == 7 then ending_choice_at context number.1 else block_at wanted number.1
+
 -- the families of numbers, of vectors and of references; the number of times that each is listed is
 -- its weight
 abbrev pub number_families : List ValueFamily
@@ -69,7 +102,7 @@ number_families =
     value.Call ∷
     value.Block ∷
     value.Block ∷
-    value.Leaving ∷
+    value.Ending ∷
     value.Load ∷
     value.Load ∷
     value.Memory ∷
@@ -78,7 +111,7 @@ number_families =
     value.Reference ∷
     value.CallIndirect ∷
     value.CallRef ∷
-    value.TailCall ∷
+    value.Numeric ∷
     value.Atomic ∷
     value.Vector ∷
     value.Vector ∷
@@ -90,7 +123,7 @@ number_families =
     value.FieldRead ∷
     value.Cast ∷
     value.Leaf ∷
-    value.Throw ∷
+    value.Try ∷
     value.Try ∷
     []
 
@@ -108,7 +141,7 @@ vector_value_families =
     value.Call ∷
     value.Block ∷
     value.Block ∷
-    value.Leaving ∷
+    value.Ending ∷
     value.Vector ∷
     value.Vector ∷
     value.Vector ∷
@@ -117,7 +150,7 @@ vector_value_families =
     value.Vector ∷
     value.CallIndirect ∷
     value.CallRef ∷
-    value.TailCall ∷
+    value.Vector ∷
     value.Vector ∷
     value.Vector ∷
     value.Vector ∷
@@ -129,7 +162,7 @@ vector_value_families =
     value.FieldRead ∷
     value.Leaf ∷
     value.Leaf ∷
-    value.Throw ∷
+    value.Try ∷
     value.Try ∷
     []
 
@@ -147,7 +180,7 @@ reference_value_families =
     value.Call ∷
     value.Block ∷
     value.Block ∷
-    value.Leaving ∷
+    value.Ending ∷
     value.Creation ∷
     value.Creation ∷
     value.Table ∷
@@ -156,7 +189,7 @@ reference_value_families =
     value.Reference ∷
     value.CallIndirect ∷
     value.CallRef ∷
-    value.TailCall ∷
+    value.Creation ∷
     value.NullBranch ∷
     value.Cast ∷
     value.Cast ∷
@@ -168,7 +201,7 @@ reference_value_families =
     value.FieldRead ∷
     value.Cast ∷
     value.CastBranch ∷
-    value.Throw ∷
+    value.Try ∷
     value.Try ∷
     []
 
@@ -186,7 +219,7 @@ value_of config context wanted value.Select bytes = (select_node wanted, bytes)
 value_of config context wanted value.Tee bytes = tee_at context wanted bytes
 value_of config context wanted value.Call bytes = call_at context wanted bytes
 value_of config context wanted value.Block bytes = block_at wanted bytes
-value_of config context wanted value.Leaving bytes = leaving_at context bytes
+value_of config context wanted value.Ending bytes = ending_value_at context wanted bytes
 value_of config context wanted value.Load bytes = load_at config context wanted bytes
 value_of config context wanted value.Memory bytes = memory_at context wanted bytes
 value_of config context wanted value.Table bytes = table_value_at context wanted bytes
@@ -194,7 +227,6 @@ value_of config context wanted value.SelectTyped bytes = (Some (select_typed_nod
 value_of config context wanted value.Reference bytes = reference_value_at context wanted bytes
 value_of config context wanted value.CallIndirect bytes = indirect_at context (outcome.Wanted wanted) bytes
 value_of config context wanted value.CallRef bytes = by_reference_at context (outcome.Wanted wanted) bytes
-value_of config context wanted value.TailCall bytes = tail_call_at context bytes
 value_of config context wanted value.NullBranch bytes = br_on_null_value_at context wanted bytes
 value_of config context wanted value.Vector bytes = vector_at config context wanted bytes
 value_of config context wanted value.Atomic bytes = atomic_at config context wanted bytes
@@ -202,7 +234,6 @@ value_of config context wanted value.Creation bytes = creation_at context wanted
 value_of config context wanted value.FieldRead bytes = field_read_at context wanted bytes
 value_of config context wanted value.Cast bytes = cast_choice_at context wanted bytes
 value_of config context wanted value.CastBranch bytes = cast_value_at context wanted bytes
-value_of config context wanted value.Throw bytes = any_throw_at context bytes
 value_of config context wanted value.Try bytes = try_at context wanted bytes
 
 unfoldable pub value_choice_at : Config → BodyContext → ValType → List ℕ → Chosen
@@ -265,17 +296,17 @@ statement_families =
     statement.Block ∷
     statement.Block ∷
     statement.Branch ∷
-    statement.Leaving ∷
-    statement.Table ∷
+    statement.Block ∷
+    statement.LocalSet ∷
     statement.Store ∷
     statement.Store ∷
-    statement.Unreachable ∷
+    statement.Branch ∷
     statement.LocalSet ∷
     statement.TableChange ∷
     statement.Bulk ∷
     statement.CallIndirect ∷
     statement.CallRef ∷
-    statement.TailCall ∷
+    statement.Block ∷
     statement.NullBranch ∷
     statement.VectorStore ∷
     statement.StoreLane ∷
@@ -283,7 +314,7 @@ statement_families =
     statement.Fence ∷
     statement.FieldWrite ∷
     statement.CastBranch ∷
-    statement.Throw ∷
+    statement.Try ∷
     statement.Try ∷
     []
 
@@ -295,16 +326,12 @@ statement_of config context statement.GlobalSet bytes = global_set_at context by
 statement_of config context statement.Call bytes = any_call_at context bytes
 statement_of config context statement.Block bytes = any_block_at context bytes
 statement_of config context statement.Branch bytes = branch_at context bytes
-statement_of config context statement.Leaving bytes = leaving_at context bytes
-statement_of config context statement.Table bytes = table_at context bytes
 statement_of config context statement.Store bytes = store_at config context bytes
-statement_of config context statement.Unreachable bytes = (Some (node_of [] instr.Unreachable 0), bytes)
 statement_of config context statement.LocalSet bytes = set_at context bytes
 statement_of config context statement.TableChange bytes = table_change_at context bytes
 statement_of config context statement.Bulk bytes = bulk_at context bytes
 statement_of config context statement.CallIndirect bytes = indirect_at context outcome.Dropped bytes
 statement_of config context statement.CallRef bytes = by_reference_at context outcome.Dropped bytes
-statement_of config context statement.TailCall bytes = tail_call_at context bytes
 statement_of config context statement.NullBranch bytes = null_branch_at context bytes
 statement_of config context statement.VectorStore bytes = vector_store_at config context bytes
 statement_of config context statement.StoreLane bytes = store_lane_at config context bytes
@@ -312,7 +339,6 @@ statement_of config context statement.AtomicStore bytes = atomic_store_at config
 statement_of config context statement.Fence bytes = (Some (node_of [] instr.AtomicFence 0), bytes)
 statement_of config context statement.FieldWrite bytes = field_write_at context bytes
 statement_of config context statement.CastBranch bytes = cast_branch_at context bytes
-statement_of config context statement.Throw bytes = any_throw_at context bytes
 statement_of config context statement.Try bytes = any_try_at context bytes
 
 unfoldable pub statement_choice_at : Config → BodyContext → List ℕ → Node × List ℕ

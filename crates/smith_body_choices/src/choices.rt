@@ -1,26 +1,29 @@
-ghost use Rattle.std.specs.Prelude.{◌≡◌, ◌<◌, [], ◌∷◌, length, IfOk, IfErr, IfSome};
+ghost use Rattle.std.specs.Prelude.{◌≡◌, ◌<◌, List, [], ◌∷◌, length, IfOk, IfErr, IfSome};
 ghost use Rattle.smith_bytes.specs.Source.{KeepsPieces};
-ghost use Rattle.smith_instr.specs.Contexts.{IsValid};
+ghost use Rattle.smith_syntax.specs.declared.value_type.ValType.{ValType as Val};
+ghost use Rattle.smith_instr.specs.Contexts.{AreValid, IsValid};
 ghost use Rattle.smith_body_choices.specs.Choices.{allowed_choice_at, any_call_at, call_at, drop_at};
-ghost use Rattle.smith_body_choices.specs.Choices.{dropped_at, global_set_at, set_at, statement_choice_at};
+ghost use Rattle.smith_body_choices.specs.Choices.{dropped_at, ending_choice_at, ending_value_at};
+ghost use Rattle.smith_body_choices.specs.Choices.{global_set_at, set_at, statement_choice_at};
 ghost use Rattle.smith_body_choices.specs.Choices.{tee_at, value_choice_at};
-ghost use Rattle.smith_body_control.specs.BranchChoices.{leaving_at};
 ghost use Rattle.smith_body_nodes.specs.Chosen.{or_nop};
 ghost use Rattle.smith_body_nodes.specs.Nodes.{IsNode, IsNodeAllowed, IsOffer};
 ghost use Rattle.smith_body_nodes.specs.Nodes.{head_instruction};
 ghost use Rattle.smith_body_nodes.specs.Scopes.{AreLabels, IsScope, bare, where_stands};
 ghost use Rattle.smith_body_nodes.specs.Traps.{IsNoStop};
 
-use crate::families::{StatementFamily, ValueFamily, statement_families, value_families};
+use crate::families::{
+    EndingFamily, StatementFamily, ValueFamily, ending_families, statement_families, value_families,
+};
 use smith_body_aggregates::{choose_creation, choose_field_read, choose_field_write};
 use smith_body_calls::{
-    choose_any_by_reference, choose_any_indirect, choose_any_tail_call, choose_by_reference,
-    choose_indirect, choose_tail_call,
+    choose_any_by_reference, choose_any_indirect, choose_by_reference, choose_indirect,
+    choose_tail_call,
 };
 use smith_body_casts::choose_cast;
 use smith_body_control::{
     Outcome, choose_any_block, choose_any_throw, choose_any_try, choose_block, choose_branch,
-    choose_leaving, choose_table, choose_throw_statement, choose_try,
+    choose_leaving, choose_table, choose_try,
 };
 use smith_body_memory::{
     choose_atomic, choose_atomic_store, choose_load, choose_memory, choose_store,
@@ -102,7 +105,7 @@ fn choose_value(
         ValueFamily::Tee => choose_tee(alloc, scope, wanted, draft, u),
         ValueFamily::Call => choose_call(alloc, scope, wanted, draft, u),
         ValueFamily::Block => choose_block(alloc, scope, wanted, draft, u),
-        ValueFamily::Leaving => choose_leaving_for(alloc, scope, wanted, draft, u),
+        ValueFamily::Ending => choose_ending_value(alloc, scope, wanted, draft, u),
         ValueFamily::Load => choose_load(alloc, scope, wanted, draft, u),
         ValueFamily::Memory => choose_memory(alloc, scope, wanted, draft, u),
         ValueFamily::Table => choose_table_value(alloc, scope, wanted, draft, u),
@@ -110,7 +113,6 @@ fn choose_value(
         ValueFamily::Reference => choose_reference_value(alloc, scope, wanted, draft, u),
         ValueFamily::CallIndirect => choose_indirect(alloc, scope, outcome, draft, u),
         ValueFamily::CallRef => choose_by_reference(alloc, scope, outcome, draft, u),
-        ValueFamily::TailCall => choose_tail_call(alloc, scope, draft, u),
         ValueFamily::NullBranch => choose_kept(alloc, scope, wanted, draft, u),
         ValueFamily::Vector => choose_vector(alloc, scope, wanted, draft, u),
         ValueFamily::Atomic => choose_atomic(alloc, scope, wanted, draft, u),
@@ -118,12 +120,12 @@ fn choose_value(
         ValueFamily::FieldRead => choose_field_read(alloc, scope, wanted, draft, u),
         ValueFamily::Cast => choose_cast(alloc, scope, wanted, draft, u),
         ValueFamily::CastBranch => choose_kept_cast(alloc, scope, wanted, draft, u),
-        ValueFamily::Throw => choose_any_throw(alloc, scope, draft, u),
         ValueFamily::Try => choose_try(alloc, scope, wanted, draft, u),
     }
 }
 
-fn choose_leaving_for(
+/// Chooses a block, or one of eight times an instruction after which nothing is reached.
+fn choose_ending_value(
     alloc: Global,
     scope: &Scope<'_>,
     wanted: ValType,
@@ -134,14 +136,52 @@ fn choose_leaving_for(
     requires labels { AreLabels scope.now draft.now.labels.items }
     requires wanted { IsValid (bare scope.now) wanted }
     ensures exact { IfOk result (λ chosen.
-        leaving_at (where_stands scope.now draft.now) u.old ≡ (chosen, u.new)) }
+        ending_value_at (where_stands scope.now draft.now) wanted u.old ≡ (chosen, u.new)) }
     ensures offer { IsOffer (where_stands scope.now draft.now) draft.now.set.items
         (wanted ∷ []) result }
     ensures memory { IfErr result (λ e. e ≡ Error.Memory) }
     ensures left { KeepsPieces u.old u.new }
 {
-    let node = choose_leaving(alloc, scope, draft, u)?;
-    Ok(Some(node))
+    let number = u.int_in_range(0..=7u8);
+    if number < 7 {
+        return choose_block(alloc, scope, wanted, draft, u);
+    }
+    choose_ending(alloc, scope, draft, u)
+}
+
+/// Chooses an instruction after which nothing is reached: a branch, a tail call, a throw or
+/// `unreachable`. It may come in place of any values. Returns `None` if the choice is not possible.
+pub fn choose_ending(
+    alloc: Global,
+    scope: &Scope<'_>,
+    draft: &Draft,
+    u: &mut Unstructured<'_>,
+) -> Result<Option<Node>, Error>
+    requires scope { IsScope (bare scope.now) }
+    requires labels { AreLabels scope.now draft.now.labels.items }
+    ensures exact { IfOk result (λ chosen.
+        ending_choice_at (where_stands scope.now draft.now) u.old ≡ (chosen, u.new)) }
+    ensures offer { (values : List Val) → AreValid (bare scope.now) values
+        → IsOffer (where_stands scope.now draft.now) draft.now.set.items values result }
+    ensures memory { IfErr result (λ e. e ≡ Error.Memory) }
+    ensures left { KeepsPieces u.old u.new }
+{
+    match choose(ending_families(), u) {
+        EndingFamily::Leaving => {
+            let node = choose_leaving(alloc, scope, draft, u)?;
+            Ok(Some(node))
+        }
+        EndingFamily::TailCall => choose_tail_call(alloc, scope, draft, u),
+        EndingFamily::Throw => choose_any_throw(alloc, scope, draft, u),
+        EndingFamily::Table => {
+            let node = choose_table(alloc, scope, draft, u)?;
+            Ok(Some(node))
+        }
+        EndingFamily::Unreachable => {
+            let node = plain(alloc, &[], Instr::Unreachable, 0)?;
+            Ok(Some(node))
+        }
+    }
 }
 
 fn choose_tee(
@@ -218,16 +258,12 @@ pub fn choose_statement(
         StatementFamily::Call => choose_any_call(alloc, scope, draft, u),
         StatementFamily::Block => choose_any_block(alloc, scope, draft, u),
         StatementFamily::Branch => choose_branch(alloc, scope, draft, u),
-        StatementFamily::Leaving => choose_leaving(alloc, scope, draft, u),
-        StatementFamily::Table => choose_table(alloc, scope, draft, u),
         StatementFamily::Store => choose_store(alloc, scope, draft, u),
-        StatementFamily::Unreachable => plain(alloc, &[], Instr::Unreachable, 0),
         StatementFamily::LocalSet => choose_set(alloc, scope, draft, u),
         StatementFamily::TableChange => choose_table_change(alloc, scope, draft, u),
         StatementFamily::Bulk => choose_bulk(alloc, scope, draft, u),
         StatementFamily::CallIndirect => choose_any_indirect(alloc, scope, draft, u),
         StatementFamily::CallRef => choose_any_by_reference(alloc, scope, draft, u),
-        StatementFamily::TailCall => choose_any_tail_call(alloc, scope, draft, u),
         StatementFamily::NullBranch => choose_null_branch(alloc, scope, draft, u),
         StatementFamily::VectorStore => choose_vector_store(alloc, scope, draft, u),
         StatementFamily::StoreLane => choose_store_lane(alloc, scope, draft, u),
@@ -235,7 +271,6 @@ pub fn choose_statement(
         StatementFamily::Fence => plain(alloc, &[], Instr::AtomicFence, 0),
         StatementFamily::FieldWrite => choose_field_write(alloc, scope, draft, u),
         StatementFamily::CastBranch => choose_cast_branch(alloc, scope, draft, u),
-        StatementFamily::Throw => choose_throw_statement(alloc, scope, draft, u),
         StatementFamily::Try => choose_any_try(alloc, scope, draft, u),
     }
 }

@@ -1,5 +1,6 @@
 ghost use Rattle.std.specs.Prelude.{◌≡◌};
 ghost use Rattle.smith_body_choices.specs.Choices.{
+  ending_families,
   number_families,
   reference_value_families,
   statement_families,
@@ -19,8 +20,8 @@ pub(crate) enum ValueFamily {
     Tee,
     Call,
     Block,
-    /// An unconditional branch.
-    Leaving,
+    /// A block, or seldom an instruction that leaves.
+    Ending,
     Load,
     /// The size of a memory, or its growth.
     Memory,
@@ -31,8 +32,6 @@ pub(crate) enum ValueFamily {
     Reference,
     CallIndirect,
     CallRef,
-    /// A tail call.
-    TailCall,
     /// A branch on null.
     NullBranch,
     /// A vector, or the result of a vector instruction.
@@ -46,8 +45,6 @@ pub(crate) enum ValueFamily {
     Cast,
     /// A branch on a failed cast.
     CastBranch,
-    /// `throw` or `throw_ref`.
-    Throw,
     /// A block that catches exceptions.
     Try,
 }
@@ -62,20 +59,13 @@ pub(crate) enum StatementFamily {
     Block,
     /// A conditional branch.
     Branch,
-    /// An unconditional branch.
-    Leaving,
-    /// An unconditional branch to one of several labels.
-    Table,
     Store,
-    Unreachable,
     LocalSet,
     TableChange,
     /// An instruction on several bytes of a memory, or on a data segment.
     Bulk,
     CallIndirect,
     CallRef,
-    /// A tail call.
-    TailCall,
     /// A branch on null, or on a reference that is not null.
     NullBranch,
     VectorStore,
@@ -88,10 +78,22 @@ pub(crate) enum StatementFamily {
     FieldWrite,
     /// A branch on a cast.
     CastBranch,
-    /// `throw` or `throw_ref`.
-    Throw,
     /// A block that catches exceptions.
     Try,
+}
+
+/// Families of instructions after which nothing is reached.
+#[derive(Clone, Copy)]
+pub(crate) enum EndingFamily {
+    /// `return`, or an unconditional branch to one label.
+    Leaving,
+    /// A tail call.
+    TailCall,
+    /// `throw` or `throw_ref`.
+    Throw,
+    /// An unconditional branch to one of several labels.
+    Table,
+    Unreachable,
 }
 
 /// Lists the families of values of the type `wanted`. The number of times that a family is listed
@@ -123,7 +125,7 @@ fn number_families<'a>() -> &'a [ValueFamily]
         ValueFamily::Call,
         ValueFamily::Block,
         ValueFamily::Block,
-        ValueFamily::Leaving,
+        ValueFamily::Ending,
         ValueFamily::Load,
         ValueFamily::Load,
         ValueFamily::Memory,
@@ -132,7 +134,7 @@ fn number_families<'a>() -> &'a [ValueFamily]
         ValueFamily::Reference,
         ValueFamily::CallIndirect,
         ValueFamily::CallRef,
-        ValueFamily::TailCall,
+        ValueFamily::Numeric,
         ValueFamily::Atomic,
         ValueFamily::Vector,
         ValueFamily::Vector,
@@ -144,7 +146,7 @@ fn number_families<'a>() -> &'a [ValueFamily]
         ValueFamily::FieldRead,
         ValueFamily::Cast,
         ValueFamily::Leaf,
-        ValueFamily::Throw,
+        ValueFamily::Try,
         ValueFamily::Try,
     ]
 }
@@ -166,7 +168,7 @@ fn vector_value_families<'a>() -> &'a [ValueFamily]
         ValueFamily::Call,
         ValueFamily::Block,
         ValueFamily::Block,
-        ValueFamily::Leaving,
+        ValueFamily::Ending,
         ValueFamily::Vector,
         ValueFamily::Vector,
         ValueFamily::Vector,
@@ -175,7 +177,7 @@ fn vector_value_families<'a>() -> &'a [ValueFamily]
         ValueFamily::Vector,
         ValueFamily::CallIndirect,
         ValueFamily::CallRef,
-        ValueFamily::TailCall,
+        ValueFamily::Vector,
         ValueFamily::Vector,
         ValueFamily::Vector,
         ValueFamily::Vector,
@@ -187,7 +189,7 @@ fn vector_value_families<'a>() -> &'a [ValueFamily]
         ValueFamily::FieldRead,
         ValueFamily::Leaf,
         ValueFamily::Leaf,
-        ValueFamily::Throw,
+        ValueFamily::Try,
         ValueFamily::Try,
     ]
 }
@@ -209,7 +211,7 @@ fn reference_value_families<'a>() -> &'a [ValueFamily]
         ValueFamily::Call,
         ValueFamily::Block,
         ValueFamily::Block,
-        ValueFamily::Leaving,
+        ValueFamily::Ending,
         ValueFamily::Creation,
         ValueFamily::Creation,
         ValueFamily::Table,
@@ -218,7 +220,7 @@ fn reference_value_families<'a>() -> &'a [ValueFamily]
         ValueFamily::Reference,
         ValueFamily::CallIndirect,
         ValueFamily::CallRef,
-        ValueFamily::TailCall,
+        ValueFamily::Creation,
         ValueFamily::NullBranch,
         ValueFamily::Cast,
         ValueFamily::Cast,
@@ -230,7 +232,7 @@ fn reference_value_families<'a>() -> &'a [ValueFamily]
         ValueFamily::FieldRead,
         ValueFamily::Cast,
         ValueFamily::CastBranch,
-        ValueFamily::Throw,
+        ValueFamily::Try,
         ValueFamily::Try,
     ]
 }
@@ -250,17 +252,17 @@ pub(crate) fn statement_families<'a>() -> &'a [StatementFamily]
         StatementFamily::Block,
         StatementFamily::Block,
         StatementFamily::Branch,
-        StatementFamily::Leaving,
-        StatementFamily::Table,
+        StatementFamily::Block,
+        StatementFamily::LocalSet,
         StatementFamily::Store,
         StatementFamily::Store,
-        StatementFamily::Unreachable,
+        StatementFamily::Branch,
         StatementFamily::LocalSet,
         StatementFamily::TableChange,
         StatementFamily::Bulk,
         StatementFamily::CallIndirect,
         StatementFamily::CallRef,
-        StatementFamily::TailCall,
+        StatementFamily::Block,
         StatementFamily::NullBranch,
         StatementFamily::VectorStore,
         StatementFamily::StoreLane,
@@ -268,7 +270,24 @@ pub(crate) fn statement_families<'a>() -> &'a [StatementFamily]
         StatementFamily::Fence,
         StatementFamily::FieldWrite,
         StatementFamily::CastBranch,
-        StatementFamily::Throw,
         StatementFamily::Try,
+        StatementFamily::Try,
+    ]
+}
+
+/// Lists the families of instructions after which nothing is reached. The number of times that a
+/// family is listed is its weight.
+pub(crate) fn ending_families<'a>() -> &'a [EndingFamily]
+    ensures { result.now ≡ ending_families }
+{
+    &[
+        EndingFamily::Leaving,
+        EndingFamily::Leaving,
+        EndingFamily::TailCall,
+        EndingFamily::TailCall,
+        EndingFamily::Throw,
+        EndingFamily::Throw,
+        EndingFamily::Table,
+        EndingFamily::Unreachable,
     ]
 }

@@ -7,4 +7,4 @@
 mod choices;
 mod families;
 
-pub use choices::{choose_allowed, choose_statement};
+pub use choices::{choose_allowed, choose_ending, choose_statement};

@@ -3,16 +3,13 @@ ghost use Rattle.std.specs.Prelude.{IfSome, MatchOption};
 ghost use Rattle.smith_bytes.specs.Source.{KeepsPieces};
 ghost use Rattle.smith_syntax.specs.declared.value_type.ValType.{ValType as Val};
 ghost use Rattle.smith_instr.specs.Contexts.{AreValid};
-ghost use Rattle.smith_body_nodes.specs.Chosen.{or_nop};
 ghost use Rattle.smith_body_nodes.specs.Nodes.{IsNode, IsOffer};
 ghost use Rattle.smith_body_nodes.specs.Scopes.{IsScope, bare, where_stands};
 ghost use Rattle.smith_body_control.specs.ThrowChoices.{any_throw_at, exn, refers_to_exceptions};
 ghost use Rattle.smith_body_control.specs.ThrowChoices.{tag_at, tag_type_at, throw_at};
 ghost use Rattle.smith_body_control.specs.ThrowChoices.{throw_ref_node};
 
-use smith_body_nodes::{
-    Draft, Node, Scope, func_type_at, indexed_count, nullable_to, or_nop, plain,
-};
+use smith_body_nodes::{Draft, Node, Scope, func_type_at, indexed_count, nullable_to, plain};
 use smith_bytes::{Error, Unstructured};
 use smith_instr::Instr;
 use smith_types::{AbstractHeapType, FuncType, HeapType, WasmFeatures};
@@ -117,22 +114,4 @@ pub fn choose_any_throw(
         return choose_throw(alloc, scope, draft, u);
     }
     choose_throw_ref(alloc, scope, draft)
-}
-
-/// Chooses `throw` or `throw_ref`, or `nop` if that is not possible.
-pub fn choose_throw_statement(
-    alloc: Global,
-    scope: &Scope<'_>,
-    draft: &Draft,
-    u: &mut Unstructured<'_>,
-) -> Result<Node, Error>
-    requires scope { IsScope (bare scope.now) }
-    ensures exact { IfOk result (λ node.
-        or_nop (any_throw_at (where_stands scope.now draft.now) u.old) ≡ (node, u.new)) }
-    ensures node { IfOk result (IsNode (where_stands scope.now draft.now) draft.now.set.items []) }
-    ensures memory { IfErr result (λ e. e ≡ Error.Memory) }
-    ensures left { KeepsPieces u.old u.new }
-{
-    let chosen = choose_any_throw(alloc, scope, draft, u)?;
-    or_nop(alloc, chosen)
 }

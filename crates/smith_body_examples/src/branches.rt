@@ -8,13 +8,13 @@ ghost use Rattle.smith_body.specs.Bodies.{body_at};
 ghost use Rattle.smith_body_examples.specs.ExampleBytes.{narrow, wide, wide_number};
 
 fn leaving()
-    ensures out { body_at default_config (function_of [] (I32 ∷ [])) 1 (0 ∷ 12 ∷ 1 ∷ narrow 5)
+    ensures out { body_at default_config (function_of [] (I32 ∷ [])) 1 (0 ∷ 12 ∷ 7 ∷ 0 ∷ 1 ∷ narrow 5)
         ≡ (number 5 ∷ instr.Return ∷ [], []) }
     ensures to_a_label { body_at default_config (function_of [] (I32 ∷ [])) 1
-        (0 ∷ 12 ∷ 0 ∷ narrow 5)
+        (0 ∷ 12 ∷ 7 ∷ 0 ∷ 0 ∷ narrow 5)
         ≡ (number 5 ∷ instr.Br 0 ∷ [], []) }
     ensures out_of_a_block { body_at default_config (function_of [] (I64 ∷ [])) 2
-        (1 ∷ 7 ∷ 0 ∷ 0 ∷ 1 ∷ 10 ∷ 0 ∷ 1 ∷ wide 5 ++ wide 6)
+        (1 ∷ 7 ∷ 0 ∷ 0 ∷ 124 ∷ 0 ∷ 0 ∷ 1 ∷ wide 5 ++ 0 ∷ wide 6)
         ≡ (
           instr.Block (block.Func 0) ∷ wide_number 5 ∷ instr.Br 1 ∷ instr.End ∷ wide_number 6 ∷ [],
           [],
@@ -28,13 +28,13 @@ fn staying()
 {}
 
 fn tables()
-    ensures one_label_alone { body_at default_config (function_of [] []) 1 (1 ∷ 11 ∷ 0 ∷ narrow 1)
+    ensures one_label_alone { body_at default_config (function_of [] []) 1 (124 ∷ 6 ∷ 0 ∷ narrow 1)
         ≡ (number 1 ∷ instr.BrTable [] 0 ∷ [], []) }
     ensures one_label_again_and_again { body_at default_config
-        (function_of [] []) 1 (1 ∷ 11 ∷ 2 ∷ narrow 1)
+        (function_of [] []) 1 (124 ∷ 6 ∷ 2 ∷ narrow 1)
         ≡ (number 1 ∷ instr.BrTable (0 ∷ 0 ∷ []) 0 ∷ [], []) }
     ensures labels_of_the_same_values { body_at default_config (function_of [] (I64 ∷ [])) 2
-        (1 ∷ 7 ∷ 0 ∷ 0 ∷ 1 ∷ 11 ∷ 0 ∷ 2 ∷ narrow 1 ++ wide 6)
+        (1 ∷ 7 ∷ 0 ∷ 0 ∷ 124 ∷ 6 ∷ 0 ∷ 2 ∷ narrow 1 ++ 0 ∷ wide 6)
         ≡ (
           instr.Block (block.Func 0) ∷ number 1 ∷ instr.BrTable (0 ∷ 0 ∷ []) 0 ∷ instr.End
               ∷ wide_number 6 ∷ [],

@@ -1,6 +1,7 @@
 ghost use Rattle.std.specs.Prelude.{◌≡◌, [], ◌∷◌, ◌++◌};
 ghost use Rattle.smith_syntax.specs.declared.value_type.ValType.TheVariants.{I32, I64};
 ghost use Rattle.smith_config.specs.Config.{default_config};
+ghost use Rattle.smith_instr.specs.declared.control.BlockType.TheVariants as block;
 ghost use Rattle.smith_instr.specs.declared.instr.Instr.TheVariants as instr;
 ghost use Rattle.smith_instr_examples.specs.ExampleBodies.{function_of, number, some_func};
 ghost use Rattle.smith_body.specs.Bodies.{body_at};
@@ -8,8 +9,8 @@ ghost use Rattle.smith_body_examples.specs.ExampleBytes.{calling, narrow, wide, 
 
 fn statements()
     ensures none { body_at default_config (function_of [] []) 9 (4 ∷ 1 ∷ []) ≡ ([], 1 ∷ []) }
-    ensures two { body_at default_config (function_of [] []) 9 (1 ∷ 0 ∷ 2 ∷ 14 ∷ 0 ∷ 1 ∷ [])
-        ≡ (instr.Nop ∷ instr.Unreachable ∷ [], 1 ∷ []) }
+    ensures two { body_at default_config (function_of [] []) 9 (1 ∷ 0 ∷ 2 ∷ 25 ∷ 0 ∷ 1 ∷ [])
+        ≡ (instr.Nop ∷ instr.AtomicFence ∷ [], 1 ∷ []) }
     ensures dropped_number { body_at default_config (function_of [] []) 1 (1 ∷ 1 ∷ 1 ∷ wide 5)
         ≡ (wide_number 5 ∷ instr.Drop ∷ [], []) }
     ensures dropped_local { body_at default_config (function_of (some_func ∷ []) []) 1
@@ -26,4 +27,20 @@ fn statements()
     ensures before_the_results { body_at default_config
         (function_of [] (I32 ∷ [])) 2 (1 ∷ 0 ∷ 0 ∷ 0 ∷ narrow 5)
         ≡ (instr.Nop ∷ number 5 ∷ [], []) }
+{}
+
+fn endings()
+    ensures in_place_of_the_results { body_at default_config
+        (function_of [] (I32 ∷ [])) 9 (1 ∷ 0 ∷ 124 ∷ 7 ∷ 0 ∷ 1 ∷ [])
+        ≡ (instr.Nop ∷ instr.Unreachable ∷ [], 1 ∷ []) }
+    ensures before_statements_and_the_results { body_at default_config
+        (function_of [] (I32 ∷ [])) 2 (124 ∷ 7 ∷ 7 ∷ 1 ∷ 0 ∷ narrow 5)
+        ≡ (instr.Unreachable ∷ instr.Nop ∷ number 5 ∷ [], []) }
+    ensures results_all_the_same { ¬ (body_at default_config (function_of [] (I32 ∷ [])) 1
+        (124 ∷ 7 ∷ 0 ∷ narrow 5) ≡ (instr.Unreachable ∷ number 5 ∷ [], [])) }
+    ensures another_multiple_of_4 { body_at default_config (function_of [] []) 9 (120 ∷ 7 ∷ [])
+        ≡ ([], 7 ∷ []) }
+    ensures block_in_place_of_a_value { body_at default_config (function_of [] (I32 ∷ [])) 1
+        (0 ∷ 12 ∷ 6 ∷ 0 ∷ narrow 5)
+        ≡ (instr.Block (block.Value I32) ∷ number 5 ∷ instr.End ∷ [], []) }
 {}

@@ -1,4 +1,4 @@
-use Rattle.std.proofs.Common.{refl, sym, arith, ◌-◌, [], length, ◌∙◌}
+use Rattle.std.proofs.Common.{◌≡◌, refl, sym, arith, ◌-◌, [], length, ◌∙◌}
 use Rattle.smith_body_nodes.proofs.ResultLemmas.{ok_both}
 use Rattle.std.proofs.lemmas.Result.{on_ok_weaker}
 use Rattle.std.proofs.lemmas.List.{take_all}
@@ -9,7 +9,7 @@ use Rattle.smith_body.specs.DraftSteps.{state_of}
 use Rattle.smith_body_nodes.proofs.StopLemmas.{node_goes_on}
 use Rattle.smith_body_nodes.specs.Nodes.{label_of, opened}
 use Rattle.smith_body_nodes.specs.Scopes.{bare}
-use Rattle.smith_body.proofs.ExactLemmas.{all_left, chosen_statement, chosen_value, deep_statements, drops_written, enclosed_exact, forbidden_statement, head_enclosed, head_if, head_try, if_exact, inside_exact, last_statements, last_value, next_value, no_values, node_exact, none_left, one_less, other_value, plain_exact, stopped, unpaid_value}
+use Rattle.smith_body.proofs.ExactLemmas.{all_left, chosen_ending, chosen_statement, chosen_value, deep_statements, drops_written, enclosed_exact, ending_next, forbidden_ending, forbidden_statement, head_enclosed, head_if, head_try, if_exact, inside_exact, last_statements, last_value, next_value, no_ending, no_values, node_exact, none_left, one_less, other_value, plain_exact, results_dead, results_drawn, results_ended, results_still, stopped, unpaid_value}
 use Rattle.smith_instr.specs.declared.instr.Instr.TheVariants as instr
 use Rattle.smith_body_nodes.proofs.NodeLemmas.{no_valid}
 use Rattle.smith_body.proofs.draws.+body.Goals.{draw_value-then-depth-eq0-via-then-depth-eq0, draw_value-then-depth-eq0-via-else-depth-eq0+then-draft-eq0}
@@ -51,9 +51,9 @@ draw_statements-loop-draft-init t c = record { drawn = drawn_none c.args.scope.n
 pub draw_statements-loop-draft-preserved : goal.draw_statements-loop-draft-preserved
 draw_statements-loop-draft-preserved t c = record {
   drawn = drawn_then c.loop-draft.invariant.drawn c.in_ok-draw_statement.ensures.drawn;
-  rest = one_less (statement_at c.args.scope.now.config.now (drawing_at c.args.scope.now.config.now (c.args.depth - 1))) _ _ _ c.int_in_range.result _ (omega arith) (rw (c.new.ensures.start, c.new.ensures.end) at c.int_in_range.ensures.exact) (omega arith) c.in_ok-draw_statement.ensures.exact c.in_ok-draw_statement.ensures.less c.loop-draft.invariant.rest;
+  rest = one_less (statement_at c.args.scope.now.config.now (drawing_at c.args.scope.now.config.now (c.args.depth - 1))) _ _ _ c.int_in_range-number.result _ (omega arith) (rw (c.new.ensures.start, c.new.ensures.end) at c.int_in_range-number.ensures.exact) c.if-number-eq124.false (omega (arith, c.if-number-eq0.false)) c.in_ok-draw_statement.ensures.exact c.in_ok-draw_statement.ensures.less c.loop-draft.invariant.rest;
   labels = labels_kept c.in_ok-draw_statement.ensures.drawn c.loop-draft.invariant.labels;
-  kept = λ whole h. c.draw_statement.ensures.left whole (c.int_in_range.ensures.left whole (c.loop-draft.invariant.kept whole h));
+  kept = λ whole h. c.draw_statement.ensures.left whole (c.int_in_range-number.ensures.left whole (c.loop-draft.invariant.kept whole h));
 }
 
 pub draw_statements-returns-then-depth-eq0-clause-drawn : goal.draw_statements-returns-then-depth-eq0-clause-drawn
@@ -87,7 +87,7 @@ pub draw_inside-returns-clause-drawn : goal.draw_inside-returns-clause-drawn
 draw_inside-returns-clause-drawn t c =
     let out = rw c.len.ensures at c.in_ok-drop_values.ensures.out in
     let dropped = dropped_drawn {scope = c.args.scope.now} [] c.args.sides.now.params (no_valid (bare c.args.scope.now)) c.requires.params c.requires.drops out c.drop_values.ensures.set c.drop_values.ensures.same c.drop_values.ensures.budget in
-    on_ok_weaker c.draw_values.result (λ values. drawn_within (omega arith) (drawn_then (drawn_then dropped c.in_ok-draw_statements.ensures.drawn) values)) (rw c.as_slice.ensures at c.draw_values.ensures.drawn)
+    on_ok_weaker c.draw_results.result (λ results. drawn_then dropped results) (rw c.as_slice.ensures at c.draw_results.ensures.drawn)
 
 pub draw_node-returns-clause-drawn : goal.draw_node-returns-clause-drawn
 draw_node-returns-clause-drawn t c = λ values fits goes_on.
@@ -109,10 +109,15 @@ draw_values-returns-clause-exact t c = c.loop-value.invariant.exact ∙ no_value
 pub draw_statements-returns-then-depth-eq0-clause-exact : goal.draw_statements-returns-then-depth-eq0-clause-exact
 draw_statements-returns-then-depth-eq0-clause-exact t c = last_statements c.args.scope.now.config.now c.args.depth (state_of c.args.scope.now c.args.draft.now c.args.u.now) (omega arith)
 
-pub draw_statements-returns-then-int_in_range-eq0-clause-exact : goal.draw_statements-returns-then-int_in_range-eq0-clause-exact
-draw_statements-returns-then-int_in_range-eq0-clause-exact t c =
+pub draw_statements-returns-then-number-eq124-clause-exact : goal.draw_statements-returns-then-number-eq124-clause-exact
+draw_statements-returns-then-number-eq124-clause-exact t c =
     deep_statements c.args.scope.now.config.now c.args.depth (state_of c.args.scope.now c.args.draft.now c.args.u.now) (omega arith)
-    ∙ stopped (statement_at c.args.scope.now.config.now (drawing_at c.args.scope.now.config.now (c.args.depth - 1))) _ _ c.int_in_range.result _ (omega arith) (rw (c.new.ensures.start, c.new.ensures.end) at c.int_in_range.ensures.exact) (omega arith) c.loop-draft.invariant.rest
+    ∙ ending_next (statement_at c.args.scope.now.config.now (drawing_at c.args.scope.now.config.now (c.args.depth - 1))) _ _ _ (omega arith) (rw (c.new.ensures.start, c.new.ensures.end, c.if-number-eq124.true) at c.int_in_range-number.ensures.exact) c.loop-draft.invariant.rest
+
+pub draw_statements-returns-then-number-eq0-clause-exact : goal.draw_statements-returns-then-number-eq0-clause-exact
+draw_statements-returns-then-number-eq0-clause-exact t c =
+    deep_statements c.args.scope.now.config.now c.args.depth (state_of c.args.scope.now c.args.draft.now c.args.u.now) (omega arith)
+    ∙ stopped (statement_at c.args.scope.now.config.now (drawing_at c.args.scope.now.config.now (c.args.depth - 1))) _ _ c.int_in_range-number.result _ (omega arith) (rw (c.new.ensures.start, c.new.ensures.end) at c.int_in_range-number.ensures.exact) c.if-number-eq124.false (omega (arith, c.if-number-eq0.true)) c.loop-draft.invariant.rest
 
 pub draw_statements-returns-clause-exact : goal.draw_statements-returns-clause-exact
 draw_statements-returns-clause-exact t c = deep_statements c.args.scope.now.config.now c.args.depth (state_of c.args.scope.now c.args.draft.now c.args.u.now) (omega arith) ∙ none_left (statement_at c.args.scope.now.config.now (drawing_at c.args.scope.now.config.now (c.args.depth - 1))) _ _ (omega arith) c.loop-draft.invariant.rest
@@ -165,7 +170,7 @@ pub draw_inside-returns-clause-exact : goal.draw_inside-returns-clause-exact
 draw_inside-returns-clause-exact t c =
     let out = rw c.len.ensures at c.in_ok-drop_values.ensures.out in
     let dropping = drops_written c.args.scope.now (length c.args.sides.now.params) c.args.draft.now c.drop_values.new.draft c.args.u.now out c.drop_values.ensures.set c.drop_values.ensures.same c.drop_values.ensures.budget in
-    on_ok_weaker c.draw_values.result (λ is. inside_exact (drawing_at c.args.scope.now.config.now c.args.depth) c.args.sides.now (state_of c.args.scope.now c.args.draft.now c.args.u.now) _ _ dropping c.in_ok-draw_statements.ensures.exact ∙ is) (rw c.as_slice.ensures at c.draw_values.ensures.exact)
+    on_ok_weaker c.draw_results.result (λ is. inside_exact (drawing_at c.args.scope.now.config.now c.args.depth) c.args.sides.now (state_of c.args.scope.now c.args.draft.now c.args.u.now) _ dropping ∙ is) (rw c.as_slice.ensures at c.draw_results.ensures.exact)
 
 pub draw_head-returns-in-Try-clause-exact : goal.draw_head-returns-in-Try-clause-exact
 draw_head-returns-in-Try-clause-exact t c =
@@ -186,3 +191,69 @@ draw_try-returns-clause-exact t c =
     let drawn = c.in_ok-draw_inside.ensures.drawn in
     ok_both c.write_end.result (enclosed_exact c.args.scope.now (drawing_at c.args.scope.now.config.now c.args.depth) (instr.TryTable c.args.ty c.args.clauses) sides.results sides c.args.draft.now _ _ _ _ _ c.len-height.result start c.in_ok-draw_inside.ensures.exact drawn c.len-height.ensures)
     c.write_end.ensures.ended (c.write_end.ensures.left_label _ _ (drawn.same ∙ start.labels))
+
+pub draw_results-returns-then-not-ends-clause-drawn : goal.draw_results-returns-then-not-ends-clause-drawn
+draw_results-returns-then-not-ends-clause-drawn t c = on_ok_weaker c.draw_values.result (λ values. drawn_within (omega arith) (drawn_then c.in_ok-ends.ensures.drawn values)) c.draw_values.ensures.drawn
+
+pub draw_results-returns-then-not-ended-clause-drawn : goal.draw_results-returns-then-not-ended-clause-drawn
+draw_results-returns-then-not-ended-clause-drawn t c =
+    on_ok_weaker c.draw_values-2.result (λ values. drawn_within (omega arith) (drawn_then (drawn_then c.in_ok-ends.ensures.drawn c.in_ok-ended.ensures.drawn) values)) c.draw_values-2.ensures.drawn
+
+pub draw_results-returns-then-number-lt7-clause-drawn : goal.draw_results-returns-then-number-lt7-clause-drawn
+draw_results-returns-then-number-lt7-clause-drawn t c =
+    drawn_within (omega arith) (drawn_then c.in_ok-ends.ensures.drawn (c.in_ok-ended.ensures.any c.args.wanted.now c.requires.valid c.if-not-ended.false))
+
+pub draw_results-returns-clause-drawn : goal.draw_results-returns-clause-drawn
+draw_results-returns-clause-drawn t c =
+    on_ok_weaker c.draw_values-3.result
+    (λ values. drawn_within (omega arith) (drawn_then (drawn_then (drawn_then c.in_ok-ends.ensures.drawn c.in_ok-ended.ensures.drawn) c.in_ok-_ends.ensures.drawn) values)) c.draw_values-3.ensures.drawn
+
+pub draw_results-returns-then-not-ends-clause-exact : goal.draw_results-returns-then-not-ends-clause-exact
+draw_results-returns-then-not-ends-clause-exact t c =
+    on_ok_weaker c.draw_values.result (λ is. results_drawn (drawing_at c.args.scope.now.config.now c.args.depth) c.args.wanted.now (state_of c.args.scope.now c.args.draft.now c.args.u.now) _ (rw c.if-not-ends.true at c.in_ok-ends.ensures.exact) ∙ is) c.draw_values.ensures.exact
+
+pub draw_results-returns-then-not-ended-clause-exact : goal.draw_results-returns-then-not-ended-clause-exact
+draw_results-returns-then-not-ended-clause-exact t c =
+    on_ok_weaker c.draw_values-2.result
+    (λ is. results_still (drawing_at c.args.scope.now.config.now c.args.depth) c.args.wanted.now (state_of c.args.scope.now c.args.draft.now c.args.u.now) _ _ (rw c.if-not-ends.false at c.in_ok-ends.ensures.exact) (rw c.if-not-ended.true at c.in_ok-ended.ensures.exact) ∙ is) c.draw_values-2.ensures.exact
+
+pub draw_results-returns-then-number-lt7-clause-exact : goal.draw_results-returns-then-number-lt7-clause-exact
+draw_results-returns-then-number-lt7-clause-exact t c =
+    let drawn = rw (c.new.ensures.start, c.new.ensures.end) at c.int_in_range-number.ensures.exact in
+    results_ended (drawing_at c.args.scope.now.config.now c.args.depth) c.args.wanted.now (state_of c.args.scope.now c.args.draft.now c.args.u.now) _ _ c.int_in_range-number.result _ (rw c.if-not-ends.false at c.in_ok-ends.ensures.exact) (rw c.if-not-ended.false at c.in_ok-ended.ensures.exact) drawn (omega (arith, c.if-number-lt7.true))
+
+pub draw_results-returns-clause-exact : goal.draw_results-returns-clause-exact
+draw_results-returns-clause-exact t c =
+    let seven : c.int_in_range-number.result ≡ 7 = omega (arith, c.int_in_range-number.ensures.within, c.new.ensures.start, c.new.ensures.end, c.if-number-lt7.false) in
+    let drawn = rw (c.new.ensures.start, c.new.ensures.end, seven) at c.int_in_range-number.ensures.exact in
+    on_ok_weaker c.draw_values-3.result
+    (λ is. results_dead (drawing_at c.args.scope.now.config.now c.args.depth) c.args.wanted.now (state_of c.args.scope.now c.args.draft.now c.args.u.now) _ _ _ _ _ (rw c.if-not-ends.false at c.in_ok-ends.ensures.exact) (rw c.if-not-ended.false at c.in_ok-ended.ensures.exact) drawn c.in_ok-_ends.ensures.exact ∙ is) c.draw_values-3.ensures.exact
+
+pub draw_ending-returns-in_default-clause-exact : goal.draw_ending-returns-in_default-clause-exact
+draw_ending-returns-in_default-clause-exact t c = no_ending c.args.scope.now.config.now c.args.depth (state_of c.args.scope.now c.args.draft.now c.args.u.now) _ c.requires.deep c.in_ok-chosen.ensures.exact
+
+pub draw_ending-returns-then-not-is_node_allowed-clause-exact : goal.draw_ending-returns-then-not-is_node_allowed-clause-exact
+draw_ending-returns-then-not-is_node_allowed-clause-exact t c =
+    forbidden_ending c.args.scope.now.config.now c.args.depth (state_of c.args.scope.now c.args.draft.now c.args.u.now) _ c.in-Some.node c.requires.deep (rw c.in-Some.is at c.in_ok-chosen.ensures.exact) (sym c.is_node_allowed.ensures.exact ∙ c.if-not-is_node_allowed.true)
+
+pub draw_ending-returns-clause-exact : goal.draw_ending-returns-clause-exact
+draw_ending-returns-clause-exact t c =
+    chosen_ending c.args.scope.now.config.now c.args.depth (state_of c.args.scope.now c.args.draft.now c.args.u.now) _ _ c.in-Some.node c.requires.deep (rw c.in-Some.is at c.in_ok-chosen.ensures.exact) (sym c.is_node_allowed.ensures.exact ∙ c.if-not-is_node_allowed.false) c.in_ok-draw_node.ensures.exact
+
+pub draw_ending-returns-in_default-clause-drawn : goal.draw_ending-returns-in_default-clause-drawn
+draw_ending-returns-in_default-clause-drawn t c = drawn_none c.args.scope.now c.args.draft.now
+
+pub draw_ending-returns-then-not-is_node_allowed-clause-drawn : goal.draw_ending-returns-then-not-is_node_allowed-clause-drawn
+draw_ending-returns-then-not-is_node_allowed-clause-drawn t c = drawn_none c.args.scope.now c.args.draft.now
+
+pub draw_ending-returns-clause-drawn : goal.draw_ending-returns-clause-drawn
+draw_ending-returns-clause-drawn t c =
+    let fits = rw c.in-Some.is at (c.in_ok-chosen.ensures.offer [] (no_valid (bare c.args.scope.now))) in
+    c.in_ok-draw_node.ensures.drawn [] fits
+    (node_goes_on (features_in c.args.scope.now.features) c.args.scope.now.config.now c.in-Some.node (sym c.is_node_allowed.ensures.exact ∙ c.if-not-is_node_allowed.false))
+
+pub draw_ending-returns-clause-any : goal.draw_ending-returns-clause-any
+draw_ending-returns-clause-any t c = λ values valid ended.
+    let fits = rw c.in-Some.is at (c.in_ok-chosen.ensures.offer values valid) in
+    c.in_ok-draw_node.ensures.drawn values fits
+    (node_goes_on (features_in c.args.scope.now.features) c.args.scope.now.config.now c.in-Some.node (sym c.is_node_allowed.ensures.exact ∙ c.if-not-is_node_allowed.false))

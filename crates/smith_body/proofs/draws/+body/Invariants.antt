@@ -18,23 +18,29 @@ decreases-draw_values l = 8 * l.depth + 1
 abbrev pub decreases-draw_statements : goal.decreases-draw_statements
 decreases-draw_statements l = 8 * l.depth + 1
 
+abbrev pub decreases-draw_ending : goal.decreases-draw_ending
+decreases-draw_ending l = 8 * l.depth
+
+abbrev pub decreases-draw_results : goal.decreases-draw_results
+decreases-draw_results l = 8 * l.depth + 2
+
 abbrev pub decreases-draw_inside : goal.decreases-draw_inside
-decreases-draw_inside l = 8 * l.depth + 2
+decreases-draw_inside l = 8 * l.depth + 3
 
 abbrev pub decreases-draw_enclosed : goal.decreases-draw_enclosed
-decreases-draw_enclosed l = 8 * l.depth + 3
+decreases-draw_enclosed l = 8 * l.depth + 4
 
 abbrev pub decreases-draw_if : goal.decreases-draw_if
-decreases-draw_if l = 8 * l.depth + 3
+decreases-draw_if l = 8 * l.depth + 4
 
 abbrev pub decreases-draw_try : goal.decreases-draw_try
-decreases-draw_try l = 8 * l.depth + 3
+decreases-draw_try l = 8 * l.depth + 4
 
 abbrev pub decreases-draw_head : goal.decreases-draw_head
-decreases-draw_head l = 8 * l.depth + 4
+decreases-draw_head l = 8 * l.depth + 5
 
 abbrev pub decreases-draw_node : goal.decreases-draw_node
-decreases-draw_node l = 8 * l.depth + 5
+decreases-draw_node l = 8 * l.depth + 6
 
 abbrev pub invariant-draw_values-loop-value : goal.invariant-draw_values-loop-value
 invariant-draw_values-loop-value l = record {

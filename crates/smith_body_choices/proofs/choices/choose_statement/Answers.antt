@@ -2,22 +2,16 @@ use Rattle.smith_body_nodes.specs.Scopes.{where_stands}
 use Rattle.smith_body_choices.specs.declared.families.StatementFamily.TheVariants as statement
 use Rattle.smith_body_nodes.proofs.ResultLemmas.{ok_like}
 use Rattle.smith_body_memory.proofs.AtomicNodeLemmas.{fence_node}
-use Rattle.smith_body_nodes.proofs.NodeLemmas.{nop_node, stop_node}
-use Rattle.smith_body_nodes.proofs.ChosenLemmas.{ok_by, ok_node}
+use Rattle.smith_body_nodes.proofs.NodeLemmas.{nop_node}
+use Rattle.smith_body_nodes.proofs.ChosenLemmas.{ok_by}
 use Rattle.smith_body_choices.proofs.ChoiceLemmas.{statement_by}
 use Rattle.smith_body_choices.proofs.choices.choose_statement.Goals as goal
 
 pub returns-in-Nop-clause-node : goal.returns-in-Nop-clause-node
 returns-in-Nop-clause-node c = ok_like _ c.plain.result (nop_node (where_stands c.args.scope.now c.args.draft.now) c.args.draft.now.set.items) c.plain.ensures.exact
 
-pub returns-in-Unreachable-clause-node : goal.returns-in-Unreachable-clause-node
-returns-in-Unreachable-clause-node c = ok_like _ c.plain-in-Unreachable.result (stop_node (where_stands c.args.scope.now c.args.draft.now) c.args.draft.now.set.items) c.plain-in-Unreachable.ensures.exact
-
 pub returns-in-Nop-clause-exact : goal.returns-in-Nop-clause-exact
 returns-in-Nop-clause-exact c = ok_like _ c.plain.result (statement_by c.args.scope.now.config.now (where_stands c.args.scope.now c.args.draft.now) c.args.u.now _ c.statement_families.result.now c.choose.result statement.Nop c.statement_families.ensures (c.choose.ensures.exact statement.Nop) c.in-Nop.is) c.plain.ensures.exact
-
-pub returns-in-Unreachable-clause-exact : goal.returns-in-Unreachable-clause-exact
-returns-in-Unreachable-clause-exact c = ok_like _ c.plain-in-Unreachable.result (statement_by c.args.scope.now.config.now (where_stands c.args.scope.now c.args.draft.now) c.args.u.now _ c.statement_families.result.now c.choose.result statement.Unreachable c.statement_families.ensures (c.choose.ensures.exact statement.Nop) c.in-Unreachable.is) c.plain-in-Unreachable.ensures.exact
 
 pub returns-in-Drop-clause-exact : goal.returns-in-Drop-clause-exact
 returns-in-Drop-clause-exact c = ok_by c.choose_drop.result _ _ _ (statement_by c.args.scope.now.config.now (where_stands c.args.scope.now c.args.draft.now) c.args.u.now _ c.statement_families.result.now c.choose.result statement.Drop c.statement_families.ensures (c.choose.ensures.exact statement.Nop) c.in-Drop.is) c.choose_drop.ensures.exact
@@ -40,12 +34,6 @@ returns-in-Store-clause-exact c = ok_by c.choose_store.result _ _ _ (statement_b
 pub returns-in-LocalSet-clause-exact : goal.returns-in-LocalSet-clause-exact
 returns-in-LocalSet-clause-exact c = ok_by c.choose_set.result _ _ _ (statement_by c.args.scope.now.config.now (where_stands c.args.scope.now c.args.draft.now) c.args.u.now _ c.statement_families.result.now c.choose.result statement.LocalSet c.statement_families.ensures (c.choose.ensures.exact statement.Nop) c.in-LocalSet.is) c.choose_set.ensures.exact
 
-pub returns-in-Leaving-clause-exact : goal.returns-in-Leaving-clause-exact
-returns-in-Leaving-clause-exact c = ok_by c.choose_leaving.result _ _ _ (statement_by c.args.scope.now.config.now (where_stands c.args.scope.now c.args.draft.now) c.args.u.now _ c.statement_families.result.now c.choose.result statement.Leaving c.statement_families.ensures (c.choose.ensures.exact statement.Nop) c.in-Leaving.is) (ok_node c.choose_leaving.result _ _ c.choose_leaving.ensures.exact)
-
-pub returns-in-Table-clause-exact : goal.returns-in-Table-clause-exact
-returns-in-Table-clause-exact c = ok_by c.choose_table.result _ _ _ (statement_by c.args.scope.now.config.now (where_stands c.args.scope.now c.args.draft.now) c.args.u.now _ c.statement_families.result.now c.choose.result statement.Table c.statement_families.ensures (c.choose.ensures.exact statement.Nop) c.in-Table.is) (ok_node c.choose_table.result _ _ c.choose_table.ensures.exact)
-
 pub returns-in-TableChange-clause-exact : goal.returns-in-TableChange-clause-exact
 returns-in-TableChange-clause-exact c = ok_by c.choose_table_change.result _ _ _ (statement_by c.args.scope.now.config.now (where_stands c.args.scope.now c.args.draft.now) c.args.u.now _ c.statement_families.result.now c.choose.result statement.TableChange c.statement_families.ensures (c.choose.ensures.exact statement.Nop) c.in-TableChange.is) c.choose_table_change.ensures.exact
 
@@ -57,9 +45,6 @@ returns-in-CallIndirect-clause-exact c = ok_by c.choose_any_indirect.result _ _ 
 
 pub returns-in-CallRef-clause-exact : goal.returns-in-CallRef-clause-exact
 returns-in-CallRef-clause-exact c = ok_by c.choose_any_by_reference.result _ _ _ (statement_by c.args.scope.now.config.now (where_stands c.args.scope.now c.args.draft.now) c.args.u.now _ c.statement_families.result.now c.choose.result statement.CallRef c.statement_families.ensures (c.choose.ensures.exact statement.Nop) c.in-CallRef.is) c.choose_any_by_reference.ensures.exact
-
-pub returns-in-TailCall-clause-exact : goal.returns-in-TailCall-clause-exact
-returns-in-TailCall-clause-exact c = ok_by c.choose_any_tail_call.result _ _ _ (statement_by c.args.scope.now.config.now (where_stands c.args.scope.now c.args.draft.now) c.args.u.now _ c.statement_families.result.now c.choose.result statement.TailCall c.statement_families.ensures (c.choose.ensures.exact statement.Nop) c.in-TailCall.is) c.choose_any_tail_call.ensures.exact
 
 pub returns-in-NullBranch-clause-exact : goal.returns-in-NullBranch-clause-exact
 returns-in-NullBranch-clause-exact c = ok_by c.choose_null_branch.result _ _ _ (statement_by c.args.scope.now.config.now (where_stands c.args.scope.now c.args.draft.now) c.args.u.now _ c.statement_families.result.now c.choose.result statement.NullBranch c.statement_families.ensures (c.choose.ensures.exact statement.Nop) c.in-NullBranch.is) c.choose_null_branch.ensures.exact
@@ -84,9 +69,6 @@ returns-in-FieldWrite-clause-exact c = ok_by c.choose_field_write.result _ _ _ (
 
 pub returns-in-CastBranch-clause-exact : goal.returns-in-CastBranch-clause-exact
 returns-in-CastBranch-clause-exact c = ok_by c.choose_cast_branch.result _ _ _ (statement_by c.args.scope.now.config.now (where_stands c.args.scope.now c.args.draft.now) c.args.u.now _ c.statement_families.result.now c.choose.result statement.CastBranch c.statement_families.ensures (c.choose.ensures.exact statement.Nop) c.in-CastBranch.is) c.choose_cast_branch.ensures.exact
-
-pub returns-in-Throw-clause-exact : goal.returns-in-Throw-clause-exact
-returns-in-Throw-clause-exact c = ok_by c.choose_throw_statement.result _ _ _ (statement_by c.args.scope.now.config.now (where_stands c.args.scope.now c.args.draft.now) c.args.u.now _ c.statement_families.result.now c.choose.result statement.Throw c.statement_families.ensures (c.choose.ensures.exact statement.Nop) c.in-Throw.is) c.choose_throw_statement.ensures.exact
 
 pub returns-in-Try-clause-exact : goal.returns-in-Try-clause-exact
 returns-in-Try-clause-exact c = ok_by c.choose_any_try.result _ _ _ (statement_by c.args.scope.now.config.now (where_stands c.args.scope.now c.args.draft.now) c.args.u.now _ c.statement_families.result.now c.choose.result statement.Try c.statement_families.ensures (c.choose.ensures.exact statement.Nop) c.in-Try.is) c.choose_any_try.ensures.exact

@@ -23,8 +23,8 @@ returns-in-Call-clause-exact c = ok_by c.choose_call.result _ _ _ (value_by c.ar
 pub returns-in-Block-clause-exact : goal.returns-in-Block-clause-exact
 returns-in-Block-clause-exact c = ok_by c.choose_block.result _ _ _ (value_by c.args.scope.now.config.now (where_stands c.args.scope.now c.args.draft.now) c.args.wanted c.args.u.now _ c.value_families.result.now c.choose.result value.Block c.value_families.ensures (c.choose.ensures.exact value.Leaf) c.in-Block.is) c.choose_block.ensures.exact
 
-pub returns-in-Leaving-clause-exact : goal.returns-in-Leaving-clause-exact
-returns-in-Leaving-clause-exact c = ok_by c.choose_leaving_for.result _ _ _ (value_by c.args.scope.now.config.now (where_stands c.args.scope.now c.args.draft.now) c.args.wanted c.args.u.now _ c.value_families.result.now c.choose.result value.Leaving c.value_families.ensures (c.choose.ensures.exact value.Leaf) c.in-Leaving.is) c.choose_leaving_for.ensures.exact
+pub returns-in-Ending-clause-exact : goal.returns-in-Ending-clause-exact
+returns-in-Ending-clause-exact c = ok_by c.choose_ending_value.result _ _ _ (value_by c.args.scope.now.config.now (where_stands c.args.scope.now c.args.draft.now) c.args.wanted c.args.u.now _ c.value_families.result.now c.choose.result value.Ending c.value_families.ensures (c.choose.ensures.exact value.Leaf) c.in-Ending.is) c.choose_ending_value.ensures.exact
 
 pub returns-in-Load-clause-exact : goal.returns-in-Load-clause-exact
 returns-in-Load-clause-exact c = ok_by c.choose_load.result _ _ _ (value_by c.args.scope.now.config.now (where_stands c.args.scope.now c.args.draft.now) c.args.wanted c.args.u.now _ c.value_families.result.now c.choose.result value.Load c.value_families.ensures (c.choose.ensures.exact value.Leaf) c.in-Load.is) c.choose_load.ensures.exact
@@ -47,9 +47,6 @@ returns-in-CallIndirect-clause-exact c = ok_by c.choose_indirect.result _ _ _ (v
 pub returns-in-CallRef-clause-exact : goal.returns-in-CallRef-clause-exact
 returns-in-CallRef-clause-exact c = ok_by c.choose_by_reference.result _ _ _ (value_by c.args.scope.now.config.now (where_stands c.args.scope.now c.args.draft.now) c.args.wanted c.args.u.now _ c.value_families.result.now c.choose.result value.CallRef c.value_families.ensures (c.choose.ensures.exact value.Leaf) c.in-CallRef.is) c.choose_by_reference.ensures.exact
 
-pub returns-in-TailCall-clause-exact : goal.returns-in-TailCall-clause-exact
-returns-in-TailCall-clause-exact c = ok_by c.choose_tail_call.result _ _ _ (value_by c.args.scope.now.config.now (where_stands c.args.scope.now c.args.draft.now) c.args.wanted c.args.u.now _ c.value_families.result.now c.choose.result value.TailCall c.value_families.ensures (c.choose.ensures.exact value.Leaf) c.in-TailCall.is) c.choose_tail_call.ensures.exact
-
 pub returns-in-NullBranch-clause-exact : goal.returns-in-NullBranch-clause-exact
 returns-in-NullBranch-clause-exact c = ok_by c.choose_kept.result _ _ _ (value_by c.args.scope.now.config.now (where_stands c.args.scope.now c.args.draft.now) c.args.wanted c.args.u.now _ c.value_families.result.now c.choose.result value.NullBranch c.value_families.ensures (c.choose.ensures.exact value.Leaf) c.in-NullBranch.is) c.choose_kept.ensures.exact
 
@@ -70,9 +67,6 @@ returns-in-Cast-clause-exact c = ok_by c.choose_cast.result _ _ _ (value_by c.ar
 
 pub returns-in-CastBranch-clause-exact : goal.returns-in-CastBranch-clause-exact
 returns-in-CastBranch-clause-exact c = ok_by c.choose_kept_cast.result _ _ _ (value_by c.args.scope.now.config.now (where_stands c.args.scope.now c.args.draft.now) c.args.wanted c.args.u.now _ c.value_families.result.now c.choose.result value.CastBranch c.value_families.ensures (c.choose.ensures.exact value.Leaf) c.in-CastBranch.is) c.choose_kept_cast.ensures.exact
-
-pub returns-in-Throw-clause-exact : goal.returns-in-Throw-clause-exact
-returns-in-Throw-clause-exact c = ok_by c.choose_any_throw.result _ _ _ (value_by c.args.scope.now.config.now (where_stands c.args.scope.now c.args.draft.now) c.args.wanted c.args.u.now _ c.value_families.result.now c.choose.result value.Throw c.value_families.ensures (c.choose.ensures.exact value.Leaf) c.in-Throw.is) c.choose_any_throw.ensures.exact
 
 pub returns-in-Try-clause-exact : goal.returns-in-Try-clause-exact
 returns-in-Try-clause-exact c = ok_by c.choose_try.result _ _ _ (value_by c.args.scope.now.config.now (where_stands c.args.scope.now c.args.draft.now) c.args.wanted c.args.u.now _ c.value_families.result.now c.choose.result value.Try c.value_families.ensures (c.choose.ensures.exact value.Leaf) c.in-Try.is) c.choose_try.ensures.exact
