@@ -1,6 +1,7 @@
 pub mod AddedImportLemmas
 pub mod ContentsLemmas
 pub mod CountingLemmas
+pub mod DeterminedLemmas
 pub mod DrawnBoundLemmas
 pub mod DrawnModuleLemmas
 pub mod DrawnPromiseLemmas

@@ -1,3 +1,4 @@
+ghost use Rattle.wasm_smith.specs.Determined.{ModulesAreDetermined};
 ghost use Rattle.wasm_smith.specs.SpelledBack.{SpelledComesBack};
 ghost use Rattle.wasm_smith.specs.Termination.{CountingIsValid};
 
@@ -12,4 +13,12 @@ pub fn spelled_comes_back()
 /// States that a valid module stays valid with a global that counts fuel.
 pub fn counting_is_valid()
     ensures { CountingIsValid }
+{}
+
+/// States that the configuration and the bytes determine a module: two modules that
+/// [`Module::new`] returns for the same are equal, and leave the same bytes.
+///
+/// [`Module::new`]: crate::Module::new
+pub fn modules_are_determined()
+    ensures { ModulesAreDetermined }
 {}

@@ -1,0 +1,12 @@
+-- Two modules for the same configuration and the same bytes. A rule of this project.
+use Rattle.std.specs.Prelude.{◌≡◌, ℕ, Bool, List, Ok}
+use Rattle.smith_config.specs.declared.config.Config.{Config}
+use Rattle.smith_module_rules.specs.Module.{ModuleParts}
+use Rattle.wasm_smith.specs.Generated.{IsGenerated}
+
+-- two modules that are returned for the same configuration and bytes are equal, and so are the
+-- bytes left
+abbrev pub ModulesAreDetermined : Type 0
+ModulesAreDetermined =
+    (distinct : Bool) (given : Config) (bytes left rest : List ℕ) (one other : ModuleParts)
+    → IsGenerated distinct given bytes (Ok one) left → IsGenerated distinct given bytes (Ok other) rest → (one ≡ other) × (left ≡ rest)
