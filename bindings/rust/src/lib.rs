@@ -90,7 +90,7 @@ pub fn module(config: &Config, input: &[u8]) -> Result<Vec<u8>, Refused> {
 ///
 /// # Errors
 ///
-/// Returns an error in the same cases as [`module`], except that no module is too long for the text format.
+/// Returns an error in the same cases as [`module`], but a module is too long only if no index is left for the global that counts fuel.
 pub fn text(config: &Config, input: &[u8]) -> Result<String, Refused> {
     made(smith_text, config, input).map(utf8)
 }

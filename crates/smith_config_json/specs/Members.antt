@@ -1,7 +1,7 @@
 -- The members of an object that no field of a configuration has. Rules of this project.
-use Rattle.std.specs.Prelude.{ℕ, ◌-◌, ◌^◌, List, [], ◌∷◌, Bool, false, Option, Some, None, Result, Ok, Err, cond, codes}
+use Rattle.std.specs.Prelude.{ℕ, ◌-◌, ◌^◌, List, [], ◌∷◌, Bool, false, Option, None, Result, Ok, Err, cond, codes}
 use Rattle.std.specs.Str.{bytes_eq}
-use Rattle.json.specs.Token.{Token, key, string, null}
+use Rattle.json.specs.Token.{Token, key, string, boolean, null}
 use Rattle.smith_config_json.specs.declared.fault.Fault.{Fault}
 use Rattle.smith_config_json.specs.declared.preset.Preset.{Preset}
 use Rattle.smith_config_json.specs.Presets.{preset_named}
@@ -34,3 +34,12 @@ or_none (Err fault) = None
 -- the fuel of an object: the number of its member `fuel`, wherever the member is
 abbrev pub fuel_in : List Token → Option ℕ
 fuel_in ts = or_none (whole_value (2 ^ 32 - 1) (value_of (codes "fuel") ts))
+
+-- whether the counter of an object's fuel is exported: so says its member `fuel-export`, wherever
+-- the member is
+abbrev pub is_true : Token → Bool
+is_true (boolean b) = b
+is_true t = false
+
+abbrev pub is_fuel_exported_in : List Token → Bool
+is_fuel_exported_in ts = is_true (value_of (codes "fuel-export") ts)

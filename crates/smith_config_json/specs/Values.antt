@@ -1,10 +1,11 @@
 -- The values that tokens denote, for the fields that take them. Rules of this project.
-use Rattle.std.specs.Prelude.{◌≡◌, ℕ, ◌-◌, ◌^◌, nat_lt, List, [], ◌∷◌, drop, Bool, false, ◌==◌, ◌&&◌, if◌then◌else◌, Option, Some, None, option_map, Result, Ok, Err, length}
+use Rattle.std.specs.Prelude.{◌≡◌, ℕ, ◌-◌, ◌^◌, nat_lt, List, [], ◌∷◌, drop, Bool, false, true, ◌==◌, ◌&&◌, if◌then◌else◌, Option, Some, None, option_map, Result, Ok, Err, length}
 use Rattle.std.specs.List.{list_all}
 use Rattle.std.specs.Char.{is_ascii_digit}
 use Rattle.std.specs.Str.Parse.{digits_value}
 use Rattle.json.specs.Token.{Token, begin_object, end_object, begin_array, end_array, key, string, number, boolean, null, bad}
-use Rattle.smith_syntax.specs.Instructions.{kinds_bits, AreReadKinds}
+use Rattle.smith_syntax.specs.Instructions.{kinds_bits, no_kind, with_kind, IsReadKind, AreReadKinds}
+use Rattle.smith_syntax.specs.declared.instruction_kind.InstructionKind.{InstructionKind}
 use Rattle.smith_syntax.specs.declared.instruction_kind.InstructionKinds.{InstructionKinds}
 use Rattle.smith_syntax.specs.declared.instruction_kind.UnknownKind.{UnknownKind}
 use Rattle.smith_config.specs.declared.offset_choices.MemoryOffsetChoices.{MemoryOffsetChoices}
@@ -75,17 +76,33 @@ preset_value null = Ok tt
 preset_value (string name) = of_preset (preset_named name)
 preset_value t = Err (unwanted t)
 
--- a text that names no kinds is out of range
-abbrev pub of_names : Result InstructionKinds UnknownKind → Result (Option InstructionKinds) Fault
+-- a text that names no kind, or no kinds, is out of range
+abbrev pub of_names : {A : Type 0} → Result A UnknownKind → Result (Option A) Fault
 of_names (Ok all) = Ok (Some all)
 of_names (Err e) = Err OutOfRange
 
--- a set of kinds of instructions, by its twelve bits or by the names of the kinds, or none at null
-abbrev pub AreKinds : Token → Result (Option InstructionKinds) Fault → Type 0
-AreKinds null v = v ≡ Ok None
-AreKinds (number text) v = map_ok (option_map kinds_bits) v ≡ map_ok Some (number_of (2 ^ 12 - 1) text)
-AreKinds (string text) v = (r : Result InstructionKinds UnknownKind) × AreReadKinds text r × (v ≡ of_names r)
-AreKinds t v = v ≡ Err (unwanted t)
+-- the next kind of a list of names, or none at its end
+abbrev pub IsListed : Token → Result (Option InstructionKind) Fault → Type 0
+IsListed end_array v = v ≡ Ok None
+IsListed (string text) v = (r : Result InstructionKind UnknownKind) × IsReadKind text r × (v ≡ of_names r)
+IsListed t v = v ≡ Err (unwanted t)
+
+-- the kinds of a list of names whose rest comes first, beside those of a set, and the tokens after
+-- the list
+pub data AreListed : InstructionKinds → List Token → Result InstructionKinds Fault → List Token → Type 0 where
+  ends : {all : InstructionKinds} {ts : List Token} → IsListed (first ts) (Ok None) → AreListed all ts (Ok all) (drop 1 ts)
+  refuses : {all : InstructionKinds} {ts : List Token} {fault : Fault} → IsListed (first ts) (Err fault) → AreListed all ts (Err fault) (drop 1 ts)
+  names : {all : InstructionKinds} {ts rest : List Token} {v : Result InstructionKinds Fault} (kind : InstructionKind) →
+      IsListed (first ts) (Ok (Some kind)) → AreListed (with_kind all true kind) (drop 1 ts) v rest → AreListed all ts v rest
+
+-- a set of kinds of instructions, which begins with a token before others, and the tokens after it:
+-- its twelve bits, the names of the kinds in a text or in a list, or none at null
+abbrev pub AreKinds : Token → List Token → Result (Option InstructionKinds) Fault → List Token → Type 0
+AreKinds null ts v rest = (v ≡ Ok None) × (rest ≡ ts)
+AreKinds (number text) ts v rest = (map_ok (option_map kinds_bits) v ≡ map_ok Some (number_of (2 ^ 12 - 1) text)) × (rest ≡ ts)
+AreKinds (string text) ts v rest = ((r : Result InstructionKinds UnknownKind) × AreReadKinds text r × (v ≡ of_names r)) × (rest ≡ ts)
+AreKinds begin_array ts v rest = (r : Result InstructionKinds Fault) × AreListed no_kind ts r rest × (v ≡ map_ok Some r)
+AreKinds t ts v rest = (v ≡ Err (unwanted t)) × (rest ≡ ts)
 
 -- one of the three weights; at the end of the list, the list is too short
 abbrev pub weight : Token → Result ℕ Fault

@@ -12,8 +12,8 @@ pub enum FieldKind {
     Whole(u32),
     /// `true` or `false`.
     Flag,
-    /// The bits of a set of kinds of instructions as a number below `2^12`, or a string of the
-    /// names of the kinds with commas between them.
+    /// A set of kinds of instructions: a list of their names, a string of the names with commas
+    /// between them, or the bits of the set as a number below `2^12`.
     InstructionKinds,
     /// A list of three whole numbers below `2^32`, of which one is above zero.
     OffsetChoices,
@@ -29,7 +29,7 @@ impl fmt::Display for FieldKind {
             FieldKind::Whole(bits) => return write!(f, "a whole number below 2^{bits}"),
             FieldKind::Flag => "true or false",
             FieldKind::InstructionKinds => {
-                "a whole number below 2^12 or names of kinds of instructions separated by commas"
+                "names of kinds of instructions in a list or separated by commas, or a whole number below 2^12"
             }
             FieldKind::OffsetChoices =>
                 "a list of three whole numbers below 2^32, one of them above zero",
@@ -189,12 +189,13 @@ macro_rules! place {
     };
 }
 
-/// The name and the place of every field, in the order of `Config`, and of the two members that are
-/// no fields.
-static PLACES: [(&str, Place); 73] = fields!(
+/// The name and the place of every field, in the order of `Config`, and of the three members that
+/// are no fields.
+static PLACES: [(&str, Place); 74] = fields!(
     place,
     ("preset", Place::Preset),
-    ("fuel", Place::Number(Number::Fuel))
+    ("fuel", Place::Number(Number::Fuel)),
+    ("fuel-export", Place::FuelExport)
 );
 
 /// Finds the place of the field named `name`.
@@ -234,7 +235,7 @@ fn kind_at(place: Place) -> FieldKind
         Place::Number(Number::Word(_) | Number::Fuel) => FieldKind::Whole(32),
         Place::Number(Number::MinUlebSize) => FieldKind::Whole(8),
         Place::Number(Number::MaxMemory64Bytes) => FieldKind::Whole(128),
-        Place::Flag(_) => FieldKind::Flag,
+        Place::Flag(_) | Place::FuelExport => FieldKind::Flag,
         Place::AllowedInstructions => FieldKind::InstructionKinds,
         Place::MemoryOffsetChoices => FieldKind::OffsetChoices,
         Place::File => FieldKind::File,

@@ -4,9 +4,10 @@
 //! lists the names, with a sentence on each field. A field that no member names keeps its default,
 //! and so does a field whose member is `null`.
 //!
-//! Two members are no fields. `preset` names a [`Preset`], which changes the configuration before the
-//! other members do, wherever it is. `fuel` is the number of calls and iterations of loops after which
-//! a program traps; [`fuel`] finds it.
+//! Three members are no fields. `preset` names a [`Preset`], which changes the configuration before
+//! the other members do, wherever it is. `fuel` is the number of calls and iterations of loops after
+//! which a program traps; [`fuel`] finds it. `fuel-export` says whether the global that counts them
+//! is exported; [`is_fuel_exported`] finds it.
 #![tactic(auto)]
 
 mod examples;
@@ -22,7 +23,7 @@ mod value;
 
 pub use fault::Fault;
 pub use field::{FieldKind, kind_of};
-pub use member::fuel;
+pub use member::{fuel, is_fuel_exported};
 pub use preset::{Preset, preset_named};
 pub use read::{config, read_config, read_text};
 pub use refusal::{ConfigRefusal, Refusal};

@@ -3,6 +3,7 @@ ghost use Rattle.json.specs.Lex.{tokens};
 ghost use Rattle.json.specs.Reads.{token_of};
 ghost use Rattle.smith_config_json.specs.Values.{map_ok, number_of};
 ghost use Rattle.smith_config_json.specs.Members.{is_key, value_of, or_none, preset_in, fuel_in};
+ghost use Rattle.smith_config_json.specs.Members.{is_fuel_exported_in};
 
 use crate::preset::{Preset, preset_named};
 use crate::value::{next, number};
@@ -58,6 +59,19 @@ pub fn fuel(alloc: Global, text: &str) -> Result<Option<u32>, AllocError>
     match value_of(&mut reader, "fuel") {
         Token::Number(digits) => Ok(fuel_of(digits)),
         _ => Ok(None),
+    }
+}
+
+/// Returns whether the object in `text`, which [`config`](crate::config) has read, exports the counter
+/// of its fuel: whether its member `fuel-export` is `true`.
+pub fn is_fuel_exported(alloc: Global, text: &str) -> Result<bool, AllocError>
+    ensures { IfOk result (λ is_exported. is_exported ≡ is_fuel_exported_in (tokens text.now)) }
+{
+    let mut scratch = Scratch::new(alloc);
+    let mut reader = Reader::new(text, &mut scratch)?;
+    match value_of(&mut reader, "fuel-export") {
+        Token::Bool(is_exported) => Ok(is_exported),
+        _ => Ok(false),
     }
 }
 

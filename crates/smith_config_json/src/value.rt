@@ -2,6 +2,7 @@ ghost use Rattle.std.specs.Prelude.{◌≡◌, ◌≤◌, length, drop, Some, If
 ghost use Rattle.std.specs.List.{list_all};
 ghost use Rattle.std.specs.Char.{is_ascii_digit};
 ghost use Rattle.json.specs.Reads.{token_of};
+ghost use Rattle.smith_syntax.specs.Instructions.{no_kind};
 ghost use Rattle.smith_config_json.specs.Fields.{field_named};
 ghost use Rattle.smith_config_json.specs.Places.{field_of, most_of, with_number};
 ghost use Rattle.smith_config_json.specs.Values.{
@@ -13,6 +14,8 @@ ghost use Rattle.smith_config_json.specs.Values.{
   truth_value,
   file_value,
   preset_value,
+  IsListed,
+  AreListed,
   AreKinds,
   weight,
   some_weight,
@@ -29,7 +32,7 @@ use crate::preset::preset_named;
 use bitflags::Flags;
 use json::{Reader, Token};
 use smith_config::{Config, MemoryOffsetChoices};
-use smith_types::InstructionKinds;
+use smith_types::{InstructionKind, InstructionKinds};
 use std::str::FromStr;
 
 /// Takes the next token. The end of the text counts as a bad one.
@@ -139,10 +142,37 @@ fn known_preset(reader: &mut Reader<'_>) -> Result<(), Fault>
     }
 }
 
+/// Reads the next name of a list of kinds of instructions, or `None` at the end of the list.
+fn listed_kind(reader: &mut Reader<'_>) -> Result<Option<InstructionKind>, Fault>
+    ensures value { IsListed (first reader.old) result }
+    ensures rest { reader.new ≡ drop 1 reader.old }
+{
+    match next(reader) {
+        Token::EndArray => Ok(None),
+        Token::String(name) => match InstructionKind::from_str(name) {
+            Ok(kind) => Ok(Some(kind)),
+            Err(_) => Err(Fault::OutOfRange),
+        },
+        token => Err(fault_of_token(token)),
+    }
+}
+
+/// Reads the rest of a list of names of kinds of instructions.
+fn listed_kinds(reader: &mut Reader<'_>) -> Result<InstructionKinds, Fault>
+    ensures value { AreListed no_kind reader.old result reader.new }
+    ensures shorter { length reader.new ≤ length reader.old }
+{
+    let mut all = InstructionKinds::none();
+    while let Some(kind) = listed_kind(reader)? {
+        all = all.with(true, kind);
+    }
+    Ok(all)
+}
+
 /// Reads a set of kinds of instructions, or `None` for `null`.
 fn kinds(reader: &mut Reader<'_>) -> Result<Option<InstructionKinds>, Fault>
-    ensures value { AreKinds (first reader.old) result }
-    ensures rest { reader.new ≡ drop 1 reader.old }
+    ensures value { AreKinds (first reader.old) (drop 1 reader.old) result reader.new }
+    ensures shorter { length reader.new ≤ length reader.old }
 {
     match next(reader) {
         Token::Null => Ok(None),
@@ -154,6 +184,7 @@ fn kinds(reader: &mut Reader<'_>) -> Result<Option<InstructionKinds>, Fault>
             Ok(kinds) => Ok(Some(kinds)),
             Err(_) => Err(Fault::OutOfRange),
         },
+        Token::BeginArray => Ok(Some(listed_kinds(reader)?)),
         token => Err(fault_of_token(token)),
     }
 }
@@ -224,6 +255,7 @@ pub fn set_field(config: &mut Config, name: &str, reader: &mut Reader<'_>) -> Re
         Some(Place::MemoryOffsetChoices) => read_choices(config, reader),
         Some(Place::File) => no_file(reader),
         Some(Place::Preset) => known_preset(reader),
+        Some(Place::FuelExport) => read_fuel_export(config, reader),
         None => Err(Fault::UnknownField),
     }
 }
@@ -280,6 +312,17 @@ fn read_flag(config: &mut Config, flag: Flag, reader: &mut Reader<'_>) -> Result
     if let Some(value) = truth(reader)? {
         *flag_at(config, flag) = value;
     }
+    Ok(())
+}
+
+/// Reads whether the counter of the fuel is exported, which no field holds.
+fn read_fuel_export(config: &mut Config, reader: &mut Reader<'_>) -> Result<(), Fault>
+    ensures exact { Sets (Some (field_of Place.FuelExport)) config.old reader.old
+        (outcome result config.new reader.new) }
+    ensures unchanged { IfErr result (λ fault. config.new ≡ config.old) }
+    ensures shorter { length reader.new ≤ length reader.old }
+{
+    let _is_exported = truth(reader)?;
     Ok(())
 }
 

@@ -18,6 +18,10 @@ fn objects()
         (Ok (record default_config { max_types = 3 }, [])) }
     ensures unchanged { ReadsObject default_config
         (begin_object ∷ key (codes "max-types") ∷ null ∷ end_object ∷ []) (Ok (default_config, [])) }
+    ensures names { ReadsObject default_config
+        (begin_object ∷ key (codes "allowed-instructions") ∷ begin_array ∷ string (codes "table")
+        ∷ string (codes "Control") ∷ end_array ∷ end_object ∷ [])
+        (Ok (record default_config { allowed_instructions = record { 0 = 1152 } }, [])) }
 {}
 
 fn refusals()
@@ -38,6 +42,10 @@ fn refusals()
         (begin_object ∷ key (codes "memory-offset-choices") ∷ begin_array ∷ number (codes "0")
         ∷ number (codes "0") ∷ number (codes "0") ∷ end_array ∷ end_object ∷ [])
         (Err (OutOfRange, codes "memory-offset-choices", default_config)) }
+    ensures no_name { ReadsObject default_config
+        (begin_object ∷ key (codes "allowed-instructions") ∷ begin_array ∷ number (codes "1")
+        ∷ end_array ∷ end_object ∷ [])
+        (Err (WrongType, codes "allowed-instructions", default_config)) }
     ensures no_object { ReadsObject default_config (string (codes "max-types") ∷ [])
         (Err (NotAnObject, [], default_config)) }
 {}

@@ -10,6 +10,10 @@ pub returns-clause-truth : goal.returns-clause-truth
 unfolding fields
 returns-clause-truth c = tt
 
+pub returns-clause-no_member_of_config : goal.returns-clause-no_member_of_config
+unfolding fields
+returns-clause-no_member_of_config c = tt
+
 pub returns-clause-path : goal.returns-clause-path
 unfolding fields
 returns-clause-path c = tt

@@ -1,6 +1,7 @@
 use Rattle.std.proofs.Common.{refl}
 use Rattle.smith_config_json.specs.Fields.{fields}
 use Rattle.smith_config_json.specs.Objects.{repeats, refuses, sets}
+use Rattle.smith_config_json.specs.Values.{refuses as list_refuses}
 use Rattle.smith_config_json.proofs.examples.objects.refusals.Goals as goal
 
 pub returns-clause-unknown : goal.returns-clause-unknown
@@ -22,3 +23,7 @@ returns-clause-out_of_range c = refuses refl refl refl
 pub returns-clause-zeros : goal.returns-clause-zeros
 unfolding fields
 returns-clause-zeros c = refuses refl refl refl
+
+pub returns-clause-no_name : goal.returns-clause-no_name
+unfolding fields
+returns-clause-no_name c = refuses refl refl (_, _, (_, list_refuses refl, refl), refl)

@@ -17,3 +17,9 @@ returns-clause-fuel c = refl
 
 pub returns-clause-no_fuel : goal.returns-clause-no_fuel
 returns-clause-no_fuel c = refl
+
+pub returns-clause-exported : goal.returns-clause-exported
+returns-clause-exported c = refl
+
+pub returns-clause-unexported : goal.returns-clause-unexported
+returns-clause-unexported c = refl
