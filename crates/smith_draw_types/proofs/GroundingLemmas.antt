@@ -140,6 +140,10 @@ funcs_decide context ty orderly inside = (
       (both_are (nat_lt index (length context.types)) (is_val_below context.types reference (reference_to ty)) (lt-ltb index (length context.types) within) ((val_decides context.types orderly reference (reference_to ty)).1 below)),
 )
 
+-- no function grounds a heap type that fails the test of functions
+pub no_functions : (context : Context) (ty : HeapType) (r : Bool) → IsOrderly context.types → IsInRange context.types ty → r ≡ any_from (function_grounds context ty) 0 context.funcs → r ≡ false → IsGroundedByFuncs context ty → ⊥
+no_functions context ty r orderly inside is off functions = let on = (funcs_decide context ty orderly inside).1 functions in cc
+
 -- the test accepts only grounded heap types
 pub grounded_if : (context : Context) (ty : HeapType) → IsOrderly context.types → IsTrue (is_grounded context ty) → IsGrounded context ty
 unfolding is_grounded

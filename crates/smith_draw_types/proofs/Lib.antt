@@ -9,6 +9,8 @@ pub mod HeapTypeLemmas
 pub mod SharedLemmas
 pub mod StandingLemmas
 pub mod GroundedLoop
+pub mod GroundedKindLemmas
+pub mod GroundedTailLemmas
 pub mod MatchingLemmas
 pub mod ChosenLemmas
 pub mod ValueTypeLemmas

@@ -14,7 +14,8 @@ use Rattle.smith_syntax.specs.Kinds.{kind, kind_of, bottom, bottom_of, shared}
 use Rattle.smith_types.specs.Subtyping.{is_abstract_below}
 use Rattle.smith_types.specs.Families.{is_index, is_directly_below}
 use Rattle.smith_config.specs.declared.config.Config.{Config}
-use Rattle.smith_draw_types.specs.Offered.{abstract_subtypes, abstract_supertypes, supertypes_of_inner, kinds_below, kinds_above, is_of_kind, is_shared_as, is_kind, picked_from, of_kinds, offered_direct_subtypes, ancestors, of_standing, bottom_at, kinds_at, exact_subtypes, gc_subtypes, gc_supertypes}
+use Rattle.smith_types.specs.Grounds.{is_shared_as}
+use Rattle.smith_draw_types.specs.Offered.{abstract_subtypes, abstract_supertypes, supertypes_of_inner, kinds_below, kinds_above, is_of_kind, is_kind, picked_from, of_kinds, offered_direct_subtypes, ancestors, of_standing, bottom_at, kinds_at, exact_subtypes, gc_subtypes, gc_supertypes}
 
 -- lists
 each_append : {A : Type 0} (P : A → Type 0) (xs ys : List A) → Each P xs → Each P ys → Each P (xs ++ ys)
@@ -38,7 +39,7 @@ both_true : (a b : Bool) → IsTrue (a && b) → IsTrue a × IsTrue b
 both_true true b h = (refl, h)
 both_true false b h = cc
 
-shared_as : (s : Bool) (t : SubType) → IsTrue (is_shared_as s t) → shared t ≡ s
+pub shared_as : (s : Bool) (t : SubType) → IsTrue (is_shared_as s t) → shared t ≡ s
 shared_as true t h = h
 shared_as false t h = not_shared (shared t) h
   where
@@ -46,7 +47,7 @@ shared_as false t h = not_shared (shared t) h
     not_shared true h = cc
     not_shared false h = refl
 
-of_kind : (a : AbstractHeapType) (inner : CompositeInnerType) → IsTrue (is_of_kind a inner) → kind_of inner ≡ a
+pub of_kind : (a : AbstractHeapType) (inner : CompositeInnerType) → IsTrue (is_of_kind a inner) → kind_of inner ≡ a
 of_kind a inner h = search rules
 
 supertype_is : (index : ℕ) (o : Option ℕ) → IsTrue (is_index index o) → o ≡ Some index

@@ -2,6 +2,7 @@ pub mod Drawing
 pub mod Callers
 pub mod Choices
 pub mod HeldFields
+pub mod GroundedTails
 pub mod Grounding
 pub mod KeptGrounds
 pub mod ValueTypes

@@ -11,6 +11,7 @@ use Rattle.smith_syntax.specs.declared.composite_type.SubType.{SubType}
 use Rattle.smith_syntax.specs.Kinds.{bottom, shared}
 use Rattle.smith_types.specs.Types.{IsOrderly}
 use Rattle.smith_types.specs.Families.{is_directly_below}
+use Rattle.smith_types.specs.Grounds.{is_shared_as}
 use Rattle.smith_config.specs.declared.config.Config.{Config}
 
 -- the abstract heap types that are offered as subtypes of an abstract heap type, including itself
@@ -72,11 +73,6 @@ is_of_kind heap.Array (Array a) = true
 is_of_kind heap.Struct (Struct s) = true
 is_of_kind heap.Func (Func f) = true
 is_of_kind _ _ = false
-
--- a type has this sharedness (own rule)
-abbrev pub is_shared_as : Bool → SubType → Bool
-is_shared_as true t = shared t
-is_shared_as false t = not (shared t)
 
 -- a type has this kind and sharedness (own rule)
 abbrev pub is_kind : Bool → AbstractHeapType → SubType → Bool

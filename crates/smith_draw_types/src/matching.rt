@@ -1,4 +1,4 @@
-ghost use Rattle.std.specs.Prelude.{◌≡◌, ◌<◌, ◌↔◌, ◌⊎◌, false, IsTrue, Some, IfOk, drop, filter};
+ghost use Rattle.std.specs.Prelude.{◌≡◌, ◌+◌, ◌<◌, ◌≤◌, ◌↔◌, ◌⊎◌, false, IsTrue, Some, IfOk, IfSome, drop, filter};
 ghost use Rattle.std.specs.Prelude.{length, map, ◌++◌, slice_get, ◌||◌, not, All};
 ghost use Rattle.smith_bytes.specs.Draws.{choose_at};
 ghost use Rattle.smith_types.specs.Subtyping.{IsBelow, IsRefBelow, IsValBelow, IsInRange};
@@ -22,7 +22,9 @@ ghost use Rattle.smith_config.specs.Features.{features_of};
 ghost use Rattle.smith_draw_types.specs.Choices.{chosen_at};
 ghost use Rattle.smith_draw_types.specs.Drawing.{AlwaysDraws, Draws};
 ghost use Rattle.smith_config.specs.Granted.{IsGranted};
+ghost use Rattle.smith_config.specs.declared.config.Config.{Config as Configuration};
 ghost use Rattle.smith_draw_types.specs.Grounding.{is_grounded, standing_in};
+ghost use Rattle.smith_draw_types.specs.GroundedTails.{IsGroundedTail};
 ghost use Rattle.smith_draw_types.specs.Kept.{
   StaysValid,
   IsStorageValid,
@@ -145,15 +147,66 @@ fn draw_grounded_heap_type(
     offered_grounded(config, standing, ty, place - 1)
 }
 
+/// The grounded types among the last of the offered subtypes of a heap type.
+#[derive(Clone, Copy)]
+struct GroundedTail<'a> {
+    /// The number of offered subtypes before.
+    start: usize,
+    /// The indices of the grounded ones among the others, in order.
+    indices: &'a [u32],
+}
+
+/// Returns the grounded types among the concrete types that are offered as subtypes of `ty`, or
+/// `None` if they are not recorded, or if `ty` is not an abstract type.
+fn grounded_tail<'a>(standing: &ReferenceScope<'a>, ty: HeapType) -> Option<GroundedTail<'a>>
+    ensures { (config : Configuration) → IfSome result (IsGroundedTail config standing.now ty) }
+{
+    let HeapType::Abstract { shared, ty } = ty else {
+        return None;
+    };
+    match standing.grounded_of_kinds(shared, ty) {
+        Some(indices) => Some(GroundedTail {
+            start: abstract_subtypes(ty).len(),
+            indices,
+        }),
+        None => None,
+    }
+}
+
 /// Counts the grounded types among the subtypes of `ty` that are offered with garbage collection,
 /// without `ty` itself.
 fn count_grounded(config: &Config, standing: &ReferenceScope<'_>, ty: HeapType) -> usize
     ensures { result ≡ length (filter (is_grounded standing.now)
         (drop 1 (gc_subtypes config.now standing.now.types ty))) }
 {
+    match grounded_tail(standing, ty) {
+        Some(tail) => count_grounded_before(config, standing, ty, tail.start) + tail.indices.len(),
+        None => {
+            let end = count_subtypes(config, standing.types(), ty);
+            count_grounded_before(config, standing, ty, end)
+        }
+    }
+}
+
+/// Counts the grounded types among the first `end` subtypes of `ty` that are offered with garbage
+/// collection, without `ty` itself.
+fn count_grounded_before(
+    config: &Config,
+    standing: &ReferenceScope<'_>,
+    ty: HeapType,
+    end: usize,
+) -> usize
+    requires some { 0 < end }
+    requires within { end ≤ length (gc_subtypes config.now standing.now.types ty) }
+    ensures few { result < end }
+    ensures counted { result + length (filter (is_grounded standing.now)
+        (drop end (gc_subtypes config.now standing.now.types ty)))
+        ≡ length (filter (is_grounded standing.now)
+        (drop 1 (gc_subtypes config.now standing.now.types ty))) }
+{
     let space = standing.types();
     let mut grounded = 0;
-    for place in 1..count_subtypes(config, space, ty) {
+    for place in 1..end {
         let other = offered_subtype(config, space, ty, place);
         let found = standing.is_grounded(other);
         if found {
@@ -165,6 +218,29 @@ fn count_grounded(config: &Config, standing: &ReferenceScope<'_>, ty: HeapType) 
 
 /// Returns the type at `place` among those that [`count_grounded`] counts.
 fn offered_grounded(
+    config: &Config,
+    standing: &ReferenceScope<'_>,
+    ty: HeapType,
+    place: usize,
+) -> HeapType
+    requires { place < length (filter (is_grounded standing.now)
+        (drop 1 (gc_subtypes config.now standing.now.types ty))) }
+    ensures { slice_get (filter (is_grounded standing.now)
+        (drop 1 (gc_subtypes config.now standing.now.types ty))) place
+        ≡ Some result }
+{
+    let Some(tail) = grounded_tail(standing, ty) else {
+        return search_grounded(config, standing, ty, place);
+    };
+    let before = count_grounded_before(config, standing, ty, tail.start);
+    if place < before {
+        return search_grounded(config, standing, ty, place);
+    }
+    HeapType::Concrete(tail.indices[place - before])
+}
+
+/// Returns the same as [`offered_grounded`], by a test of each offered subtype up to it.
+fn search_grounded(
     config: &Config,
     standing: &ReferenceScope<'_>,
     ty: HeapType,

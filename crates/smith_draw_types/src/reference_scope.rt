@@ -1,16 +1,19 @@
-ghost use Rattle.std.specs.Prelude.{◌≡◌, ◌<◌, length, IsTrue, IfSome, ◌↔◌};
+ghost use Rattle.std.specs.Prelude.{◌≡◌, ◌<◌, [], ◌∷◌, length, map, filter, IsTrue, IfSome, ◌↔◌};
+ghost use Rattle.smith_syntax.specs.declared.value_type.AbstractHeapType.TheVariants.{Array, Struct};
+ghost use Rattle.smith_syntax.specs.declared.value_type.HeapType.TheVariants.{Concrete};
 ghost use Rattle.smith_types.specs.Types.{IsOrderly};
 ghost use Rattle.smith_types.specs.Subtyping.{IsInRange};
 ghost use Rattle.smith_types.specs.Expressions.{reference_to, function_reference};
 ghost use Rattle.smith_types.specs.FuncGrounds.{AreFuncGrounds};
 ghost use Rattle.smith_draw_types.specs.Grounding.{standing_in, functions_of, over, any_from};
 ghost use Rattle.smith_draw_types.specs.Grounding.{function_grounds, is_grounded};
+ghost use Rattle.smith_draw_types.specs.Offered.{kinds_below, of_kinds};
 ghost use Rattle.smith_draw_types.specs.KeptGrounds.{AreEarlyGrounds, IsRecordOver};
 
 use crate::early_grounds::EarlyGrounds;
 use crate::spaces::Spaces;
 use smith_config::Config;
-use smith_types::{FuncGrounds, HeapType, SubType, TypeSpace};
+use smith_types::{AbstractHeapType, FuncGrounds, HeapType, SubType, TypeSpace};
 use std::marker::Model;
 
 /// The types over which references are drawn, and the functions that may ground them.
@@ -109,6 +112,66 @@ impl<'a> ReferenceScope<'a> {
             return true;
         }
         self.is_grounded_by_functions(ty)
+    }
+
+    /// Returns the indices of the grounded types among the concrete types that are offered as
+    /// subtypes of the abstract type `ty` with the sharedness `shared`, in order. Returns `None` if
+    /// they are not recorded.
+    pub(crate) fn grounded_of_kinds(&self, shared: bool, ty: AbstractHeapType) -> Option<&'a [u32]>
+        ensures { IfSome result (λ indices. filter (is_grounded self.now)
+            (of_kinds self.now.types shared (kinds_below ty)) ≡ map Concrete indices.now) }
+    {
+        use AbstractHeapType::{Any, Array, Eq, Func, Struct};
+        match ty {
+            Any => self.grounded_aggregates(shared),
+            Eq => self.grounded_aggregates(shared),
+            Struct => self.grounded_structs(shared),
+            Array => self.none_grounded(shared, Array),
+            Func => self.none_grounded(shared, Func),
+            _ => Some(&[]),
+        }
+    }
+
+    /// Returns the indices of the grounded array and struct types with the sharedness `shared`, in
+    /// order. Returns `None` if they are not recorded.
+    fn grounded_aggregates(&self, shared: bool) -> Option<&'a [u32]>
+        ensures { IfSome result (λ indices. filter (is_grounded self.now)
+            (of_kinds self.now.types shared (Array ∷ Struct ∷ [])) ≡ map Concrete indices.now) }
+    {
+        match self.none_grounded(shared, AbstractHeapType::Array) {
+            Some(_) => self.grounded_structs(shared),
+            None => None,
+        }
+    }
+
+    /// Returns the indices of the grounded struct types with the sharedness `shared`, in order.
+    /// Returns `None` if they are not recorded.
+    fn grounded_structs(&self, shared: bool) -> Option<&'a [u32]>
+        ensures { IfSome result (λ indices. filter (is_grounded self.now)
+            (of_kinds self.now.types shared (Struct ∷ [])) ≡ map Concrete indices.now) }
+    {
+        let above = HeapType::Abstract {
+            shared,
+            ty: AbstractHeapType::Struct,
+        };
+        self.orderly();
+        if self.is_grounded_by_functions(above) {
+            return None;
+        }
+        self.types.grounded_by_structs(shared)
+    }
+
+    /// Returns no indices if no type of the kind `kind` with the sharedness `shared` is grounded.
+    /// Returns `None` if one may be.
+    fn none_grounded(&self, shared: bool, kind: AbstractHeapType) -> Option<&'a [u32]>
+        ensures { IfSome result (λ indices. (indices.now ≡ []) × (filter (is_grounded self.now)
+            (of_kinds self.now.types shared (kind ∷ [])) ≡ [])) }
+    {
+        self.orderly();
+        if self.is_grounded(HeapType::Abstract { shared, ty: kind }) {
+            return None;
+        }
+        Some(&[])
     }
 
     /// Returns whether a function grounds the heap type `ty`. Requires the type named by `ty`, if

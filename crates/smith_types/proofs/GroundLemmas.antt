@@ -2,6 +2,7 @@
 use Rattle.std.proofs.Common.{◌≡◌, ℕ, ◌+◌, ◌<◌, Bool, true, false, List, [], ◌∷◌, ◌++◌, Option, Some, None, IsTrue, length, refl, sym, ◌∙◌, ap, subst, inl, inr, arith}
 use Rattle.std.specs.Prelude.{slice_get, if◌then◌else◌}
 use Rattle.std.proofs.lemmas.Bool.{cases_eq, cases_lt}
+use Rattle.std.proofs.lemmas.Bool.Decides.{same_from_decides}
 use Rattle.std.proofs.lemmas.Option.{slice_get_within, none-some}
 use Rattle.std.proofs.lemmas.List.{length-append}
 use Rattle.smith_syntax.specs.declared.composite_type.SubType.{SubType}
@@ -123,3 +124,34 @@ module _ (types : List SubType) (t : SubType) (orderly : IsOrderly types) (follo
       ],
     );
   }
+
+-- the marks of the types before the last, if its supertype was marked before
+module _ (types : List SubType) (t : SubType) (orderly : IsOrderly types) (follows : MayFollow types t) (old new : List Ground) (before : AreGrounds types old) (after : AreGrounds (types ++ t ∷ []) new) (kept : is_ground t ≡ true → (s : ℕ) → t.supertype ≡ Some s → IsTrue (below_at old s)) where
+  still_grounded : (j : ℕ) → IsTrue (below_at old j) → IsTrue (below_at new j)
+  still_grounded j now =
+      let (i, g) = (before.below j).0 now in
+      (after.below j).1 (i, record { ground = g.ground; at = slice_get-grown types (t ∷ []) i g.ground g.at; is = g.is; below = IsBelow-grown types (t ∷ []) g.below })
+
+  all_orderly : IsOrderly (types ++ t ∷ [])
+  all_orderly = IsOrderly-push types t orderly follows.below
+
+  before_last : (i j : ℕ) → i < length types → IsBelow (types ++ t ∷ []) (Concrete i) (Concrete j) → IsBelow types (Concrete i) (Concrete j)
+  before_last i j inside below = path_along types (reaches_front types t i j orderly inside (by_cases_from_below (types ++ t ∷ []) all_orderly (Concrete i) (Concrete j) below))
+
+  above_last : (j : ℕ) → j < length types → is_ground t ≡ true → IsBelow (types ++ t ∷ []) (Concrete (length types)) (Concrete j) → IsTrue (below_at old j)
+  above_last j inside on below =
+      let reach = by_cases_from_below (types ++ t ∷ []) all_orderly (Concrete (length types)) (Concrete j) below in
+      let (s, is_up, on_up) = above_other (types ++ t ∷ []) (length types) j t (slice_get-last types t) (λ end. omega (arith, end, inside)) reach in
+      let (u, at, alike) = follows.below s is_up in
+      (grounds_closed types old before).up s j (before_last s j (slice_get_within types s u at) on_up) (kept on s is_up)
+
+  grounded_before : (j : ℕ) → j < length types → IsTrue (below_at new j) → IsTrue (below_at old j)
+  grounded_before j inside now =
+      let (i, g) = (after.below j).0 now in
+      elim (slice_get-push types t i g.ground g.at) [
+        | inl at ↦ (before.below j).1 (i, record { ground = g.ground; at = at; is = g.is; below = before_last i j (slice_get_within types i g.ground at) g.below })
+        | inr (is, same) ↦ above_last j inside (ap is_ground same ∙ g.is) (subst (λ (m : ℕ). IsBelow (types ++ t ∷ []) (Concrete m) (Concrete j)) is g.below)
+      ]
+
+  pub marks_unchanged : (j : ℕ) → j < length types → below_at new j ≡ below_at old j
+  marks_unchanged j inside = same_from_decides {P = IsTrue (below_at old j)} (below_at new j) (below_at old j) (grounded_before j inside, still_grounded j) ((λ now. now), (λ now. now))

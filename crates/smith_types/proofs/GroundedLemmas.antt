@@ -1,8 +1,9 @@
 -- The marks of a type space decide which heap types structs ground.
-use Rattle.std.proofs.Common.{◌≡◌, ◌↔◌, ℕ, zero, suc, ◌<◌, ◌≤◌, Bool, true, false, List, [], ◌∷◌, Some, IsTrue, get_or, length, refl, sym, ◌∙◌, ap, subst, arith}
+use Rattle.std.proofs.Common.{◌≡◌, ◌↔◌, ℕ, zero, suc, ◌+◌, ◌<◌, ◌≤◌, Bool, true, false, List, [], ◌∷◌, Some, IsTrue, get_or, length, refl, sym, ◌∙◌, ap, subst, arith}
 use Rattle.std.specs.Prelude.{slice_get, All, not, ◌&&◌, ◌||◌, if◌then◌else◌}
 use Rattle.std.specs.List.{list_any, AllByRecursion as Each}
 use Rattle.std.proofs.lemmas.List.Elements.{All-from_recursion, recursion_from_All}
+use Rattle.std.proofs.lemmas.Bool.Decides.{same_from_decides}
 use Rattle.std.proofs.lemmas.Option.{same_Some, slice_get-get_or, slice_get_within}
 use Rattle.smith_syntax.specs.declared.value_type.AbstractHeapType.{AbstractHeapType}
 use Rattle.smith_syntax.specs.declared.value_type.AbstractHeapType.TheVariants as heap
@@ -21,11 +22,12 @@ use Rattle.smith_types.specs.Types.{IsOrderly}
 use Rattle.smith_types.specs.Subtyping.{is_abstract_below, IsBelow, itself, IsInRange}
 use Rattle.smith_types.specs.Expressions.{IsDefaultable, field_values, unpacked}
 use Rattle.smith_types.specs.Grounded.{IsGroundedBy, IsGroundedByStructs, is_defaultable, are_defaultable}
-use Rattle.smith_types.specs.Grounds.{is_inner_ground, is_ground, is_ground_of, kind_at, own_at, below_at, AreGrounds, AreGroundKinds}
+use Rattle.smith_types.specs.Grounds.{is_inner_ground, is_ground, is_ground_of, kind_at, own_at, below_at, AreGrounds, AreGroundKinds, is_shared_at, is_marked, indices_where, DecidesGrounded}
 use Rattle.smith_types.proofs.GrowthLemmas.{IsBelow-trans}
 use Rattle.smith_types.proofs.PathLemmas.{exact_below}
 use Rattle.smith_types.proofs.WalkLemmas.{IsUnder, by_cases_from_below, below_from_by_cases, path_along, concrete_not_below_exact}
 use Rattle.smith_types.proofs.MarkLemmas.{said_is}
+use Rattle.smith_types.proofs.MarkedLemmas.{where_same, stands}
 
 both : (a b : Bool) → (a && b) ≡ true → (a ≡ true) × (b ≡ true)
 both true b e = (refl, e)
@@ -109,6 +111,17 @@ concrete_grounded types now grounds descriptors j said view o h is =
           sym is ∙ (h.below j).1 (i, record { ground = u; at = at_u; is = on; below = below_created types descriptors i j o g.below }),
     )
 
+-- the indices of the marked types are those of the types that structs ground
+pub marked_decided : (types now : List SubType) (grounds : List Ground) (s : Bool) (marked : List ℕ) → types ≡ now → IsOrderly types → AreGrounds types grounds → marked ≡ indices_where (is_marked types grounds s) 0 (length types) → (descriptors : Bool) (test : ℕ → Bool) → DecidesGrounded now descriptors s test → marked ≡ indices_where test 0 (length now)
+marked_decided types now grounds s marked view o h listed descriptors test decides =
+    let decided : DecidesGrounded types descriptors s test = subst (λ xs. DecidesGrounded xs descriptors s test) (sym view) decides in
+    let each : (j : ℕ) → 0 ≤ j → j < 0 + length types → is_marked types grounds s j ≡ test j = λ j least less.
+    let known = concrete_grounded types types grounds descriptors j (below_at grounds j) refl o h refl in
+    same_from_decides {P = IsGroundedByStructs types descriptors (Concrete j) × IsTrue (is_shared_at types s j)} (is_marked types grounds s j) (test j)
+    ((λ on. let (a, b) = both (below_at grounds j) (is_shared_at types s j) on in (known.0 a, b)), (λ (a, b). both_are (below_at grounds j) (is_shared_at types s j) (known.1 a) b))
+    (decided j (omega (arith, less))) in
+    subst (λ (xs : List SubType). marked ≡ indices_where test 0 (length xs)) view (listed ∙ where_same (is_marked types grounds s) test 0 (length types) each)
+
 -- an exact type is grounded if it is a grounding struct type and creation is exact
 exact_grounded : (types now : List SubType) (grounds : List Ground) (j : ℕ) (said : Bool) → types ≡ now → IsOrderly types → AreGrounds types grounds → own_at grounds j ≡ said → (t : SubType) → slice_get types j ≡ Some t → IsTrue said ↔ IsGroundedByStructs now true (Exact j)
 exact_grounded types now grounds j said view o h is t at =
@@ -187,11 +200,6 @@ pub abstract_read : (types now : List SubType) (kinds : GroundKinds) (descriptor
 abstract_read types now kinds descriptors s b h r view o known is read =
     subst (λ v. IsTrue r ↔ IsGroundedByStructs now descriptors v) (sym is)
     (subst (λ v. IsTrue v ↔ IsGroundedByStructs now descriptors (Abstract s b)) (sym read) (abstract_grounded types now kinds descriptors s b view o known))
-
-stands : (types : List SubType) (j : ℕ) → j < length types → (t : SubType) × (slice_get types j ≡ Some t)
-stands [] j inside = absurd (omega arith)
-stands (t ∷ types) zero inside = (t, refl)
-stands (t ∷ types) (suc j) inside = stands types j (omega arith)
 
 pub entry_inside : (types now : List SubType) (grounds : List Ground) (j : ℕ) → types ≡ now → AreGrounds types grounds → j < length now → j < length grounds
 entry_inside types now grounds j view known inside =

@@ -15,6 +15,7 @@ pub mod PlaceLemmas
 pub mod FamilyLemmas
 pub mod MarkLemmas
 pub mod GroundLemmas
+pub mod MarkedLemmas
 pub mod GroundedLemmas
 pub mod FuncGroundLemmas
 pub mod GroundGrowthLemmas

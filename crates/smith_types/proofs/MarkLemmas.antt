@@ -1,6 +1,6 @@
 -- Marks of types and their supertypes, as the code sets them along the path of supertypes.
-use Rattle.std.proofs.Common.{◌≡◌, ℕ, zero, suc, ◌<◌, Bool, true, List, [], ◌∷◌, ◌++◌, Option, Some, None, IsTrue, get_or, set, length, refl, sym, ◌∙◌, ap, subst, inl, inr, arith}
-use Rattle.std.specs.Prelude.{slice_get}
+use Rattle.std.proofs.Common.{◌≡◌, ℕ, zero, suc, ◌<◌, Bool, true, false, List, [], ◌∷◌, ◌++◌, Option, Some, None, IsTrue, get_or, set, length, refl, sym, ◌∙◌, ap, subst, inl, inr, arith}
+use Rattle.std.specs.Prelude.{slice_get, not}
 use Rattle.std.proofs.lemmas.Bool.{cases_eq}
 use Rattle.std.proofs.lemmas.List.{length-set}
 use Rattle.std.proofs.lemmas.Option.{slice_get-get_or, same_Some, none-some}
@@ -23,6 +23,10 @@ said_read flag (x ∷ grounds) (suc i) ground at = said_read flag grounds i grou
 -- the flag of an entry, in the form of the code
 pub said_is : (flag : Ground → Bool) (grounds : List Ground) (i : ℕ) (ground d : Ground) → i < length grounds → ground ≡ get_or grounds i d → said_at flag grounds i ≡ flag ground
 said_is flag grounds i ground d inside read = said_read flag grounds i ground (slice_get-get_or grounds i d inside ∙ ap Some (sym read))
+
+pub not_off : (b : Bool) → not b ≡ false → b ≡ true
+not_off true e = refl
+not_off false e = cc
 
 -- an entry with a set flag exists
 pub said_inside : (flag : Ground → Bool) (grounds : List Ground) (i : ℕ) → said_at flag grounds i ≡ true → i < length grounds

@@ -1,5 +1,6 @@
 -- The marks of a type space for struct types whose fields all have defaults.
-use Rattle.std.specs.Prelude.{◌≡◌, ◌↔◌, ℕ, zero, suc, ◌<◌, ◌≤◌, ◌⊎◌, Bool, true, false, not, ◌&&◌, ◌||◌, IsTrue, List, [], ◌∷◌, length, slice_get, Option, Some}
+use Rattle.std.specs.Prelude.{◌≡◌, ◌↔◌, ℕ, zero, suc, ◌+◌, ◌<◌, ◌≤◌, ◌⊎◌, Bool, true, false, not, ◌&&◌, ◌||◌, IsTrue}
+use Rattle.std.specs.Prelude.{List, [], ◌∷◌, length, slice_get, Option, Some, None, vec_capacity, if◌then◌else◌}
 use Rattle.std.specs.List.{list_any}
 use Rattle.smith_syntax.specs.Kinds.{shared}
 use Rattle.smith_types.specs.Subtyping.{IsBelow}
@@ -9,7 +10,8 @@ use Rattle.smith_syntax.specs.declared.composite_type.CompositeInnerType.TheVari
 use Rattle.smith_syntax.specs.declared.composite_type.SubType.{SubType}
 use Rattle.smith_types.specs.declared.ground.Ground.{Ground}
 use Rattle.smith_types.specs.declared.ground.GroundKinds.{GroundKinds}
-use Rattle.smith_types.specs.Grounded.{are_defaultable}
+use Rattle.smith_types.specs.declared.marked_types.MarkedTypes.{MarkedTypes}
+use Rattle.smith_types.specs.Grounded.{are_defaultable, IsGroundedByStructs}
 
 -- whether a composite type is a struct type whose fields all have defaults
 abbrev pub is_inner_ground : CompositeInnerType → Bool
@@ -63,6 +65,46 @@ pub record AreMarked (types : List SubType) (from : Option ℕ) (old new : List 
   pub long : length new ≡ length old
   pub own : (j : ℕ) → own_at new j ≡ own_at old j
   pub below : (j : ℕ) → IsTrue (below_at new j) ↔ (IsTrue (below_at old j) ⊎ IsFrom types from j)
+
+-- whether a type has this sharedness
+abbrev pub is_shared_as : Bool → SubType → Bool
+is_shared_as true t = shared t
+is_shared_as false t = not (shared t)
+
+-- whether a type exists and has this sharedness
+abbrev pub is_shared_in : Bool → Option SubType → Bool
+is_shared_in is_shared None = false
+is_shared_in is_shared (Some t) = is_shared_as is_shared t
+
+-- whether the type at an index exists and has this sharedness
+abbrev pub is_shared_at : List SubType → Bool → ℕ → Bool
+is_shared_at types is_shared j = is_shared_in is_shared (slice_get types j)
+
+-- whether the type at an index is marked and has this sharedness
+abbrev pub is_marked : List SubType → List Ground → Bool → ℕ → Bool
+is_marked types grounds is_shared j = below_at grounds j && is_shared_at types is_shared j
+
+-- the indices that pass a test, in order, among `count` indices from `first` on
+abbrev pub indices_where : (ℕ → Bool) → ℕ → ℕ → List ℕ
+indices_where test first zero = []
+indices_where test first (suc count) =
+    if test first then first ∷ indices_where test (first + 1) count else indices_where test (first + 1) count
+
+-- the indices of the marked types among the first `count`
+pub record AreMarkedTypes (types : List SubType) (grounds : List Ground) (count : ℕ) (marked : MarkedTypes) : Type 0 where
+  pub plain : marked.plain.items ≡ indices_where (is_marked types grounds false) 0 count
+  pub shared : marked.shared.items ≡ indices_where (is_marked types grounds true) 0 count
+
+-- there is room for the indices of so many types
+pub record HasIndexRoom (count : ℕ) (marked : MarkedTypes) : Type 0 where
+  pub plain : count ≤ vec_capacity marked.plain
+  pub shared : count ≤ vec_capacity marked.shared
+
+-- a test decides which types of a sharedness are grounded by structs
+abbrev pub DecidesGrounded : List SubType → Bool → Bool → (ℕ → Bool) → Type 0
+DecidesGrounded types descriptors is_shared test =
+    (j : ℕ) → j < length types
+    → IsTrue (test j) ↔ (IsGroundedByStructs types descriptors (Concrete j) × IsTrue (is_shared_at types is_shared j))
 
 -- the flag of a sharedness
 abbrev pub kind_at : GroundKinds → Bool → Bool

@@ -88,8 +88,10 @@ one_more_if counted count = if counted then count + 1 else count
 abbrev pub counts_with : Bool → CompositeInnerType → KindCounts → KindCounts
 counts_with false (Array a) counts = record counts { arrays = counts.arrays + 1 }
 counts_with true (Array a) counts = record counts { shared_arrays = counts.shared_arrays + 1 }
-counts_with false (Func f) counts = record counts { funcs = counts.funcs + 1; without_results = one_more_if (has_no_results f) counts.without_results }
-counts_with true (Func f) counts = record counts { shared_funcs = counts.shared_funcs + 1; without_results = one_more_if (has_no_results f) counts.without_results }
+counts_with false (Func f) counts =
+    record counts { funcs = counts.funcs + 1; without_results = one_more_if (has_no_results f) counts.without_results }
+counts_with true (Func f) counts =
+    record counts { shared_funcs = counts.shared_funcs + 1; without_results = one_more_if (has_no_results f) counts.without_results }
 counts_with false (Struct s) counts = record counts { structs = counts.structs + 1 }
 counts_with true (Struct s) counts = record counts { shared_structs = counts.shared_structs + 1 }
 

@@ -5,8 +5,10 @@ ghost use Rattle.smith_types.specs.GroupedTypes.{MayFollow};
 ghost use Rattle.smith_types.specs.Expressions.{unpacked};
 ghost use Rattle.smith_types.specs.Grounded.{is_defaultable, are_defaultable};
 ghost use Rattle.smith_types.specs.Grounds.{is_ground, kind_at, ground_kinds_with, AreGrounds};
-ghost use Rattle.smith_types.specs.Grounds.{AreGroundKinds, AreClosed, AreMarked};
+ghost use Rattle.smith_types.specs.Grounds.{AreGroundKinds, AreClosed, AreMarked, below_at};
+ghost use Rattle.smith_types.specs.Grounds.{AreMarkedTypes, HasIndexRoom};
 
+use crate::marked_types::MarkedTypes;
 use smith_syntax::{CompositeInnerType, FieldType, StorageType, SubType, ValType};
 
 // The mark of a type in a type space: whether creating some struct without operands pushes a
@@ -57,29 +59,50 @@ pub(crate) fn no_grounds() -> GroundKinds
     }
 }
 
-// Updates `grounds` and `kinds` with the type `added`, the next one after `types`, if `kept` is
-// `true`. Requires room in `grounds`.
+// Updates `grounds`, `kinds` and `marked` with the type `added`, the next one after `types`, if
+// `kept` is `true`. Requires room in `grounds` and `marked`.
 pub(crate) fn note_ground(
     kept: bool,
     types: &[SubType],
     added: &SubType,
     grounds: &mut Vec<Ground>,
     kinds: &mut GroundKinds,
+    marked: &mut MarkedTypes,
 )
     requires orderly { IsOrderly types.now }
     requires follows { MayFollow types.now added.now }
     requires grounds { kept ≡ true → AreGrounds types.now grounds.old.items }
     requires kinds { kept ≡ true → AreGroundKinds types.now kinds.old }
+    requires marked { kept ≡ true
+        → AreMarkedTypes types.now grounds.old.items (length types.now) marked.old }
     requires room { kept ≡ true → vec_len grounds.old < vec_capacity grounds.old }
+    requires index_room { kept ≡ true → HasIndexRoom (length types.now + 1) marked.old }
     ensures grounds { kept ≡ true → AreGrounds (types.now ++ added.now ∷ []) grounds.new.items }
     ensures kinds { kept ≡ true → AreGroundKinds (types.now ++ added.now ∷ []) kinds.new }
+    ensures marked { kept ≡ true → AreMarkedTypes (types.now ++ added.now ∷ []) grounds.new.items
+        (length types.now + 1) marked.new }
 {
     if !kept {
         return;
     }
     let own = is_ground(added);
+    let changed = marks_above(added.supertype, grounds.as_slice(), own);
     join_grounds(types, added, own, grounds);
     *kinds = kinds.with(own, added.composite_type.shared);
+    marked.note(changed, own, types, added, grounds.as_slice());
+}
+
+// Returns whether a type marks others: whether `own` is `true`, and its supertype `supertype`, if
+// any, is not marked yet.
+fn marks_above(supertype: Option<u32>, grounds: &[Ground], own: bool) -> bool
+    requires stands { (s : ℕ) → supertype ≡ Some s → s < length grounds.now }
+    ensures { result ≡ false → own ≡ true → (s : ℕ) → supertype ≡ Some s
+        → below_at grounds.now s ≡ true }
+{
+    match supertype {
+        Some(index) => own && !grounds[index as usize].below,
+        None => false,
+    }
 }
 
 // Appends an entry for the type `added`, the next one after `types`, to `grounds`, and marks its
@@ -90,7 +113,8 @@ fn join_grounds(types: &[SubType], added: &SubType, own: bool, grounds: &mut Vec
     requires own { own ≡ is_ground added.now }
     requires grounds { AreGrounds types.now grounds.old.items }
     requires room { vec_len grounds.old < vec_capacity grounds.old }
-    ensures { AreGrounds (types.now ++ added.now ∷ []) grounds.new.items }
+    ensures grounds { AreGrounds (types.now ++ added.now ∷ []) grounds.new.items }
+    ensures last { below_at grounds.new.items (length types.now) ≡ own }
 {
     mark_above(types, supertype_if(own, added), grounds);
     grounds.push_reserved(Ground { own, below: own });

@@ -12,8 +12,10 @@ ghost use Rattle.std.specs.Prelude.{
   length,
   IsTrue,
   ◌↔◌,
+  Bool,
   IfOk,
   IfErr,
+  IfSome,
   OnOk,
   OnErr,
   slice_get,
@@ -32,6 +34,7 @@ ghost use Rattle.smith_types.specs.GroupedTypes.{extensible_from};
 ghost use Rattle.smith_types.specs.Places.{IsPlace, ArePlaces, AreBeside, depths_in};
 ghost use Rattle.smith_types.specs.Families.{direct_subtypes, AreFamilies};
 ghost use Rattle.smith_types.specs.Grounded.{IsGroundedBy, IsGroundedByStructs};
+ghost use Rattle.smith_types.specs.Grounds.{DecidesGrounded, HasIndexRoom, indices_where};
 ghost use Rattle.smith_types.specs.KindCounts.{indices_of_kind, indices_in};
 ghost use Rattle.smith_types.specs.Sizes.{value_count};
 ghost use Rattle.smith_types.specs.Matching.{IsCompositeMatch, IsInnerInRange};
@@ -42,6 +45,7 @@ ghost use Rattle.smith_types.specs.Subtyping.{IsValInRange};
 use crate::family::{Family, extend_families, join_family};
 use crate::ground::{Ground, GroundKinds, is_ground, no_grounds, note_ground};
 use crate::kind_counts::TypeSet;
+use crate::marked_types::MarkedTypes;
 use crate::matching::composite_type_is_match;
 use crate::place::{Place, find_ancestor, last_counts, place_of};
 use crate::subtyping::{
@@ -73,11 +77,13 @@ pub struct TypeSpace {
     // The families of the first types, at least up to the last type with a supertype.
     families: Vec<Family>,
     extensible: Vec<u32>,
-    // Whether `grounds` and `ground_kinds` are kept up to date.
+    // Whether `grounds`, `ground_kinds` and `marked` are kept up to date.
     keeps_grounds: bool,
     // The mark of each type, if `keeps_grounds` is set.
     grounds: Vec<Ground>,
     ground_kinds: GroundKinds,
+    // The indices of the types that are marked as grounded.
+    marked: MarkedTypes,
     groups: Vec<Range<usize>>,
 }
 
@@ -86,7 +92,8 @@ impl Model for TypeSpace {
     ghost use Rattle.smith_types.specs.GroupedTypes.{GroupedTypes, IsSound, extensible_from};
     ghost use Rattle.smith_types.specs.Places.{ArePlaces, AreBeside, depths_in};
     ghost use Rattle.smith_types.specs.Families.{AreFamilies};
-    ghost use Rattle.smith_types.specs.Grounds.{AreGrounds, AreGroundKinds};
+    ghost use Rattle.std.specs.Prelude.{length};
+    ghost use Rattle.smith_types.specs.Grounds.{AreGrounds, AreGroundKinds, AreMarkedTypes};
 
     ghost Value = { GroupedTypes };
 
@@ -98,7 +105,9 @@ impl Model for TypeSpace {
         × AreFamilies a.types.items a.families.items
         × (a.keeps_grounds ≡ true → AreGrounds a.types.items a.grounds.items)
         × (a.keeps_grounds ≡ true → AreGroundKinds a.types.items a.ground_kinds)
-        × AreBeside a.types a.places };
+        × AreBeside a.types a.places
+        × (a.keeps_grounds ≡ true
+        → AreMarkedTypes a.types.items a.grounds.items (length a.types.items) a.marked) };
 }
 
 /// Formats the types and the groups.
@@ -130,6 +139,7 @@ impl TypeSpace {
             keeps_grounds: true,
             grounds: Vec::new(alloc),
             ground_kinds: no_grounds(),
+            marked: MarkedTypes::none(alloc),
             groups: Vec::new(alloc),
         }
     }
@@ -149,6 +159,7 @@ impl TypeSpace {
             keeps_grounds: true,
             grounds: Vec::new(alloc),
             ground_kinds: no_grounds(),
+            marked: MarkedTypes::none(alloc),
             groups: Vec::with_capacity(alloc, types)?,
         })
     }
@@ -282,6 +293,20 @@ impl TypeSpace {
         found
     }
 
+    /// Returns the indices of the types with the sharedness `shared` that are grounded by a struct
+    /// type whose fields all have defaults, in order: of such struct types and their supertypes.
+    /// Returns `None` after [`TypeSpace::keep_no_grounds`].
+    pub fn grounded_by_structs(&self, shared: bool) -> Option<&[u32]>
+        ensures { IfSome result (λ indices. (descriptors : Bool) (test : ℕ → Bool)
+            → DecidesGrounded self.now.types descriptors shared test
+            → indices.now ≡ indices_where test 0 (length self.now.types)) }
+    {
+        if !self.keeps_grounds {
+            return None;
+        }
+        Some(self.marked.of(shared))
+    }
+
     /// Returns whether a struct type whose fields all have defaults grounds the heap type `ty`:
     /// creating such a struct pushes a reference below `ty`. With `descriptors` that reference is
     /// exact. Requires the type named by `ty`, if any, to exist.
@@ -387,6 +412,7 @@ impl TypeSpace {
     {
         make_room(&mut self.types, &mut self.places)?;
         make_ground_room(self.keeps_grounds, 1, &mut self.grounds)?;
+        make_index_room(self.keeps_grounds, self.types.len() + 1, &mut self.marked)?;
         let types = self.types.as_slice();
         let index = types.len() as u32;
         let place = make_place(
@@ -405,6 +431,7 @@ impl TypeSpace {
             &added,
             &mut self.grounds,
             &mut self.ground_kinds,
+            &mut self.marked,
         );
         self.types.push_reserved(added);
         Ok(index)
@@ -538,6 +565,19 @@ fn make_ground_room(kept: bool, additional: usize, grounds: &mut Vec<Ground>) ->
 {
     if kept {
         grounds.reserve(additional)?;
+    }
+    Ok(())
+}
+
+// Reserves room for the indices of `count` types in `marked` if `kept` is `true`.
+fn make_index_room(kept: bool, count: usize, marked: &mut MarkedTypes) -> Result<(), Error>
+    ensures plain { marked.new.plain.items ≡ marked.old.plain.items }
+    ensures shared { marked.new.shared.items ≡ marked.old.shared.items }
+    ensures room { kept ≡ true → OnOk result (HasIndexRoom count marked.new) }
+    ensures memory { IfErr result (λ e. e ≡ Error.Memory) }
+{
+    if kept {
+        marked.make_room(count)?;
     }
     Ok(())
 }

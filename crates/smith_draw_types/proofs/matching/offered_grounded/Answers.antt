@@ -1,31 +1,20 @@
-use Rattle.std.proofs.Common.{◌∙◌, drop, sym, arith}
-use Rattle.std.specs.Prelude.{filter}
+use Rattle.std.proofs.Common.{◌∙◌, ◌-◌, sym, arith, ap, length}
+use Rattle.std.proofs.lemmas.Option.{slice_get-get_or}
+use Rattle.std.specs.Prelude.{Some}
 use Rattle.smith_draw_types.specs.Grounding.{is_grounded}
 use Rattle.smith_draw_types.specs.Offered.{gc_subtypes}
-use Rattle.smith_draw_types.proofs.GroundedLoop.{found_here, found_later, found_further, never_missed}
-use Rattle.smith_draw_types.proofs.matching.offered_grounded.Goals.{then-found+else-left-eq0, else-found}
+use Rattle.smith_draw_types.proofs.GroundedTailLemmas.{recorded_inside, recorded_found}
 use Rattle.smith_draw_types.proofs.matching.offered_grounded.Goals as goal
 
-pub returns-then-left-eq0 : goal.returns-then-left-eq0
-returns-then-left-eq0 c =
-    let context = c.args.standing.now in
-    let offered = gc_subtypes c.args.config.now context.types c.args.ty in
-    let at = rw c.types-space.ensures at c.offered_subtype-other.ensures in
-    sym c.loop-at.invariant ∙ found_here (is_grounded context) offered c.loop-at.at c.offered_subtype-other.result at c.loop-at.left (sym c.is_grounded-found.ensures ∙ c.if-found.true) c.if-left-eq0.true
-
-pub loop-at-preserved : goal.loop-at-preserved
-loop-at-preserved c =
-    let context = c.args.standing.now in
-    let offered = gc_subtypes c.args.config.now context.types c.args.ty in
-    let at = rw c.types-space.ensures at c.offered_subtype-other.ensures in
-    elim c.if-found.branch [
-      | then-found+else-left-eq0 w ↦ rw w.left-is (found_later (is_grounded context) offered c.loop-at.at c.offered_subtype-other.result at c.loop-at.left _ (sym c.is_grounded-found.ensures ∙ w.if-found.true) (omega (arith, w.if-left-eq0.false)) c.loop-at.invariant)
-      | else-found w ↦ rw w.left-is (found_further (is_grounded context) offered c.loop-at.at c.offered_subtype-other.result at c.loop-at.left _ (sym c.is_grounded-found.ensures ∙ w.if-found.false) c.loop-at.invariant)
-    ]
+pub count_grounded_before-before-requires : goal.count_grounded_before-before-requires
+count_grounded_before-before-requires c =
+    let tail = rw c.in-Some.is at (c.grounded_tail.ensures c.args.config.now) in
+    record { some = tail.some; within = tail.within }
 
 pub returns : goal.returns
 returns c =
-    let context = c.args.standing.now in
-    let offered = gc_subtypes c.args.config.now context.types c.args.ty in
-    let count = rw c.types-space.ensures at c.count_subtypes-at-end.ensures in
-    absurd (never_missed (is_grounded context) offered (filter (is_grounded context) (drop 1 offered)) c.loop-at.at c.loop-at.left c.args.place c.args.ty (omega (arith, count, c.loop-at-test.false)) c.requires c.loop-at.invariant)
+    let tail = rw c.in-Some.is at (c.grounded_tail.ensures c.args.config.now) in
+    let offered = gc_subtypes c.args.config.now c.args.standing.now.types c.args.ty in
+    let least = c.if-place-before.false in
+    let inside = recorded_inside (is_grounded c.args.standing.now) offered c.in-Some.tail.start c.count_grounded_before-before.result c.in-Some.tail.indices.now tail.some tail.rest c.count_grounded_before-before.ensures.counted c.args.place (omega (arith, least)) c.requires in
+    recorded_found (is_grounded c.args.standing.now) offered c.in-Some.tail.start c.count_grounded_before-before.result c.in-Some.tail.indices.now tail.some tail.rest c.count_grounded_before-before.ensures.counted c.args.place _ (omega (arith, least)) (slice_get-get_or c.in-Some.tail.indices.now (c.args.place - c.count_grounded_before-before.result) 0 inside)

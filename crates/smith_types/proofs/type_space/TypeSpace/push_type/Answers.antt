@@ -1,9 +1,11 @@
 use Rattle.std.proofs.Common.{◌≡◌, ◌∙◌, ap, List, arith, ◌++◌, ◌∷◌, []}
+use Rattle.std.proofs.lemmas.List.{length-append}
 use Rattle.smith_syntax.specs.declared.composite_type.SubType.{SubType}
 use Rattle.smith_types.specs.declared.place.Place.{Place}
 use Rattle.smith_types.specs.GroupedTypes.{MayFollow}
 use Rattle.smith_types.proofs.ListLemmas.{slice_get-last}
 use Rattle.smith_types.proofs.SpaceLemmas.{IsSound-type}
+use Rattle.smith_types.proofs.MarkedLemmas.{marked_moved}
 use Rattle.smith_types.proofs.PlaceLemmas.{ArePlaces-push}
 use Rattle.smith_types.proofs.type_space.TypeSpace.push_type.Goals as goal
 
@@ -17,6 +19,7 @@ invariant_of-self-in_err-place c =
       λ kept. rw (room.types, c.make_ground_room.ensures.grounds) (c.self.invariant.4 kept),
       λ kept. rw room.types (c.self.invariant.5 kept),
       room.beside,
+      λ kept. marked_moved _ _ _ c.self.inside.marked _ c.make_index_room.ensures.plain c.make_index_room.ensures.shared (rw (room.types, c.make_ground_room.ensures.grounds) (c.self.invariant.7 kept)),
     )
 
 pub invariant_of-self-2 : goal.invariant_of-self-2
@@ -39,6 +42,7 @@ invariant_of-self-2 c =
         long = omega (arith, c.push_reserved.ensures.len, c.push_reserved-2.ensures.len, beside.long);
         room = omega (arith, c.push_reserved.ensures.capacity, c.push_reserved-2.ensures.capacity, beside.room);
       },
+      λ kept. rw (all, length-append types (added ∷ [])) (rw seen at c.note_ground.ensures.marked kept),
     )
 
 pub returns-clause-stands : goal.returns-clause-stands

@@ -1,0 +1,12 @@
+use Rattle.std.proofs.Common.{◌∷◌, [], map}
+use Rattle.std.proofs.lemmas.Option.{IfSome_then}
+use Rattle.smith_syntax.specs.declared.value_type.AbstractHeapType.TheVariants as heap
+use Rattle.smith_syntax.specs.declared.value_type.HeapType.TheVariants.{Concrete}
+use Rattle.smith_draw_types.proofs.GroundedKindLemmas.{kinds_after_none}
+use Rattle.smith_draw_types.proofs.reference_scope.ReferenceScope.grounded_aggregates.Goals as goal
+
+pub returns-in-Some : goal.returns-in-Some
+returns-in-Some c =
+    let none = rw c.in-Some.is at c.none_grounded.ensures in
+    IfSome_then c.grounded_structs.result c.grounded_structs.ensures
+    (λ indices same. kinds_after_none c.args.self.now c.args.shared heap.Array (heap.Struct ∷ []) (map Concrete indices.now) none.1 same)

@@ -1,0 +1,19 @@
+use Rattle.std.proofs.Common.{◌∙◌, sym, ap, map}
+use Rattle.std.proofs.lemmas.Option.{IfSome_then}
+use Rattle.smith_syntax.specs.declared.value_type.HeapType.TheVariants.{Concrete}
+use Rattle.smith_draw_types.proofs.reference_scope.ReferenceScope.grounded_of_kinds.Goals as goal
+
+pub returns-in-Any : goal.returns-in-Any
+returns-in-Any c = rw c.in-Any.is c.grounded_aggregates.ensures
+
+pub returns-in-Eq : goal.returns-in-Eq
+returns-in-Eq c = rw c.in-Eq.is c.grounded_aggregates-in-Eq.ensures
+
+pub returns-in-Struct : goal.returns-in-Struct
+returns-in-Struct c = rw c.in-Struct.is c.grounded_structs.ensures
+
+pub returns-in-Array : goal.returns-in-Array
+returns-in-Array c = rw c.in-Array.is (IfSome_then c.none_grounded.result c.none_grounded.ensures (λ indices none. none.1 ∙ ap (map Concrete) (sym none.0)))
+
+pub returns-in-Func : goal.returns-in-Func
+returns-in-Func c = rw c.in-Func.is (IfSome_then c.none_grounded-in-Func.result c.none_grounded-in-Func.ensures (λ indices none. none.1 ∙ ap (map Concrete) (sym none.0)))
