@@ -1,3 +1,5 @@
 pub mod CountedLemmas
 pub mod BodyLemmas
 pub mod ProgramLemmas
+pub mod SameLemmas
+pub mod ValidLemmas

@@ -1,3 +1,5 @@
 pub mod Bodies
 pub mod Long
 pub mod Programs
+pub mod Valid
+pub mod ExamplePrograms

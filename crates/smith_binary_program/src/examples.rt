@@ -1,12 +1,19 @@
-ghost use Rattle.std.specs.Prelude.{◌^◌, ◌≤◌, List, [], ◌∷◌, length};
+ghost use Rattle.std.specs.Prelude.{◌^◌, ◌≤◌, List, [], ◌∷◌, ◌++◌, Some, length};
 ghost use Rattle.smith_syntax.specs.declared.code.Instructions.TheVariants.{Unreachable};
 ghost use Rattle.smith_syntax.specs.declared.value_type.ValType.{ValType};
+ghost use Rattle.smith_syntax.specs.declared.value_type.ValType.TheVariants.{I32};
 ghost use Rattle.smith_binary_module.specs.ExampleModules.{one_function};
 ghost use Rattle.smith_instr.specs.declared.instr.Instr.TheVariants as instr;
+ghost use Rattle.smith_program.specs.Counted.{check_of};
 ghost use Rattle.smith_program.specs.declared.program.Body.TheVariants as body;
+ghost use Rattle.smith_binary_program.specs.ExamplePrograms.{function, nop, preamble};
 ghost use Rattle.smith_binary_program.specs.Long.{IsLongProgram};
+ghost use Rattle.smith_binary_program.specs.Valid.{HasSection, HaveSameInstructions};
+ghost use Rattle.smith_binary_program.specs.Valid.{IsSameProgram, IsValidBinary};
 
-// Programs that are and are not too long. The clauses are proved, and nothing calls this function.
+// Programs and bytes that meet the definitions, and others that do not. The clauses are proved, and
+// nothing calls these functions.
+
 fn programs_with_one_function()
     ensures short { ¬ IsLongProgram
         (one_function (record { locals = []; instructions = Unreachable }))
@@ -14,4 +21,36 @@ fn programs_with_one_function()
     ensures with_many_locals { (locals : List ValType) → 2 ^ 32 ≤ length locals → IsLongProgram
         (one_function (record { locals = locals; instructions = Unreachable }))
         (body.Drawn (instr.Nop ∷ []) ∷ []) }
+{}
+
+fn same_instructions()
+    ensures equal { HaveSameInstructions [] [] nop nop }
+    ensures others { ¬ HaveSameInstructions [] [] nop (body.Drawn []) }
+    ensures with_the_checks { HaveSameInstructions (5 ∷ []) [] nop
+        (body.Drawn (check_of 5 ++ instr.Nop ∷ [])) }
+    ensures without_the_checks { ¬ HaveSameInstructions (5 ∷ []) [] nop nop }
+    ensures raw_bytes { HaveSameInstructions [] [] body.Raw nop }
+{}
+
+fn same_programs()
+    ensures itself { IsSameProgram (function []) (function []) (nop ∷ []) (nop ∷ []) }
+    ensures of_another_type_size { IsSameProgram (function [])
+        (record (function []) { type_size = 7 }) (nop ∷ []) (nop ∷ []) }
+    ensures that_starts { ¬ IsSameProgram (function [])
+        (record (function []) { start = Some 0 }) (nop ∷ []) (nop ∷ []) }
+    ensures with_a_local { ¬ IsSameProgram (function []) (function (I32 ∷ []))
+        (nop ∷ []) (nop ∷ []) }
+    ensures with_another_body { ¬ IsSameProgram (function []) (function [])
+        (nop ∷ []) (body.Drawn [] ∷ []) }
+    ensures without_its_body { ¬ IsSameProgram (function []) (function []) (nop ∷ []) [] }
+{}
+
+fn sections()
+    ensures count_of_data { HasSection 12 (preamble ++ 0x0C ∷ 0x01 ∷ 0x00 ∷ []) }
+    ensures no_section { ¬ HasSection 12 preamble }
+{}
+
+fn whole_bytes()
+    ensures the_preamble { IsValidBinary preamble }
+    ensures no_preamble { ¬ IsValidBinary [] }
 {}

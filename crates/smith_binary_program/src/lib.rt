@@ -5,6 +5,8 @@
 mod bodies;
 mod examples;
 mod fuel_checks;
+/// Laws: functions with empty bodies whose clauses state theorems.
+pub mod laws;
 mod programs;
 
 pub use programs::encode;

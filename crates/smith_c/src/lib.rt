@@ -9,6 +9,7 @@ ghost use Rattle.smith_request.specs.declared.manner.Form.TheVariants.{Binary, T
 
 mod answer;
 mod explanation;
+mod laws;
 
 pub use crate::answer::Answer;
 use crate::answer::put;

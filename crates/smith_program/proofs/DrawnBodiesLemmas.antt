@@ -25,7 +25,7 @@ pub none_drawn : (m : ModuleParts) (bytes : List ℕ) → after [] (bodies_from 
 unfolding bodies_at
 none_drawn m bytes = refl
 
-code_there : (codes : List Code) (place : ℕ) → place < length codes → (code : Code) × (slice_get codes place ≡ Some code)
+pub code_there : (codes : List Code) (place : ℕ) → place < length codes → (code : Code) × (slice_get codes place ≡ Some code)
 code_there [] place inside = absurd (omega arith)
 code_there (code ∷ codes) zero inside = (code, refl)
 code_there (code ∷ codes) (suc place) inside = code_there codes place (omega arith)

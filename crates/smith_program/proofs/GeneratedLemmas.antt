@@ -12,6 +12,7 @@ use Rattle.smith_program.specs.DrawnBodies.{bodies_at}
 use Rattle.smith_program.specs.Generated.{IsProgram}
 use Rattle.smith_program.specs.declared.program.Body.{Body}
 use Rattle.smith_program.specs.declared.program.Program.{Program}
+use Rattle.smith_program.proofs.ValidLemmas.{drawn_valid}
 
 -- a module and its bodies
 pub program_made : (given : Config) (bytes after left : List ℕ) (m : ModuleParts) (bodies : List Body) → IsGenerated false given bytes (Ok m) after → AreDrawnBodies m bodies → bodies_at m after ≡ (bodies, left) → KeepsPieces after left
@@ -19,6 +20,7 @@ pub program_made : (given : Config) (bytes after left : List ℕ) (m : ModulePar
 program_made given bytes after left m bodies generated drawn exact kept = record {
   programs = record { of = record { after = after; generated = generated; source = kept }; exact = exact };
   bodies = drawn;
+  valid = drawn_valid m bodies generated.valid drawn;
   refusals = tt;
   source = kept bytes generated.source;
 }
@@ -30,6 +32,7 @@ module_refused given bytes left (Ok program) e generated passed = absurd passed
 module_refused given bytes left (Err y) e generated passed = record {
   programs = tt;
   bodies = tt;
+  valid = tt;
   refusals = inl (subst (λ (x : Error). IsGenerated false given bytes (Err x) left) (sym passed) generated);
   source = generated.source;
 }
@@ -41,6 +44,7 @@ bodies_refused given bytes after left m (Ok program) e generated passed memory k
 bodies_refused given bytes after left m (Err y) e generated passed memory kept = record {
   programs = tt;
   bodies = tt;
+  valid = tt;
   refusals = inr (record { is = passed ∙ memory; m = m; of = record { after = after; generated = generated; source = kept } });
   source = kept bytes generated.source;
 }

@@ -53,7 +53,7 @@ still_at fuel index old place code body.Raw raw = raw
 still_at fuel index old place code (body.Drawn instructions) (not_raw, is) =
     (not_raw, record { function = is.function; there = is.there; typed = still_typed fuel index old is.function code.locals instructions is.typed })
 
-still_bodies : (fuel index : ℕ) (old new : ModuleParts) (bodies : List Body) → AddsCounter fuel index old new → AreBodiesOf old bodies → AreBodiesOf new bodies
+pub still_bodies : (fuel index : ℕ) (old new : ModuleParts) (bodies : List Body) → AddsCounter fuel index old new → AreBodiesOf old bodies → AreBodiesOf new bodies
 still_bodies fuel index old new bodies adds are =
     subst (λ (m : ModuleParts). AreBodiesOf m bodies) (sym adds.added) (record {
       each = are.each;

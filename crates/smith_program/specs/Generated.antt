@@ -8,6 +8,7 @@ use Rattle.smith_module_rules.specs.Module.{ModuleParts}
 use Rattle.wasm_smith.specs.Generated.{IsGenerated}
 use Rattle.smith_program.specs.Bodies.{AreDrawnBodies}
 use Rattle.smith_program.specs.DrawnBodies.{bodies_at}
+use Rattle.smith_program.specs.Valid.{IsValidProgram}
 use Rattle.smith_program.specs.declared.program.Program.{Program}
 
 -- a module that `Module::new` returns, and the bytes after it, of which some are left
@@ -27,10 +28,11 @@ pub record LacksMemory (given : Config) (bytes left : List ℕ) (e : Error) : Ty
   pub m : ModuleParts
   pub of : IsModuleOf given bytes left m
 
--- the result for a configuration and the bytes of the source, of which some are left: a refusal is
--- that of the module, or lack of memory for its bodies
+-- the result for a configuration and the bytes of the source, of which some are left: a program is
+-- valid; a refusal is that of the module, or lack of memory for its bodies
 pub record IsProgram (given : Config) (bytes : List ℕ) (answer : Result Program Error) (left : List ℕ) : Type 0 where
   pub programs : IfOk answer (IsProgramOf given bytes left)
   pub bodies : IfOk answer (λ program. AreDrawnBodies program.«module» program.bodies)
+  pub valid : IfOk answer (λ program. IsValidProgram program.«module» program.bodies)
   pub refusals : IfErr answer (λ e. IsGenerated false given bytes (Err e) left ⊎ LacksMemory given bytes left e)
   pub source : IsPiece bytes left

@@ -4,3 +4,5 @@ pub mod DrawnBodies
 pub mod Named
 pub mod Generated
 pub mod Counted
+pub mod Valid
+pub mod Laws

@@ -3,6 +3,8 @@
 #![tactic(auto)]
 
 mod bodies;
+/// Laws: functions with empty bodies whose clauses state theorems.
+pub mod laws;
 mod program;
 mod references;
 mod termination;

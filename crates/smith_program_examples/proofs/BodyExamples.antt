@@ -43,7 +43,7 @@ type_alone m place known other (index, at, there) (found, here, within) =
     func_alone m.types index known other there (subst (λ (i : ℕ). IsFuncAt m.types i other) same within)
 
 -- a body is typed with the type of its function
-typed_as : (m : ModuleParts) (place : ℕ) (code : Code) (instructions : List Instr) (function : FuncType) → HasDefinedType m place function → IsBodyAt m place code instructions
+pub typed_as : (m : ModuleParts) (place : ℕ) (code : Code) (instructions : List Instr) (function : FuncType) → HasDefinedType m place function → IsBodyAt m place code instructions
     → IsBodyTyped (function_context m function code.locals) instructions
 typed_as m place code instructions function there body =
     subst (λ (f : FuncType). IsBodyTyped (function_context m f code.locals) instructions) (type_alone m place function body.function there body.there) body.typed

@@ -1,1 +1,2 @@
 pub mod BodyExamples
+pub mod ValidExamples

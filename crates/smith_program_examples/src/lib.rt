@@ -7,3 +7,4 @@ mod contexts;
 mod fuel_checks;
 mod kept_forms;
 mod types;
+mod valid;

@@ -5,6 +5,8 @@
 //! The text of a configuration is a JSON object in UTF-8, or empty for the default configuration.
 #![tactic(auto)]
 
+/// Laws: functions with empty bodies whose clauses state theorems.
+pub mod laws;
 mod manner;
 mod refusal;
 mod request;

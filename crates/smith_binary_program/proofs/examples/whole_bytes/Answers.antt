@@ -1,0 +1,62 @@
+use Rattle.std.proofs.Common.{rules, arith, ◌≡◌, ℕ, ◌+◌, List, [], length, length-append, refl, ap, ◌∙◌}
+use Rattle.std.proofs.lemmas.List.Elements.{All-nil}
+use Rattle.smith_binary.specs.Pieces.{Joined}
+use Rattle.smith_binary_law.proofs.CheckLemmas.{both}
+use Rattle.smith_binary_sections.specs.Modules.{IsModule}
+use Rattle.smith_binary_sections.specs.Sections.{IsOptionalSection}
+use Rattle.smith_module_rules.specs.Module.{IsValid, ModuleParts}
+use Rattle.smith_program.specs.Bodies.{AreBodiesOf}
+use Rattle.smith_binary_program.specs.ExamplePrograms.{function, preamble}
+use Rattle.smith_binary_program.specs.Programs.{IsProgramBinary, program_contents}
+use Rattle.smith_binary_program.specs.Valid.{IsValidBinary}
+use Rattle.smith_binary_program.proofs.SameLemmas.{programs_same}
+use Rattle.smith_binary_program.proofs.examples.whole_bytes.Goals as goal
+
+-- a module in which nothing is defined
+abbrev empty : ModuleParts
+empty = record (function []) { types = []; groups = []; funcs = []; num_defined_funcs = 0; code = [] }
+
+-- no section, and no further one
+none : {A B : List ℕ → Type 0} → A [] → B [] → Joined A B []
+none a b = both [] [] a b
+
+spelled : IsModule (program_contents empty []) preamble
+spelled =
+    both _ [] refl
+    (none (IsOptionalSection.absent refl refl)
+    (none (IsOptionalSection.absent refl refl)
+    (none (IsOptionalSection.absent refl refl)
+    (none (IsOptionalSection.absent refl refl)
+    (none (IsOptionalSection.absent refl refl)
+    (none (IsOptionalSection.absent refl refl)
+    (none (IsOptionalSection.absent refl refl)
+    (none (IsOptionalSection.absent refl refl)
+    (none refl (none (IsOptionalSection.absent refl refl) (none (IsOptionalSection.absent tt refl) (none (IsOptionalSection.absent refl refl) (IsOptionalSection.absent refl refl)))))))))))))
+
+valid : IsValid empty
+valid = search rules
+
+no_bodies : AreBodiesOf empty []
+no_bodies = record { each = refl; in_place = λ place code given at there. cc at }
+
+the_preamble : IsValidBinary preamble
+the_preamble =
+    let binary : IsProgramBinary empty [] preamble = record { expressions = []; each = tt; spelled = spelled } in
+    record {
+      m = empty;
+      bodies = [];
+      spelled = binary;
+      valid = record { valid = valid; typed = no_bodies; counted = no_bodies; enabled = All-nil _; declared = All-nil _; data_count = λ named. let outside = named.2 in absurd (omega arith) };
+      data_count = λ named. let outside = named.2 in absurd (omega arith);
+      no_other = λ n others other. programs_same empty n [] others preamble binary other;
+    }
+
+no_preamble : IsValidBinary [] → ⊥
+no_preamble h =
+    let joined = h.spelled.spelled in
+    let whole : 0 ≡ length joined.first + length joined.second = ap length joined.whole ∙ length-append joined.first joined.second in
+    let eight : length joined.first ≡ 8 = ap length joined.is_first in
+    omega arith
+
+pub returns : goal.returns
+returns c = record { the_preamble = the_preamble; no_preamble = no_preamble }

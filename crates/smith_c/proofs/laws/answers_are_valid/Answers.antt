@@ -1,0 +1,54 @@
+use Rattle.std.proofs.Common.{◌≡◌, ℕ, List, ◌++◌, take, drop, length, sym, subst, ap, ◌∙◌, arith}
+use Rattle.std.proofs.lemmas.List.{take-append-le, take_all}
+use Rattle.smith_binary.specs.declared.error.EncodeError.TheVariants as encoding
+use Rattle.smith_bytes.specs.declared.error.Error.{Error}
+use Rattle.smith_bytes.specs.declared.error.Error.TheVariants as errors
+use Rattle.smith_config_json.specs.declared.fault.Fault.{Fault}
+use Rattle.smith_config_json.specs.declared.fault.Fault.TheVariants as faults
+use Rattle.smith_binary_program.specs.Valid.{IsValidBinary}
+use Rattle.smith_request.specs.Refusals.{IsRefusal, error_status, fault_status, status_of}
+use Rattle.smith_request.specs.Requests.{IsBinary}
+use Rattle.smith_request.specs.declared.manner.Form.TheVariants.{Binary}
+use Rattle.smith_request.specs.declared.refusal.Refusal.{Refusal}
+use Rattle.smith_request.specs.declared.refusal.Refusal.TheVariants.{NotUtf8, Config, Module, Encoding}
+use Rattle.smith_request.proofs.ValidLemmas.{binary_valid}
+use Rattle.smith_request.specs.Requests.{fuel_of}
+use Rattle.smith_c.specs.CallAnswers.{IsAnswered, IsPut}
+use Rattle.smith_c.specs.declared.answer.Answer.{Answer}
+use Rattle.smith_c.proofs.laws.answers_are_valid.Goals as goal
+
+-- no refusal has the number 0
+fault_numbered : (fault : Fault) → fault_status fault ≡ 0 → ⊥
+fault_numbered faults.OutOfMemory none = omega (arith, none)
+fault_numbered _ none = omega (arith, none)
+
+error_numbered : (e : Error) → error_status e ≡ 0 → ⊥
+error_numbered errors.Memory none = omega (arith, none)
+error_numbered _ none = omega (arith, none)
+
+numbered : (refusal : Refusal) → status_of refusal ≡ 0 → ⊥
+numbered NotUtf8 none = omega (arith, none)
+numbered (Config refusal) none = fault_numbered refusal.fault none
+numbered (Module e) none = error_numbered e none
+numbered (Encoding encoding.Memory) none = omega (arith, none)
+numbered (Encoding encoding.TooLong) none = omega (arith, none)
+
+-- the front of a buffer is what was written to it
+front : (bytes rest : List ℕ) → take (length bytes) (bytes ++ rest) ≡ bytes
+front bytes rest = take-append-le (length bytes) bytes rest (omega arith) ∙ take_all (length bytes) bytes (omega arith)
+
+put_valid : (bytes before after : List ℕ) (answer : Answer) → IsValidBinary bytes → IsPut 0 bytes before after answer → answer.status ≡ 0 → IsValidBinary (take answer.length after)
+put_valid bytes before after answer valid (IsPut.written fits is same) done =
+    let all : take answer.length after ≡ bytes =
+    ap (λ (a : Answer). take a.length after) same ∙ ap (take (length bytes)) is ∙ front bytes (drop (length bytes) before) in
+    subst IsValidBinary (sym all) valid
+put_valid bytes before after answer valid (IsPut.short long is same) done = absurd (omega (arith, sym (ap (λ (a : Answer). a.status) same) ∙ done))
+
+answered_valid : (config input before after : List ℕ) (answer : Answer) → IsAnswered (IsBinary config input) (IsRefusal Binary config input) before after answer → answer.status ≡ 0 → IsValidBinary (take answer.length after)
+answered_valid config input before after answer (IsAnswered.made {bytes = bytes} h put) done =
+    put_valid bytes before after answer (binary_valid h.config (fuel_of config) input bytes h.left h.binary) put done
+answered_valid config input before after answer (IsAnswered.refused {refusal = refusal} may kept is) done =
+    absurd (numbered refusal (sym (ap (λ (a : Answer). a.status) is) ∙ done))
+
+pub returns : goal.returns
+returns c = answered_valid

@@ -1,0 +1,21 @@
+-- Laws of programs. Rules of this project.
+use Rattle.std.specs.Prelude.{◌≡◌, ℕ, List, Ok}
+use Rattle.smith_config.specs.declared.config.Config.{Config}
+use Rattle.smith_module_rules.specs.Module.{ModuleParts}
+use Rattle.wasm_smith.specs.Termination.{AddsCounter}
+use Rattle.smith_program.specs.Generated.{IsProgram}
+use Rattle.smith_program.specs.Valid.{IsValidProgram}
+use Rattle.smith_program.specs.declared.program.Body.{Body}
+use Rattle.smith_program.specs.declared.program.Program.{Program}
+
+-- two programs that are returned for the same configuration and bytes are equal, and so are the
+-- bytes left
+abbrev pub ProgramsAreDetermined : Type 0
+ProgramsAreDetermined =
+    (given : Config) (bytes left rest : List ℕ) (one other : Program)
+    → IsProgram given bytes (Ok one) left → IsProgram given bytes (Ok other) rest → (one ≡ other) × (left ≡ rest)
+
+-- a valid program stays valid with a counter of fuel
+abbrev pub CountedProgramsAreValid : Type 0
+CountedProgramsAreValid =
+    (fuel index : ℕ) (old new : ModuleParts) (bodies : List Body) → AddsCounter fuel index old new → IsValidProgram old bodies → IsValidProgram new bodies

@@ -1,0 +1,17 @@
+ghost use Rattle.std.specs.Prelude.{ℕ, Option, List};
+ghost use Rattle.smith_config.specs.declared.config.Config.{Config};
+ghost use Rattle.smith_binary_program.specs.Valid.{IsValidBinary};
+ghost use Rattle.smith_request.specs.Output.{IsBinaryOf};
+ghost use Rattle.smith_request.specs.Requests.{IsBinary};
+
+/// States that the bytes that [`output`] and [`binary`] write in the binary format are a valid
+/// program, and no other one.
+///
+/// [`output`]: crate::output
+/// [`binary`]: crate::binary
+pub fn binaries_are_valid()
+    ensures of_a_configuration { (config : Config) (fuel : Option ℕ) (input bytes left : List ℕ)
+        → IsBinaryOf config fuel input bytes left → IsValidBinary bytes }
+    ensures of_a_text { (text input bytes : List ℕ) → IsBinary text input bytes
+        → IsValidBinary bytes }
+{}
