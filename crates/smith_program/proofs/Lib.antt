@@ -4,3 +4,4 @@ pub mod CountedLemmas
 pub mod WiderLemmas
 pub mod TerminationLemmas
 pub mod GeneratedLemmas
+pub mod FuelExportLemmas

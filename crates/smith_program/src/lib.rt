@@ -3,6 +3,7 @@
 #![tactic(auto)]
 
 mod bodies;
+mod fuel_export;
 mod program;
 mod references;
 mod termination;
