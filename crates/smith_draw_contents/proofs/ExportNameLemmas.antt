@@ -20,7 +20,7 @@ short_by name one exports true same there later = omega (arith, ap length ((byte
 short_by name one exports false same there later = omega (arith, later there)
 
 -- a name that an export has is no longer than the longest
-exported_short : (name : List ℕ) (exports : List Export) → is_exported exports name ≡ true → length name ≤ longest_export exports
+pub exported_short : (name : List ℕ) (exports : List Export) → is_exported exports name ≡ true → length name ≤ longest_export exports
 exported_short name [] there = absurd cc
 exported_short name (one ∷ exports) there = short_by name one exports (bytes_eq one.0 name) refl there (exported_short name exports)
 

@@ -7,6 +7,7 @@ use Rattle.std.proofs.lemmas.List.Elements.{All-nil, All-cons, All-append}
 use Rattle.std.proofs.lemmas.List.Sums.{sum_by-append}
 use Rattle.std.proofs.lemmas.Map.Keys.{any_passes_from_place}
 use Rattle.std.proofs.lemmas.Slice.Eq.{bytes_eq-Decides}
+use Rattle.smith_types.specs.Exports.{AreExportsValid}
 use Rattle.smith_types.specs.Imports.{EntitySpaces}
 use Rattle.smith_syntax.specs.declared.composite_type.SubType.{SubType}
 use Rattle.smith_config.specs.declared.config.Config.{Config}
@@ -31,17 +32,22 @@ not_there exports name fresh i there =
     let taken : is_exported exports name ≡ true = any_passes_from_place (λ (one : Export). bytes_eq one.0 name) exports i other at same in
     absurd (cc (sym fresh ∙ taken))
 
+-- one more export of an existing item under a new name is valid too
+pub valid_push : {spaces : EntitySpaces} {exports : List Export} (one : Export) → AreExportsValid spaces exports → is_exported exports one.0 ≡ false → IsStanding spaces one.1 one.2 → AreExportsValid spaces (exports ++ one ∷ [])
+valid_push {spaces = spaces} {exports = exports} one valid fresh stands =
+    let P = λ (each : Export). IsStanding spaces each.1 each.2 in
+    record {
+      stand = All-append P exports (one ∷ []) valid.stand (All-cons P one [] stands (All-nil P));
+      distinct = rw map-append (distinct_push (map (λ (each : Export). each.0) exports) one.0 valid.distinct (not_there exports one.0 fresh));
+    }
+
 -- one more export under a new name fits too, of an existing item for which there is room
 pub fit_push : {config : Config} {types : List SubType} {spaces : EntitySpaces} {imports : ℕ} {exports : List Export} {size : ℕ} (one : Export) → AreExportsFit config types spaces imports exports size → is_exported exports one.0 ≡ false
     → IsStanding spaces one.1 one.2 → size + (item_size types spaces one.1 one.2 + 1) ≤ config.max_type_size → AreExportsFit config types spaces imports (exports ++ one ∷ []) (size + (item_size types spaces one.1 one.2 + 1))
 fit_push {types = types} {spaces = spaces} {exports = exports} one fit fresh stands room =
-    let P = λ (each : Export). IsStanding spaces each.1 each.2 in
     let more = sum_by-append (λ (each : Export). item_size types spaces each.1 each.2 + 1) exports (one ∷ []) in
     record {
-      valid = record {
-        stand = All-append P exports (one ∷ []) fit.valid.stand (All-cons P one [] stands (All-nil P));
-        distinct = rw map-append (distinct_push (map (λ (each : Export). each.0) exports) one.0 fit.valid.distinct (not_there exports one.0 fresh));
-      };
+      valid = valid_push one fit.valid fresh stands;
       type_size = omega (arith, more, fit.type_size);
       within = room;
     }

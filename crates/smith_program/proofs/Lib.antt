@@ -6,3 +6,4 @@ pub mod TerminationLemmas
 pub mod ValidLemmas
 pub mod DeterminedLemmas
 pub mod GeneratedLemmas
+pub mod FuelExportLemmas

@@ -3,6 +3,7 @@
 #![tactic(auto)]
 
 mod bodies;
+mod fuel_export;
 /// Laws: functions with empty bodies whose clauses state theorems.
 pub mod laws;
 mod program;

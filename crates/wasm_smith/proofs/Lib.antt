@@ -11,6 +11,7 @@ pub mod FirstPartsLemmas
 pub mod FirstPartsStandLemmas
 pub mod FirstPartsTypedLemmas
 pub mod FreelyImportedLemmas
+pub mod FuelExportLemmas
 pub mod GrantedLaterLemmas
 pub mod GrantedModuleLemmas
 pub mod GrownSizeLemmas

@@ -4,6 +4,7 @@
 #![tactic(auto)]
 
 mod build;
+mod fuel_export;
 /// Laws: functions with empty bodies whose clauses state theorems.
 pub mod laws;
 mod module;
