@@ -1,3 +1,6 @@
 pub mod CountedLemmas
 pub mod BodyLemmas
 pub mod ProgramLemmas
+pub mod SegmentFormLemmas
+pub mod TypeFormLemmas
+pub mod AccessLemmas

@@ -1,3 +1,4 @@
 pub mod Bodies
+pub mod Forms
 pub mod Long
 pub mod Programs

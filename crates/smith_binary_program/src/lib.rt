@@ -5,6 +5,8 @@
 mod bodies;
 mod examples;
 mod fuel_checks;
+/// Laws: functions without effect, whose clauses state properties.
+pub mod laws;
 mod programs;
 
 pub use programs::encode;

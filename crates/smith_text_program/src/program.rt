@@ -52,7 +52,7 @@ impl<'a> BodyText for Bodies<'a> {
 // Returns the bodies of `program`.
 fn bodies_of(program: &Program) -> Bodies<'_> {
     Bodies {
-        bodies: program.bodies.as_slice(),
+        bodies: program.bodies(),
     }
 }
 
@@ -69,7 +69,7 @@ pub fn write_program<S: Sink>(program: &Program, sink: &mut S) -> fmt::Result
     ensures fault { S.failed sink.new ≡ is_err result }
     ensures writes { OnOk result (Writes S.has sink.old 1 sink.new) }
 {
-    write_with_bodies(&program.module, &bodies_of(program), sink)
+    write_with_bodies(program.module(), &bodies_of(program), sink)
 }
 
 /// Returns the text of `program`, as [`write_program`] writes it, allocated from `alloc`.
@@ -81,5 +81,5 @@ pub fn text(alloc: Global, program: &Program) -> Result<String, Error>
     ensures memory { IfErr result (λ e. e ≡ Error.Memory) }
     ensures some { IfOk result (λ text. 1 ≤ length (string_bytes text)) }
 {
-    text_with_bodies(alloc, &program.module, &bodies_of(program))
+    text_with_bodies(alloc, program.module(), &bodies_of(program))
 }
