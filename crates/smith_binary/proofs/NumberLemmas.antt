@@ -31,6 +31,16 @@ unfolding IsUnsigned
 unsigned_has bits n [] h = absurd h
 unsigned_has bits n (byte ∷ piece) h = omega arith
 
+-- an integer that is spelled fits its bits
+pub unsigned_below : (bits n : ℕ) (piece : List ℕ) → IsUnsigned bits n piece → n < 2 ^ bits
+unfolding IsUnsigned
+unsigned_below bits n [] h = absurd h
+unsigned_below bits n (byte ∷ []) h = omega arith
+unsigned_below bits n (byte ∷ next ∷ piece) h =
+    let rest : h.0 < 2 ^ (bits - 7) = unsigned_below (bits - 7) h.0 (next ∷ piece) h.1 in
+    let split : 2 ^ bits ≡ 128 * 2 ^ (bits - 7) = seven_apart bits (omega arith) in
+    omega arith
+
 -- the last byte
 pub unsigned_last : (bits n : ℕ) → n < 128 → n < 2 ^ bits → Shortest (IsUnsigned bits n) (n ∷ [])
 unfolding IsUnsigned

@@ -127,7 +127,7 @@ first_as piece one h = record { first = h.first; second = h.second; is_first = o
 
 -- the sections of a module are those of its parts
 all_of : (m : Contents) (piece : List ℕ) → IsModule m piece → Joined IsPreamble (IsAll (parts_of m)) piece
-all_of m piece h = second_as piece (λ a. second_as a (λ b. second_as b (λ c. second_as c (λ d. second_as d (λ e. second_as e (λ f. second_as f (λ g. second_as g (λ i. second_as i (λ j. second_as j (λ l. second_as l (λ n. first_as n (λ p count. (length m.datas, count))))))))))))) h
+all_of m piece h = second_as piece (λ a. second_as a (λ b. second_as b (λ c. second_as c (λ d. second_as d (λ e. second_as e (λ f. second_as f (λ g. second_as g (λ i. second_as i (λ j. second_as j (λ l. second_as l (λ n. first_as n (λ p count. (length m.datas, count))))))))))))) h.form
 
 -- bytes after equal bytes
 same_rest : (xs ys rest other : List ℕ) → xs ≡ ys → xs ++ rest ≡ ys ++ other → rest ≡ other

@@ -1,15 +1,16 @@
 -- The written sections of a module are those of its parts.
-use Rattle.std.proofs.Common.{◌≡◌, ℕ, Bool, true, false, List, [], ◌∷◌, ◌++◌, Option, Some, None, length, ◌≤◌, refl, sym, subst, ap, ◌∙◌, arith, append_assoc, append-nil}
+use Rattle.std.proofs.Common.{◌≡◌, ℕ, ◌-◌, Bool, true, false, List, [], ◌∷◌, ◌++◌, Option, Some, None, length, ◌≤◌, refl, sym, subst, ap, ◌∙◌, arith, append_assoc, append-nil}
 use Rattle.std.specs.Prelude.{map, ◌||◌, is_some}
 use Rattle.std.specs.List.{zip}
 use Rattle.std.proofs.lemmas.Bool.{ltb-false}
-use Rattle.std.proofs.lemmas.List.{length-map}
+use Rattle.std.proofs.lemmas.List.{length-drop, length-map}
 use Rattle.smith_binary.specs.Numbers.{IsUnsigned}
 use Rattle.smith_binary.specs.Pieces.{Joined, Each, IsList, IsSection}
 use Rattle.smith_module_rules.specs.Module.{ModuleParts}
+use Rattle.wasm_smith.specs.Bodies.{HasBodies}
 use Rattle.smith_syntax.specs.declared.imports.Imports.{Imports}
 use Rattle.smith_types.specs.Imports.{flattened}
-use Rattle.smith_binary_sections.specs.Types.{IsRecGroup, group_at}
+use Rattle.smith_binary_sections.specs.Types.{IsRecGroup, IsRecGroupWritten, group_at}
 use Rattle.smith_binary_sections.specs.Instructions.{IsIndex}
 use Rattle.smith_binary_sections.specs.Entities.{IsMemoryType, IsTagType}
 use Rattle.smith_binary_sections.specs.Imports.{IsImportGroup, IsImports}
@@ -18,10 +19,9 @@ use Rattle.smith_binary_sections.specs.Exports.{IsExport}
 use Rattle.smith_binary_sections.specs.Elements.{IsElem, IsElemWritten, elem_of}
 use Rattle.smith_binary_sections.specs.Data.{IsData, IsDataWritten, data_of}
 use Rattle.smith_binary_sections.specs.Sections.{IsOptionalSection, IsListSection, IsSectionIf}
-use Rattle.smith_binary_sections.specs.Modules.{Contents, IsPreamble, IsStartSection, IsDataCount}
+use Rattle.smith_binary_sections.specs.Modules.{Contents, IsPreamble, IsStartSection, IsDataCount, IsModuleAround}
 use Rattle.smith_binary_sections.proofs.ListLemmas.{list_as, list_mapped}
-use Rattle.smith_binary_sections.proofs.SpelledFormLemmas.{elem_spelled, data_spelled, table_spelled}
-use Rattle.smith_binary_module.specs.Around.{IsModuleAround}
+use Rattle.smith_binary_sections.proofs.SpelledFormLemmas.{elem_spelled, data_spelled, group_spelled, table_spelled}
 use Rattle.smith_binary_module.specs.Contents.{defined, contents_of}
 use Rattle.smith_binary_module.specs.Layout.{is_filled, id_if, writes_types, writes_imports, writes_data_count, section_ids, IsAnySection, HasSections}
 use Rattle.smith_binary_module.specs.Written.{IsFront, IsMiddle, IsBack}
@@ -35,6 +35,13 @@ regrouped h = record {
   is_second = record { first = h.is_first.second; second = h.second; is_first = h.is_first.is_second; is_second = h.is_second; whole = refl };
   whole = h.whole ∙ ap (λ (bytes : List ℕ). bytes ++ h.second) h.is_first.whole ∙ append_assoc h.is_first.first h.is_first.second h.second;
 }
+
+-- as many functions as bodies
+pub functions_counted : (m : ModuleParts) → HasBodies m.num_defined_funcs m.funcs m.code → length (contents_of m).functions ≡ length m.code
+functions_counted m h =
+    let left : length (defined m.num_defined_funcs m.funcs) ≡ length m.funcs - (length m.funcs - m.num_defined_funcs) =
+    length-drop (length m.funcs - m.num_defined_funcs) m.funcs in
+    omega (arith, left, h.each, h.among)
 
 -- pieces in order, each with a property that implies another
 pub both_as : {A B V W : List ℕ → Type 0} (piece : List ℕ) → ((p : List ℕ) → A p → V p) → ((p : List ℕ) → B p → W p) → Joined A B piece → Joined V W piece
@@ -92,7 +99,11 @@ front_is : (m : ModuleParts) {More Other : List ℕ → Type 0} → ((p : List �
     → Joined (IsListSection 1 IsRecGroup (contents_of m).types)
     (Joined (IsOptionalSection 2 ((contents_of m).imports ≡ []) (IsImports (contents_of m).imports)) (Joined (IsListSection 3 IsIndex (contents_of m).functions) (Joined (IsListSection 4 IsTable (contents_of m).tables) Other))) piece
 front_is m more piece h =
-    both_as piece (list_optional (writes_types m) 1 IsRecGroup (contents_of m).types (λ e. none_mapped (group_at m.types) m.groups (or_false m.encodes_types (is_filled m.groups) e)))
+    both_as piece
+    (optional (writes_types m) 1 ((contents_of m).types ≡ []) (IsList IsRecGroupWritten (contents_of m).types)
+    (IsList IsRecGroup (contents_of m).types)
+    (λ e. none_mapped (group_at m.types) m.groups (or_false m.encodes_types (is_filled m.groups) e))
+    (λ p. list_as IsRecGroupWritten IsRecGroup group_spelled (contents_of m).types p))
     (λ p rest. both_as p
     (optional (writes_imports m) 2 ((contents_of m).imports ≡ []) (IsList IsImportGroup m.imports) (IsImports (contents_of m).imports) (λ e. ap (λ (groups : List Imports). flattened groups) (not_filled m.imports (or_false m.encodes_imports (is_filled m.imports) e))) (grouped m.imports))
     (λ q later. both_as q (list_optional (is_filled (contents_of m).functions) 3 IsIndex (contents_of m).functions (not_filled (contents_of m).functions))
@@ -174,7 +185,7 @@ one_id is_written id Content ids more piece h = ids_joined (id_if is_written id)
 front_ids : (m : ModuleParts) (ids : List ℕ) {More : List ℕ → Type 0} → ((p : List ℕ) → More p → Each IsAnySection ids p) → (piece : List ℕ) → Joined (IsFront m) More piece
     → Each IsAnySection (id_if (writes_types m) 1 ++ (id_if (writes_imports m) 2 ++ (id_if (is_filled (defined m.num_defined_funcs m.funcs)) 3 ++ (id_if (is_filled m.defined_tables) 4 ++ ids)))) piece
 front_ids m ids more piece h =
-    one_id (writes_types m) 1 (IsList IsRecGroup (contents_of m).types) _
+    one_id (writes_types m) 1 (IsList IsRecGroupWritten (contents_of m).types) _
     (λ p rest. one_id (writes_imports m) 2 (IsList IsImportGroup m.imports) _
     (λ q later. one_id (is_filled (defined m.num_defined_funcs m.funcs)) 3 (IsList IsIndex (contents_of m).functions) _ (λ r last. one_id (is_filled m.defined_tables) 4 (IsList IsTableWritten (zip (defined (length m.defined_tables) m.tables) m.defined_tables)) ids more r last) q (regrouped later)) p (regrouped rest))
     piece

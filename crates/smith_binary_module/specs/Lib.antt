@@ -3,4 +3,3 @@ pub mod ExampleModules
 pub mod Layout
 pub mod TooLong
 pub mod Written
-pub mod Around

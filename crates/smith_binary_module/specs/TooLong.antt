@@ -1,6 +1,6 @@
 -- Modules that are too long for the binary format.
 use Rattle.smith_module_rules.specs.Module.{ModuleParts}
-use Rattle.smith_binary_sections.specs.Types.{IsRecGroup}
+use Rattle.smith_binary_sections.specs.Types.{IsRecGroupWritten}
 use Rattle.smith_binary_sections.specs.Instructions.{IsIndex}
 use Rattle.smith_binary_sections.specs.Entities.{IsMemoryType, IsTagType}
 use Rattle.smith_binary_sections.specs.Imports.{IsImportGroup}
@@ -16,7 +16,7 @@ use Rattle.smith_binary_module.specs.Contents.{contents_of}
 -- of 2^32 bytes or more. In bodies each local is a run of its own, since runs of no locals could
 -- make any body long
 pub data IsTooLong (m : ModuleParts) : Type 0 where
-  types : IsLongSection IsRecGroup IsLongGroup (contents_of m).types → IsTooLong m
+  types : IsLongSection IsRecGroupWritten IsLongGroup (contents_of m).types → IsTooLong m
   imports : IsLongSection IsImportGroup IsLongImportGroup m.imports → IsTooLong m
   functions : IsLongSection IsIndex IsNeverLong (contents_of m).functions → IsTooLong m
   tables : IsLongSection IsTable IsNeverLong (contents_of m).tables → IsTooLong m

@@ -1,12 +1,12 @@
 -- The sections of a module as they are written, in three parts: imports in the groups of the
--- module, tables and segments in one of their forms, and each local as a run of its own.
+-- module, types, tables and segments in one of their forms, and each local as a run of its own.
 use Rattle.std.specs.Prelude.{ℕ, List, length}
 use Rattle.std.specs.List.{zip}
 use Rattle.smith_binary.specs.Numbers.{IsUnsigned}
 use Rattle.smith_binary.specs.Pieces.{Joined, IsList}
 use Rattle.smith_syntax.specs.declared.code.Code.{Code}
 use Rattle.smith_module_rules.specs.Module.{ModuleParts}
-use Rattle.smith_binary_sections.specs.Types.{IsRecGroup}
+use Rattle.smith_binary_sections.specs.Types.{IsRecGroupWritten}
 use Rattle.smith_binary_sections.specs.Instructions.{IsIndex}
 use Rattle.smith_binary_sections.specs.Entities.{IsMemoryType, IsTagType}
 use Rattle.smith_binary_sections.specs.Imports.{IsImportGroup}
@@ -23,7 +23,7 @@ use Rattle.smith_binary_module.specs.Layout.{is_filled, writes_types, writes_imp
 -- the sections up to the table section
 abbrev pub IsFront : ModuleParts → List ℕ → Type 0
 IsFront m =
-    Joined (IsSectionIf (writes_types m) 1 (IsList IsRecGroup (contents_of m).types))
+    Joined (IsSectionIf (writes_types m) 1 (IsList IsRecGroupWritten (contents_of m).types))
     (Joined (IsSectionIf (writes_imports m) 2 (IsList IsImportGroup m.imports))
     (Joined (IsSectionIf (is_filled (defined m.num_defined_funcs m.funcs)) 3 (IsList IsIndex (contents_of m).functions))
     (IsSectionIf (is_filled m.defined_tables) 4 (IsList IsTableWritten (zip (defined (length m.defined_tables) m.tables) m.defined_tables)))))

@@ -3,7 +3,7 @@ ghost use Rattle.std.specs.List.{zip};
 ghost use Rattle.smith_binary.specs.Faults.{IsFault};
 ghost use Rattle.smith_binary.specs.Numbers.{IsUnsigned};
 ghost use Rattle.smith_binary.specs.Pieces.{IsList, Writes};
-ghost use Rattle.smith_binary_sections.specs.Types.{IsRecGroup};
+ghost use Rattle.smith_binary_sections.specs.Types.{IsRecGroupWritten};
 ghost use Rattle.smith_binary_sections.specs.Instructions.{IsIndex};
 ghost use Rattle.smith_binary_sections.specs.Entities.{IsMemoryType, IsTagType};
 ghost use Rattle.smith_binary_sections.specs.Imports.{IsImportGroup};
@@ -64,7 +64,7 @@ fn writes_data_count(module: &Module) -> bool
 /// Writes the type section.
 pub(crate) fn write_types(module: &Module, sink: &mut Sink) -> Result<(), EncodeError>
     ensures writes { OnOk result (Writes (IsSectionIf (writes_types «module».now) 1
-        (IsList IsRecGroup (contents_of «module».now).types)) sink.old sink.new) }
+        (IsList IsRecGroupWritten (contents_of «module».now).types)) sink.old sink.new) }
     ensures fault { IfErr result (IsFault (IsTooLong «module».now)) }
 {
     let groups = Listed {

@@ -3,3 +3,6 @@ pub mod BodyLemmas
 pub mod ProgramLemmas
 pub mod SameLemmas
 pub mod ValidLemmas
+pub mod SegmentFormLemmas
+pub mod TypeFormLemmas
+pub mod AccessLemmas

@@ -1,5 +1,5 @@
 -- Bodies as they are written are those of a module with bytes of expressions.
-use Rattle.std.proofs.Common.{◌≡◌, ℕ, suc, Bool, true, false, List, [], ◌∷◌, length, refl, sym, subst, ap}
+use Rattle.std.proofs.Common.{◌≡◌, ℕ, suc, Bool, true, false, List, [], ◌∷◌, length, refl, sym, subst, ap, ◌∙◌, arith}
 use Rattle.std.specs.List.{zip}
 use Rattle.smith_binary.specs.Numbers.{IsUnsigned}
 use Rattle.smith_binary.specs.Pieces.{Joined, Each}
@@ -7,13 +7,13 @@ use Rattle.smith_syntax.specs.declared.code.Code.{Code}
 use Rattle.smith_module_rules.specs.Module.{ModuleParts}
 use Rattle.smith_binary_sections.specs.Codes.{IsBody}
 use Rattle.smith_binary_sections.specs.Data.{IsData}
-use Rattle.smith_binary_sections.specs.Modules.{Contents}
+use Rattle.smith_binary_sections.specs.Modules.{Contents, IsModuleAround}
 use Rattle.smith_binary_sections.specs.Sections.{IsOptionalSection, IsListSection, IsSectionIf}
 use Rattle.smith_binary_sections.proofs.ListLemmas.{locals_spelled}
-use Rattle.smith_binary_module.specs.Around.{IsModuleAround}
+use Rattle.wasm_smith.specs.Bodies.{HasBodies}
 use Rattle.smith_binary_module.specs.Contents.{contents_of}
 use Rattle.smith_binary_module.specs.Layout.{is_filled}
-use Rattle.smith_binary_module.proofs.LayoutLemmas.{not_filled}
+use Rattle.smith_binary_module.proofs.LayoutLemmas.{functions_counted, not_filled}
 use Rattle.smith_binary_instr.proofs.FormLemmas.{expr_is}
 use Rattle.smith_program.specs.Counted.{counted}
 use Rattle.smith_program.specs.declared.program.Body.{Body}
@@ -21,31 +21,38 @@ use Rattle.smith_program.specs.declared.program.Body.TheVariants as body
 use Rattle.smith_binary_program.specs.Bodies.{AreBodiesOf, IsBodyOf, IsExpressionOf, IsExpressionWritten}
 use Rattle.smith_binary_program.specs.Programs.{AreExpressionsOf, IsProgramBinary, with_expressions}
 
--- expressions of functions with their bodies
-abbrev Expressions : List ℕ → List Code → List Body → Type 0
-Expressions counters codes bodies = (expressions : List (List ℕ)) × AreExpressionsOf counters (zip codes bodies) expressions
+-- expressions of functions with their bodies, one for each function with a body
+record Expressions (counters : List ℕ) (codes : List Code) (bodies : List Body) : Type 0 where
+  pub bytes : List (List ℕ)
+  pub each : AreExpressionsOf counters (zip codes bodies) bytes
+  pub many : length (with_expressions codes bytes) ≡ length (zip codes bodies)
+
+none_expressed : (counters : List ℕ) (bodies : List Body) → Expressions counters [] bodies
+none_expressed counters bodies = record { bytes = []; each = tt; many = refl }
 
 -- an expression as it is written is one of the grammar
 expression_is : (counters : List ℕ) (code : Code) (given : Body) (piece : List ℕ) → IsExpressionWritten counters code given piece → IsExpressionOf counters code given piece
 expression_is counters code (body.Drawn instructions) piece h = expr_is (counted counters instructions) piece h
 expression_is counters code body.Raw piece h = h
 
--- bodies of which the expressions are these, one for each function with a body
-pub record AreRead (counters : List ℕ) (codes : List Code) (bodies : List Body) (piece : List ℕ) : Type 0 where
+-- bodies of which the expressions are these
+record AreRead (counters : List ℕ) (codes : List Code) (bodies : List Body) (piece : List ℕ) : Type 0 where
   pub expressions : Expressions counters codes bodies
-  pub many : length (with_expressions codes expressions.0) ≡ length (zip codes bodies)
-  pub spelled : Each IsBody (with_expressions codes expressions.0) piece
+  pub spelled : Each IsBody (with_expressions codes expressions.bytes) piece
 
 each_read : (counters : List ℕ) (codes : List Code) (bodies : List Body) (piece : List ℕ) → Each (IsBodyOf counters) (zip codes bodies) piece → AreRead counters codes bodies piece
 unfolding Each
-each_read counters [] bodies piece h = record { expressions = ([], tt); many = refl; spelled = h }
-each_read counters (code ∷ codes) [] piece h = record { expressions = ([], tt); many = refl; spelled = h }
+each_read counters [] bodies piece h = record { expressions = none_expressed counters bodies; spelled = h }
+each_read counters (code ∷ codes) [] piece h = record { expressions = record { bytes = []; each = tt; many = refl }; spelled = h }
 each_read counters (code ∷ codes) (given ∷ bodies) piece h =
     let rest = each_read counters codes bodies h.second h.is_second in
     let content = h.is_first.is_content in
     record {
-      expressions = (content.second ∷ rest.expressions.0, (expression_is counters code given content.second content.is_second, rest.expressions.1));
-      many = ap suc rest.many;
+      expressions = record {
+        bytes = content.second ∷ rest.expressions.bytes;
+        each = (expression_is counters code given content.second content.is_second, rest.expressions.each);
+        many = ap suc rest.expressions.many;
+      };
       spelled = record {
         first = h.first;
         second = h.second;
@@ -61,7 +68,7 @@ each_read counters (code ∷ codes) (given ∷ bodies) piece h =
 
 -- the code section of a program is that of a module with its expressions
 code_read : (is_written : Bool) (counters : List ℕ) (codes : List Code) (bodies : List Body) → (is_written ≡ false → codes ≡ []) → (piece : List ℕ) → IsSectionIf is_written 10 (AreBodiesOf counters codes bodies) piece
-    → (x : Expressions counters codes bodies) × IsListSection 10 IsBody (with_expressions codes x.0) piece
+    → (x : Expressions counters codes bodies) × IsListSection 10 IsBody (with_expressions codes x.bytes) piece
 code_read true counters codes bodies nothing piece h =
     let list = h.is_second.is_content in
     let rest = each_read counters codes bodies list.second list.is_second in (
@@ -72,15 +79,15 @@ code_read true counters codes bodies nothing piece h =
         is_first = h.is_first;
         is_second = record {
           content = h.is_second.content;
-          is_content = record { first = list.first; second = list.second; is_first = subst (λ (n : ℕ). IsUnsigned 32 n list.first) (sym rest.many) list.is_first; is_second = rest.spelled; whole = list.whole };
+          is_content = record { first = list.first; second = list.second; is_first = subst (λ (n : ℕ). IsUnsigned 32 n list.first) (sym rest.expressions.many) list.is_first; is_second = rest.spelled; whole = list.whole };
           form = h.is_second.form;
         };
         whole = h.whole;
       }),
     )
 code_read false counters codes bodies nothing piece h =
-    subst (λ (codes : List Code). (x : Expressions counters codes bodies) × IsListSection 10 IsBody (with_expressions codes x.0) piece) (sym (nothing refl))
-    (([], tt), IsOptionalSection.absent refl h)
+    subst (λ (codes : List Code). (x : Expressions counters codes bodies) × IsListSection 10 IsBody (with_expressions codes x.bytes) piece) (sym (nothing refl))
+    (none_expressed counters bodies, IsOptionalSection.absent refl h)
 
 -- a piece, then another of some kind
 after_some : {X : Type 0} {First Other : List ℕ → Type 0} {Second : X → List ℕ → Type 0} → ((piece : List ℕ) → Other piece → (x : X) × Second x piece) → (piece : List ℕ) → Joined First Other piece
@@ -97,9 +104,21 @@ around_some {X = X} m Code Some some piece h =
     λ p code. let (x, is) = some code.first code.is_first in (x, record { first = code.first; second = code.second; is_first = is; is_second = code.is_second; whole = code.whole }) in
     after_some (after_some (after_some (after_some (after_some (after_some (after_some (after_some (after_some (after_some (after_some (after_some last))))))))))) piece h
 
+-- as many pairs as items, if there is a second item for each
+zipped_count : {A B : Type 0} (xs : List A) (ys : List B) → length ys ≡ length xs → length (zip xs ys) ≡ length xs
+zipped_count [] ys same = refl
+zipped_count (x ∷ xs) [] same = absurd (omega (arith, same))
+zipped_count (x ∷ xs) (y ∷ ys) same = ap suc (zipped_count xs ys (omega (arith, same)))
+
 -- a module around the bodies of a program
-pub program_is : (m : ModuleParts) (bodies : List Body) (piece : List ℕ) → IsModuleAround (contents_of m) (IsSectionIf (is_filled m.code) 10 (AreBodiesOf m.fuel_globals m.code bodies)) piece → IsProgramBinary m bodies piece
-program_is m bodies piece h =
-    let (x, is) = around_some (contents_of m) (IsSectionIf (is_filled m.code) 10 (AreBodiesOf m.fuel_globals m.code bodies)) (λ (x : Expressions m.fuel_globals m.code bodies). IsListSection 10 IsBody (with_expressions m.code x.0))
+pub program_is : (m : ModuleParts) (bodies : List Body) → HasBodies m.num_defined_funcs m.funcs m.code → length bodies ≡ length m.code
+    → (piece : List ℕ) → IsModuleAround (contents_of m) (IsSectionIf (is_filled m.code) 10 (AreBodiesOf m.fuel_globals m.code bodies)) piece
+    → IsProgramBinary m bodies piece
+program_is m bodies each same piece h =
+    let (x, is) = around_some (contents_of m) (IsSectionIf (is_filled m.code) 10 (AreBodiesOf m.fuel_globals m.code bodies)) (λ (x : Expressions m.fuel_globals m.code bodies). IsListSection 10 IsBody (with_expressions m.code x.bytes))
     (code_read (is_filled m.code) m.fuel_globals m.code bodies (not_filled m.code)) piece h in
-    record { expressions = x.0; each = x.1; spelled = is }
+    record {
+      expressions = x.bytes;
+      each = x.each;
+      spelled = record { each = functions_counted m each ∙ sym (x.many ∙ zipped_count m.code bodies same); form = is };
+    }

@@ -1,4 +1,5 @@
 pub mod Bodies
+pub mod Forms
 pub mod Long
 pub mod Programs
 pub mod Valid

@@ -34,10 +34,11 @@ pub fn encode(alloc: Global, program: &Program) -> Result<Vec<u8>, EncodeError>
         bytes.items) }
     ensures fault { IfErr result (IsFault (IsLongProgram program.now.«module» program.now.bodies)) }
 {
+    let module = program.module();
     let bodies = Bodies {
-        counters: program.module.fuel_globals(),
-        codes: program.module.code(),
-        bodies: program.bodies.as_slice(),
+        counters: module.fuel_globals(),
+        codes: module.code(),
+        bodies: program.bodies(),
     };
-    encode_with_bodies(alloc, &program.module, &bodies)
+    encode_with_bodies(alloc, module, &bodies)
 }

@@ -1,21 +1,30 @@
 -- Segments in the forms in which they are written.
-use Rattle.std.proofs.Common.{◌≡◌, ℕ, Bool, true, false, cond, ◌&&◌, eqb, List, refl, sym, subst, ap}
+use Rattle.std.proofs.Common.{◌≡◌, ℕ, Bool, true, false, cond, ◌&&◌, eqb, List, [], ◌∷◌, length, refl, sym, subst, ap}
 use Rattle.std.proofs.lemmas.Bool.{eqb-true, ne_eqb}
 use Rattle.smith_binary.specs.Numbers.{IsUnsigned}
-use Rattle.smith_binary.specs.Pieces.{IsByte, IsList, Writes}
+use Rattle.smith_binary.specs.Pieces.{IsByte, IsList, Joined, Writes}
 use Rattle.smith_binary.proofs.WrittenLemmas.{joined_written, written_as}
 use Rattle.smith_syntax.specs.declared.const_instr.ConstInstr.{ConstInstr}
 use Rattle.smith_syntax.specs.declared.value_type.AbstractHeapType.TheVariants as abstract
 use Rattle.smith_syntax.specs.declared.value_type.HeapType.{HeapType}
 use Rattle.smith_syntax.specs.declared.value_type.HeapType.TheVariants.{Abstract, Concrete, Exact}
 use Rattle.smith_syntax.specs.declared.value_type.RefType.{RefType}
-use Rattle.smith_binary_sections.specs.Types.{IsRefType}
+use Rattle.smith_syntax.specs.declared.composite_type.SubType.{SubType}
+use Rattle.smith_binary_sections.specs.Types.{IsRefType, IsRecGroupWritten, IsSubTypeWritten}
 use Rattle.smith_binary_sections.specs.Instructions.{IsIndex, IsExpression}
 use Rattle.smith_binary_sections.specs.Elements.{Form, form_number, IsInForm, Elem, IsElemIn, Mode, IsFuncs, IsItems, IsKindFuncs, func_ref, func_items, is_func, is_func_ref, active_funcs_form, active_items_form}
 use Rattle.smith_binary_sections.specs.Elements.Mode.{passive, declared, active}
 use Rattle.smith_binary_sections.specs.Elements.Form.{first_funcs, passive_funcs, table_funcs, declared_funcs, first_items, passive_items, table_items, declared_items}
 use Rattle.smith_binary_sections.specs.Data.{Data, DataMode, DataForm, IsDataIn, IsInDataForm, data_number, active_data_form}
 use Rattle.smith_binary_sections.specs.Data.DataForm.{first_memory, no_memory, named_memory}
+
+-- a group that doesn't have one type alone
+pub group_written : {old new : List ℕ} (group : List SubType) → (length group ≡ 1 → ⊥)
+    → Writes (Joined (IsByte 0x4E) (IsList IsSubTypeWritten group)) old new
+    → Writes (IsRecGroupWritten group) old new
+group_written [] other h = h
+group_written (t ∷ []) other h = absurd (other refl)
+group_written (t ∷ u ∷ group) other h = h
 
 -- a segment of functions, and of expressions
 abbrev pub of_funcs : List ℕ → Mode → Elem

@@ -1,18 +1,14 @@
 -- Lists that are written item by item.
-use Rattle.std.proofs.Common.{◌≡◌, ℕ, ◌⊎◌, inl, inr, List, [], ◌∷◌, length, get_or, refl, sym, subst, ap, arith}
+use Rattle.std.proofs.Common.{◌≡◌, ℕ, ◌⊎◌, inl, inr, List, [], ◌∷◌, length, refl, sym, subst, ap}
 use Rattle.std.specs.Prelude.{map}
 use Rattle.std.specs.List.{zip}
 use Rattle.std.proofs.lemmas.List.{length-map}
 use Rattle.smith_binary.specs.Numbers.{IsUnsigned}
 use Rattle.smith_binary.specs.Pieces.{Each, IsList, Writes}
+use Rattle.smith_binary.proofs.NumberLemmas.{unsigned_below}
 use Rattle.smith_binary.proofs.WrittenLemmas.{Leads, joined_written, nothing_written, written_as}
 use Rattle.smith_syntax.specs.declared.value_type.ValType.{ValType}
 use Rattle.smith_binary_sections.specs.Codes.{IsRun, locals_of, IsLocals, IsLocalsWritten, IsBody, IsBodyWritten}
-
-pub single_list : {A : Type 0} (xs : List A) (x d : A) → length xs ≡ 1 → x ≡ get_or xs 0 d → xs ≡ x ∷ []
-single_list [] x d one read = absurd (omega arith)
-single_list (y ∷ []) x d one read = ap (λ item. item ∷ []) (sym read)
-single_list (y ∷ z ∷ xs) x d one read = absurd (omega arith)
 
 -- one more pair
 pub pair_step : {A B : Type 0} (Item : A × B → List ℕ → Type 0) {Whole : List ℕ → Type 0} {start now later : List ℕ} (xs more : List A) (ys others : List B) (x : A) (y : B) → xs ≡ x ∷ more → ys ≡ y ∷ others
@@ -67,7 +63,12 @@ one_each (t ∷ locals) = ap (λ (ts : List ValType). t ∷ ts) (one_each locals
 
 -- locals, each as a run of its own
 pub locals_spelled : (locals : List ValType) (piece : List ℕ) → IsLocalsWritten locals piece → IsLocals locals piece
-locals_spelled locals piece h = record { runs = map (λ (t : ValType). (1, t)) locals; cut = one_each locals; form = list_mapped IsRun (λ (t : ValType). (1, t)) locals piece h }
+locals_spelled locals piece h = record {
+  runs = map (λ (t : ValType). (1, t)) locals;
+  cut = one_each locals;
+  few = unsigned_below 32 (length locals) h.first h.is_first;
+  form = list_mapped IsRun (λ (t : ValType). (1, t)) locals piece h;
+}
 
 pub body_spelled : (body : List ValType × List ℕ) (piece : List ℕ) → IsBodyWritten body piece → IsBody body piece
 body_spelled body piece h =

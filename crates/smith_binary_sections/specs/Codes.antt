@@ -1,6 +1,6 @@
 -- Bodies: the section Binary Format, Modules, Code Section, of the WebAssembly Core Specification
 -- 3.0.
-use Rattle.std.specs.Prelude.{◌≡◌, ℕ, List, [], ◌∷◌, ◌++◌, replicate}
+use Rattle.std.specs.Prelude.{◌≡◌, ℕ, ◌^◌, ◌<◌, List, [], ◌∷◌, ◌++◌, length, replicate}
 use Rattle.std.specs.List.{flat_map}
 use Rattle.smith_binary.specs.Numbers.{IsUnsigned, shortest_bytes}
 use Rattle.smith_binary.specs.Pieces.{Is, Joined, IsList, IsSized}
@@ -18,10 +18,11 @@ IsRun run = Joined (IsUnsigned 32 run.0) (IsValType run.1)
 abbrev pub locals_of : List (ℕ × ValType) → List ValType
 locals_of runs = flat_map (λ (run : ℕ × ValType). replicate run.0 run.1) runs
 
--- locals: a list of runs, however the locals are split (Code Section)
+-- fewer than 2^32 locals: a list of runs, however the locals are split (Code Section)
 pub record IsLocals (locals : List ValType) (piece : List ℕ) : Type 0 where
   pub runs : List (ℕ × ValType)
   pub cut : locals ≡ locals_of runs
+  pub few : length locals < 2 ^ 32
   pub form : IsList IsRun runs piece
 
 -- locals as they are written (Code Section): each as a run of its own (own rule)

@@ -54,9 +54,10 @@ IsStartSection None piece = piece ≡ []
 abbrev pub IsDataCount : List Data → List ℕ → Type 0
 IsDataCount datas = IsOptionalSection 12 (Unit {0}) (IsUnsigned 32 (length datas))
 
--- a module: the preamble, then its sections in order, and no byte after them (Modules)
-abbrev pub IsModule : Contents → List ℕ → Type 0
-IsModule m =
+-- the preamble, then the sections of a module in order, with these bytes for its code section, and no
+-- byte after them (Modules)
+abbrev pub IsModuleAround : Contents → (List ℕ → Type 0) → List ℕ → Type 0
+IsModuleAround m Code =
     Joined IsPreamble
     (Joined (IsListSection 1 IsRecGroup m.types)
     (Joined (IsOptionalSection 2 (m.imports ≡ []) (IsImports m.imports))
@@ -68,4 +69,9 @@ IsModule m =
     (Joined (IsListSection 7 IsExport m.exports)
     (Joined (IsStartSection m.start)
     (Joined (IsListSection 9 IsElem m.elems)
-    (Joined (IsDataCount m.datas) (Joined (IsListSection 10 IsBody m.bodies) (IsListSection 11 IsData m.datas)))))))))))))
+    (Joined (IsDataCount m.datas) (Joined Code (IsListSection 11 IsData m.datas)))))))))))))
+
+-- a module: its sections, with a body for each function (Modules)
+pub record IsModule (m : Contents) (bytes : List ℕ) : Type 0 where
+  pub each : length m.functions ≡ length m.bodies
+  pub form : IsModuleAround m (IsListSection 10 IsBody m.bodies) bytes

@@ -1,7 +1,7 @@
 -- Types: the section Binary Format, Types, of the WebAssembly Core Specification 3.0. Shared types
 -- are those of the shared-everything-threads proposal, exact types those of the custom descriptors
 -- proposal.
-use Rattle.std.specs.Prelude.{◌≡◌, ℕ, Bool, true, false, List, [], ◌∷◌, None, pos, option_to_list, take, drop}
+use Rattle.std.specs.Prelude.{◌≡◌, ℕ, Bool, true, false, List, [], ◌∷◌, Option, None, Some, pos, option_to_list, take, drop}
 use Rattle.std.specs.declared.ops.Range.{Range}
 use Rattle.smith_binary.specs.Numbers.{IsUnsigned, IsSigned}
 use Rattle.smith_binary.specs.Pieces.{Is, IsByte, Joined, IsList}
@@ -118,6 +118,27 @@ pub data IsSubType (t : SubType) (piece : List ℕ) : Type 0 where
 pub data IsRecGroup (group : List SubType) (piece : List ℕ) : Type 0 where
   full : Joined (IsByte 0x4E) (IsList IsSubType group) piece → IsRecGroup group piece
   short : (t : SubType) → group ≡ t ∷ [] → IsSubType t piece → IsRecGroup group piece
+
+-- whether a sub type is written as its composite type alone (own rule)
+abbrev pub is_alone : Option ℕ → Bool → Bool
+is_alone None is_final = is_final
+is_alone (Some index) is_final = false
+
+abbrev pub IsSubTypeAs : Bool → SubType → List ℕ → Type 0
+IsSubTypeAs true t = IsCompositeType t.composite_type
+IsSubTypeAs false t =
+    Joined (IsByte (final_byte t.is_final))
+    (Joined (IsList (IsUnsigned 32) (option_to_list t.supertype)) (IsCompositeType t.composite_type))
+
+-- a sub type as it is written: its composite type alone, if it is final and has no supertype (own
+-- rule)
+abbrev pub IsSubTypeWritten : SubType → List ℕ → Type 0
+IsSubTypeWritten t = IsSubTypeAs (is_alone t.supertype t.is_final) t
+
+-- a recursive group as it is written: its sub type alone, if it has one (own rule)
+abbrev pub IsRecGroupWritten : List SubType → List ℕ → Type 0
+IsRecGroupWritten (t ∷ []) = IsSubTypeWritten t
+IsRecGroupWritten group = Joined (IsByte 0x4E) (IsList IsSubTypeWritten group)
 
 -- the types of a range of indices (Structure, Recursive Types)
 abbrev pub group_at : List SubType → Range ℕ → List SubType

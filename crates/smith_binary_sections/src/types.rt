@@ -15,8 +15,9 @@ ghost use Rattle.smith_binary_sections.specs.Types.{
   IsFuncType,
   IsInnerType,
   IsCompositeType,
-  IsSubType,
-  IsRecGroup,
+  is_alone,
+  IsSubTypeWritten,
+  IsRecGroupWritten,
   group_at,
 };
 ghost use Rattle.smith_binary.specs.declared.error.EncodeError.TheVariants.{Memory};
@@ -221,13 +222,23 @@ fn final_byte(is_final: bool) -> u8
     if is_final { 0x4F } else { 0x50 }
 }
 
+// Returns whether a sub type is written as its composite type alone.
+fn is_alone(supertype: Option<u32>, is_final: bool) -> bool
+    ensures { result ≡ is_alone supertype is_final }
+{
+    match supertype {
+        None => is_final,
+        Some(_) => false,
+    }
+}
+
 impl Encode for SubType {
-    ghost spells = { IsSubType };
+    ghost spells = { IsSubTypeWritten };
 
     ghost is_long = { IsLongSubType };
 
     fn encode(&self, sink: &mut Sink) -> Result<(), EncodeError> {
-        if let (true, None) = (self.is_final, self.supertype) {
+        if is_alone(self.supertype, self.is_final) {
             return self.composite_type.encode(sink);
         }
         sink.write_byte(final_byte(self.is_final))?;
@@ -238,11 +249,11 @@ impl Encode for SubType {
 
 // Writes the recursive group `group`.
 fn write_group(group: &[SubType], sink: &mut Sink) -> Result<(), EncodeError>
-    ensures writes { OnOk result (Writes (IsRecGroup group.now) sink.old sink.new) }
+    ensures writes { OnOk result (Writes (IsRecGroupWritten group.now) sink.old sink.new) }
     ensures fault { IfErr result (IsFault (IsLongGroup group.now)) }
 {
-    if let [t] = group {
-        return t.encode(sink);
+    if group.len() == 1 {
+        return group[0].encode(sink);
     }
     sink.write_byte(0x4E)?;
     write_list(group, sink)
@@ -265,7 +276,7 @@ pub struct Groups<'a> {
 }
 
 impl<'a> EncodeItem<Range<usize>> for Groups<'a> {
-    ghost spells = { λ groups range. IsRecGroup (group_at groups.types.now range) };
+    ghost spells = { λ groups range. IsRecGroupWritten (group_at groups.types.now range) };
 
     ghost is_long = { λ groups range. IsLongGroup (group_at groups.types.now range) };
 

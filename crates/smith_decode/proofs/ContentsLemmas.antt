@@ -20,6 +20,7 @@ use Rattle.smith_binary_sections.specs.Entities.{IsMemoryType, IsTagType}
 use Rattle.smith_binary_sections.specs.Imports.{IsImports}
 use Rattle.smith_binary_sections.specs.Definitions.{IsTable, IsGlobal}
 use Rattle.smith_binary_sections.specs.Exports.{IsExport}
+use Rattle.smith_binary_sections.specs.Codes.{IsBody}
 use Rattle.smith_binary_sections.specs.Data.{Data, IsData}
 use Rattle.smith_binary_sections.specs.Elements.{Elem, IsElem}
 use Rattle.smith_binary_sections.specs.Modules.{Contents}
@@ -33,7 +34,7 @@ use Rattle.smith_decode.specs.declared.error.DecodeError.TheVariants.{Memory, Ma
 use Rattle.smith_decode.specs.declared.modules.Module.{Module}
 use Rattle.smith_decode.specs.BodyReadings.{body_view}
 use Rattle.smith_decode.specs.ModuleReadings.{Parts, module_of, is_number, module_at, Locates}
-use Rattle.smith_decode.specs.Modules.{IsStated, IsCountedBody, IsModuleBinary, contents_of, Returns, table_pair, tag_index, global_pair}
+use Rattle.smith_decode.specs.Modules.{IsStated, IsModuleBinary, contents_of, Returns, table_pair, tag_index, global_pair}
 use Rattle.smith_decode.specs.Modules.{export_triple}
 use Rattle.smith_decode.proofs.CustomLemmas.{IsMore, IsEnd}
 use Rattle.smith_decode.proofs.ModuleLemmas.{AreParts, parts_of, IsDecodedBinary, module_decodes}
@@ -92,7 +93,7 @@ IsAbstract =
     (IsMore 8 None IsStated
     (IsMore 9 [] (IsList IsElem)
     (IsMore 12 None IsStated
-    (IsMore 10 [] (IsList IsCountedBody)
+    (IsMore 10 [] (IsList IsBody)
     (IsMore 11 [] (IsList IsData) IsEnd))))))))))))
 
 -- decoded parts in the abstract syntax

@@ -1,11 +1,8 @@
 -- Modules without custom sections, as an encoder writes them, and what the reading says of modules.
-use Rattle.std.proofs.Common.{◌≡◌, ℕ, ◌<◌, ◌^◌, List, [], ◌∷◌, ◌++◌, length, Option, Some, None, Err, refl, sym, ap, ◌∙◌}
+use Rattle.std.proofs.Common.{◌≡◌, ℕ, List, [], ◌++◌, length, Option, Some, None, Err, refl, sym, ap, ◌∙◌}
 use Rattle.std.proofs.Common.{append-nil}
-use Rattle.std.specs.Prelude.{All, IfSome}
-use Rattle.std.specs.List.{AllByRecursion}
-use Rattle.std.proofs.lemmas.List.Elements.{recursion_from_All}
-use Rattle.smith_binary.specs.Pieces.{Joined, Each, IsList, IsSection}
-use Rattle.smith_syntax.specs.declared.value_type.ValType.{ValType}
+use Rattle.std.specs.Prelude.{IfSome}
+use Rattle.smith_binary.specs.Pieces.{Joined, IsList, IsSection}
 use Rattle.smith_binary_sections.specs.Codes.{IsBody}
 use Rattle.smith_binary_sections.specs.Data.{IsData}
 use Rattle.smith_binary_sections.specs.Modules.{Contents, IsModule, IsStartSection, IsDataCount}
@@ -13,7 +10,7 @@ use Rattle.smith_binary_sections.specs.Sections.{IsOptionalSection, IsListSectio
 use Rattle.smith_binary_read.specs.declared.error.Fault.{Fault}
 use Rattle.smith_decode.specs.Customs.{AreCustoms, IsThen}
 use Rattle.smith_decode.specs.ModuleReadings.{module_at}
-use Rattle.smith_decode.specs.Modules.{IsStated, IsCountedBody, IsModuleBinary, contents_of}
+use Rattle.smith_decode.specs.Modules.{IsStated, IsModuleBinary, contents_of}
 use Rattle.smith_decode.proofs.ContentsLemmas.{module_back}
 use Rattle.smith_decode.proofs.CustomLemmas.{no_customs}
 use Rattle.smith_decode.proofs.ModuleLemmas.{module_decodes}
@@ -55,20 +52,6 @@ start_form (Some index) piece h =
     IsOptionalSection.present (section_as 8 (λ content is. record { number = index; is = refl; form = is }) h)
 start_form None piece h = IsOptionalSection.absent refl h
 
--- bodies of few locals
-each_counted : (bodies : List (List ValType × List ℕ)) (piece : List ℕ) → AllByRecursion (λ body. length body.0 < 2 ^ 32) bodies
-    → Each IsBody bodies piece
-    → Each IsCountedBody bodies piece
-unfolding Each
-each_counted [] piece few h = h
-each_counted (body ∷ bodies) piece few h = record {
-  first = h.first;
-  second = h.second;
-  is_first = (few.0, h.is_first);
-  is_second = each_counted bodies h.second few.1 h.is_second;
-  whole = h.whole;
-}
-
 -- the last section, and no byte after it
 last_form : {N : Type 0} {P : List ℕ → Type 0} {piece : List ℕ} (id : ℕ) → IsOptionalSection id N P piece → IsThen id N P AreCustoms piece
 last_form {piece = piece} id h = record {
@@ -80,18 +63,10 @@ last_form {piece = piece} id h = record {
 }
 
 -- the code and data sections
-tail_form : (m : Contents) (piece : List ℕ) → AllByRecursion (λ body. length body.0 < 2 ^ 32) m.bodies
-    → Joined (IsListSection 10 IsBody m.bodies) (IsListSection 11 IsData m.datas) piece
-    → IsThen 10 (m.bodies ≡ []) (IsList IsCountedBody m.bodies) (IsThen 11 (m.datas ≡ []) (IsList IsData m.datas) AreCustoms) piece
-tail_form m piece few h =
-    before_more 10 (λ rest is. last_form 11 is)
-    (first_as (λ first is. optional_as 10 (λ none. none) (λ content one. record {
-      first = one.first;
-      second = one.second;
-      is_first = one.is_first;
-      is_second = each_counted m.bodies one.second few one.is_second;
-      whole = one.whole;
-    }) is) h)
+tail_form : (m : Contents) (piece : List ℕ) → Joined (IsListSection 10 IsBody m.bodies) (IsListSection 11 IsData m.datas) piece
+    → IsThen 10 (m.bodies ≡ []) (IsList IsBody m.bodies) (IsThen 11 (m.datas ≡ []) (IsList IsData m.datas) AreCustoms) piece
+tail_form m piece h =
+    before_more 10 (λ rest is. last_form 11 is) h
 
 -- sections, and the number of data segments that is stated among them, if it is
 record WithCount (n : ℕ) (Sections : Option ℕ → List ℕ → Type 0) (piece : List ℕ) : Type 0 where
@@ -120,11 +95,11 @@ then_counted {piece = piece} id up h =
 abbrev FromCount : Contents → Option ℕ → List ℕ → Type 0
 FromCount m count =
     IsThen 12 (count ≡ None) (IsStated count)
-    (IsThen 10 (m.bodies ≡ []) (IsList IsCountedBody m.bodies) (IsThen 11 (m.datas ≡ []) (IsList IsData m.datas) AreCustoms))
+    (IsThen 10 (m.bodies ≡ []) (IsList IsBody m.bodies) (IsThen 11 (m.datas ≡ []) (IsList IsData m.datas) AreCustoms))
 
 from_count : (m : Contents) (count : Option ℕ) (piece first second : List ℕ) → IfSome count (λ stated. stated ≡ length m.datas)
     → IsOptionalSection 12 (count ≡ None) (IsStated count) first
-    → IsThen 10 (m.bodies ≡ []) (IsList IsCountedBody m.bodies) (IsThen 11 (m.datas ≡ []) (IsList IsData m.datas) AreCustoms) second
+    → IsThen 10 (m.bodies ≡ []) (IsList IsBody m.bodies) (IsThen 11 (m.datas ≡ []) (IsList IsData m.datas) AreCustoms) second
     → piece ≡ first ++ second → WithCount (length m.datas) (FromCount m) piece
 from_count m count piece first second stated one two whole = record {
   count = count;
@@ -139,7 +114,7 @@ from_count m count piece first second stated one two whole = record {
 }
 
 counts_form : (m : Contents) (piece first second : List ℕ) → IsDataCount m.datas first
-    → IsThen 10 (m.bodies ≡ []) (IsList IsCountedBody m.bodies) (IsThen 11 (m.datas ≡ []) (IsList IsData m.datas) AreCustoms) second
+    → IsThen 10 (m.bodies ≡ []) (IsList IsBody m.bodies) (IsThen 11 (m.datas ≡ []) (IsList IsData m.datas) AreCustoms) second
     → piece ≡ first ++ second → WithCount (length m.datas) (FromCount m) piece
 counts_form m piece first second (IsOptionalSection.present h) two whole =
     from_count m (Some (length m.datas)) piece first second refl
@@ -148,10 +123,9 @@ counts_form m piece first second (IsOptionalSection.absent is empty) two whole =
     from_count m None piece first second tt (IsOptionalSection.absent refl empty) two whole
 
 -- a module without custom sections
-pub encoder_form : (m : Contents) (bytes : List ℕ) → IsModule m bytes → length m.functions ≡ length m.bodies
-    → All (λ body. length body.0 < 2 ^ 32) m.bodies → IsModuleBinary m bytes
-encoder_form m bytes h many few =
-    let each = recursion_from_All (λ (body : List ValType × List ℕ). length body.0 < 2 ^ 32) m.bodies few in
+pub encoder_form : (m : Contents) (bytes : List ℕ) → IsModule m bytes → IsModuleBinary m bytes
+encoder_form m bytes is_module =
+    let h = is_module.form in
     let sections =
     then_counted 1 (λ rest h.
     then_counted 2 (λ rest h.
@@ -163,12 +137,12 @@ encoder_form m bytes h many few =
     then_counted 7 (λ rest h.
     then_counted 8 (λ rest h.
     then_counted 9 (λ rest h.
-    counts_form m rest h.first h.second h.is_first (tail_form m h.second each h.is_second) h.whole) h)
+    counts_form m rest h.first h.second h.is_first (tail_form m h.second h.is_second) h.whole) h)
     (first_as (λ first is. start_form m.start first is) h)) h) h) h) h) h) h) h) h.is_second in
     record {
       count = sections.count;
       form = record { first = h.first; second = h.second; is_first = h.is_first; is_second = sections.form; whole = h.whole };
-      bodies = many;
+      bodies = is_module.each;
       datas = sections.stated;
     }
 

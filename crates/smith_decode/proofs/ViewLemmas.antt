@@ -6,7 +6,7 @@ use Rattle.std.specs.Prelude.{replicate}
 use Rattle.smith_binary.specs.Pieces.{Is, Joined, IsList}
 use Rattle.smith_syntax.specs.declared.value_type.ValType.{ValType}
 use Rattle.smith_types.specs.Imports.{flattened}
-use Rattle.smith_binary_sections.specs.Codes.{IsRun, locals_of, IsLocals}
+use Rattle.smith_binary_sections.specs.Codes.{IsRun, locals_of, IsLocals, IsBody}
 use Rattle.smith_binary_sections.specs.Data.{Data, IsData, DataMode as AbstractMode}
 use Rattle.smith_binary_sections.specs.Data.DataMode.{passive, active}
 use Rattle.smith_binary_sections.specs.Definitions.{IsTable, IsGlobal}
@@ -24,7 +24,7 @@ use Rattle.smith_binary_read.proofs.ViewLemmas.{list_viewed, sized_viewed}
 use Rattle.smith_decode.specs.declared.bodies.Body.{Body}
 use Rattle.smith_decode.specs.declared.bodies.LocalRun.{LocalRun}
 use Rattle.smith_decode.specs.BodyReadings.{run_pair, IsLocalRun, total, IsRunContent, IsRunBody, body_view, local_run, body_of}
-use Rattle.smith_decode.specs.Modules.{IsCountedBody, table_pair, tag_index, global_pair, export_triple}
+use Rattle.smith_decode.specs.Modules.{table_pair, tag_index, global_pair, export_triple}
 use Rattle.smith_decode.proofs.CustomLemmas.{IsMore}
 
 -- an item that is seen as itself
@@ -99,35 +99,34 @@ runs_viewed : Viewed (map run_pair) (IsList IsRun) (IsList IsLocalRun)
 runs_viewed = list_viewed run_viewed
 
 content_forth : (body : Body) (content : List ℕ) → IsRunContent body content
-    → (length (body_view body).0 < 2 ^ 32) × Joined (IsLocals (body_view body).0) (Is body.code) content
-content_forth body content h =
-    let few : length (body_view body).0 < 2 ^ 32 = omega (arith, h.0, total_is body.locals) in (
-      few,
-      record {
-        first = h.1.first;
-        second = h.1.second;
-        is_first = record { runs = map run_pair body.locals; cut = refl; form = runs_viewed.forth body.locals h.1.first h.1.is_first };
-        is_second = h.1.is_second;
-        whole = h.1.whole;
-      },
-    )
+    → Joined (IsLocals (body_view body).0) (Is body.code) content
+content_forth body content h = record {
+  first = h.1.first;
+  second = h.1.second;
+  is_first = record {
+    runs = map run_pair body.locals;
+    cut = refl;
+    few = omega (arith, h.0, total_is body.locals);
+    form = runs_viewed.forth body.locals h.1.first h.1.is_first;
+  };
+  is_second = h.1.is_second;
+  whole = h.1.whole;
+}
 
-body_forth : (body : Body) (piece : List ℕ) → IsRunBody body piece → IsCountedBody (body_view body) piece
-body_forth body piece h =
-    let inner = content_forth body h.content h.is_content in
-    (inner.0, record { content = h.content; is_content = inner.1; form = h.form })
+body_forth : (body : Body) (piece : List ℕ) → IsRunBody body piece → IsBody (body_view body) piece
+body_forth body piece h = record { content = h.content; is_content = content_forth body h.content h.is_content; form = h.form }
 
-body_back : (x : List ValType × List ℕ) (piece : List ℕ) → IsCountedBody x piece → From body_view IsRunBody x piece
+body_back : (x : List ValType × List ℕ) (piece : List ℕ) → IsBody x piece → From body_view IsRunBody x piece
 body_back x piece h =
-    let inner = h.1.is_content in
+    let inner = h.is_content in
     let runs = runs_viewed.back inner.is_first.runs inner.first inner.is_first.form in
     let locals : locals_of (map run_pair runs.item) ≡ x.0 = ap locals_of runs.is ∙ sym inner.is_first.cut in
-    let few : total runs.item < 2 ^ 32 = omega (arith, h.0, total_is runs.item, ap length locals) in
+    let few : total runs.item < 2 ^ 32 = omega (arith, inner.is_first.few, total_is runs.item, ap length locals) in
     record {
       item = body_of runs.item x.1;
       is = ap (λ (types : List ValType). (types, x.1)) locals;
       form = record {
-        content = h.1.content;
+        content = h.content;
         is_content = (
           few,
           record {
@@ -138,11 +137,11 @@ body_back x piece h =
             whole = inner.whole;
           },
         );
-        form = h.1.form;
+        form = h.form;
       };
     }
 
-pub body_viewed : Viewed body_view IsCountedBody IsRunBody
+pub body_viewed : Viewed body_view IsBody IsRunBody
 body_viewed = record { forth = body_forth; back = body_back }
 
 -- sections that may be left out

@@ -1,13 +1,12 @@
 -- Modules with custom sections: the section Binary Format, Modules, of the WebAssembly Core
 -- Specification 3.0.
-use Rattle.std.specs.Prelude.{◌≡◌, ℕ, ◌^◌, ◌<◌, Option, Some, None, List, [], length, map, IfSome, Result, Ok, Err}
+use Rattle.std.specs.Prelude.{◌≡◌, ℕ, Option, Some, None, List, [], length, map, IfSome, Result, Ok, Err}
 use Rattle.smith_binary.specs.Numbers.{IsUnsigned}
 use Rattle.smith_binary.specs.Pieces.{Joined, IsList}
 use Rattle.smith_syntax.specs.declared.const_instr.ConstInstr.{ConstInstr}
 use Rattle.smith_syntax.specs.declared.entity_type.ExportKind.{ExportKind}
 use Rattle.smith_syntax.specs.declared.entity_type.GlobalType.{GlobalType}
 use Rattle.smith_syntax.specs.declared.entity_type.TableType.{TableType}
-use Rattle.smith_syntax.specs.declared.value_type.ValType.{ValType}
 use Rattle.smith_types.specs.Imports.{flattened}
 use Rattle.smith_binary_sections.specs.Types.{IsRecGroup}
 use Rattle.smith_binary_sections.specs.Instructions.{IsIndex}
@@ -37,10 +36,6 @@ pub record IsStated (stated : Option ℕ) (piece : List ℕ) : Type 0 where
   pub is : stated ≡ Some number
   pub form : IsUnsigned 32 number piece
 
--- a body of fewer than 2^32 locals (Code Section)
-abbrev pub IsCountedBody : List ValType × List ℕ → List ℕ → Type 0
-IsCountedBody body piece = (length body.0 < 2 ^ 32) × IsBody body piece
-
 -- the sections of a module that states this number of data segments, in order, with custom sections
 -- before, between and after them (Modules)
 abbrev pub AreSections : Contents → Option ℕ → List ℕ → Type 0
@@ -56,7 +51,7 @@ AreSections m count =
     (IsThen 8 (m.start ≡ None) (IsStated m.start)
     (IsThen 9 (m.elems ≡ []) (IsList IsElem m.elems)
     (IsThen 12 (count ≡ None) (IsStated count)
-    (IsThen 10 (m.bodies ≡ []) (IsList IsCountedBody m.bodies)
+    (IsThen 10 (m.bodies ≡ []) (IsList IsBody m.bodies)
     (IsThen 11 (m.datas ≡ []) (IsList IsData m.datas) AreCustoms))))))))))))
 
 -- a module: the preamble, then its sections; it has a body for each function, and as many data

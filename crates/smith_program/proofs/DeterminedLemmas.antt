@@ -6,13 +6,13 @@ use Rattle.wasm_smith.proofs.DeterminedLemmas.{modules_same}
 use Rattle.smith_program.specs.DrawnBodies.{bodies_at}
 use Rattle.smith_program.specs.Generated.{IsProgram}
 use Rattle.smith_program.specs.declared.program.Body.{Body}
-use Rattle.smith_program.specs.declared.program.Program.{Program}
+use Rattle.smith_program.specs.Parts.{ProgramParts}
 
 -- a program of a module and bodies
-abbrev program_of : ModuleParts → List Body → Program
+abbrev program_of : ModuleParts → List Body → ProgramParts
 program_of m bodies = record { «module» = m; bodies = bodies }
 
-pub programs_same : (given : Config) (bytes left rest : List ℕ) (one other : Program) → IsProgram given bytes (Ok one) left → IsProgram given bytes (Ok other) rest → (one ≡ other) × (left ≡ rest)
+pub programs_same : (given : Config) (bytes left rest : List ℕ) (one other : ProgramParts) → IsProgram given bytes (Ok one) left → IsProgram given bytes (Ok other) rest → (one ≡ other) × (left ≡ rest)
 programs_same given bytes left rest one other h k =
     let first = h.programs.of in
     let second = k.programs.of in

@@ -11,7 +11,7 @@ use Rattle.smith_program.specs.Bodies.{AreDrawnBodies}
 use Rattle.smith_program.specs.DrawnBodies.{bodies_at}
 use Rattle.smith_program.specs.Generated.{IsProgram}
 use Rattle.smith_program.specs.declared.program.Body.{Body}
-use Rattle.smith_program.specs.declared.program.Program.{Program}
+use Rattle.smith_program.specs.Parts.{ProgramParts}
 use Rattle.smith_program.proofs.ValidLemmas.{drawn_valid}
 
 -- a module and its bodies
@@ -26,7 +26,7 @@ program_made given bytes after left m bodies generated drawn exact kept = record
 }
 
 -- a refusal of the module
-pub module_refused : (given : Config) (bytes left : List ℕ) (answer : Result Program Error) (e : Error) → IsGenerated false given bytes (Err e) left → IsErrAnd answer (λ y. y ≡ e)
+pub module_refused : (given : Config) (bytes left : List ℕ) (answer : Result ProgramParts Error) (e : Error) → IsGenerated false given bytes (Err e) left → IsErrAnd answer (λ y. y ≡ e)
     → IsProgram given bytes answer left
 module_refused given bytes left (Ok program) e generated passed = absurd passed
 module_refused given bytes left (Err y) e generated passed = record {
@@ -38,7 +38,7 @@ module_refused given bytes left (Err y) e generated passed = record {
 }
 
 -- lack of memory for the bodies
-pub bodies_refused : (given : Config) (bytes after left : List ℕ) (m : ModuleParts) (answer : Result Program Error) (e : Error) → IsGenerated false given bytes (Ok m) after → IsErrAnd answer (λ y. y ≡ e) → e ≡ Memory → KeepsPieces after left
+pub bodies_refused : (given : Config) (bytes after left : List ℕ) (m : ModuleParts) (answer : Result ProgramParts Error) (e : Error) → IsGenerated false given bytes (Ok m) after → IsErrAnd answer (λ y. y ≡ e) → e ≡ Memory → KeepsPieces after left
     → IsProgram given bytes answer left
 bodies_refused given bytes after left m (Ok program) e generated passed memory kept = absurd passed
 bodies_refused given bytes after left m (Err y) e generated passed memory kept = record {

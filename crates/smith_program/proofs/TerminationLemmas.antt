@@ -65,6 +65,11 @@ pub answered_bodies : (fuel : ℕ) (old new : ModuleParts) (result : Result ℕ 
 answered_bodies fuel old new (Ok index) bodies (none, adds) are = still_bodies fuel index old new bodies adds are
 answered_bodies fuel old new (Err error) bodies (may, kept) are = rw kept are
 
+-- the module's own bodies after such an attempt
+pub code_kept : (fuel : ℕ) (old new : ModuleParts) (result : Result ℕ Error) → AnswersCounter fuel old new result → new.code ≡ old.code
+code_kept fuel old new (Ok index) (none, adds) = ap (λ (m : ModuleParts). m.code) adds.added
+code_kept fuel old new (Err error) (may, kept) = ap (λ (m : ModuleParts). m.code) kept
+
 -- each counter of a valid module is a counter in the context of its bodies
 counters_count : (m : ModuleParts) → IsValid m → (function : FuncType) (locals : List ValType) → Each (IsCounter (function_context m function locals)) m.fuel_globals
 counters_count m valid function locals =

@@ -8,8 +8,8 @@ use Rattle.smith_module_rules.specs.Module.{ModuleParts}
 use Rattle.wasm_smith.specs.Generated.{IsGenerated}
 use Rattle.smith_program.specs.Bodies.{AreDrawnBodies}
 use Rattle.smith_program.specs.DrawnBodies.{bodies_at}
+use Rattle.smith_program.specs.Parts.{ProgramParts}
 use Rattle.smith_program.specs.Valid.{IsValidProgram}
-use Rattle.smith_program.specs.declared.program.Program.{Program}
 
 -- a module that `Module::new` returns, and the bytes after it, of which some are left
 pub record IsModuleOf (given : Config) (bytes left : List ℕ) (m : ModuleParts) : Type 0 where
@@ -18,7 +18,7 @@ pub record IsModuleOf (given : Config) (bytes left : List ℕ) (m : ModuleParts)
   pub source : KeepsPieces after left
 
 -- such a module, and the bodies that the bytes after it produce
-pub record IsProgramOf (given : Config) (bytes left : List ℕ) (program : Program) : Type 0 where
+pub record IsProgramOf (given : Config) (bytes left : List ℕ) (program : ProgramParts) : Type 0 where
   pub of : IsModuleOf given bytes left program.«module»
   pub exact : bodies_at program.«module» of.after ≡ (program.bodies, left)
 
@@ -30,7 +30,7 @@ pub record LacksMemory (given : Config) (bytes left : List ℕ) (e : Error) : Ty
 
 -- the result for a configuration and the bytes of the source, of which some are left: a program is
 -- valid; a refusal is that of the module, or lack of memory for its bodies
-pub record IsProgram (given : Config) (bytes : List ℕ) (answer : Result Program Error) (left : List ℕ) : Type 0 where
+pub record IsProgram (given : Config) (bytes : List ℕ) (answer : Result ProgramParts Error) (left : List ℕ) : Type 0 where
   pub programs : IfOk answer (IsProgramOf given bytes left)
   pub bodies : IfOk answer (λ program. AreDrawnBodies program.«module» program.bodies)
   pub valid : IfOk answer (λ program. IsValidProgram program.«module» program.bodies)

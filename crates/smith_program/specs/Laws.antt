@@ -6,13 +6,13 @@ use Rattle.wasm_smith.specs.Termination.{AddsCounter}
 use Rattle.smith_program.specs.Generated.{IsProgram}
 use Rattle.smith_program.specs.Valid.{IsValidProgram}
 use Rattle.smith_program.specs.declared.program.Body.{Body}
-use Rattle.smith_program.specs.declared.program.Program.{Program}
+use Rattle.smith_program.specs.Parts.{ProgramParts}
 
 -- two programs that are returned for the same configuration and bytes are equal, and so are the
 -- bytes left
 abbrev pub ProgramsAreDetermined : Type 0
 ProgramsAreDetermined =
-    (given : Config) (bytes left rest : List ℕ) (one other : Program)
+    (given : Config) (bytes left rest : List ℕ) (one other : ProgramParts)
     → IsProgram given bytes (Ok one) left → IsProgram given bytes (Ok other) rest → (one ≡ other) × (left ≡ rest)
 
 -- a valid program stays valid with a counter of fuel

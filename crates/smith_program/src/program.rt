@@ -4,6 +4,7 @@ use smith_config::Config;
 use smith_instr::Instr;
 use smith_types::Items;
 use std::alloc::Global;
+use std::marker::Model;
 use wasm_smith::Module;
 
 /// The body of a function that a module defines.
@@ -19,12 +20,24 @@ pub enum Body {
 #[derive(Drop)]
 pub struct Program {
     /// The module. Its own bodies are `unreachable`, except those of raw bytes.
-    pub module: Module,
+    pub(crate) module: Module,
     /// The body of each function that the module defines.
-    pub bodies: Items<Body>,
+    bodies: Items<Body>,
+}
+
+impl Model for Program {
+    ghost use Rattle.std.specs.Prelude.{◌≡◌, length};
+    ghost use Rattle.smith_program.specs.Parts.{ProgramParts};
+
+    ghost Value = { ProgramParts };
+
+    ghost view = { λ p. record { «module» = p.«module»; bodies = p.bodies } };
+
+    ghost invariant = { λ p. length p.bodies ≡ length p.«module».code };
 }
 
 impl Program {
+    ghost use Rattle.std.specs.Prelude.{◌≡◌, length};
     ghost use Rattle.smith_program.specs.Generated.{IsProgram};
 
     /// Draws a module from the bytes of `u` as [`Module::new`] does, and bodies of its functions
@@ -40,5 +53,20 @@ impl Program {
         let module = Module::new(alloc, config, u)?;
         let bodies = draw_bodies(alloc, &module, u)?;
         Ok(Program { module, bodies })
+    }
+
+    /// Returns the module. Its own bodies are `unreachable`, except those of raw bytes.
+    pub fn module(&self) -> &Module
+        ensures { result.now ≡ self.now.«module» }
+    {
+        &self.module
+    }
+
+    /// Returns the body of each function that the module defines.
+    pub fn bodies(&self) -> &[Body]
+        ensures items { result.now ≡ self.now.bodies }
+        ensures each { length self.now.bodies ≡ length self.now.«module».code }
+    {
+        self.bodies.as_slice()
     }
 }

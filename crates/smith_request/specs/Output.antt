@@ -7,7 +7,7 @@ use Rattle.smith_bytes.specs.declared.error.Error.{Error}
 use Rattle.smith_config.specs.declared.config.Config.{Config}
 use Rattle.wasm_smith.specs.Termination.{AnswersCounter, MayAddNone}
 use Rattle.smith_program.specs.Generated.{IsProgram}
-use Rattle.smith_program.specs.declared.program.Program.{Program}
+use Rattle.smith_program.specs.Parts.{ProgramParts as Program}
 use Rattle.smith_binary_program.specs.Long.{IsLongProgram}
 use Rattle.smith_binary_program.specs.Programs.{IsEncoded}
 use Rattle.smith_request.specs.declared.manner.Form.{Form}

@@ -94,7 +94,7 @@ fn write_counted(
         → IfOk result (λ bytes. IsTextWith (Some fuel) program bytes.items) }
     ensures refused { IfErr result (IsUncounted form fuel program) }
 {
-    if program.module.globals().len() >= u32::MAX as usize {
+    if program.module().globals().len() >= u32::MAX as usize {
         return Err(Refusal::Encoding(EncodeError::TooLong));
     }
     match program.ensure_termination(alloc, fuel) {

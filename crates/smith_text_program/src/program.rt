@@ -54,8 +54,8 @@ impl<'a> BodyText for Bodies<'a> {
 // Returns the bodies of `program`, for its text in the form `layout`.
 fn bodies_of(program: &Program, layout: Layout) -> Bodies<'_> {
     Bodies {
-        bodies: program.bodies.as_slice(),
-        signatures: layout.signatures(&program.module),
+        bodies: program.bodies(),
+        signatures: layout.signatures(program.module()),
     }
 }
 
@@ -73,7 +73,7 @@ pub fn write_program<S: Sink>(program: &Program, layout: Layout, sink: &mut S) -
     ensures fault { S.failed sink.new ≡ is_err result }
     ensures writes { OnOk result (Writes S.has sink.old 1 sink.new) }
 {
-    write_with_bodies(&program.module, &bodies_of(program, layout), layout, sink)
+    write_with_bodies(program.module(), &bodies_of(program, layout), layout, sink)
 }
 
 /// Returns the text of `program` in the form `layout`, as [`write_program`] writes it, allocated from
@@ -86,7 +86,7 @@ pub fn text_in(alloc: Global, program: &Program, layout: Layout) -> Result<Strin
     ensures memory { IfErr result (λ e. e ≡ Error.Memory) }
     ensures some { IfOk result (λ text. 1 ≤ length (string_bytes text)) }
 {
-    text_with_bodies(alloc, &program.module, &bodies_of(program, layout), layout)
+    text_with_bodies(alloc, program.module(), &bodies_of(program, layout), layout)
 }
 
 /// Returns the text of `program` in the form [`Layout::Notes`], allocated from `alloc`.

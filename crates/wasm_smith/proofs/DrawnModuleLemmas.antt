@@ -1,15 +1,24 @@
 -- A module made of drawn parts is valid.
-use Rattle.std.proofs.Common.{◌≡◌, ℕ, Bool, List, Some, length, arith}
+use Rattle.std.proofs.Common.{◌≡◌, ℕ, ◌+◌, Bool, List, Some, length, arith, ap, ◌∙◌, length-append}
 use Rattle.std.specs.Prelude.{slice_get, Option}
 use Rattle.std.proofs.lemmas.List.Elements.{All-nil}
 use Rattle.smith_types.specs.Bodies.{IsCounterGlobal}
 use Rattle.smith_syntax.specs.declared.const_instr.ConstInstr.{ConstInstr}
 use Rattle.smith_config.specs.declared.config.Config.{Config}
+use Rattle.wasm_smith.specs.Bodies.{HasBodies}
 use Rattle.wasm_smith.specs.Build.{parts_of}
 use Rattle.wasm_smith.specs.DrawnParts.{IsDrawnFor}
 use Rattle.smith_module_rules.specs.Module.{ModuleParts, IsValid, AreSpacesMade, IsTableDefined, IsGlobalDefined, module_imports}
 use Rattle.wasm_smith.specs.declared.build.parts_so_far.PartsSoFar.{PartsSoFar}
 use Rattle.smith_draw_definitions.proofs.StandsAfterLemmas.{defined_end}
+
+-- a valid module has a body for each function that it defines
+pub bodies_there : (m : ModuleParts) → IsValid m → HasBodies m.num_defined_funcs m.funcs m.code
+bodies_there m valid =
+    let made = valid.spaces.funcs in
+    let whole : length m.funcs ≡ length (module_imports m).funcs + length made.defined =
+    ap length made.parts ∙ length-append (module_imports m).funcs made.defined in
+    record { each = valid.bodies.each; among = omega (arith, made.count_is, whole) }
 
 module _ (distinct : Bool) (config : Config) (drawn : PartsSoFar) (h : IsDrawnFor distinct config drawn) where
   abbrev m : ModuleParts

@@ -47,6 +47,7 @@ pub struct Module {
 
 impl Model for Module {
     ghost use Rattle.smith_module_rules.specs.Module.{ModuleParts};
+    ghost use Rattle.wasm_smith.specs.Bodies.{HasBodies};
 
     ghost Value = { ModuleParts };
 
@@ -78,6 +79,9 @@ impl Model for Module {
       interesting_values32 = m.drawn.value.interesting_values32;
       interesting_values64 = m.drawn.value.interesting_values64;
     } };
+
+    ghost invariant = { λ m. HasBodies m.drawn.value.definitions.num_funcs
+        m.drawn.value.imported.spaces.funcs m.drawn.value.contents.code };
 }
 
 /// The rule for imports of a module with the same module name and the same name.
@@ -105,6 +109,7 @@ impl DuplicateImportsBehavior {
 impl Module {
     ghost use Rattle.smith_config.specs.Config.{default_config};
     ghost use Rattle.smith_module_rules.specs.Module.{module_types};
+    ghost use Rattle.wasm_smith.specs.Bodies.{HasBodies};
     ghost use Rattle.wasm_smith.specs.Generated.{IsGenerated, is_distinct};
 
     /// Draws a module as [`Module::new`] does, for the default configuration. Fails only for lack
@@ -352,7 +357,8 @@ impl Module {
 
     /// Returns the body of each defined function.
     pub fn code(&self) -> &[Code]
-        ensures { result.now ≡ self.now.code }
+        ensures items { result.now ≡ self.now.code }
+        ensures each { HasBodies self.now.num_defined_funcs self.now.funcs self.now.code }
     {
         self.drawn.contents.code.as_slice()
     }

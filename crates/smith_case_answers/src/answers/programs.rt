@@ -62,7 +62,7 @@ fn write_program(
 
 impl Fuelled for Program {
     fn add_fuel(&mut self, alloc: Global, fuel: u32, answer: &mut String) -> Result<(), Fault> {
-        if self.module.globals().len() >= u32::MAX as usize {
+        if self.module().globals().len() >= u32::MAX as usize {
             return Err(Fault::NotCallable(Obstacle::TooManyGlobals));
         }
         write_fuel(self.ensure_termination(alloc, fuel), answer)

@@ -6,6 +6,7 @@ use Rattle.smith_module_rules.specs.InterestingValues.{HasInterestingValues}
 use Rattle.smith_module_rules.specs.Module.{IsValid}
 use Rattle.smith_module_rules.specs.Promises.{KeepsPromises}
 use Rattle.smith_module_rules.specs.ShapesKept.{KeepsShapes}
+use Rattle.wasm_smith.proofs.DrawnModuleLemmas.{bodies_there}
 use Rattle.wasm_smith.proofs.build.build.Goals as goal
 
 -- a fact about the borrowed configuration is a fact about the caller's, and about the module's
@@ -45,3 +46,6 @@ returns-in-Ok-clause-promises c =
 pub returns-in-Ok-clause-interesting : goal.returns-in-Ok-clause-interesting
 returns-in-Ok-clause-interesting c =
     rw c.new-in-Ok.ensures (kept (λ given shown. HasInterestingValues (parts_of shown c.in-Ok.drawn.value)) _ _ _ _ c.in_ok-config.ensures.ok c.as_ref.ensures c.as_mut.ensures.value c.in-Ok.ensures.interesting)
+
+pub invariant_of-result : goal.invariant_of-result
+invariant_of-result c = bodies_there _ c.in-Ok.ensures.valid

@@ -29,6 +29,7 @@ returns-clause-one_local c = record {
       (record {
         runs = (1, I32) ∷ [];
         cut = refl;
+        few = omega arith;
         form = both (0x01 ∷ []) (0x01 ∷ 0x7F ∷ []) (index 1 (omega arith)) (more_items IsRun (1, I32) [] (0x01 ∷ 0x7F ∷ []) [] (run_spelled 1 (omega arith)) (no_item IsRun));
       })
       nop_spelled;
@@ -42,6 +43,7 @@ returns-clause-two_locals_in_a_run c = record {
       (record {
         runs = (2, I32) ∷ [];
         cut = refl;
+        few = omega arith;
         form = both (0x01 ∷ []) (0x02 ∷ 0x7F ∷ []) (index 1 (omega arith)) (more_items IsRun (2, I32) [] (0x02 ∷ 0x7F ∷ []) [] (run_spelled 2 (omega arith)) (no_item IsRun));
       })
       nop_spelled;

@@ -25,13 +25,13 @@ other_length n m Second piece low differ h =
     differ ((unsigned_is_unambiguous 32).one n m h.first (m ∷ []) h.second piece h.is_first (number m low) (sym h.whole)).item
 
 pub returns-clause-of_no_local : goal.returns-clause-of_no_local
-returns-clause-of_no_local c = record { runs = (0, I32) ∷ []; cut = refl; form = one_run 0 (omega arith) }
+returns-clause-of_no_local c = record { runs = (0, I32) ∷ []; cut = refl; few = omega arith; form = one_run 0 (omega arith) }
 
 pub returns-clause-of_no_local_as_written : goal.returns-clause-of_no_local_as_written
 returns-clause-of_no_local_as_written c = λ h. other_length 0 1 _ (0x00 ∷ 0x7F ∷ []) (omega arith) (λ e. omega (arith, e)) h
 
 pub returns-clause-of_two : goal.returns-clause-of_two
-returns-clause-of_two c = record { runs = (2, I32) ∷ []; cut = refl; form = one_run 2 (omega arith) }
+returns-clause-of_two c = record { runs = (2, I32) ∷ []; cut = refl; few = omega arith; form = one_run 2 (omega arith) }
 
 pub returns-clause-of_two_as_written : goal.returns-clause-of_two_as_written
 returns-clause-of_two_as_written c = λ h. other_length 2 1 _ (0x02 ∷ 0x7F ∷ []) (omega arith) (λ e. omega (arith, e)) h

@@ -9,14 +9,18 @@ none : {A B : List ℕ → Type 0} → A [] → B [] → Joined A B []
 none a b = both [] [] a b
 
 pub returns : goal.returns
-returns c =
-    both _ [] refl
-    (none (IsOptionalSection.absent refl refl)
-    (none (IsOptionalSection.absent refl refl)
-    (none (IsOptionalSection.absent refl refl)
-    (none (IsOptionalSection.absent refl refl)
-    (none (IsOptionalSection.absent refl refl)
-    (none (IsOptionalSection.absent refl refl)
-    (none (IsOptionalSection.absent refl refl)
-    (none (IsOptionalSection.absent refl refl)
-    (none refl (none (IsOptionalSection.absent refl refl) (none (IsOptionalSection.absent tt refl) (none (IsOptionalSection.absent refl refl) (IsOptionalSection.absent refl refl)))))))))))))
+returns c = record {
+  each = refl;
+  form = both _ [] refl
+      (none (IsOptionalSection.absent refl refl)
+      (none (IsOptionalSection.absent refl refl)
+      (none (IsOptionalSection.absent refl refl)
+      (none (IsOptionalSection.absent refl refl)
+      (none (IsOptionalSection.absent refl refl)
+      (none (IsOptionalSection.absent refl refl)
+      (none (IsOptionalSection.absent refl refl)
+      (none (IsOptionalSection.absent refl refl)
+      (none refl
+      (none (IsOptionalSection.absent refl refl)
+      (none (IsOptionalSection.absent tt refl) (none (IsOptionalSection.absent refl refl) (IsOptionalSection.absent refl refl)))))))))))));
+}

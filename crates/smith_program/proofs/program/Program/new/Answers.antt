@@ -12,3 +12,6 @@ pub returns-in_err-bodies : goal.returns-in_err-bodies
 returns-in_err-bodies c =
     bodies_refused c.args.config c.args.u.now c.new.new.u c.draw_bodies.new.u _ c.from_residual-in_err-bodies.result c.in_err-bodies.field-0.0 c.in_ok-module.ensures c.from_residual-in_err-bodies.ensures.1 c.in_err-bodies.ensures.refusal
     c.draw_bodies.ensures.left
+
+pub invariant_of-result : goal.invariant_of-result
+invariant_of-result c = c.in_ok-bodies.ensures.bodies.each

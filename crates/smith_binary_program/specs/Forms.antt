@@ -1,0 +1,71 @@
+-- The forms of what is written that require a feature: the chapter Binary Format of the WebAssembly
+-- Core Specification 3.0. The requirements are rules of this project.
+use Rattle.std.specs.Prelude.{◌≡◌, ℕ, false, IsTrue, List, [], ◌∷◌, All}
+use Rattle.std.specs.declared.ops.Range.{Range}
+use Rattle.smith_syntax.specs.Features.{Features}
+use Rattle.smith_syntax.specs.declared.code.Code.{Code}
+use Rattle.smith_syntax.specs.declared.composite_type.SubType.{SubType}
+use Rattle.smith_syntax.specs.declared.segments.DataSegment.{DataSegment}
+use Rattle.smith_syntax.specs.declared.segments.ElementSegment.{ElementSegment}
+use Rattle.smith_instr.specs.declared.instr.Instr.{Instr}
+use Rattle.smith_instr.specs.declared.instr.Instr.TheVariants as instr
+use Rattle.smith_module_rules.specs.Module.{ModuleParts, module_features}
+use Rattle.smith_binary_sections.specs.Types.{group_at, is_alone}
+use Rattle.smith_binary_sections.specs.Elements.{Form, elem_form}
+use Rattle.smith_binary_sections.specs.Elements.Form.{first_funcs, passive_funcs, table_funcs, declared_funcs}
+use Rattle.smith_binary_sections.specs.Elements.Form.{first_items, passive_items, table_items, declared_items}
+use Rattle.smith_binary_sections.specs.Data.{DataForm, data_form}
+use Rattle.smith_binary_sections.specs.Data.DataForm.{first_memory, no_memory, named_memory}
+use Rattle.smith_program.specs.Bodies.{AreBodiesBy}
+use Rattle.smith_program.specs.declared.program.Body.{Body}
+
+-- the forms of types: a list of sub types in a group, and a sub type that states whether it is final
+-- (Recursive Types)
+abbrev pub IsTypeFormEnabled : Features → SubType → Type 0
+IsTypeFormEnabled features t = is_alone t.supertype t.is_final ≡ false → IsTrue features.gc
+
+abbrev pub IsGroupFormEnabled : Features → List SubType → Type 0
+IsGroupFormEnabled features (t ∷ []) = IsTypeFormEnabled features t
+IsGroupFormEnabled features group = IsTrue features.gc
+
+-- a form of an element segment: those with an odd number require bulk memory, and all but 0, 1 and 3
+-- require reference types (Element Section)
+abbrev pub IsElemFormEnabled : Features → Form → Type 0
+IsElemFormEnabled features first_funcs = Unit {0}
+IsElemFormEnabled features passive_funcs = IsTrue features.bulk_memory
+IsElemFormEnabled features table_funcs = IsTrue features.reference_types
+IsElemFormEnabled features declared_funcs = IsTrue features.bulk_memory
+IsElemFormEnabled features first_items = IsTrue features.reference_types
+IsElemFormEnabled features passive_items = IsTrue features.reference_types × IsTrue features.bulk_memory
+IsElemFormEnabled features table_items = IsTrue features.reference_types
+IsElemFormEnabled features declared_items = IsTrue features.reference_types × IsTrue features.bulk_memory
+
+-- a form of a data segment: without a memory, and with one that is named (Data Section)
+abbrev pub IsDataFormEnabled : Features → DataForm → Type 0
+IsDataFormEnabled features first_memory = Unit {0}
+IsDataFormEnabled features no_memory = IsTrue features.bulk_memory
+IsDataFormEnabled features named_memory = IsTrue features.multi_memory
+
+-- the memory of an access, which is named by a bit of the alignment if it is not the first; 0 for
+-- other instructions (Memory Instructions)
+abbrev pub accessed : Instr → ℕ
+accessed (instr.Load op at) = at.memory
+accessed (instr.Store op at) = at.memory
+accessed (instr.VectorLoad op at) = at.memory
+accessed (instr.VectorStore at) = at.memory
+accessed (instr.VectorLoadLane log2_bytes at lane) = at.memory
+accessed (instr.VectorStoreLane log2_bytes at lane) = at.memory
+accessed (instr.Atomic access at) = at.memory
+accessed _ = 0
+
+-- an access with that bit requires several memories (Memory Instructions)
+abbrev pub IsAccessEnabled : Features → Instr → Type 0
+IsAccessEnabled features instruction = (accessed instruction ≡ 0 → ⊥) → IsTrue features.multi_memory
+
+-- the groups of types, the segments and the accesses of a module and its bodies are in forms that its
+-- features enable, as they are written
+pub record AreFormsEnabled (m : ModuleParts) (bodies : List Body) : Type 0 where
+  pub groups : All (λ (group : Range ℕ). IsGroupFormEnabled (module_features m) (group_at m.types group)) m.groups
+  pub elems : All (λ (e : ElementSegment). IsElemFormEnabled (module_features m) (elem_form e.items e.ty e.kind)) m.elems
+  pub datas : All (λ (d : DataSegment). IsDataFormEnabled (module_features m) (data_form d.kind)) m.datas
+  pub accesses : AreBodiesBy (λ (place : ℕ) (code : Code). All (IsAccessEnabled (module_features m))) m bodies

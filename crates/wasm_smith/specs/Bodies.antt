@@ -1,0 +1,8 @@
+-- The bodies of a module: the section Structure, Functions, of the WebAssembly Core Specification 3.0.
+use Rattle.std.specs.Prelude.{◌≡◌, ℕ, ◌≤◌, List, length}
+use Rattle.smith_syntax.specs.declared.code.Code.{Code}
+
+-- a body for each of this number of functions, which are the last ones (Functions)
+pub record HasBodies (defined : ℕ) (funcs : List ℕ) (code : List Code) : Type 0 where
+  pub each : length code ≡ defined
+  pub among : defined ≤ length funcs
