@@ -7,8 +7,8 @@ use Rattle.smith_body.specs.Bodies.{drawing_at, statement_at}
 use Rattle.smith_syntax.specs.FeatureBits.{features_in}
 use Rattle.smith_body.specs.DraftSteps.{state_of}
 use Rattle.smith_body_nodes.proofs.StopLemmas.{node_goes_on}
-use Rattle.smith_body_nodes.specs.Nodes.{label_of, opened}
-use Rattle.smith_body_nodes.specs.Scopes.{bare}
+use Rattle.smith_body_nodes.specs.Nodes.{IsNode, label_of, opened}
+use Rattle.smith_body_nodes.specs.Scopes.{bare, where_stands}
 use Rattle.smith_body.proofs.ExactLemmas.{all_left, chosen_ending, chosen_statement, chosen_value, deep_statements, drops_written, enclosed_exact, ending_next, forbidden_ending, forbidden_statement, head_enclosed, head_if, head_try, if_exact, inside_exact, last_statements, last_value, next_value, no_ending, no_values, node_exact, none_left, one_less, other_value, plain_exact, results_dead, results_drawn, results_ended, results_still, stopped, unpaid_value}
 use Rattle.smith_instr.specs.declared.instr.Instr.TheVariants as instr
 use Rattle.smith_body_nodes.proofs.NodeLemmas.{no_valid}
@@ -197,7 +197,7 @@ draw_results-returns-then-not-ends-clause-drawn t c = on_ok_weaker c.draw_values
 
 pub draw_results-returns-then-not-ended-clause-drawn : goal.draw_results-returns-then-not-ended-clause-drawn
 draw_results-returns-then-not-ended-clause-drawn t c =
-    on_ok_weaker c.draw_values-2.result (λ values. drawn_within (omega arith) (drawn_then (drawn_then c.in_ok-ends.ensures.drawn c.in_ok-ended.ensures.drawn) values)) c.draw_values-2.ensures.drawn
+    on_ok_weaker c.draw_values-then-not-ended.result (λ values. drawn_within (omega arith) (drawn_then (drawn_then c.in_ok-ends.ensures.drawn c.in_ok-ended.ensures.drawn) values)) c.draw_values-then-not-ended.ensures.drawn
 
 pub draw_results-returns-then-number-lt7-clause-drawn : goal.draw_results-returns-then-number-lt7-clause-drawn
 draw_results-returns-then-number-lt7-clause-drawn t c =
@@ -205,8 +205,8 @@ draw_results-returns-then-number-lt7-clause-drawn t c =
 
 pub draw_results-returns-clause-drawn : goal.draw_results-returns-clause-drawn
 draw_results-returns-clause-drawn t c =
-    on_ok_weaker c.draw_values-3.result
-    (λ values. drawn_within (omega arith) (drawn_then (drawn_then (drawn_then c.in_ok-ends.ensures.drawn c.in_ok-ended.ensures.drawn) c.in_ok-_ends.ensures.drawn) values)) c.draw_values-3.ensures.drawn
+    on_ok_weaker c.draw_values-2.result
+    (λ values. drawn_within (omega arith) (drawn_then (drawn_then (drawn_then c.in_ok-ends.ensures.drawn c.in_ok-ended.ensures.drawn) c.in_ok-_ends.ensures.drawn) values)) c.draw_values-2.ensures.drawn
 
 pub draw_results-returns-then-not-ends-clause-exact : goal.draw_results-returns-then-not-ends-clause-exact
 draw_results-returns-then-not-ends-clause-exact t c =
@@ -214,8 +214,8 @@ draw_results-returns-then-not-ends-clause-exact t c =
 
 pub draw_results-returns-then-not-ended-clause-exact : goal.draw_results-returns-then-not-ended-clause-exact
 draw_results-returns-then-not-ended-clause-exact t c =
-    on_ok_weaker c.draw_values-2.result
-    (λ is. results_still (drawing_at c.args.scope.now.config.now c.args.depth) c.args.wanted.now (state_of c.args.scope.now c.args.draft.now c.args.u.now) _ _ (rw c.if-not-ends.false at c.in_ok-ends.ensures.exact) (rw c.if-not-ended.true at c.in_ok-ended.ensures.exact) ∙ is) c.draw_values-2.ensures.exact
+    on_ok_weaker c.draw_values-then-not-ended.result
+    (λ is. results_still (drawing_at c.args.scope.now.config.now c.args.depth) c.args.wanted.now (state_of c.args.scope.now c.args.draft.now c.args.u.now) _ _ (rw c.if-not-ends.false at c.in_ok-ends.ensures.exact) (rw c.if-not-ended.true at c.in_ok-ended.ensures.exact) ∙ is) c.draw_values-then-not-ended.ensures.exact
 
 pub draw_results-returns-then-number-lt7-clause-exact : goal.draw_results-returns-then-number-lt7-clause-exact
 draw_results-returns-then-number-lt7-clause-exact t c =
@@ -226,11 +226,16 @@ pub draw_results-returns-clause-exact : goal.draw_results-returns-clause-exact
 draw_results-returns-clause-exact t c =
     let seven : c.int_in_range-number.result ≡ 7 = omega (arith, c.int_in_range-number.ensures.within, c.new.ensures.start, c.new.ensures.end, c.if-number-lt7.false) in
     let drawn = rw (c.new.ensures.start, c.new.ensures.end, seven) at c.int_in_range-number.ensures.exact in
-    on_ok_weaker c.draw_values-3.result
-    (λ is. results_dead (drawing_at c.args.scope.now.config.now c.args.depth) c.args.wanted.now (state_of c.args.scope.now c.args.draft.now c.args.u.now) _ _ _ _ _ (rw c.if-not-ends.false at c.in_ok-ends.ensures.exact) (rw c.if-not-ended.false at c.in_ok-ended.ensures.exact) drawn c.in_ok-_ends.ensures.exact ∙ is) c.draw_values-3.ensures.exact
+    on_ok_weaker c.draw_values-2.result
+    (λ is. results_dead (drawing_at c.args.scope.now.config.now c.args.depth) c.args.wanted.now (state_of c.args.scope.now c.args.draft.now c.args.u.now) _ _ _ _ _ (rw c.if-not-ends.false at c.in_ok-ends.ensures.exact) (rw c.if-not-ended.false at c.in_ok-ended.ensures.exact) drawn c.in_ok-_ends.ensures.exact ∙ is) c.draw_values-2.ensures.exact
+
+pub draw_ending-draw_node-requires : goal.draw_ending-draw_node-requires
+draw_ending-draw_node-requires t c =
+    let fits : IsNode (where_stands c.args.scope.now c.args.draft.now) c.args.draft.now.set.items [] c.in-Some.node = rw c.in-Some.is at (c.in_ok-chosen.ensures.offer [] (no_valid (bare c.args.scope.now))) in
+    (omega (arith, c.requires.deep), (c.requires.scope, (c.requires.labels, (fits.valid, (fits.inside, (c.is_node_allowed.ensures.allowed c.if-not-is_node_allowed.false, c.requires.paid))))))
 
 pub draw_ending-returns-in_default-clause-exact : goal.draw_ending-returns-in_default-clause-exact
-draw_ending-returns-in_default-clause-exact t c = no_ending c.args.scope.now.config.now c.args.depth (state_of c.args.scope.now c.args.draft.now c.args.u.now) _ c.requires.deep c.in_ok-chosen.ensures.exact
+draw_ending-returns-in_default-clause-exact t c = no_ending c.args.scope.now.config.now c.args.depth (state_of c.args.scope.now c.args.draft.now c.args.u.now) _ c.requires.deep (rw c.in_default.is at c.in_ok-chosen.ensures.exact)
 
 pub draw_ending-returns-then-not-is_node_allowed-clause-exact : goal.draw_ending-returns-then-not-is_node_allowed-clause-exact
 draw_ending-returns-then-not-is_node_allowed-clause-exact t c =
