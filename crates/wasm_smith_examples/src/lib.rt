@@ -10,6 +10,7 @@ mod element_segments;
 mod exports;
 mod first_faulty;
 mod first_parts;
+mod fuel_export;
 mod imports;
 mod reach;
 mod start;
