@@ -28,8 +28,9 @@
  * the rules above.
  *
  * A function may run forever, even the start function. The member {"fuel": N} adds a global that counts down from N, at each call and at
- * each iteration of a loop, and a trap at 0. {"max-instructions": 0} makes every body but raw ones `unreachable`. Else whoever
- * instantiates a module should set a time limit.
+ * each iteration of a loop, and a trap at 0. With {"fuel-export": true} beside it, the last export is that global, a mutable i32 that can
+ * be set again before a call. {"max-instructions": 0} makes every body but raw ones `unreachable`. Else whoever instantiates a module should
+ * set a time limit.
  */
 #ifndef SMITH_H
 #define SMITH_H

@@ -1,5 +1,5 @@
 -- Programs that are valid.
-use Rattle.std.proofs.Common.{arith, ◌≡◌, ℕ, ◌<◌, List, ◌∷◌, ◌++◌, length, get_or, sym, subst}
+use Rattle.std.proofs.Common.{arith, ◌≡◌, ℕ, ◌<◌, List, ◌∷◌, ◌++◌, length, get_or, Ok, refl, sym, subst}
 use Rattle.std.specs.Prelude.{All, Any, IsTrue}
 use Rattle.std.proofs.lemmas.Bool.{and_parts, false≢true}
 use Rattle.std.proofs.lemmas.List.Elements.{All-nil, All-cons, All-append, All-weaker}
@@ -25,14 +25,17 @@ use Rattle.smith_instr.specs.declared.memory.MemoryInstr.TheVariants as memory
 use Rattle.smith_instr.specs.declared.reference.ReferenceInstr.{ReferenceInstr}
 use Rattle.smith_instr.specs.declared.reference.ReferenceInstr.TheVariants as reference
 use Rattle.smith_body_nodes.specs.Scopes.{kinds_of_bodies}
+use Rattle.wasm_smith.specs.FuelExport.{with_fuel_export}
 use Rattle.wasm_smith.specs.Termination.{AddsCounter}
 use Rattle.wasm_smith.proofs.CountingLemmas.{adds_valid}
+use Rattle.wasm_smith.proofs.FuelExportLemmas.{exported_valid}
 use Rattle.smith_program.specs.Bodies.{AreBodiesBy, AreBodiesOf, AreDrawnBodies, IsBodyAt, IsDrawnAt, IsOfBody}
 use Rattle.smith_program.specs.References.{references_of}
 use Rattle.smith_program.specs.Valid.{HaveAll, HasOne, IsDeclared, IsValidProgram}
 use Rattle.smith_program.specs.declared.program.Body.{Body}
 use Rattle.smith_program.specs.declared.program.Body.TheVariants as body
 use Rattle.smith_program.proofs.DrawnBodiesLemmas.{code_there}
+use Rattle.smith_program.proofs.FuelExportLemmas.{exporting_bodies}
 use Rattle.smith_program.proofs.TerminationLemmas.{counted_bodies, still_bodies}
 
 -- an instruction names declared functions, and no data segment if there is none
@@ -167,3 +170,9 @@ pub counted_valid : (fuel index : ℕ) (old new : ModuleParts) (bodies : List Bo
 counted_valid fuel index old new bodies adds program =
     program_valid new bodies (adds_valid fuel index old new adds program.valid) (still_bodies fuel index old new bodies adds program.typed)
     (subst (λ (m : ModuleParts). All (HaveAll (Enabled m)) bodies) (sym adds.added) program.enabled)
+
+-- a valid program stays valid with the export of a global
+pub exported_program_valid : (index : ℕ) (m : ModuleParts) (bodies : List Body) → index < length m.globals → IsValidProgram m bodies → IsValidProgram (with_fuel_export index m) bodies
+exported_program_valid index m bodies within program =
+    let new = with_fuel_export index m in
+    program_valid new bodies (exported_valid index m new (Ok tt) refl within program.valid) (exporting_bodies index m new (Ok tt) bodies refl program.typed) program.enabled

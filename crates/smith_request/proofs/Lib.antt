@@ -1,1 +1,2 @@
 pub mod ValidLemmas
+pub mod FuelLemmas

@@ -1,22 +1,51 @@
 -- What is written is a valid program.
-use Rattle.std.proofs.Common.{ℕ, Option, Some, None, List, sym, subst}
+use Rattle.std.proofs.Common.{◌≡◌, ℕ, ◌<◌, Bool, true, false, Option, Some, None, List, [], ◌∷◌, length, length-append, refl, ap, arith, sym, subst}
 use Rattle.smith_config.specs.declared.config.Config.{Config}
+use Rattle.smith_module_rules.specs.Module.{ModuleParts}
+use Rattle.wasm_smith.specs.FuelExport.{with_fuel_export}
+use Rattle.wasm_smith.specs.Termination.{AddsCounter, counter}
 use Rattle.smith_program.specs.Valid.{IsValidProgram}
 use Rattle.smith_program.specs.Parts.{ProgramParts}
-use Rattle.smith_program.proofs.ValidLemmas.{counted_valid}
+use Rattle.smith_program.specs.declared.program.Body.{Body}
+use Rattle.smith_program.proofs.ValidLemmas.{counted_valid, exported_program_valid}
 use Rattle.smith_binary_program.specs.Valid.{IsValidBinary}
 use Rattle.smith_binary_program.proofs.ValidLemmas.{encoded_valid}
-use Rattle.smith_request.specs.Output.{IsBinaryOf, IsBinaryWith, IsCounted}
+use Rattle.smith_request.specs.Output.{IsBinaryOf, IsBinaryWith, IsCounted, IsExporting, IsFuelled}
+use Rattle.smith_request.specs.declared.manner.Fuel.{Fuel}
 
 -- a valid program is valid with a counter
-with_counter : (fuel : ℕ) (program counted : ProgramParts) → IsCounted fuel program counted → IsValidProgram program.«module» program.bodies → IsValidProgram counted.«module» counted.bodies
+with_counter : (fuel : ℕ) (program counted : ProgramParts) → IsCounted fuel program counted → IsValidProgram program.«module» program.bodies
+    → IsValidProgram counted.«module» counted.bodies
 with_counter fuel program counted has valid =
     subst (IsValidProgram counted.«module») (sym has.bodies) (counted_valid fuel has.index program.«module» counted.«module» program.bodies has.added.1 valid)
 
-written_valid : (fuel : Option ℕ) (program : ProgramParts) (bytes : List ℕ) → IsBinaryWith fuel program bytes → IsValidProgram program.«module» program.bodies → IsValidBinary bytes
+-- the counter is a global
+counter_there : (fuel index : ℕ) (old new : ModuleParts) → AddsCounter fuel index old new → index < length new.globals
+counter_there fuel index old new adds =
+    let more = ap (λ (m : ModuleParts). length m.globals) adds.added in
+    let appended = length-append old.globals (counter ∷ []) in
+    omega (arith, more, appended, adds.last)
+
+-- a valid program is valid with the export of its counter
+with_export : (is_exported : Bool) (index : ℕ) (counted fuelled : ProgramParts) → IsExporting is_exported index counted fuelled → index < length counted.«module».globals
+    → IsValidProgram counted.«module» counted.bodies → IsValidProgram fuelled.«module» fuelled.bodies
+with_export true index counted fuelled has within valid =
+    subst (λ (m : ModuleParts). IsValidProgram m fuelled.bodies) (sym has.exported)
+    (subst (IsValidProgram (with_fuel_export index counted.«module»)) (sym has.bodies) (exported_program_valid index counted.«module» counted.bodies within valid))
+with_export false index counted fuelled has within valid =
+    subst (λ (m : ModuleParts). IsValidProgram m fuelled.bodies) (sym has.exported) (subst (IsValidProgram counted.«module») (sym has.bodies) valid)
+
+with_fuel : (fuel : Fuel) (program fuelled : ProgramParts) → IsFuelled fuel program fuelled → IsValidProgram program.«module» program.bodies
+    → IsValidProgram fuelled.«module» fuelled.bodies
+with_fuel fuel program fuelled has valid =
+    with_export fuel.is_exported has.has_counter.index has.counted fuelled has.exporting
+    (counter_there fuel.amount has.has_counter.index program.«module» has.counted.«module» has.has_counter.added.1)
+    (with_counter fuel.amount program has.counted has.has_counter valid)
+
+written_valid : (fuel : Option Fuel) (program : ProgramParts) (bytes : List ℕ) → IsBinaryWith fuel program bytes → IsValidProgram program.«module» program.bodies → IsValidBinary bytes
 written_valid None program bytes encoded valid = encoded_valid program.«module» program.bodies bytes encoded valid
 written_valid (Some fuel) program bytes h valid =
-    encoded_valid h.counted.«module» h.counted.bodies bytes h.encoded (with_counter fuel program h.counted h.has_counter valid)
+    encoded_valid h.counted.«module» h.counted.bodies bytes h.encoded (with_fuel fuel program h.counted h.has_counter valid)
 
-pub binary_valid : (config : Config) (fuel : Option ℕ) (input bytes left : List ℕ) → IsBinaryOf config fuel input bytes left → IsValidBinary bytes
+pub binary_valid : (config : Config) (fuel : Option Fuel) (input bytes left : List ℕ) → IsBinaryOf config fuel input bytes left → IsValidBinary bytes
 binary_valid config fuel input bytes left h = written_valid fuel h.program bytes h.encoded h.drawn.valid

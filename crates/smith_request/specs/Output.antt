@@ -1,16 +1,18 @@
 -- The bytes that are written for a configuration, a fuel and an input.
-use Rattle.std.specs.Prelude.{◌≡◌, ◌≤◌, ◌-◌, ◌^◌, ℕ, Option, Some, None, List, Ok, Err, length}
+use Rattle.std.specs.Prelude.{◌≡◌, ◌≤◌, ◌-◌, ◌^◌, ℕ, Bool, Option, Some, None, List, Ok, Err, length, if◌then◌else◌}
 use Rattle.std.specs.Str.{IsUtf8}
 use Rattle.smith_binary.specs.Faults.{IsFault}
 use Rattle.smith_binary.specs.declared.error.EncodeError.TheVariants.{Memory, TooLong}
 use Rattle.smith_bytes.specs.declared.error.Error.{Error}
 use Rattle.smith_config.specs.declared.config.Config.{Config}
+use Rattle.wasm_smith.specs.FuelExport.{with_fuel_export}
 use Rattle.wasm_smith.specs.Termination.{AnswersCounter, MayAddNone}
 use Rattle.smith_program.specs.Generated.{IsProgram}
 use Rattle.smith_program.specs.Parts.{ProgramParts as Program}
 use Rattle.smith_binary_program.specs.Long.{IsLongProgram}
 use Rattle.smith_binary_program.specs.Programs.{IsEncoded}
 use Rattle.smith_request.specs.declared.manner.Form.{Form}
+use Rattle.smith_request.specs.declared.manner.Fuel.{Fuel}
 use Rattle.smith_request.specs.declared.manner.Form.TheVariants.{Binary, Text}
 use Rattle.smith_request.specs.declared.refusal.Refusal.{Refusal}
 use Rattle.smith_request.specs.declared.refusal.Refusal.TheVariants.{NotUtf8, Config as of_config, Module, Encoding}
@@ -21,14 +23,25 @@ pub record IsCounted (fuel : ℕ) (program counted : Program) : Type 0 where
   pub added : AnswersCounter fuel program.«module» counted.«module» (Ok index)
   pub bodies : counted.bodies ≡ program.bodies
 
--- the bytes are written for such a program
-pub record IsCountedBinary (fuel : ℕ) (program : Program) (bytes : List ℕ) : Type 0 where
+-- a program that exports its global of this index, if it is to, and the same bodies
+pub record IsExporting (is_exported : Bool) (index : ℕ) (program exporting : Program) : Type 0 where
+  pub exported : exporting.«module» ≡ (if is_exported then with_fuel_export index program.«module» else program.«module»)
+  pub bodies : exporting.bodies ≡ program.bodies
+
+-- a program with a counter of this fuel, which is exported if it is to be
+pub record IsFuelled (fuel : Fuel) (program fuelled : Program) : Type 0 where
   pub counted : Program
-  pub has_counter : IsCounted fuel program counted
+  pub has_counter : IsCounted fuel.amount program counted
+  pub exporting : IsExporting fuel.is_exported has_counter.index counted fuelled
+
+-- the bytes are written for such a program
+pub record IsCountedBinary (fuel : Fuel) (program : Program) (bytes : List ℕ) : Type 0 where
+  pub counted : Program
+  pub has_counter : IsFuelled fuel program counted
   pub encoded : IsEncoded counted.«module» counted.bodies bytes
 
 -- the bytes are written for a program, with a counter if there is a fuel
-abbrev pub IsBinaryWith : Option ℕ → Program → List ℕ → Type 0
+abbrev pub IsBinaryWith : Option Fuel → Program → List ℕ → Type 0
 IsBinaryWith None program bytes = IsEncoded program.«module» program.bodies bytes
 IsBinaryWith (Some fuel) program bytes = IsCountedBinary fuel program bytes
 
@@ -45,40 +58,35 @@ IsUnwritten form program NotUtf8 = ⊥
 IsUnwritten form program (of_config _) = ⊥
 IsUnwritten form program (Module _) = ⊥
 
--- a program is not written with a counter: none is added, because a body is raw bytes or for lack
--- of memory; or no index is left for it; or the program with its counter is not written
-pub data IsUncounted (form : Form) (fuel : ℕ) (program : Program) (refusal : Refusal) : Type 0 where
+-- a program is not written with a counter: none is added and exported, because a body is raw bytes
+-- or for lack of memory; or no index is left for it; or the program with its counter is not written
+pub data IsUncounted (form : Form) (fuel : Fuel) (program : Program) (refusal : Refusal) : Type 0 where
   not_added : {e : Error} → MayAddNone program.«module» e → refusal ≡ Module e → IsUncounted form fuel program refusal
   no_index : 2 ^ 32 - 1 ≤ length program.«module».globals → refusal ≡ Encoding TooLong → IsUncounted form fuel program refusal
-  not_written : {counted : Program} → IsCounted fuel program counted → IsUnwritten form counted refusal → IsUncounted form fuel program refusal
+  not_written : {counted : Program} → IsFuelled fuel program counted → IsUnwritten form counted refusal → IsUncounted form fuel program refusal
 
 -- a program is not written, with a counter if there is a fuel
-abbrev pub IsUnwrittenWith : Form → Option ℕ → Program → Refusal → Type 0
+abbrev pub IsUnwrittenWith : Form → Option Fuel → Program → Refusal → Type 0
 IsUnwrittenWith form None program refusal = IsUnwritten form program refusal
 IsUnwrittenWith form (Some fuel) program refusal = IsUncounted form fuel program refusal
 
 -- the bytes are written for a program that the generator draws from the configuration and the
 -- input, with these bytes of the input left
-pub record IsBinaryOf (config : Config) (fuel : Option ℕ) (input bytes left : List ℕ) : Type 0 where
+pub record IsBinaryOf (config : Config) (fuel : Option Fuel) (input bytes left : List ℕ) : Type 0 where
   pub program : Program
   pub drawn : IsProgram config input (Ok program) left
   pub encoded : IsBinaryWith fuel program bytes
 
 -- a refusal is the generator's for the configuration and the input; or the drawn program is not
 -- written
-pub data IsRefusedFor (form : Form) (config : Config) (fuel : Option ℕ) (input left : List ℕ) (refusal : Refusal) : Type 0 where
+pub data IsRefusedFor (form : Form) (config : Config) (fuel : Option Fuel) (input left : List ℕ) (refusal : Refusal) : Type 0 where
   not_drawn : {e : Error} → IsProgram config input (Err e) left → refusal ≡ Module e → IsRefusedFor form config fuel input left refusal
   not_written : {program : Program} → IsProgram config input (Ok program) left → IsUnwrittenWith form fuel program refusal →
       IsRefusedFor form config fuel input left refusal
 
--- the bytes are a text, and a program has a counter if there is a fuel
-abbrev pub IsTextWith : Option ℕ → Program → List ℕ → Type 0
-IsTextWith None program bytes = IsText bytes
-IsTextWith (Some fuel) program bytes = IsText bytes × ((counted : Program) × IsCounted fuel program counted)
-
 -- the generator draws a program from the configuration and the input, with these bytes of the input
--- left, and the bytes are a text, for that program with a counter if there is a fuel
-pub record IsWrittenText (config : Config) (fuel : Option ℕ) (input bytes left : List ℕ) : Type 0 where
+-- left, and the bytes are a text
+pub record IsWrittenText (config : Config) (input bytes left : List ℕ) : Type 0 where
   pub program : Program
   pub drawn : IsProgram config input (Ok program) left
-  pub is_text : IsTextWith fuel program bytes
+  pub is_text : IsText bytes

@@ -1,11 +1,13 @@
 -- What the text of a configuration requests, and the program that it and an input produce.
-use Rattle.std.specs.Prelude.{◌≡◌, ℕ, List, [], ◌∷◌, Option, None, Ok}
+use Rattle.std.specs.Prelude.{◌≡◌, ℕ, List, [], ◌∷◌, Option, None, option_map, Ok}
 use Rattle.json.specs.Lex.{tokens}
+use Rattle.json.specs.Token.{Token}
 use Rattle.smith_config.specs.Config.{default_config}
 use Rattle.smith_config.specs.declared.config.Config.{Config}
-use Rattle.smith_config_json.specs.Members.{fuel_in}
+use Rattle.smith_config_json.specs.Members.{fuel_in, is_fuel_exported_in}
 use Rattle.smith_config_json.specs.Objects.{ReadsText}
 use Rattle.smith_request.specs.Output.{IsBinaryOf, IsWrittenText}
+use Rattle.smith_request.specs.declared.manner.Fuel.{Fuel}
 use Rattle.smith_request.specs.declared.request.Request.{Request}
 
 -- the configuration of a text: the default one if the text is empty, else that of the JSON object
@@ -13,10 +15,14 @@ pub data IsConfigured (text : List ℕ) (config : Config) : Type 0 where
   by_default : text ≡ [] → config ≡ default_config → IsConfigured text config
   read : ReadsText text (Ok config) → IsConfigured text config
 
+-- the fuel of a JSON object, exported if the object says so
+abbrev pub fuel_of_tokens : List Token → Option Fuel
+fuel_of_tokens ts = option_map (λ amount. record { amount = amount; is_exported = is_fuel_exported_in ts }) (fuel_in ts)
+
 -- the fuel of a text: none if the text is empty, else that of the JSON object
-abbrev pub fuel_of : List ℕ → Option ℕ
+abbrev pub fuel_of : List ℕ → Option Fuel
 fuel_of [] = None
-fuel_of (b ∷ bytes) = fuel_in (tokens (b ∷ bytes))
+fuel_of (b ∷ bytes) = fuel_of_tokens (tokens (b ∷ bytes))
 
 -- what a text requests
 pub record IsRequest (text : List ℕ) (request : Request) : Type 0 where
@@ -39,4 +45,4 @@ pub record IsTextOf (text input bytes : List ℕ) : Type 0 where
   pub config : Config
   pub configured : IsConfigured text config
   pub left : List ℕ
-  pub written : IsWrittenText config (fuel_of text) input bytes left
+  pub written : IsWrittenText config input bytes left

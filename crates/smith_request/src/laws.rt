@@ -3,6 +3,7 @@ ghost use Rattle.smith_config.specs.declared.config.Config.{Config};
 ghost use Rattle.smith_binary_program.specs.Valid.{IsValidBinary};
 ghost use Rattle.smith_request.specs.Output.{IsBinaryOf};
 ghost use Rattle.smith_request.specs.Requests.{IsBinary};
+ghost use Rattle.smith_request.specs.declared.manner.Fuel.{Fuel};
 
 /// States that the bytes that [`output`] and [`binary`] write in the binary format are a valid
 /// program, and no other one.
@@ -10,7 +11,7 @@ ghost use Rattle.smith_request.specs.Requests.{IsBinary};
 /// [`output`]: crate::output
 /// [`binary`]: crate::binary
 pub fn binaries_are_valid()
-    ensures of_a_configuration { (config : Config) (fuel : Option ℕ) (input bytes left : List ℕ)
+    ensures of_a_configuration { (config : Config) (fuel : Option Fuel) (input bytes left : List ℕ)
         → IsBinaryOf config fuel input bytes left → IsValidBinary bytes }
     ensures of_a_text { (text input bytes : List ℕ) → IsBinary text input bytes
         → IsValidBinary bytes }

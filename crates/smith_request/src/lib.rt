@@ -12,6 +12,6 @@ mod refusal;
 mod request;
 mod writers;
 
-pub use manner::{Form, Manner, output};
+pub use manner::{Form, Fuel, Manner, output, write_program};
 pub use refusal::Refusal;
 pub use request::{Request, binary, text};

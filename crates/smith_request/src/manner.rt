@@ -1,14 +1,15 @@
-ghost use Rattle.std.specs.Prelude.{◌≡◌, ◌<◌, ◌-◌, ◌^◌, Some, IfOk, IfErr, length};
+ghost use Rattle.std.specs.Prelude.{◌≡◌, ◌<◌, ◌-◌, ◌^◌, IfOk, IfErr, OnOk, length};
+ghost use Rattle.wasm_smith.specs.Termination.{MayAddNone};
 ghost use Rattle.smith_binary_program.specs.Programs.{IsEncoded};
 ghost use Rattle.smith_request.specs.Output.{IsBinaryOf, IsBinaryWith, IsRefusedFor};
-ghost use Rattle.smith_request.specs.Output.{IsCountedBinary, IsText, IsTextWith, IsWrittenText};
+ghost use Rattle.smith_request.specs.Output.{IsFuelled, IsCountedBinary, IsText, IsWrittenText};
 ghost use Rattle.smith_request.specs.Output.{IsUncounted, IsUnwritten, IsUnwrittenWith};
 ghost use Rattle.smith_request.specs.declared.manner.Form.TheVariants.{Binary, Text};
 
 use crate::refusal::Refusal;
 use crate::writers::{write_binary, write_text};
 use smith_binary::EncodeError;
-use smith_bytes::Unstructured;
+use smith_bytes::{Error, Unstructured};
 use smith_config::Config;
 use smith_program::Program;
 use std::alloc::Global;
@@ -22,14 +23,22 @@ pub enum Form {
     Text,
 }
 
+/// The count of the calls and the iterations of loops of a program.
+#[derive(Clone, Copy, Debug, PartialEq, Eq)]
+pub struct Fuel {
+    /// The number after which a program without raw bodies traps.
+    pub amount: u32,
+    /// Whether the global that counts is exported.
+    pub is_exported: bool,
+}
+
 /// The manner of writing a module.
 #[derive(Clone, Copy, Debug, PartialEq, Eq)]
 pub struct Manner {
     /// The format.
     pub form: Form,
-    /// The number of calls and of iterations of loops after which a program without raw bodies
-    /// traps, if they are counted.
-    pub fuel: Option<u32>,
+    /// The count of calls and of iterations of loops, if there is one.
+    pub fuel: Option<Fuel>,
 }
 
 /// Draws a program from the bytes of `u` under `config`, as [`Program::new`] does, adds a count of
@@ -63,11 +72,14 @@ pub fn output(
 
 /// Writes `program` in the form of `manner`, with a count of its calls and of its iterations of
 /// loops if `manner` has one.
-fn write_program(alloc: Global, program: Program, manner: Manner) -> Result<Vec<u8>, Refusal>
+///
+/// # Errors
+///
+/// Those of [`output`] for a program that is drawn.
+pub fn write_program(alloc: Global, program: Program, manner: Manner) -> Result<Vec<u8>, Refusal>
     ensures binary { manner.form ≡ Binary
         → IfOk result (λ bytes. IsBinaryWith manner.fuel program bytes.items) }
-    ensures text { manner.form ≡ Text
-        → IfOk result (λ bytes. IsTextWith manner.fuel program bytes.items) }
+    ensures text { manner.form ≡ Text → IfOk result (λ bytes. IsText bytes.items) }
     ensures refused { IfErr result (IsUnwrittenWith manner.form manner.fuel program) }
 {
     match manner.fuel {
@@ -80,25 +92,38 @@ fn write_program(alloc: Global, program: Program, manner: Manner) -> Result<Vec<
     }
 }
 
+/// Adds a global to `program` that counts its calls and its iterations of loops down, and exports it
+/// if `fuel` says so.
+fn add_counter(alloc: Global, program: &mut Program, fuel: Fuel) -> Result<(), Error>
+    requires room { length program.old.«module».globals < 2 ^ 32 - 1 }
+    ensures counted { OnOk result (IsFuelled fuel program.old program.new) }
+    ensures refused { IfErr result (MayAddNone program.old.«module») }
+{
+    let index = program.ensure_termination(alloc, fuel.amount)?;
+    if fuel.is_exported {
+        return program.export_fuel(alloc, index);
+    }
+    Ok(())
+}
+
 /// Writes `program` in the form `form`, with a global that counts its calls and its iterations of
-/// loops down from `fuel`.
+/// loops, as `fuel` says.
 fn write_counted(
     alloc: Global,
     mut program: Program,
-    fuel: u32,
+    fuel: Fuel,
     form: Form,
 ) -> Result<Vec<u8>, Refusal>
     ensures binary { form ≡ Binary
         → IfOk result (λ bytes. IsCountedBinary fuel program bytes.items) }
-    ensures text { form ≡ Text
-        → IfOk result (λ bytes. IsTextWith (Some fuel) program bytes.items) }
+    ensures text { form ≡ Text → IfOk result (λ bytes. IsText bytes.items) }
     ensures refused { IfErr result (IsUncounted form fuel program) }
 {
     if program.module().globals().len() >= u32::MAX as usize {
         return Err(Refusal::Encoding(EncodeError::TooLong));
     }
-    match program.ensure_termination(alloc, fuel) {
-        Ok(_index) => {
+    match add_counter(alloc, &mut program, fuel) {
+        Ok(()) => {
             let bytes = write_in(alloc, &program, form);
             drop(program);
             bytes

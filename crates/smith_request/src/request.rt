@@ -1,15 +1,16 @@
 ghost use Rattle.std.specs.Prelude.{◌≡◌, ◌≢◌, [], IfOk, IfErr};
 ghost use Rattle.smith_config_json.specs.declared.fault.Fault.TheVariants.{OutOfMemory};
-ghost use Rattle.smith_request.specs.Requests.{IsBinary, IsRequest, IsTextOf};
+ghost use Rattle.smith_request.specs.Requests.{IsBinary, IsRequest, IsTextOf, fuel_of_tokens};
+ghost use Rattle.json.specs.Lex.{tokens};
 ghost use Rattle.smith_request.specs.Refusals.{IsRefusal, IsUnread};
 ghost use Rattle.smith_request.specs.declared.manner.Form.TheVariants.{Binary, Text};
 
-use crate::manner::{Form, Manner, output};
+use crate::manner::{Form, Fuel, Manner, output};
 use crate::refusal::Refusal;
 use smith_bytes::Unstructured;
 use smith_config::Config;
-use smith_config_json::{ConfigRefusal, Fault};
-use std::alloc::Global;
+use smith_config_json::{ConfigRefusal, Fault, is_fuel_exported};
+use std::alloc::{AllocError, Global};
 use std::str;
 
 /// What the text of a configuration requests.
@@ -17,9 +18,8 @@ use std::str;
 pub struct Request {
     /// The configuration.
     pub config: Config,
-    /// The number of calls and of iterations of loops after which a program traps, if they are
-    /// counted.
-    pub fuel: Option<u32>,
+    /// The count of calls and of iterations of loops, if there is one.
+    pub fuel: Option<Fuel>,
 }
 
 /// Returns the refusal of a configuration for lack of memory.
@@ -34,6 +34,20 @@ fn no_memory(alloc: Global) -> ConfigRefusal
     }
 }
 
+/// Finds the fuel of the object in `text`.
+fn requested_fuel(alloc: Global, text: &str) -> Result<Option<Fuel>, AllocError>
+    ensures { IfOk result (λ fuel. fuel ≡ fuel_of_tokens (tokens text.now)) }
+{
+    let Some(amount) = smith_config_json::fuel(alloc, text)? else {
+        return Ok(None);
+    };
+    let is_exported = is_fuel_exported(alloc, text)?;
+    Ok(Some(Fuel {
+        amount,
+        is_exported,
+    }))
+}
+
 /// Reads what `text` requests, which is not empty.
 fn parse(alloc: Global, text: &str) -> Result<Request, Refusal>
     requires some { text.now ≢ [] }
@@ -41,7 +55,7 @@ fn parse(alloc: Global, text: &str) -> Result<Request, Refusal>
     ensures refused { IfErr result (IsUnread text.now) }
 {
     match smith_config_json::config(alloc, text) {
-        Ok(config) => match smith_config_json::fuel(alloc, text) {
+        Ok(config) => match requested_fuel(alloc, text) {
             Ok(fuel) => Ok(Request { config, fuel }),
             Err(_) => Err(Refusal::Config(no_memory(alloc))),
         },
@@ -86,7 +100,7 @@ fn write(alloc: Global, text: &[u8], input: &[u8], form: Form) -> Result<Vec<u8>
 /// Draws a program from `input`, for the configuration in `text`, and writes it in the binary
 /// format: the module, and then, from the bytes left, a body for each function that it defines. If
 /// the configuration has fuel, the module has a global that counts calls and iterations of loops
-/// down from it.
+/// down from it, exported if the configuration says so.
 ///
 /// # Errors
 ///

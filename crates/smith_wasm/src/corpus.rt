@@ -1,8 +1,9 @@
 use crate::configuration::check_config;
+use crate::counts::{Counts, KINDS};
 use crate::failure::Failure;
 use crate::files::{make_folder, write_whole_file};
-use crate::request::{Request, module_of};
-use crate::words::{COUNT, SEED, SIZE, UNTIL, VERBOSE};
+use crate::request::{Made, Request, module_of};
+use crate::words::{COUNT, INPUTS, SEED, SIZE, UNTIL, VERBOSE};
 use rand_core::{Rng, SeedableRng};
 use rand_xoshiro::Xoshiro256PlusPlus;
 use smith_request::{Form, Refusal};
@@ -14,8 +15,11 @@ const DEFAULT_SIZE: u32 = 4096;
 // The number of a refusal for lack of memory.
 const NO_MEMORY: u32 = 2;
 
-// The number of inputs from one line of progress to the next.
+// The number of inputs from one bar of progress to the next.
 const STRIDE: u32 = 256;
+
+// The length of a bar of progress in characters.
+const BAR: u32 = 20;
 
 // The number of refused inputs in a row after which a corpus of a number of files ends.
 const PATIENCE: u32 = 10_000;
@@ -36,6 +40,8 @@ struct Corpus {
     written: u32,
     /// The number of bytes in them.
     bytes: u64,
+    /// The counts of their bodies.
+    counts: Counts,
     /// The number of inputs that were refused since the last module was written.
     in_a_row: u32,
     /// The number of each refused input, and why it is refused.
@@ -55,7 +61,7 @@ struct Reason {
 /// requested number of inputs or files is reached, after the configuration has passed its check.
 /// Writes no file for an input that is refused; a file of that name from before stays. At the end,
 /// or after a failure, standard error has a line for each reason of refusals, or for each refused
-/// input if a word asks for that, and a last line that counts.
+/// input if a word selects that, and two last lines that count.
 pub(crate) fn make_corpus(
     rt: &HostRuntime,
     asked: &Request<'_, '_>,
@@ -70,6 +76,7 @@ pub(crate) fn make_corpus(
     let mut corpus = Corpus {
         written: 0,
         bytes: 0,
+        counts: Counts::none(),
         in_a_row: 0,
         refusals: Vec::new(rt.alloc()),
     };
@@ -131,7 +138,7 @@ fn make_each(
         if matches!(end, End::Files(_)) && corpus.in_a_row >= PATIENCE {
             return Err(word_failure(rt, "10000 inputs in a row are refused"));
         }
-        show_progress(rt, number, end)?;
+        show_progress(rt, number, end, corpus)?;
     }
     Ok(())
 }
@@ -151,9 +158,10 @@ fn make_next(
             corpus.refusals.push((number, refusal))?;
             corpus.in_a_row = corpus.in_a_row.saturating_add(1);
         }
-        Written::Bytes(length) => {
+        Written::Module(length, counts) => {
             corpus.written = corpus.written.saturating_add(1);
             corpus.bytes = corpus.bytes.saturating_add(length as u64);
+            corpus.counts.add(&counts);
             corpus.in_a_row = 0;
         }
     }
@@ -194,12 +202,23 @@ fn add_reason(reasons: &mut Vec<Reason>, words: String) -> Result<(), Failure> {
     Ok(())
 }
 
-/// Shows how many modules and bytes were written, and how many inputs were refused.
+/// Shows how many modules and bytes were written, how many inputs were refused, and what is in the
+/// bodies.
 fn show_counts(rt: &HostRuntime, corpus: &Corpus) -> Result<(), Failure> {
     let (written, bytes, refused) = (corpus.written, corpus.bytes, corpus.refusals.len());
     eprintln!(rt;
         "smith_wasm: {written} modules written, {bytes} bytes, {refused} inputs refused"
     )?;
+    let functions = corpus.counts.functions;
+    eprint!(rt; "smith_wasm: {functions} functions with instructions")?;
+    let mut sign = ':';
+    for (kind, count) in KINDS.iter().zip(corpus.counts.instructions.iter()) {
+        if *count > 0 {
+            eprint!(rt; "{sign} {count} {kind}")?;
+            sign = ',';
+        }
+    }
+    eprintln!(rt)?;
     Ok(())
 }
 
@@ -212,14 +231,14 @@ fn empty_input(rt: &HostRuntime, asked: &Request<'_, '_>) -> Result<Vec<u8>, Fai
 /// What became of an input.
 #[derive(Drop)]
 enum Written {
-    /// A file of this number of bytes.
-    Bytes(usize),
+    /// A file of this number of bytes, with bodies of these counts.
+    Module(usize, Counts),
     /// No file, for this reason.
     Refused(Refusal),
 }
 
-/// Writes the module of `input` as the file of the number `number`, unless `input` is refused. Lack
-/// of memory is a failure.
+/// Writes the module of `input` as the file of the number `number`, and `input` beside it if a word
+/// selects that, unless `input` is refused. Lack of memory is a failure.
 fn write_module(
     rt: &HostRuntime,
     asked: &Request<'_, '_>,
@@ -228,14 +247,28 @@ fn write_module(
     input: &[u8],
 ) -> Result<Written, Failure> {
     match module_of(rt.alloc(), asked, input) {
-        Ok(bytes) => {
+        Ok(Made { bytes, counts }) => {
             let ending = ending_of(asked.manner.form);
-            let path = format!(in rt.alloc(); "{folder}/{number}.{ending}")?;
-            write_whole_file(rt, path.as_str(), bytes.as_slice())?;
-            Ok(Written::Bytes(bytes.len()))
+            write_numbered(rt, folder, number, ending, bytes.as_slice())?;
+            if asked.matches.get_flag(INPUTS) {
+                write_numbered(rt, folder, number, "bin", input)?;
+            }
+            Ok(Written::Module(bytes.len(), counts))
         }
         Err(failure) => unless_refused(failure),
     }
+}
+
+/// Writes `bytes` as the file of the number `number` with the extension `ending`.
+fn write_numbered(
+    rt: &HostRuntime,
+    folder: &str,
+    number: u32,
+    ending: &str,
+    bytes: &[u8],
+) -> Result<(), Failure> {
+    let path = format!(in rt.alloc(); "{folder}/{number}.{ending}")?;
+    write_whole_file(rt, path.as_str(), bytes)
 }
 
 /// Returns a refusal as what became of an input, and any other failure as it is.
@@ -261,19 +294,29 @@ fn ending_of(form: Form) -> &'static str {
     }
 }
 
-/// Shows on a terminal the number of every 256th input.
-fn show_progress(rt: &HostRuntime, number: u32, end: End) -> Result<(), Failure> {
+/// Shows on a terminal, at every 256th input, how much of the corpus is made.
+fn show_progress(rt: &HostRuntime, number: u32, end: End, corpus: &Corpus) -> Result<(), Failure> {
     if number % STRIDE != 0 || !rt.stderr().is_terminal() {
         return Ok(());
     }
     match end {
-        End::Inputs(count) => eprint!(rt; "\r{number} of {count}")?,
-        End::Files(_) => eprint!(rt; "\r{number}")?,
+        End::Inputs(count) => show_bar(rt, number, count),
+        End::Files(count) => show_bar(rt, corpus.written, count),
     }
+}
+
+/// Shows a bar for `done` of `count` in place of the last bar.
+fn show_bar(rt: &HostRuntime, done: u32, count: u32) -> Result<(), Failure> {
+    let filled = u64::from(done) * u64::from(BAR) / u64::from(count).max(1);
+    eprint!(rt; "\r[")?;
+    for place in 0..u64::from(BAR) {
+        eprint!(rt; "{}", if place < filled { '#' } else { '.' })?;
+    }
+    eprint!(rt; "] {done} of {count}")?;
     Ok(())
 }
 
-/// Ends the line that shows on a terminal the number of an input.
+/// Ends the line of the bar.
 fn end_progress(rt: &HostRuntime, end: End) -> Result<(), Failure> {
     let count = match end {
         End::Inputs(count) | End::Files(count) => count,

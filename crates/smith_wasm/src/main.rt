@@ -7,6 +7,7 @@
 
 mod configuration;
 mod corpus;
+mod counts;
 mod failure;
 mod fields;
 mod files;

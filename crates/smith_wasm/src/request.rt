@@ -1,13 +1,16 @@
 use crate::configuration::config_of;
 use crate::corpus::make_corpus;
+use crate::counts::Counts;
 use crate::failure::Failure;
 use crate::files::{read_file, read_input, read_text, shows_output, write_file, write_output};
 use crate::warnings::warn;
-use crate::words::{CONFIG, ENSURE_TERMINATION, FUEL, INPUT, NOTES, OUTPUT, OUTPUT_DIR, WAT};
+use crate::words::{
+    CONFIG, ENSURE_TERMINATION, FUEL, FUEL_EXPORT, INPUT, NOTES, OUTPUT, OUTPUT_DIR, WAT,
+};
 use clap::ArgMatches;
 use smith_bytes::Unstructured;
-use smith_config_json::fuel;
-use smith_request::{Form, Manner, output};
+use smith_program::Program;
+use smith_request::{Form, Fuel, Manner, write_program};
 use std::alloc::Global;
 
 // The mark that some editors write at the beginning of a text.
@@ -33,14 +36,11 @@ pub(crate) struct Request<'m, 'w> {
 /// Makes the modules that `matches` requests.
 pub(crate) fn answer(rt: &HostRuntime, matches: &ArgMatches<'_>) -> Result<(), Failure> {
     let config = config_text(rt, matches)?;
-    let counted = match &config {
-        Some(text) => fuel(rt.alloc(), text.as_str())?,
-        None => None,
-    };
+    let manner = manner_of(rt, matches, &config)?;
     let asked = Request {
         matches,
         config,
-        manner: manner_of(matches, counted),
+        manner,
     };
     make(rt, &asked)
 }
@@ -76,27 +76,38 @@ fn make_one(rt: &HostRuntime, asked: &Request<'_, '_>) -> Result<(), Failure> {
         return Err(Failure::Terminal);
     }
     let input = input_of(rt, asked.matches.get_str(INPUT))?;
-    let bytes = module_of(rt.alloc(), asked, input.as_slice())?;
+    let Made { bytes, counts: _ } = module_of(rt.alloc(), asked, input.as_slice())?;
     match path {
         Some(path) => write_file(rt, path, bytes.as_slice()),
         None => write_output(rt, bytes.as_slice()),
     }
 }
 
-/// Returns the bytes of the module generated from `input`.
+/// A module that was made.
+#[derive(Drop)]
+pub(crate) struct Made {
+    /// The bytes to write.
+    pub(crate) bytes: Vec<u8>,
+    /// The counts of the bodies.
+    pub(crate) counts: Counts,
+}
+
+/// Makes the module of `input`.
 pub(crate) fn module_of(
     alloc: Global,
     asked: &Request<'_, '_>,
     input: &[u8],
-) -> Result<Vec<u8>, Failure> {
+) -> Result<Made, Failure> {
     let mut u = Unstructured::new(input);
     let config = config_of(alloc, asked, &mut u)?;
-    let mut bytes = output(alloc, config, asked.manner, &mut u)?;
+    let program = Program::new(alloc, config, &mut u)?;
+    let counts = Counts::of(&program);
+    let mut bytes = write_program(alloc, program, asked.manner)?;
     if asked.manner.form == Form::Text && !asked.matches.get_flag(NOTES) {
         let end = end_of_module(bytes.as_slice());
         bytes.truncate(end);
     }
-    Ok(bytes)
+    Ok(Made { bytes, counts })
 }
 
 /// Returns the length of a text without its notes.
@@ -116,21 +127,44 @@ fn input_of(rt: &HostRuntime, path: Option<&str>) -> Result<Vec<u8>, Failure> {
     }
 }
 
-/// Returns the manner of writing that the words select. `counted` is the fuel of the configuration
-/// file.
-fn manner_of(matches: &ArgMatches<'_>, counted: Option<u32>) -> Manner {
+/// Returns the manner of writing that the words and the text `config` of the configuration file
+/// select.
+fn manner_of(
+    rt: &HostRuntime,
+    matches: &ArgMatches<'_>,
+    config: &Option<String>,
+) -> Result<Manner, Failure> {
     let form = if matches.get_flag(WAT) {
         Form::Text
     } else {
         Form::Binary
     };
-    let fuel = if matches.get_flag(ENSURE_TERMINATION) {
-        matches
-            .get_one::<u32>(FUEL)
-            .or(counted)
-            .or(Some(DEFAULT_FUEL))
-    } else {
-        counted
+    let (in_file, is_exported_in_file) = match config {
+        Some(text) => (
+            smith_config_json::fuel(rt.alloc(), text.as_str())?,
+            smith_config_json::is_fuel_exported(rt.alloc(), text.as_str())?,
+        ),
+        None => (None, false),
     };
-    Manner { form, fuel }
+    let is_exported = is_exported_in_file || matches.get_flag(FUEL_EXPORT);
+    let fuel = match amount_of(matches, in_file) {
+        Some(amount) => Some(Fuel {
+            amount,
+            is_exported,
+        }),
+        None => None,
+    };
+    Ok(Manner { form, fuel })
+}
+
+/// Returns the number of calls and iterations that the words select. `in_file` is that of the
+/// configuration file.
+fn amount_of(matches: &ArgMatches<'_>, in_file: Option<u32>) -> Option<u32> {
+    if !matches.get_flag(ENSURE_TERMINATION) {
+        return in_file;
+    }
+    matches
+        .get_one::<u32>(FUEL)
+        .or(in_file)
+        .or(Some(DEFAULT_FUEL))
 }

@@ -27,6 +27,8 @@ pub(crate) const ARBITRARY: &str = "arbitrary";
 pub(crate) const ENSURE_TERMINATION: &str = "ensure-termination";
 /// The word of the number of calls and iterations.
 pub(crate) const FUEL: &str = "fuel";
+/// The word of the export of the counter.
+pub(crate) const FUEL_EXPORT: &str = "fuel-export";
 /// The word of the number of modules of a corpus.
 pub(crate) const COUNT: &str = "count";
 /// The word of the number of files of a corpus.
@@ -37,6 +39,8 @@ pub(crate) const SEED: &str = "seed";
 pub(crate) const SIZE: &str = "size";
 /// The word of the folder of a corpus.
 pub(crate) const OUTPUT_DIR: &str = "output-dir";
+/// The word of the inputs of a corpus.
+pub(crate) const INPUTS: &str = "inputs";
 /// The word of a line for each refused input.
 pub(crate) const VERBOSE: &str = "verbose";
 
@@ -69,7 +73,12 @@ const PRESET_ABOUT: &str =
 run (modules without imports, whose functions can be called), mvp, 2.0 and 3.0 (versions of the standard), \
 proposals, or what a tool accepts: wabt, binaryen, v8, spidermonkey, jsc.";
 
-static WORDS: [Word; 14] = [
+/// What the export of the counter is for, and its name.
+const FUEL_EXPORT_ABOUT: &str =
+    "Exports the global that counts, so that a caller can refill it, after all other exports: as `fuel`, \
+or if an export has that name, as `fuel` and as many `_` as the longest name has bytes.";
+
+static WORDS: [Word; 16] = [
     Word {
         name: OUTPUT,
         short: Some('o'),
@@ -135,6 +144,14 @@ static WORDS: [Word; 14] = [
         about: "The number of calls and iterations before the module traps. The default is 100.",
     },
     Word {
+        name: FUEL_EXPORT,
+        short: None,
+        takes: Takes::Nothing,
+        needs: Some(ENSURE_TERMINATION),
+        excludes: &[],
+        about: FUEL_EXPORT_ABOUT,
+    },
+    Word {
         name: COUNT,
         short: None,
         takes: Takes::Number,
@@ -173,6 +190,14 @@ static WORDS: [Word; 14] = [
         needs: None,
         excludes: &[INPUT, OUTPUT],
         about: "Writes a corpus into this folder, each module in a file named by its number.",
+    },
+    Word {
+        name: INPUTS,
+        short: None,
+        takes: Takes::Nothing,
+        needs: Some(OUTPUT_DIR),
+        excludes: &[],
+        about: "Writes the input of each module of a corpus, too, into a file of the same number that ends in .bin.",
     },
     Word {
         name: VERBOSE,

@@ -1,12 +1,11 @@
 -- The export of a counter of fuel has a new name, and a valid module stays valid with it.
-use Rattle.std.proofs.Common.{◌≡◌, ℕ, zero, suc, ◌<◌, ◌≤◌, Bool, true, false, List, [], ◌∷◌, ◌++◌, Some, length, length-append, get_or, refl, ap, sym, subst, arith}
-use Rattle.std.specs.Prelude.{codes, slice_get, if◌then◌else◌, Result, Ok, Err}
+use Rattle.std.proofs.Common.{◌≡◌, ℕ, zero, suc, ◌<◌, ◌≤◌, Bool, true, false, List, [], ◌++◌, length, length-append, get_or, refl, ap, sym, subst, arith}
+use Rattle.std.specs.Prelude.{codes, if◌then◌else◌, Result, Ok, Err}
 use Rattle.std.specs.List.{repeat}
 use Rattle.std.proofs.lemmas.Option.{slice_get-get_or}
 use Rattle.smith_bytes.specs.declared.error.Error.{Error}
 use Rattle.smith_syntax.specs.declared.entity_type.ExportKind.TheVariants as kind
 use Rattle.smith_syntax.specs.declared.entity_type.EntityType.TheVariants as entity
-use Rattle.smith_types.specs.Exports.{AreExportsValid}
 use Rattle.smith_module_rules.specs.ExportedItems.{Export, IsStanding}
 use Rattle.smith_module_rules.specs.Module.{ModuleParts, IsValid, module_spaces}
 use Rattle.smith_draw_contents.specs.Exporting.{is_exported, longest_export}

@@ -1,36 +1,17 @@
 use Rattle.std.proofs.Common.{refl}
 use Rattle.std.proofs.lemmas.Result.{IfOk-weaker, IfErr-weaker}
-use Rattle.smith_request.specs.Output.{IsCounted, IsUncounted}
+use Rattle.smith_request.specs.Output.{IsUncounted}
 use Rattle.smith_request.proofs.manner.write_counted.Goals as goal
 
 pub returns-in-Ok-clause-binary : goal.returns-in-Ok-clause-binary
 returns-in-Ok-clause-binary c = λ is.
-    let counter : IsCounted c.args.fuel c.args.program c.ensure_termination.new.self = record {
-      index = _;
-      added = c.in-Ok.ensures.answer;
-      bodies = c.in-Ok.ensures.bodies;
-    } in
-    IfOk-weaker c.write_in-bytes.result _ _ (λ bytes encoded. record { counted = _; has_counter = counter; encoded = encoded })
+    IfOk-weaker c.write_in-bytes.result _ _ (λ bytes encoded. record { counted = _; has_counter = c.in-Ok.ensures.counted; encoded = encoded })
     (c.write_in-bytes.ensures.binary is)
-
-pub returns-in-Ok-clause-text : goal.returns-in-Ok-clause-text
-returns-in-Ok-clause-text c = λ is.
-    let counter : IsCounted c.args.fuel c.args.program c.ensure_termination.new.self = record {
-      index = _;
-      added = c.in-Ok.ensures.answer;
-      bodies = c.in-Ok.ensures.bodies;
-    } in
-    IfOk-weaker c.write_in-bytes.result _ _ (λ bytes is_text. (is_text, (_, counter))) (c.write_in-bytes.ensures.text is)
 
 pub returns-in-Ok-clause-refused : goal.returns-in-Ok-clause-refused
 returns-in-Ok-clause-refused c =
-    let counter : IsCounted c.args.fuel c.args.program c.ensure_termination.new.self = record {
-      index = _;
-      added = c.in-Ok.ensures.answer;
-      bodies = c.in-Ok.ensures.bodies;
-    } in
-    IfErr-weaker c.write_in-bytes.result _ _ (λ refusal unwritten. IsUncounted.not_written counter unwritten)
+    IfErr-weaker c.write_in-bytes.result _ _ (λ refusal unwritten. IsUncounted.not_written c.in-Ok.ensures.counted unwritten)
     c.write_in-bytes.ensures.refused
 
 pub returns-in-Err-clause-refused : goal.returns-in-Err-clause-refused
-returns-in-Err-clause-refused c = IsUncounted.not_added (c.in-Err.ensures.answer.0) refl
+returns-in-Err-clause-refused c = IsUncounted.not_added c.in-Err.ensures.refused refl

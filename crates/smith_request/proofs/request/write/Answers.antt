@@ -1,8 +1,9 @@
-use Rattle.std.specs.Prelude.{ℕ, Option}
+use Rattle.std.specs.Prelude.{Option}
 use Rattle.std.proofs.Common.{subst}
 use Rattle.std.proofs.lemmas.Result.{IfErr-weaker}
 use Rattle.smith_request.specs.Output.{IsRefusedFor}
 use Rattle.smith_request.specs.Refusals.{IsRefusal}
+use Rattle.smith_request.specs.declared.manner.Fuel.{Fuel}
 use Rattle.smith_request.proofs.request.write.Goals as goal
 
 pub returns-in-Ok-clause-refused : goal.returns-in-Ok-clause-refused
@@ -12,5 +13,5 @@ returns-in-Ok-clause-refused c =
     let left = c.output.new.u in
     IfErr-weaker c.output.result _ _
     (λ refusal unmade. IsRefusal.not_made request.configured
-    (subst (λ (fuel : Option ℕ). IsRefusedFor c.args.form config fuel c.args.input.now left refusal) request.fuel unmade))
+    (subst (λ (fuel : Option Fuel). IsRefusedFor c.args.form config fuel c.args.input.now left refusal) request.fuel unmade))
     (rw c.new-u.ensures at c.output.ensures.refused)
