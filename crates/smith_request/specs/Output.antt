@@ -32,11 +32,6 @@ abbrev pub IsBinaryWith : Option ℕ → Program → List ℕ → Type 0
 IsBinaryWith None program bytes = IsEncoded program.«module» program.bodies bytes
 IsBinaryWith (Some fuel) program bytes = IsCountedBinary fuel program bytes
 
--- the bytes are a text
-pub record IsText (bytes : List ℕ) : Type 0 where
-  pub utf8 : IsUtf8 bytes
-  pub some : 1 ≤ length bytes
-
 -- a program is not written for lack of memory, or because it is too long for the binary format
 abbrev pub IsUnwritten : Form → Program → Refusal → Type 0
 IsUnwritten Binary program (Encoding e) = IsFault (IsLongProgram program.«module» program.bodies) e
@@ -71,14 +66,14 @@ pub data IsRefusedFor (form : Form) (config : Config) (fuel : Option ℕ) (input
   not_written : {program : Program} → IsProgram config input (Ok program) left → IsUnwrittenWith form fuel program refusal →
       IsRefusedFor form config fuel input left refusal
 
--- the bytes are a text, and a program has a counter if there is a fuel
-abbrev pub IsTextWith : Option ℕ → Program → List ℕ → Type 0
-IsTextWith None program bytes = IsText bytes
-IsTextWith (Some fuel) program bytes = IsText bytes × ((counted : Program) × IsCounted fuel program counted)
+-- the bytes are a text
+pub record IsText (bytes : List ℕ) : Type 0 where
+  pub utf8 : IsUtf8 bytes
+  pub some : 1 ≤ length bytes
 
 -- the generator draws a program from the configuration and the input, with these bytes of the input
--- left, and the bytes are a text, for that program with a counter if there is a fuel
-pub record IsWrittenText (config : Config) (fuel : Option ℕ) (input bytes left : List ℕ) : Type 0 where
+-- left, and the bytes are a text
+pub record IsWrittenText (config : Config) (input bytes left : List ℕ) : Type 0 where
   pub program : Program
   pub drawn : IsProgram config input (Ok program) left
-  pub is_text : IsTextWith fuel program bytes
+  pub is_text : IsText bytes

@@ -39,4 +39,4 @@ pub record IsTextOf (text input bytes : List ℕ) : Type 0 where
   pub config : Config
   pub configured : IsConfigured text config
   pub left : List ℕ
-  pub written : IsWrittenText config (fuel_of text) input bytes left
+  pub written : IsWrittenText config input bytes left

@@ -1,7 +1,7 @@
-ghost use Rattle.std.specs.Prelude.{◌≡◌, ◌<◌, ◌-◌, ◌^◌, Some, IfOk, IfErr, length};
+ghost use Rattle.std.specs.Prelude.{◌≡◌, ◌<◌, ◌-◌, ◌^◌, IfOk, IfErr, length};
 ghost use Rattle.smith_binary_program.specs.Programs.{IsEncoded};
 ghost use Rattle.smith_request.specs.Output.{IsBinaryOf, IsBinaryWith, IsRefusedFor};
-ghost use Rattle.smith_request.specs.Output.{IsCountedBinary, IsText, IsTextWith, IsWrittenText};
+ghost use Rattle.smith_request.specs.Output.{IsCountedBinary, IsText, IsWrittenText};
 ghost use Rattle.smith_request.specs.Output.{IsUncounted, IsUnwritten, IsUnwrittenWith};
 ghost use Rattle.smith_request.specs.declared.manner.Form.TheVariants.{Binary, Text};
 
@@ -52,7 +52,7 @@ pub fn output(
     ensures binary { manner.form ≡ Binary
         → IfOk result (λ bytes. IsBinaryOf config manner.fuel u.old bytes.items u.new) }
     ensures text { manner.form ≡ Text
-        → IfOk result (λ bytes. IsWrittenText config manner.fuel u.old bytes.items u.new) }
+        → IfOk result (λ bytes. IsWrittenText config u.old bytes.items u.new) }
     ensures refused { IfErr result (IsRefusedFor manner.form config manner.fuel u.old u.new) }
 {
     match Program::new(alloc, config, u) {
@@ -66,8 +66,7 @@ pub fn output(
 fn write_program(alloc: Global, program: Program, manner: Manner) -> Result<Vec<u8>, Refusal>
     ensures binary { manner.form ≡ Binary
         → IfOk result (λ bytes. IsBinaryWith manner.fuel program bytes.items) }
-    ensures text { manner.form ≡ Text
-        → IfOk result (λ bytes. IsTextWith manner.fuel program bytes.items) }
+    ensures text { manner.form ≡ Text → IfOk result (λ bytes. IsText bytes.items) }
     ensures refused { IfErr result (IsUnwrittenWith manner.form manner.fuel program) }
 {
     match manner.fuel {
@@ -90,8 +89,7 @@ fn write_counted(
 ) -> Result<Vec<u8>, Refusal>
     ensures binary { form ≡ Binary
         → IfOk result (λ bytes. IsCountedBinary fuel program bytes.items) }
-    ensures text { form ≡ Text
-        → IfOk result (λ bytes. IsTextWith (Some fuel) program bytes.items) }
+    ensures text { form ≡ Text → IfOk result (λ bytes. IsText bytes.items) }
     ensures refused { IfErr result (IsUncounted form fuel program) }
 {
     if program.module.globals().len() >= u32::MAX as usize {

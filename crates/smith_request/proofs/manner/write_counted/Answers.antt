@@ -13,15 +13,6 @@ returns-in-Ok-clause-binary c = λ is.
     IfOk-weaker c.write_in-bytes.result _ _ (λ bytes encoded. record { counted = _; has_counter = counter; encoded = encoded })
     (c.write_in-bytes.ensures.binary is)
 
-pub returns-in-Ok-clause-text : goal.returns-in-Ok-clause-text
-returns-in-Ok-clause-text c = λ is.
-    let counter : IsCounted c.args.fuel c.args.program c.ensure_termination.new.self = record {
-      index = _;
-      added = c.in-Ok.ensures.answer;
-      bodies = c.in-Ok.ensures.bodies;
-    } in
-    IfOk-weaker c.write_in-bytes.result _ _ (λ bytes is_text. (is_text, (_, counter))) (c.write_in-bytes.ensures.text is)
-
 pub returns-in-Ok-clause-refused : goal.returns-in-Ok-clause-refused
 returns-in-Ok-clause-refused c =
     let counter : IsCounted c.args.fuel c.args.program c.ensure_termination.new.self = record {
