@@ -125,10 +125,10 @@ bulk_needed features (instr.Aggregate (aggregate.ArrayInitData ty segment)) name
 bulk_needed features _ names enabled = absurd (false≢true names)
 
 -- a valid module with typed bodies of enabled instructions
-abbrev Enabled : ModuleParts → Instr → Type 0
+abbrev pub Enabled : ModuleParts → Instr → Type 0
 Enabled m instruction = IsTrue (has_features (module_features m) instruction)
 
-program_valid : (m : ModuleParts) (bodies : List Body) → IsValid m → AreBodiesOf m bodies → All (HaveAll (Enabled m)) bodies → IsValidProgram m bodies
+pub program_valid : (m : ModuleParts) (bodies : List Body) → IsValid m → AreBodiesOf m bodies → All (HaveAll (Enabled m)) bodies → IsValidProgram m bodies
 program_valid m bodies valid typed enabled =
     let P = Fits (references_of m) (length m.datas) in
     let fits : All (HaveAll P) bodies = each_body (IsBodyAt m) m bodies (HaveAll P) typed (body_fits m) in

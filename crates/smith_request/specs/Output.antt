@@ -45,11 +45,6 @@ abbrev pub IsBinaryWith : Option Fuel → Program → List ℕ → Type 0
 IsBinaryWith None program bytes = IsEncoded program.«module» program.bodies bytes
 IsBinaryWith (Some fuel) program bytes = IsCountedBinary fuel program bytes
 
--- the bytes are a text
-pub record IsText (bytes : List ℕ) : Type 0 where
-  pub utf8 : IsUtf8 bytes
-  pub some : 1 ≤ length bytes
-
 -- a program is not written for lack of memory, or because it is too long for the binary format
 abbrev pub IsUnwritten : Form → Program → Refusal → Type 0
 IsUnwritten Binary program (Encoding e) = IsFault (IsLongProgram program.«module» program.bodies) e

@@ -61,7 +61,7 @@ pub fn output(
     ensures binary { manner.form ≡ Binary
         → IfOk result (λ bytes. IsBinaryOf config manner.fuel u.old bytes.items u.new) }
     ensures text { manner.form ≡ Text
-        → IfOk result (λ bytes. IsWrittenText config manner.fuel u.old bytes.items u.new) }
+        → IfOk result (λ bytes. IsWrittenText config u.old bytes.items u.new) }
     ensures refused { IfErr result (IsRefusedFor manner.form config manner.fuel u.old u.new) }
 {
     match Program::new(alloc, config, u) {
