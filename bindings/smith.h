@@ -65,10 +65,16 @@ struct smith_answer smith_binary(const uint8_t *config, size_t config_length,
                                  const uint8_t *input, size_t input_length,
                                  uint8_t *out, size_t out_length);
 
-/* Writes the module in the text format. The status is SMITH_TOO_LONG only if no index is left for the counter of fuel. */
+/* Writes the module in the text format, and after it comments with values that the format cannot express. The status is SMITH_TOO_LONG only if no index is left for the counter of fuel. */
 struct smith_answer smith_text(const uint8_t *config, size_t config_length,
                                const uint8_t *input, size_t input_length,
                                uint8_t *out, size_t out_length);
+
+/* Writes the text of smith_text in another form: each index of a function type has the parameters and the results after it, and comments
+ * have raw bodies alone. */
+struct smith_answer smith_wat(const uint8_t *config, size_t config_length,
+                              const uint8_t *input, size_t input_length,
+                              uint8_t *out, size_t out_length);
 
 /* Writes in words, as UTF-8, why smith_binary writes no module, and returns the status of that refusal, or SMITH_SHORT if `out` is
  * too short for the words. If there is no memory for them, other words say so. If there is a module, it writes nothing, and

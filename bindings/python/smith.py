@@ -44,7 +44,7 @@ def _path() -> str:
 
 _MADE, _SHORT = 0, 1
 _LIBRARY = ctypes.CDLL(_path())
-for _name in ("smith_binary", "smith_text", "smith_refusal"):
+for _name in ("smith_binary", "smith_text", "smith_wat", "smith_refusal"):
     getattr(_LIBRARY, _name).restype = Answer
     getattr(_LIBRARY, _name).argtypes = [ctypes.c_char_p, ctypes.c_size_t] * 3
 
@@ -86,5 +86,10 @@ def module(given: bytes | bytearray | memoryview, config: str | dict = "") -> by
 
 
 def text(given: bytes | bytearray | memoryview, config: str | dict = "") -> str:
-    """Returns the same module in the text format."""
+    """Returns the same module in the text format, and after it comments with values that the format cannot express."""
     return _made(_LIBRARY.smith_text, config, given).decode()
+
+
+def wat(given: bytes | bytearray | memoryview, config: str | dict = "") -> str:
+    """Returns the same module in the text format, for readers: with the parameters and results of each function type that is used."""
+    return _made(_LIBRARY.smith_wat, config, given).decode()

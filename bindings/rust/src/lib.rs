@@ -43,6 +43,7 @@ type Call = unsafe extern "C" fn(*const u8, usize, *const u8, usize, *mut u8, us
 extern "C" {
     fn smith_binary(config: *const u8, config_length: usize, input: *const u8, input_length: usize, out: *mut u8, out_length: usize) -> Answer;
     fn smith_text(config: *const u8, config_length: usize, input: *const u8, input_length: usize, out: *mut u8, out_length: usize) -> Answer;
+    fn smith_wat(config: *const u8, config_length: usize, input: *const u8, input_length: usize, out: *mut u8, out_length: usize) -> Answer;
     fn smith_refusal(config: *const u8, config_length: usize, input: *const u8, input_length: usize, out: *mut u8, out_length: usize) -> Answer;
 }
 
@@ -93,4 +94,14 @@ pub fn module(config: &Config, input: &[u8]) -> Result<Vec<u8>, Refused> {
 /// Returns an error in the same cases as [`module`], but a module is too long only if no index is left for the global that counts fuel.
 pub fn text(config: &Config, input: &[u8]) -> Result<String, Refused> {
     made(smith_text, config, input).map(utf8)
+}
+
+/// Returns the same module in the text format, for readers: with the parameters and the results of each function type that is used, and
+/// without the comments of [`text`].
+///
+/// # Errors
+///
+/// Returns an error in the same cases as [`text`].
+pub fn wat(config: &Config, input: &[u8]) -> Result<String, Refused> {
+    made(smith_wat, config, input).map(utf8)
 }

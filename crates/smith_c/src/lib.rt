@@ -6,6 +6,7 @@ ghost use Rattle.smith_c.specs.CallAnswers.{IsAnswered, IsExplained};
 ghost use Rattle.smith_request.specs.Requests.{IsBinary, HasBinary, IsTextOf};
 ghost use Rattle.smith_request.specs.Refusals.{IsRefusal};
 ghost use Rattle.smith_request.specs.declared.manner.Form.TheVariants.{Binary, Text};
+ghost use Rattle.smith_text.specs.declared.module.Layout.TheVariants.{Notes, Signatures};
 
 mod answer;
 mod explanation;
@@ -36,9 +37,22 @@ pub extern "C" fn smith_binary(alloc: Global, config: &[u8], input: &[u8], out: 
 #[unsafe(no_mangle)]
 pub extern "C" fn smith_text(alloc: Global, config: &[u8], input: &[u8], out: &mut [u8]) -> Answer
     ensures { IsAnswered (IsTextOf config.now input.now)
-        (IsRefusal Text config.now input.now) out.old out.new result }
+        (IsRefusal (Text Notes) config.now input.now) out.old out.new result }
 {
     match smith_request::text(alloc, config, input) {
+        Ok(text) => put(answer::MADE, text.as_slice(), out),
+        Err(refusal) => Answer::without_output(refusal.status()),
+    }
+}
+
+/// Writes the text of [`smith_text`] in another form: each index of a function type has the
+/// parameters and the results after it, and comments have raw bodies alone.
+#[unsafe(no_mangle)]
+pub extern "C" fn smith_wat(alloc: Global, config: &[u8], input: &[u8], out: &mut [u8]) -> Answer
+    ensures { IsAnswered (IsTextOf config.now input.now)
+        (IsRefusal (Text Signatures) config.now input.now) out.old out.new result }
+{
+    match smith_request::wat(alloc, config, input) {
         Ok(text) => put(answer::MADE, text.as_slice(), out),
         Err(refusal) => Answer::without_output(refusal.status()),
     }

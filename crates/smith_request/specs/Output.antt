@@ -48,7 +48,7 @@ IsBinaryWith (Some fuel) program bytes = IsCountedBinary fuel program bytes
 -- a program is not written for lack of memory, or because it is too long for the binary format
 abbrev pub IsUnwritten : Form → Program → Refusal → Type 0
 IsUnwritten Binary program (Encoding e) = IsFault (IsLongProgram program.«module» program.bodies) e
-IsUnwritten Text program (Encoding e) = e ≡ Memory
+IsUnwritten (Text layout) program (Encoding e) = e ≡ Memory
 IsUnwritten form program NotUtf8 = ⊥
 IsUnwritten form program (of_config _) = ⊥
 IsUnwritten form program (Module _) = ⊥

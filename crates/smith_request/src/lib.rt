@@ -14,4 +14,5 @@ mod writers;
 
 pub use manner::{Form, Fuel, Manner, output, write_program};
 pub use refusal::Refusal;
-pub use request::{Request, binary, text};
+pub use request::{Request, binary, text, wat};
+pub use smith_text_program::Layout;

@@ -5,6 +5,7 @@ ghost use Rattle.smith_request.specs.Output.{IsBinaryOf, IsBinaryWith, IsRefused
 ghost use Rattle.smith_request.specs.Output.{IsFuelled, IsCountedBinary, IsText, IsWrittenText};
 ghost use Rattle.smith_request.specs.Output.{IsUncounted, IsUnwritten, IsUnwrittenWith};
 ghost use Rattle.smith_request.specs.declared.manner.Form.TheVariants.{Binary, Text};
+ghost use Rattle.smith_text.specs.declared.module.Layout.{Layout as TextLayout};
 
 use crate::refusal::Refusal;
 use crate::writers::{write_binary, write_text};
@@ -12,6 +13,7 @@ use smith_binary::EncodeError;
 use smith_bytes::{Error, Unstructured};
 use smith_config::Config;
 use smith_program::Program;
+use smith_text_program::Layout;
 use std::alloc::Global;
 
 /// The format of a written module.
@@ -19,8 +21,8 @@ use std::alloc::Global;
 pub enum Form {
     /// The binary format.
     Binary,
-    /// The text format.
-    Text,
+    /// The text format, in this layout.
+    Text(Layout),
 }
 
 /// The count of the calls and the iterations of loops of a program.
@@ -60,7 +62,7 @@ pub fn output(
 ) -> Result<Vec<u8>, Refusal>
     ensures binary { manner.form ≡ Binary
         → IfOk result (λ bytes. IsBinaryOf config manner.fuel u.old bytes.items u.new) }
-    ensures text { manner.form ≡ Text
+    ensures text { (layout : TextLayout) → manner.form ≡ Text layout
         → IfOk result (λ bytes. IsWrittenText config u.old bytes.items u.new) }
     ensures refused { IfErr result (IsRefusedFor manner.form config manner.fuel u.old u.new) }
 {
@@ -79,7 +81,8 @@ pub fn output(
 pub fn write_program(alloc: Global, program: Program, manner: Manner) -> Result<Vec<u8>, Refusal>
     ensures binary { manner.form ≡ Binary
         → IfOk result (λ bytes. IsBinaryWith manner.fuel program bytes.items) }
-    ensures text { manner.form ≡ Text → IfOk result (λ bytes. IsText bytes.items) }
+    ensures text { (layout : TextLayout) → manner.form ≡ Text layout
+        → IfOk result (λ bytes. IsText bytes.items) }
     ensures refused { IfErr result (IsUnwrittenWith manner.form manner.fuel program) }
 {
     match manner.fuel {
@@ -116,7 +119,8 @@ fn write_counted(
 ) -> Result<Vec<u8>, Refusal>
     ensures binary { form ≡ Binary
         → IfOk result (λ bytes. IsCountedBinary fuel program bytes.items) }
-    ensures text { form ≡ Text → IfOk result (λ bytes. IsText bytes.items) }
+    ensures text { (layout : TextLayout) → form ≡ Text layout
+        → IfOk result (λ bytes. IsText bytes.items) }
     ensures refused { IfErr result (IsUncounted form fuel program) }
 {
     if program.module().globals().len() >= u32::MAX as usize {
@@ -136,11 +140,12 @@ fn write_counted(
 fn write_in(alloc: Global, program: &Program, form: Form) -> Result<Vec<u8>, Refusal>
     ensures binary { form ≡ Binary → IfOk result (λ bytes.
         IsEncoded program.now.«module» program.now.bodies bytes.items) }
-    ensures text { form ≡ Text → IfOk result (λ bytes. IsText bytes.items) }
+    ensures text { (layout : TextLayout) → form ≡ Text layout
+        → IfOk result (λ bytes. IsText bytes.items) }
     ensures refused { IfErr result (IsUnwritten form program.now) }
 {
     match form {
         Form::Binary => write_binary(alloc, program),
-        Form::Text => write_text(alloc, program),
+        Form::Text(layout) => write_text(alloc, program, layout),
     }
 }

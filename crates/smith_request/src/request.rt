@@ -4,12 +4,15 @@ ghost use Rattle.smith_request.specs.Requests.{IsBinary, IsRequest, IsTextOf, fu
 ghost use Rattle.json.specs.Lex.{tokens};
 ghost use Rattle.smith_request.specs.Refusals.{IsRefusal, IsUnread};
 ghost use Rattle.smith_request.specs.declared.manner.Form.TheVariants.{Binary, Text};
+ghost use Rattle.smith_text.specs.declared.module.Layout.{Layout as TextLayout};
+ghost use Rattle.smith_text.specs.declared.module.Layout.TheVariants.{Notes, Signatures};
 
 use crate::manner::{Form, Fuel, Manner, output};
 use crate::refusal::Refusal;
 use smith_bytes::Unstructured;
 use smith_config::Config;
 use smith_config_json::{ConfigRefusal, Fault, is_fuel_exported};
+use smith_text_program::Layout;
 use std::alloc::{AllocError, Global};
 use std::str;
 
@@ -84,7 +87,7 @@ fn read(alloc: Global, text: &[u8]) -> Result<Request, Refusal>
 fn write(alloc: Global, text: &[u8], input: &[u8], form: Form) -> Result<Vec<u8>, Refusal>
     ensures binary { form ≡ Binary
         → IfOk result (λ bytes. IsBinary text.now input.now bytes.items) }
-    ensures text { form ≡ Text
+    ensures text { (layout : TextLayout) → form ≡ Text layout
         → IfOk result (λ bytes. IsTextOf text.now input.now bytes.items) }
     ensures refused { IfErr result (IsRefusal form text.now input.now) }
 {
@@ -117,8 +120,8 @@ pub fn binary(alloc: Global, text: &[u8], input: &[u8]) -> Result<Vec<u8>, Refus
     write(alloc, text, input, Form::Binary)
 }
 
-/// Draws the program of [`binary`], and writes it in the text format, in UTF-8. No clause states
-/// what the text says; it is tested.
+/// Draws the program of [`binary`], and writes it in the text format, in UTF-8, in the form
+/// [`Layout::Notes`]. No clause states what the text says; it is tested.
 ///
 /// # Errors
 ///
@@ -126,7 +129,20 @@ pub fn binary(alloc: Global, text: &[u8], input: &[u8]) -> Result<Vec<u8>, Refus
 /// counts.
 pub fn text(alloc: Global, text: &[u8], input: &[u8]) -> Result<Vec<u8>, Refusal>
     ensures ok { IfOk result (λ bytes. IsTextOf text.now input.now bytes.items) }
-    ensures refused { IfErr result (IsRefusal Text text.now input.now) }
+    ensures refused { IfErr result (IsRefusal (Text Notes) text.now input.now) }
 {
-    write(alloc, text, input, Form::Text)
+    write(alloc, text, input, Form::Text(Layout::Notes))
+}
+
+/// Draws the program of [`binary`], and writes it in the text format, in UTF-8, in the form
+/// [`Layout::Signatures`]. No clause states what the text says; it is tested.
+///
+/// # Errors
+///
+/// Those of [`text`].
+pub fn wat(alloc: Global, text: &[u8], input: &[u8]) -> Result<Vec<u8>, Refusal>
+    ensures ok { IfOk result (λ bytes. IsTextOf text.now input.now bytes.items) }
+    ensures refused { IfErr result (IsRefusal (Text Signatures) text.now input.now) }
+{
+    write(alloc, text, input, Form::Text(Layout::Signatures))
 }

@@ -8,6 +8,7 @@ ghost use Rattle.smith_request.specs.declared.refusal.Refusal.TheVariants.{Encod
 use crate::refusal::Refusal;
 use smith_binary::EncodeError;
 use smith_program::Program;
+use smith_text_program::Layout;
 use std::alloc::Global;
 
 /// Writes `program` in the binary format.
@@ -22,12 +23,12 @@ pub fn write_binary(alloc: Global, program: &Program) -> Result<Vec<u8>, Refusal
     }
 }
 
-/// Writes `program` in the text format. Refuses it for lack of memory alone.
-pub fn write_text(alloc: Global, program: &Program) -> Result<Vec<u8>, Refusal>
+/// Writes `program` in the text format, in the form `layout`. Refuses it for lack of memory alone.
+pub fn write_text(alloc: Global, program: &Program, layout: Layout) -> Result<Vec<u8>, Refusal>
     ensures text { IfOk result (λ text. IsText text.items) }
     ensures memory { IfErr result (λ refusal. refusal ≡ Encoding Memory) }
 {
-    match smith_text_program::text(alloc, program) {
+    match smith_text_program::text_in(alloc, program, layout) {
         Ok(text) => Ok(text.into_bytes()),
         Err(_) => Err(Refusal::Encoding(EncodeError::Memory)),
     }

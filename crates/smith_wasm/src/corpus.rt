@@ -290,7 +290,7 @@ fn unless_no_memory(refusal: Refusal) -> Result<Written, Failure> {
 fn ending_of(form: Form) -> &'static str {
     match form {
         Form::Binary => "wasm",
-        Form::Text => "wat",
+        Form::Text(_) => "wat",
     }
 }
 

@@ -10,14 +10,11 @@ use crate::words::{
 use clap::ArgMatches;
 use smith_bytes::Unstructured;
 use smith_program::Program;
-use smith_request::{Form, Fuel, Manner, write_program};
+use smith_request::{Form, Fuel, Layout, Manner, write_program};
 use std::alloc::Global;
 
 // The mark that some editors write at the beginning of a text.
 const BYTE_ORDER_MARK: char = '\u{FEFF}';
-
-// The beginning of the notes that follow a text, after the end of its last line.
-const NOTES_BEGIN: &[u8] = b"\n;; ";
 
 // The default number of allowed calls and iterations of loops.
 const DEFAULT_FUEL: u32 = 100;
@@ -102,22 +99,8 @@ pub(crate) fn module_of(
     let config = config_of(alloc, asked, &mut u)?;
     let program = Program::new(alloc, config, &mut u)?;
     let counts = Counts::of(&program);
-    let mut bytes = write_program(alloc, program, asked.manner)?;
-    if asked.manner.form == Form::Text && !asked.matches.get_flag(NOTES) {
-        let end = end_of_module(bytes.as_slice());
-        bytes.truncate(end);
-    }
+    let bytes = write_program(alloc, program, asked.manner)?;
     Ok(Made { bytes, counts })
-}
-
-/// Returns the length of a text without its notes.
-fn end_of_module(text: &[u8]) -> usize {
-    for (place, piece) in text.windows(NOTES_BEGIN.len()).enumerate() {
-        if piece == NOTES_BEGIN {
-            return place.saturating_add(1);
-        }
-    }
-    text.len()
 }
 
 fn input_of(rt: &HostRuntime, path: Option<&str>) -> Result<Vec<u8>, Failure> {
@@ -134,10 +117,10 @@ fn manner_of(
     matches: &ArgMatches<'_>,
     config: &Option<String>,
 ) -> Result<Manner, Failure> {
-    let form = if matches.get_flag(WAT) {
-        Form::Text
-    } else {
-        Form::Binary
+    let form = match (matches.get_flag(WAT), matches.get_flag(NOTES)) {
+        (false, _) => Form::Binary,
+        (true, false) => Form::Text(Layout::Signatures),
+        (true, true) => Form::Text(Layout::Notes),
     };
     let (in_file, is_exported_in_file) = match config {
         Some(text) => (

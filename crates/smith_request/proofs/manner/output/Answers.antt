@@ -9,9 +9,9 @@ returns-in-Ok-clause-binary c = λ is.
     (c.write_program.ensures.binary is)
 
 pub returns-in-Ok-clause-text : goal.returns-in-Ok-clause-text
-returns-in-Ok-clause-text c = λ is.
+returns-in-Ok-clause-text c = λ layout is.
     IfOk-weaker c.write_program.result _ _ (λ bytes is_text. record { program = _; drawn = c.in-Ok.ensures; is_text = is_text })
-    (c.write_program.ensures.text is)
+    (c.write_program.ensures.text layout is)
 
 pub returns-in-Ok-clause-refused : goal.returns-in-Ok-clause-refused
 returns-in-Ok-clause-refused c =
