@@ -38,7 +38,7 @@ impl Counts {
     /// Returns the counts of the bodies of `program`.
     pub(crate) fn of(program: &Program) -> Counts {
         let mut counts = Counts::none();
-        for body in program.bodies.as_slice() {
+        for body in program.bodies() {
             if let Body::Drawn(instructions) = body {
                 counts.add_body(instructions.as_slice());
             }
