@@ -1,6 +1,6 @@
 -- Programs that are valid, and others that aren't.
 use Rattle.std.proofs.Common.{rules, arith, List, [], ◌∷◌, refl, sym, subst}
-use Rattle.std.specs.Prelude.{Any, IsTrue}
+use Rattle.std.specs.Prelude.{All, Any, IsTrue}
 use Rattle.std.specs.List.{AllByRecursion as Each}
 use Rattle.std.proofs.lemmas.List.Elements.{All-nil, All-cons, All-from_recursion}
 use Rattle.smith_config.specs.Config.{default_config}
@@ -16,9 +16,11 @@ use Rattle.smith_instr_examples.specs.ExampleBodies.{number}
 use Rattle.smith_instr_examples.proofs.SequenceExamples.{one_left}
 use Rattle.smith_body_nodes.proofs.NodeLemmas.{no_valid}
 use Rattle.smith_program.specs.Bodies.{AreBodiesOf, HasDefinedType, IsBodyAt, function_context}
-use Rattle.smith_program.specs.Valid.{HaveAll, HasOne, IsValidProgram, NameData}
+use Rattle.smith_program.specs.References.{references_of}
+use Rattle.smith_program.specs.Valid.{HaveAll, HasOne, IsDeclared, IsValidProgram, NameData}
 use Rattle.smith_program.specs.declared.program.Body.{Body}
 use Rattle.smith_program.specs.declared.program.Body.TheVariants as body
+use Rattle.smith_program.proofs.ValidLemmas.{Enabled}
 use Rattle.smith_program_examples.specs.ExamplePrograms.{gives_nothing}
 use Rattle.smith_program_examples.proofs.BodyExamples.{all_bodies, typed_as}
 
@@ -34,6 +36,13 @@ no_data instructions each named =
 no_body : (P : Body → Type 0) → Any P [] → ⊥
 no_body P (k, x, within, is, holds) = omega arith
 
+-- the instructions of no body, and of an empty one, have each property
+none_have : (P : Instr → Type 0) → All (HaveAll P) []
+none_have P = All-nil (HaveAll P)
+
+empty_has : (P : Instr → Type 0) → All (HaveAll P) (body.Drawn [] ∷ [])
+empty_has P = All-cons (HaveAll P) (body.Drawn []) [] (All-nil P) (none_have P)
+
 -- a module without functions, and no body
 pub empty_valid : IsValidProgram (empty_module default_config) []
 empty_valid =
@@ -43,9 +52,9 @@ empty_valid =
       valid = valid;
       typed = typed;
       counted = typed;
-      enabled = All-nil _;
-      declared = All-nil _;
-      data_count = λ named. absurd (no_body _ named);
+      enabled = none_have (Enabled (empty_module default_config));
+      declared = none_have (IsDeclared (references_of (empty_module default_config)));
+      data_count = λ named. absurd (no_body (HasOne (λ (x : Instr). IsTrue (names_data x))) named);
     }
 
 -- a function without results, and an empty body
@@ -64,8 +73,8 @@ function_valid =
       valid = one_function_valid;
       typed = typed;
       counted = typed;
-      enabled = All-cons (HaveAll _) (body.Drawn []) [] (All-nil _) (All-nil (HaveAll _));
-      declared = All-cons (HaveAll _) (body.Drawn []) [] (All-nil _) (All-nil (HaveAll _));
+      enabled = empty_has (Enabled one_function);
+      declared = empty_has (IsDeclared (references_of one_function));
       data_count = λ named. absurd (no_data [] tt named);
     }
 

@@ -1,5 +1,8 @@
 use Rattle.std.proofs.Common.{arith, [], ◌∷◌, refl}
+use Rattle.std.specs.Prelude.{IsTrue}
 use Rattle.std.proofs.lemmas.Bool.{false≢true}
+use Rattle.smith_instr.specs.Enabled.{names_data}
+use Rattle.smith_instr.specs.declared.instr.Instr.{Instr}
 use Rattle.smith_instr.specs.declared.instr.Instr.TheVariants as instr
 use Rattle.smith_instr.specs.declared.memory.MemoryInstr.TheVariants as memory
 use Rattle.smith_instr.specs.declared.table.TableInstr.TheVariants as table
@@ -12,7 +15,7 @@ pub returns : goal.returns
 returns c = record {
   of_data = (0, body.Drawn (instr.Memory (memory.Init 0 1) ∷ []), omega arith, refl, (0, instr.Memory (memory.Init 0 1), omega arith, refl, refl));
   of_elements = no_data (instr.Table (table.Init 0 1) ∷ []) (false≢true, tt);
-  in_raw_bytes = none_of (HasOne _) (body.Raw ∷ []) ((λ never. never), tt);
+  in_raw_bytes = none_of (HasOne (λ (x : Instr). IsTrue (names_data x))) (body.Raw ∷ []) ((λ never. never), tt);
   counted = record { bulk_memory = refl; some = omega arith };
   without_bulk_memory = λ counts. false≢true counts.bulk_memory;
   without_a_segment = λ counts. let none = counts.some in omega arith;
