@@ -2,6 +2,7 @@
 use Rattle.std.proofs.Common.{rules, arith, List, [], ◌∷◌, refl, sym, subst}
 use Rattle.std.specs.Prelude.{All, Any, IsTrue}
 use Rattle.std.specs.List.{AllByRecursion as Each}
+use Rattle.std.proofs.lemmas.Grind.{common_steps}
 use Rattle.std.proofs.lemmas.List.Elements.{All-nil, All-cons, All-from_recursion}
 use Rattle.smith_config.specs.Config.{default_config}
 use Rattle.smith_module_rules.specs.Module.{IsValid}
@@ -46,7 +47,7 @@ empty_has P = All-cons (HaveAll P) (body.Drawn []) [] (All-nil P) (none_have P)
 -- a module without functions, and no body
 pub empty_valid : IsValidProgram (empty_module default_config) []
 empty_valid =
-    let valid : IsValid (empty_module default_config) = search rules in
+    let valid : IsValid (empty_module default_config) = first_of (search rules, grind (arith, common_steps)) in
     let typed : AreBodiesOf (empty_module default_config) [] = all_bodies (empty_module default_config) [] refl tt in
     record {
       valid = valid;

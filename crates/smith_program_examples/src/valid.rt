@@ -31,7 +31,7 @@ fn named_segments()
 
 fn programs()
     ensures without_functions { IsValidProgram (empty_module default_config) [] }
-    ensures one_function { IsValidProgram one_function (body.Drawn [] ∷ []) }
+    ensures with_a_function { IsValidProgram one_function (body.Drawn [] ∷ []) }
     ensures of_an_invalid_module { ¬ IsValidProgram bodiless [] }
     ensures without_its_body { ¬ IsValidProgram one_function [] }
     ensures with_a_value_left { ¬ IsValidProgram one_function (constant 1 ∷ []) }

@@ -1,11 +1,12 @@
-use Rattle.std.proofs.Common.{arith, length, ap, refl}
+use Rattle.std.proofs.Common.{arith, ◌≡◌, ℕ, List, length, ap, refl}
+use Rattle.smith_instr.specs.declared.instr.Instr.{Instr}
 use Rattle.smith_binary_program.proofs.examples.same_instructions.Goals as goal
 
 pub returns : goal.returns
 returns c = record {
   equal = refl;
-  others = λ same. let long = ap length same in omega arith;
+  others = λ same. let long : ◌≡◌ {A = ℕ} 1 0 = ap (λ (xs : List Instr). length xs) same in omega arith;
   with_the_checks = refl;
-  without_the_checks = λ same. let long = ap length same in omega arith;
+  without_the_checks = λ same. let long : ◌≡◌ {A = ℕ} 10 1 = ap (λ (xs : List Instr). length xs) same in omega arith;
   raw_bytes = tt;
 }

@@ -1,5 +1,7 @@
-use Rattle.std.proofs.Common.{arith, ◌≡◌, ℕ, Option, Some, None, length, ap, refl}
+use Rattle.std.proofs.Common.{arith, ◌≡◌, ℕ, List, Option, Some, None, length, ap, refl}
 use Rattle.smith_binary_sections.specs.Modules.{Contents}
+use Rattle.smith_instr.specs.declared.instr.Instr.{Instr}
+use Rattle.smith_syntax.specs.declared.value_type.ValType.{ValType}
 use Rattle.smith_binary_program.proofs.examples.same_programs.Goals as goal
 
 pub returns : goal.returns
@@ -7,7 +9,7 @@ returns c = record {
   itself = record { parts = refl; functions = (record { locals = refl; instructions = refl }, tt) };
   of_another_type_size = record { parts = refl; functions = (record { locals = refl; instructions = refl }, tt) };
   that_starts = λ same. let never : ◌≡◌ {A = Option ℕ} None (Some 0) = ap (λ (contents : Contents). contents.start) same.parts in cc;
-  with_a_local = λ same. let long = ap length same.functions.0.locals in omega arith;
-  with_another_body = λ same. let long = ap length same.functions.0.instructions in omega arith;
+  with_a_local = λ same. let long : ◌≡◌ {A = ℕ} 0 1 = ap (λ (xs : List ValType). length xs) same.functions.0.locals in omega arith;
+  with_another_body = λ same. let long : ◌≡◌ {A = ℕ} 1 0 = ap (λ (xs : List Instr). length xs) same.functions.0.instructions in omega arith;
   without_its_body = λ same. same.functions;
 }

@@ -1,11 +1,18 @@
 use Rattle.std.proofs.Common.{rules, arith, ◌≡◌, ℕ, ◌+◌, List, [], length, length-append, refl, ap, ◌∙◌}
+use Rattle.std.specs.Prelude.{All}
+use Rattle.std.proofs.lemmas.Grind.{common_steps}
 use Rattle.std.proofs.lemmas.List.Elements.{All-nil}
 use Rattle.smith_binary.specs.Pieces.{Joined}
 use Rattle.smith_binary_law.proofs.CheckLemmas.{both}
-use Rattle.smith_binary_sections.specs.Modules.{IsModule}
-use Rattle.smith_binary_sections.specs.Sections.{IsOptionalSection}
+use Rattle.smith_binary_sections.specs.Codes.{IsBody}
+use Rattle.smith_binary_sections.specs.Modules.{IsModule, IsModuleAround}
+use Rattle.smith_binary_sections.specs.Sections.{IsListSection, IsOptionalSection}
 use Rattle.smith_module_rules.specs.Module.{IsValid, ModuleParts}
+use Rattle.smith_instr.specs.declared.instr.Instr.{Instr}
 use Rattle.smith_program.specs.Bodies.{AreBodiesOf}
+use Rattle.smith_program.specs.References.{references_of}
+use Rattle.smith_program.specs.Valid.{HaveAll, IsDeclared, IsValidProgram, NameData}
+use Rattle.smith_program.proofs.ValidLemmas.{Enabled}
 use Rattle.smith_binary_program.specs.ExamplePrograms.{function, preamble}
 use Rattle.smith_binary_program.specs.Programs.{IsProgramBinary, program_contents}
 use Rattle.smith_binary_program.specs.Valid.{IsValidBinary}
@@ -20,8 +27,8 @@ empty = record (function []) { types = []; groups = []; funcs = []; num_defined_
 none : {A B : List ℕ → Type 0} → A [] → B [] → Joined A B []
 none a b = both [] [] a b
 
-spelled : IsModule (program_contents empty []) preamble
-spelled =
+sections : IsModuleAround (program_contents empty []) (IsListSection 10 IsBody []) preamble
+sections =
     both _ [] refl
     (none (IsOptionalSection.absent refl refl)
     (none (IsOptionalSection.absent refl refl)
@@ -33,11 +40,30 @@ spelled =
     (none (IsOptionalSection.absent refl refl)
     (none refl (none (IsOptionalSection.absent refl refl) (none (IsOptionalSection.absent tt refl) (none (IsOptionalSection.absent refl refl) (IsOptionalSection.absent refl refl)))))))))))))
 
+spelled : IsModule (program_contents empty []) preamble
+spelled = record { each = refl; form = sections }
+
 valid : IsValid empty
-valid = search rules
+valid = first_of (search rules, grind (arith, common_steps))
 
 no_bodies : AreBodiesOf empty []
 no_bodies = record { each = refl; in_place = λ place code given at there. cc at }
+
+no_instructions : (P : Instr → Type 0) → All (HaveAll P) []
+no_instructions P = All-nil (HaveAll P)
+
+no_data : NameData [] → ⊥
+no_data named = let outside = named.2 in omega arith
+
+empty_valid : IsValidProgram empty []
+empty_valid = record {
+  valid = valid;
+  typed = no_bodies;
+  counted = no_bodies;
+  enabled = no_instructions (Enabled empty);
+  declared = no_instructions (IsDeclared (references_of empty));
+  data_count = λ named. absurd (no_data named);
+}
 
 the_preamble : IsValidBinary preamble
 the_preamble =
@@ -46,14 +72,14 @@ the_preamble =
       m = empty;
       bodies = [];
       spelled = binary;
-      valid = record { valid = valid; typed = no_bodies; counted = no_bodies; enabled = All-nil _; declared = All-nil _; data_count = λ named. let outside = named.2 in absurd (omega arith) };
-      data_count = λ named. let outside = named.2 in absurd (omega arith);
+      valid = empty_valid;
+      data_count = λ named. absurd (no_data named);
       no_other = λ n others other. programs_same empty n [] others preamble binary other;
     }
 
 no_preamble : IsValidBinary [] → ⊥
 no_preamble h =
-    let joined = h.spelled.spelled in
+    let joined = h.spelled.spelled.form in
     let whole : 0 ≡ length joined.first + length joined.second = ap length joined.whole ∙ length-append joined.first joined.second in
     let eight : length joined.first ≡ 8 = ap length joined.is_first in
     omega arith

@@ -1,4 +1,4 @@
-use Rattle.std.proofs.Common.{arith, [], ◌∷◌, refl}
+use Rattle.std.proofs.Common.{arith, ◌<◌, [], ◌∷◌, refl}
 use Rattle.std.specs.Prelude.{IsTrue}
 use Rattle.std.proofs.lemmas.Bool.{false≢true}
 use Rattle.smith_instr.specs.Enabled.{names_data}
@@ -16,7 +16,7 @@ returns c = record {
   of_data = (0, body.Drawn (instr.Memory (memory.Init 0 1) ∷ []), omega arith, refl, (0, instr.Memory (memory.Init 0 1), omega arith, refl, refl));
   of_elements = no_data (instr.Table (table.Init 0 1) ∷ []) (false≢true, tt);
   in_raw_bytes = none_of (HasOne (λ (x : Instr). IsTrue (names_data x))) (body.Raw ∷ []) ((λ never. never), tt);
-  counted = record { bulk_memory = refl; some = omega arith };
+  counted = let some : 0 < 1 = omega arith in record { bulk_memory = refl; some = some };
   without_bulk_memory = λ counts. false≢true counts.bulk_memory;
-  without_a_segment = λ counts. let none = counts.some in omega arith;
+  without_a_segment = λ counts. let none : 0 < 0 = counts.some in omega arith;
 }
