@@ -79,6 +79,11 @@ pub data IsRefusedFor (form : Form) (config : Config) (fuel : Option Fuel) (inpu
   not_written : {program : Program} → IsProgram config input (Ok program) left → IsUnwrittenWith form fuel program refusal →
       IsRefusedFor form config fuel input left refusal
 
+-- the bytes are a text
+pub record IsText (bytes : List ℕ) : Type 0 where
+  pub utf8 : IsUtf8 bytes
+  pub some : 1 ≤ length bytes
+
 -- the generator draws a program from the configuration and the input, with these bytes of the input
 -- left, and the bytes are a text
 pub record IsWrittenText (config : Config) (input bytes left : List ℕ) : Type 0 where
