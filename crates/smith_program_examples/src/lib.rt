@@ -4,6 +4,7 @@
 
 mod bodies;
 mod contexts;
+mod forms;
 mod fuel_checks;
 mod kept_forms;
 mod types;
