@@ -2,7 +2,7 @@
 -- Specification 3.0. A block is spelled by its start, its instructions and its end in order, so a
 -- flat list is spelled instruction by instruction; the lists that are blocks of the standard are
 -- defined in `Nesting`. Atomic instructions are those of the threads proposal.
-use Rattle.std.specs.Prelude.{ℕ, List, [], ◌∷◌}
+use Rattle.std.specs.Prelude.{ℕ, List}
 use Rattle.smith_binary.specs.Numbers.{IsSigned, IsLittleEndian, IsVector}
 use Rattle.smith_binary.specs.Pieces.{IsByte, Joined, Each, IsList}
 use Rattle.smith_binary_sections.specs.Types.{IsValType}
@@ -48,7 +48,7 @@ IsInstr (instr.BrOnCastFail cast) piece = Joined (IsPrefixed 0xFB 25) (IsBranchC
 -- Parametric Instructions, the others
 IsInstr instr.Drop piece = IsByte 0x1A piece
 IsInstr instr.Select piece = IsByte 0x1B piece
-IsInstr (instr.SelectTyped ty) piece = Joined (IsByte 0x1C) (IsList IsValType (ty ∷ [])) piece
+IsInstr (instr.SelectTyped values) piece = Joined (IsByte 0x1C) (IsList IsValType values) piece
 -- Variable Instructions
 IsInstr (instr.LocalGet local) piece = Joined (IsByte 0x20) (IsIndex local) piece
 IsInstr (instr.LocalSet local) piece = Joined (IsByte 0x21) (IsIndex local) piece

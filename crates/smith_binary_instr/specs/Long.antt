@@ -16,6 +16,7 @@ IsWide at = 2 ^ 6 ≤ at.align
 abbrev pub IsLongInstr : Instr → Type 0
 IsLongInstr (instr.BrTable labels last) = IsLongList IsNeverLong labels
 IsLongInstr (instr.TryTable ty clauses) = IsLongList IsNeverLong clauses
+IsLongInstr (instr.SelectTyped values) = IsLongList IsNeverLong values
 IsLongInstr (instr.Load op at) = IsWide at
 IsLongInstr (instr.Store op at) = IsWide at
 IsLongInstr (instr.VectorLoad op at) = IsWide at

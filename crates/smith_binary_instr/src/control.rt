@@ -1,4 +1,4 @@
-ghost use Rattle.std.specs.Prelude.{◌≡◌, ◌∷◌, [], ℕ, List, OnOk, IfErr};
+ghost use Rattle.std.specs.Prelude.{◌≡◌, ℕ, List, OnOk, IfErr};
 ghost use Rattle.smith_binary.specs.declared.error.EncodeError.TheVariants.{Memory};
 ghost use Rattle.smith_binary.specs.Faults.{IsFault};
 ghost use Rattle.smith_binary.specs.Pieces.{IsByte, IsList, Joined, Writes};
@@ -124,13 +124,16 @@ pub(crate) fn write_branch_cast(
     cast.to.heap_type.encode(sink)
 }
 
-// Writes `select` of the type `ty`, as a list of one type.
-pub(crate) fn write_typed_select(ty: ValType, sink: &mut Sink) -> Result<(), EncodeError>
+// Writes `select` with the types `values`.
+pub(crate) fn write_typed_select(values: &[ValType], sink: &mut Sink) -> Result<(), EncodeError>
     ensures writes { OnOk result
-        (Writes (Joined (IsByte 0x1C) (IsList IsValType (ty ∷ []))) sink.old sink.new) }
-    ensures memory { IfErr result (λ e. e ≡ Memory) }
+        (Writes (Joined (IsByte 0x1C) (IsList IsValType values.now)) sink.old sink.new) }
+    ensures fault { IfErr result (IsFault (IsLongList IsNeverLong values.now)) }
 {
     sink.write_byte(0x1C)?;
-    sink.write_length(1)?;
-    ty.encode(sink)
+    let list = Listed {
+        writer: Plain,
+        items: values,
+    };
+    list.encode(sink)
 }

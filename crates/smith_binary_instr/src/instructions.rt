@@ -107,7 +107,7 @@ fn write_instr(instruction: &Instr, sink: &mut Sink) -> Result<(), EncodeError>
         Instr::BrOnCastFail(cast) => write_branch_cast(25, *cast, sink),
         Instr::Drop => sink.write_byte(0x1A),
         Instr::Select => sink.write_byte(0x1B),
-        Instr::SelectTyped(ty) => write_typed_select(*ty, sink),
+        Instr::SelectTyped(values) => write_typed_select(values.as_slice(), sink),
         Instr::LocalGet(local) => write_indexed(0x20, *local, sink),
         Instr::LocalSet(local) => write_indexed(0x21, *local, sink),
         Instr::LocalTee(local) => write_indexed(0x22, *local, sink),

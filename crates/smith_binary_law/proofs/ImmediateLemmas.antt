@@ -152,17 +152,6 @@ lanes_are_unambiguous = record {
       same_front x y rest other (h.0 ∙ sym k.0) (ap (λ (bytes : List ℕ). bytes ++ rest) (sym h.1) ∙ e ∙ ap (λ (bytes : List ℕ). bytes ++ other) k.1);
 }
 
-single_same : (x y : ValType) → x ∷ [] ≡ y ∷ [] → x ≡ y
-single_same x y e = cc
-
--- a type as a list of one
-pub one_type_is_unambiguous : IsUnambiguous (λ (ty : ValType). IsList IsValType (ty ∷ []))
-one_type_is_unambiguous = record {
-  one = λ x y piece more rest other h k e.
-      let one = (list_is_unambiguous val_is_unambiguous).one (x ∷ []) (y ∷ []) piece more rest other h k e in
-      record { item = single_same x y one.item; after = one.after };
-}
-
 -- two pieces as a pair
 pub pair_is_unambiguous : {A B : Type 0} {P : A → List ℕ → Type 0} {Q : B → List ℕ → Type 0} → IsUnambiguous P → IsUnambiguous Q → IsUnambiguous (λ (pair : A × B). Joined (P pair.0) (Q pair.1))
 pair_is_unambiguous {A = A} {B = B} P_one Q_one = record {

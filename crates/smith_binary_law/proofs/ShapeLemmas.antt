@@ -1,5 +1,5 @@
 -- Instructions by the immediates after their opcode.
-use Rattle.std.proofs.Common.{◌≡◌, ℕ, List, [], ◌∷◌, ◌++◌, refl, sym, subst, ap, ◌∙◌}
+use Rattle.std.proofs.Common.{◌≡◌, ℕ, List, [], ◌++◌, refl, sym, subst, ap, ◌∙◌}
 use Rattle.std.specs.Prelude.{ℤ}
 use Rattle.smith_binary.specs.Numbers.{IsSigned, IsLittleEndian, IsVector}
 use Rattle.smith_binary.specs.Pieces.{Is, IsByte, Joined, IsList}
@@ -9,7 +9,7 @@ use Rattle.smith_syntax.specs.declared.value_type.HeapType.{HeapType}
 use Rattle.smith_syntax.specs.declared.value_type.ValType.{ValType}
 use Rattle.smith_binary_sections.specs.Instructions.{IsIndex}
 use Rattle.smith_binary_sections.specs.Types.{IsHeapType, IsValType}
-use Rattle.smith_binary_law.proofs.TypeLemmas.{heap_is_unambiguous, one_byte}
+use Rattle.smith_binary_law.proofs.TypeLemmas.{heap_is_unambiguous, one_byte, val_is_unambiguous}
 use Rattle.smith_instr.specs.declared.control.BlockType.{BlockType}
 use Rattle.smith_instr.specs.declared.control.BranchCast.{BranchCast}
 use Rattle.smith_instr.specs.declared.control.Catch.{Catch}
@@ -18,7 +18,7 @@ use Rattle.smith_instr.specs.declared.memory.MemArg.{MemArg}
 use Rattle.smith_binary_instr.specs.Control.{IsBlockType, IsBranchCast, IsCatch}
 use Rattle.smith_binary_instr.specs.Memory.{IsMemArg}
 use Rattle.smith_binary_instr.specs.Vector.{IsLanes}
-use Rattle.smith_binary_law.proofs.ImmediateLemmas.{block_is_unambiguous, catch_is_unambiguous, cast_is_unambiguous, mem_arg_is_unambiguous, lanes_are_unambiguous, one_type_is_unambiguous, pair_is_unambiguous}
+use Rattle.smith_binary_law.proofs.ImmediateLemmas.{block_is_unambiguous, catch_is_unambiguous, cast_is_unambiguous, mem_arg_is_unambiguous, lanes_are_unambiguous, pair_is_unambiguous}
 
 -- the immediates after an opcode, and the instruction with them
 pub data Shape : Type 0 where
@@ -30,7 +30,7 @@ pub data Shape : Type 0 where
   clauses : (BlockType → List Catch → Instr) → Shape
   labels : (List ℕ → ℕ → Instr) → Shape
   cast : (BranchCast → Instr) → Shape
-  one_type : (ValType → Instr) → Shape
+  types : (List ValType → Instr) → Shape
   heap : (HeapType → Instr) → Shape
   access : (MemArg → Instr) → Shape
   lane_access : (MemArg → ℕ → Instr) → Shape
@@ -49,7 +49,7 @@ Immediates (block to) = BlockType
 Immediates (clauses to) = BlockType × List Catch
 Immediates (labels to) = List ℕ × ℕ
 Immediates (cast to) = BranchCast
-Immediates (one_type to) = ValType
+Immediates (types to) = List ValType
 Immediates (heap to) = HeapType
 Immediates (access to) = MemArg
 Immediates (lane_access to) = MemArg × ℕ
@@ -68,7 +68,7 @@ instr_of (block to) x = to x
 instr_of (clauses to) x = to x.0 x.1
 instr_of (labels to) x = to x.0 x.1
 instr_of (cast to) x = to x
-instr_of (one_type to) x = to x
+instr_of (types to) x = to x
 instr_of (heap to) x = to x
 instr_of (access to) x = to x
 instr_of (lane_access to) x = to x.0 x.1
@@ -87,7 +87,7 @@ AreImmediates (block to) x piece = IsBlockType x piece
 AreImmediates (clauses to) x piece = Joined (IsBlockType x.0) (IsList IsCatch x.1) piece
 AreImmediates (labels to) x piece = Joined (IsList IsIndex x.0) (IsIndex x.1) piece
 AreImmediates (cast to) x piece = IsBranchCast x piece
-AreImmediates (one_type to) x piece = IsList IsValType (x ∷ []) piece
+AreImmediates (types to) x piece = IsList IsValType x piece
 AreImmediates (heap to) x piece = IsHeapType x piece
 AreImmediates (access to) x piece = IsMemArg x piece
 AreImmediates (lane_access to) x piece = Joined (IsMemArg x.0) (IsByte x.1) piece
@@ -114,7 +114,7 @@ immediates_same (labels to) x y piece more rest other h k e =
     let one = (pair_is_unambiguous (list_is_unambiguous (unsigned_is_unambiguous 32)) (unsigned_is_unambiguous 32)).one x y piece more rest other h k e in
     record { item = ap (λ (pair : List ℕ × ℕ). to pair.0 pair.1) one.item; after = one.after }
 immediates_same (cast to) x y piece more rest other h k e = let one = cast_is_unambiguous.one x y piece more rest other h k e in record { item = ap to one.item; after = one.after }
-immediates_same (one_type to) x y piece more rest other h k e = let one = one_type_is_unambiguous.one x y piece more rest other h k e in record { item = ap to one.item; after = one.after }
+immediates_same (types to) x y piece more rest other h k e = let one = (list_is_unambiguous val_is_unambiguous).one x y piece more rest other h k e in record { item = ap to one.item; after = one.after }
 immediates_same (heap to) x y piece more rest other h k e = let one = heap_is_unambiguous.one x y piece more rest other h k e in record { item = ap to one.item; after = one.after }
 immediates_same (access to) x y piece more rest other h k e = let one = mem_arg_is_unambiguous.one x y piece more rest other h k e in record { item = ap to one.item; after = one.after }
 immediates_same (lane_access to) x y piece more rest other h k e =

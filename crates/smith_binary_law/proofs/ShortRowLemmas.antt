@@ -94,7 +94,7 @@ single_rows =
     (0x11, form.indices (λ ty on. instr.CallIndirect on ty)) ∷ (0x12, form.index instr.ReturnCall) ∷
     (0x13, form.indices (λ ty on. instr.ReturnCallIndirect on ty)) ∷ (0x14, form.index instr.CallRef) ∷
     (0x15, form.index instr.ReturnCallRef) ∷ (0x1A, form.plain instr.Drop) ∷ (0x1B, form.plain instr.Select) ∷
-    (0x1C, form.one_type instr.SelectTyped) ∷ (0x1F, form.clauses instr.TryTable) ∷
+    (0x1C, form.types instr.SelectTyped) ∷ (0x1F, form.clauses instr.TryTable) ∷
     (0x20, form.index instr.LocalGet) ∷ (0x21, form.index instr.LocalSet) ∷ (0x22, form.index instr.LocalTee) ∷
     (0x23, form.index instr.GlobalGet) ∷ (0x24, form.index instr.GlobalSet) ∷
     (0x25, form.index (λ on. instr.Table (table.Get on))) ∷ (0x26, form.index (λ on. instr.Table (table.Set on))) ∷

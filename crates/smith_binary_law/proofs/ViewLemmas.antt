@@ -177,7 +177,7 @@ view (instr.CallIndirect on ty) piece h = shaped (short 0x11) (form.indices (λ 
 view (instr.ReturnCallIndirect on ty) piece h = shaped (short 0x13) (form.indices (λ one other. instr.ReturnCallIndirect other one)) (ty, on) (record { proper = refl; found = refl }) piece h
 view (instr.BrOnCast cast) piece h = shaped (long 0xFB 24) (form.cast instr.BrOnCast) cast (record { proper = refl; found = refl }) piece h
 view (instr.BrOnCastFail cast) piece h = shaped (long 0xFB 25) (form.cast instr.BrOnCastFail) cast (record { proper = refl; found = refl }) piece h
-view (instr.SelectTyped ty) piece h = shaped (short 0x1C) (form.one_type instr.SelectTyped) ty (record { proper = refl; found = refl }) piece h
+view (instr.SelectTyped values) piece h = shaped (short 0x1C) (form.types instr.SelectTyped) values (record { proper = refl; found = refl }) piece h
 view (instr.I32Const value) piece h = shaped (short 0x41) (form.signed 32 instr.I32Const) value (record { proper = refl; found = refl }) piece h
 view (instr.I64Const value) piece h = shaped (short 0x42) (form.signed 64 instr.I64Const) value (record { proper = refl; found = refl }) piece h
 view (instr.F32Const value) piece h = shaped (short 0x43) (form.digits 4 instr.F32Const) value (record { proper = refl; found = refl }) piece h

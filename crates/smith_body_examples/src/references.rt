@@ -49,5 +49,5 @@ fn values()
         ≡ (Some (node_of (Ref funcref ∷ []) (instr.Reference reference.AsNonNull) 0), 7 ∷ []) }
     ensures number { reference_value_at (function_of [] []) F64 (7 ∷ []) ≡ (None, 7 ∷ []) }
     ensures one_of_two { select_typed_node (Ref funcref)
-        ≡ node_of (Ref funcref ∷ Ref funcref ∷ I32 ∷ []) (instr.SelectTyped (Ref funcref)) 0 }
+        ≡ node_of (Ref funcref ∷ Ref funcref ∷ I32 ∷ []) (instr.SelectTyped (Ref funcref ∷ [])) 0 }
 {}

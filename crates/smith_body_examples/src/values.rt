@@ -50,7 +50,7 @@ fn numeric()
         ≡ (
           instr.Reference (reference.Null (Abstract false heap.Func))
               ∷ instr.Reference (reference.Null (Abstract false heap.Func)) ∷ number 3
-              ∷ instr.SelectTyped (Ref funcref) ∷ [],
+              ∷ instr.SelectTyped (Ref funcref ∷ []) ∷ [],
           [],
         ) }
 {}

@@ -24,7 +24,7 @@ use Rattle.smith_body_nodes.proofs.ChosenLemmas.{same_item}
 
 pub select_typed_gives : (wanted : ValType) (context : BodyContext) (set : List ℕ) → IsValid context wanted → IsNode context set (wanted ∷ []) (select_typed_node wanted)
 select_typed_gives wanted context set valid =
-    gives_one context set wanted wanted (wanted ∷ wanted ∷ I32 ∷ []) (instr.SelectTyped wanted) (λ more. (valid, (refl, refl))) (IsValBelow-refl context.types wanted) valid refl (omega arith)
+    gives_one context set wanted wanted (wanted ∷ wanted ∷ I32 ∷ []) (instr.SelectTyped (wanted ∷ [])) (λ more. (wanted, refl, valid, (refl, refl))) (IsValBelow-refl context.types wanted) valid refl (omega arith)
     (more_valid context wanted (wanted ∷ I32 ∷ []) valid (more_valid context wanted (I32 ∷ []) valid (one_valid context I32 tt)))
 
 -- the heap types of references

@@ -19,7 +19,7 @@ use Rattle.smith_body_nodes.specs.declared.node.Node.{Node}
 
 -- `select` of a type
 abbrev pub select_typed_node : ValType → Node
-select_typed_node wanted = node_of (wanted ∷ wanted ∷ I32 ∷ []) (instr.SelectTyped wanted) 0
+select_typed_node wanted = node_of (wanted ∷ wanted ∷ I32 ∷ []) (instr.SelectTyped (wanted ∷ [])) 0
 
 -- the nullable references to the unshared heap types `func`, `extern` and `eq`
 abbrev pub funcref : ValType

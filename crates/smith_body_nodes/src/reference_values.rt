@@ -12,7 +12,7 @@ use crate::node::{Node, plain};
 use crate::scope::{Draft, Scope};
 use smith_bytes::{Error, Unstructured};
 use smith_instr::{Instr, ReferenceInstr};
-use smith_types::{AbstractHeapType, HeapType, RefType, ValType, WasmFeatures};
+use smith_types::{AbstractHeapType, HeapType, Items, RefType, ValType, WasmFeatures};
 use std::alloc::Global;
 
 /// Chooses `select` of the type `wanted`.
@@ -25,7 +25,7 @@ pub fn choose_select_typed(alloc: Global, wanted: ValType) -> Result<Option<Node
     let node = plain(
         alloc,
         &[wanted, wanted, ValType::I32],
-        Instr::SelectTyped(wanted),
+        Instr::SelectTyped(Items::from_slice(alloc, &[wanted])?),
         0,
     )?;
     Ok(Some(node))

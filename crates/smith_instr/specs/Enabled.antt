@@ -88,7 +88,7 @@ store_kind _ = kind.MemoryInt
 abbrev pub instr_kind : Instr → InstructionKind
 instr_kind instr.Drop = kind.Parametric
 instr_kind instr.Select = kind.Parametric
-instr_kind (instr.SelectTyped value) = kind.Parametric
+instr_kind (instr.SelectTyped values) = kind.Parametric
 instr_kind (instr.LocalGet index) = kind.Variable
 instr_kind (instr.LocalSet index) = kind.Variable
 instr_kind (instr.LocalTee index) = kind.Variable
@@ -181,7 +181,7 @@ has_features features (instr.CallRef ty) = features.function_references
 has_features features (instr.ReturnCall function) = features.tail_call
 has_features features (instr.ReturnCallIndirect index ty) = features.tail_call
 has_features features (instr.ReturnCallRef ty) = features.tail_call && features.function_references
-has_features features (instr.SelectTyped value) = features.reference_types
+has_features features (instr.SelectTyped values) = features.reference_types
 has_features features (instr.V128Const bits) = features.simd
 has_features features (instr.Numeric op) = is_numeric_enabled features op
 has_features features (instr.Reference op) = is_reference_enabled features op

@@ -140,8 +140,8 @@ HasInstrType context set (instr.ReturnCallRef ty) operands results =
 HasInstrType context set instr.Drop operands results = (value : ValType) × To operands results (value ∷ []) []
 HasInstrType context set instr.Select operands results =
     (value : ValType) × IsNumberOrVector value × To operands results (value ∷ value ∷ I32 ∷ []) (value ∷ [])
-HasInstrType context set (instr.SelectTyped value) operands results =
-    IsValid context value × To operands results (value ∷ value ∷ I32 ∷ []) (value ∷ [])
+HasInstrType context set (instr.SelectTyped values) operands results =
+    (value : ValType) × (values ≡ value ∷ []) × IsValid context value × To operands results (value ∷ value ∷ I32 ∷ []) (value ∷ [])
 HasInstrType context set (instr.LocalGet index) operands results =
     (value : ValType) × IsLocalSet context set index value × To operands results [] (value ∷ [])
 HasInstrType context set (instr.LocalSet index) operands results =

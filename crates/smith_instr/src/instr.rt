@@ -71,8 +71,8 @@ pub enum Instr {
     Drop,
     /// `select` without a type.
     Select,
-    /// `select` of a type.
-    SelectTyped(ValType),
+    /// `select` with a list of types, of which there is one if it is valid.
+    SelectTyped(Items<ValType>),
     /// `local.get` of a local.
     LocalGet(u32),
     /// `local.set` of a local.

@@ -33,10 +33,12 @@ fn parametric()
     ensures select_to_another_type { ¬ HasType instr.Select (I32 ∷ I32 ∷ I32 ∷ []) (I64 ∷ []) }
     ensures select_of_references { TakesNot instr.Select (Ref funcref ∷ Ref funcref ∷ I32 ∷ []) }
     ensures select_to_none { LeavesNot instr.Select [] }
-    ensures select_typed_of_numbers { HasType (instr.SelectTyped I64) (I64 ∷ I64 ∷ I32 ∷ [])
+    ensures select_typed_of_numbers { HasType (instr.SelectTyped (I64 ∷ [])) (I64 ∷ I64 ∷ I32 ∷ [])
         (I64 ∷ []) }
-    ensures select_typed_by_i64 { TakesNot (instr.SelectTyped I64) (I64 ∷ I64 ∷ I64 ∷ []) }
-    ensures select_typed_to_another_type { LeavesNot (instr.SelectTyped I64) (I32 ∷ []) }
+    ensures select_typed_by_i64 { TakesNot (instr.SelectTyped (I64 ∷ [])) (I64 ∷ I64 ∷ I64 ∷ []) }
+    ensures select_typed_to_another_type { LeavesNot (instr.SelectTyped (I64 ∷ [])) (I32 ∷ []) }
+    ensures select_of_no_types { HasNoType (instr.SelectTyped []) }
+    ensures select_of_two_listed_types { HasNoType (instr.SelectTyped (I64 ∷ I64 ∷ [])) }
 {}
 
 fn blocks()

@@ -1,4 +1,4 @@
-ghost use Rattle.std.specs.Prelude.{[], true, false, pos, ℕ};
+ghost use Rattle.std.specs.Prelude.{List, [], true, false, pos, ℕ};
 ghost use Rattle.smith_types.specs.ExampleFeatures.{no_features};
 ghost use Rattle.smith_syntax.specs.Features.{every_feature};
 ghost use Rattle.smith_syntax.specs.declared.value_type.HeapType.{HeapType};
@@ -461,10 +461,10 @@ fn accesses_of_vectors()
 
 #[tactic(auto, unfolding(smith_instr::specs::Enabled::is_enabled))]
 fn parametric()
-    ensures select_typed { (value : ValType) → IsOn (record no_features { reference_types = true })
-        (instr.SelectTyped value) }
-    ensures select_typed_off { (value : ValType) → IsOff
-        (record every_feature { reference_types = false }) (instr.SelectTyped value) }
+    ensures select_typed { (values : List ValType) → IsOn (record no_features { reference_types = true })
+        (instr.SelectTyped values) }
+    ensures select_typed_off { (values : List ValType) → IsOff
+        (record every_feature { reference_types = false }) (instr.SelectTyped values) }
     ensures select { IsOn no_features instr.Select }
     ensures drop { IsOn no_features instr.Drop }
 {}

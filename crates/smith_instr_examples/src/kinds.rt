@@ -1,4 +1,4 @@
-ghost use Rattle.std.specs.Prelude.{pos, IsTrue, ℕ};
+ghost use Rattle.std.specs.Prelude.{pos, IsTrue, List, ℕ};
 ghost use Rattle.smith_syntax.specs.Features.{every_feature};
 ghost use Rattle.smith_syntax.specs.declared.instruction_kind.InstructionKind.TheVariants as kind;
 ghost use Rattle.smith_syntax.specs.declared.value_type.HeapType.{HeapType};
@@ -49,9 +49,9 @@ fn parametric()
     ensures drop_barred { IsBarred (all_but kind.Parametric) instr.Drop }
     ensures select { IsAmong kind.Parametric instr.Select }
     ensures select_barred { IsBarred (all_but kind.Parametric) instr.Select }
-    ensures select_typed { (value : ValType) → IsAmong kind.Parametric (instr.SelectTyped value) }
-    ensures select_typed_barred { (value : ValType) → IsBarred (all_but kind.Parametric)
-        (instr.SelectTyped value) }
+    ensures select_typed { (values : List ValType) → IsAmong kind.Parametric (instr.SelectTyped values) }
+    ensures select_typed_barred { (values : List ValType) → IsBarred (all_but kind.Parametric)
+        (instr.SelectTyped values) }
 {}
 
 #[tactic(auto, unfolding(smith_instr::specs::Enabled::is_enabled))]

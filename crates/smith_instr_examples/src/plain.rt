@@ -14,13 +14,13 @@ ghost use Rattle.smith_instr_examples.specs.ExampleManaged.{managed};
 fn parametric()
     ensures nop { HasInstrType (managed [] []) [] instr.Nop [] [] }
     ensures nop_leaves_nothing { ¬ HasInstrType (managed [] []) [] instr.Nop [] (I32 ∷ []) }
-    ensures typed_select { HasInstrType (managed [] []) [] (instr.SelectTyped anyref)
+    ensures typed_select { HasInstrType (managed [] []) [] (instr.SelectTyped (anyref ∷ []))
         (anyref ∷ anyref ∷ I32 ∷ []) (anyref ∷ []) }
     ensures typed_select_of_another_type { (results : List ValType)
-        → ¬ HasInstrType (managed [] []) [] (instr.SelectTyped anyref)
+        → ¬ HasInstrType (managed [] []) [] (instr.SelectTyped (anyref ∷ []))
         (anyref ∷ Ref funcref ∷ I32 ∷ []) results }
     ensures typed_select_of_no_type { (operands results : List ValType)
-        → ¬ HasInstrType (managed [] []) [] (instr.SelectTyped (nullable_to (Concrete 8)))
+        → ¬ HasInstrType (managed [] []) [] (instr.SelectTyped (nullable_to (Concrete 8) ∷ []))
         operands results }
     ensures returned { HasInstrType (managed [] (I32 ∷ [])) [] instr.Return
         (I64 ∷ I32 ∷ []) (F32 ∷ []) }

@@ -28,8 +28,9 @@ const AT: MemArg = MemArg {
     memory: 1,
 };
 
-// Encodes the body that has these bytes. `labels` are those of its table of branches.
-fn encode(sink: &mut Sink, labels: Items<u32>) -> Result<(), EncodeError> {
+// Encodes the body that has these bytes. `labels` are those of its table of branches, and `chosen`
+// the types of its `select`.
+fn encode(sink: &mut Sink, labels: Items<u32>, chosen: Items<ValType>) -> Result<(), EncodeError> {
     let locals = [ValType::I32, ValType::I64];
     let body = [
         Instr::Block(RESULT),
@@ -50,7 +51,7 @@ fn encode(sink: &mut Sink, labels: Items<u32>) -> Result<(), EncodeError> {
         Instr::LocalSet(2),
         Instr::F64Const(0x3FF8_0000_0000_0000),
         Instr::Numeric(NumericInstr::Saturate(SaturatingConversion::I32TruncSatF64U)),
-        Instr::SelectTyped(ValType::I32),
+        Instr::SelectTyped(chosen),
     ];
     encode_body(sink, &locals, &body)
 }
@@ -68,7 +69,9 @@ fn has_bytes(sink: &Sink, wanted: &[u8]) -> Result<(), Fail> {
 #[test]
 fn bodies_are_those_of_another_encoder(rt: HostRuntime) -> Result<(), Fail> {
     let mut sink = Sink::new(rt.alloc());
-    encode(&mut sink, Items::from_slice(rt.alloc(), &[0, 0])?)?;
+    let labels = Items::from_slice(rt.alloc(), &[0, 0])?;
+    let chosen = Items::from_slice(rt.alloc(), &[ValType::I32])?;
+    encode(&mut sink, labels, chosen)?;
     has_bytes(&sink, &BYTES)
 }
 

@@ -3,7 +3,7 @@ ghost use Rattle.smith_text.specs.Written.{Keeps, Writes};
 
 use smith_instr::{BlockType, BranchCast, Catch};
 use smith_text::{Sink, TextForm, TypeUse};
-use smith_types::SubType;
+use smith_types::{SubType, ValType};
 use std::fmt;
 
 // Writes the type of a block after a space, or nothing if it is empty.
@@ -19,7 +19,7 @@ fn write_block_type<S: Sink>(ty: BlockType, signatures: &[SubType], sink: &mut S
     }
 }
 
-/// Writes `keyword`, and after it the type `ty` of a block or of a result.
+/// Writes `keyword`, and after it the type `ty` of a block.
 pub(crate) fn write_block<S: Sink>(
     keyword: &str,
     ty: BlockType,
@@ -90,6 +90,16 @@ pub(crate) fn write_branch_cast<S: Sink>(
     cast.from.write_text(sink)?;
     sink.write_str(" ")?;
     cast.to.write_text(sink)
+}
+
+/// Writes `select` with its types.
+pub(crate) fn write_typed_select<S: Sink>(values: &[ValType], sink: &mut S) -> fmt::Result
+    requires open { S.failed sink.old ≡ false }
+    ensures fault { S.failed sink.new ≡ is_err result }
+    ensures writes { OnOk result (Writes S.has sink.old 1 sink.new) }
+{
+    sink.write_str("select")?;
+    (" (result", values, ")").write_text(sink)
 }
 
 /// Writes a call through a table.

@@ -4,6 +4,7 @@ ghost use Rattle.smith_text.specs.Written.{Writes};
 use crate::atomic::write_atomic;
 use crate::control::{
     write_block, write_branch_cast, write_branch_table, write_indirect, write_try_table,
+    write_typed_select,
 };
 use crate::keywords::write_indexed;
 use crate::memory::{
@@ -12,7 +13,7 @@ use crate::memory::{
 use crate::numeric::write_numeric;
 use crate::references::{write_aggregate, write_reference, write_table};
 use crate::vector::write_vector;
-use smith_instr::{BlockType, Instr};
+use smith_instr::Instr;
 use smith_text::{Sink, TypeUse, write_const_instr};
 use smith_types::{ConstInstr, SubType};
 use std::fmt;
@@ -77,7 +78,7 @@ pub fn write_instr<S: Sink>(
         Instr::ReturnCallRef(ty) => write_indexed("return_call_ref", *ty, sink),
         Instr::Drop => sink.write_str("drop"),
         Instr::Select => sink.write_str("select"),
-        Instr::SelectTyped(ty) => write_block("select", BlockType::Value(*ty), &[], sink),
+        Instr::SelectTyped(values) => write_typed_select(values.as_slice(), sink),
         Instr::LocalGet(local) => write_indexed("local.get", *local, sink),
         Instr::LocalSet(local) => write_indexed("local.set", *local, sink),
         Instr::LocalTee(local) => write_indexed("local.tee", *local, sink),

@@ -1,7 +1,6 @@
 use Rattle.std.proofs.lemmas.Result.{on_ok_weaker}
-use Rattle.smith_binary.proofs.WrittenLemmas.{joined_written, one_written}
-use Rattle.smith_binary_sections.specs.Types.{IsValType}
+use Rattle.smith_binary.proofs.WrittenLemmas.{joined_written}
 use Rattle.smith_binary_instr.proofs.control.write_typed_select.Goals as goal
 
 pub returns-clause-writes : goal.returns-clause-writes
-returns-clause-writes c = on_ok_weaker c.encode.result (λ last. joined_written c.in_ok-write_byte.ensures.writes (one_written IsValType c.args.ty c.in_ok-write_length.ensures.writes last)) c.encode.ensures.writes
+returns-clause-writes c = on_ok_weaker c.encode.result (λ last. joined_written c.in_ok-write_byte.ensures.writes last) c.encode.ensures.writes
