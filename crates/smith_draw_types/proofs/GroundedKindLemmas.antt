@@ -28,11 +28,11 @@ use Rattle.smith_draw_types.specs.Offered.{abstract_subtypes, kinds_below, is_of
 use Rattle.smith_draw_types.proofs.OfferedLemmas.{shared_as, of_kind}
 use Rattle.smith_draw_types.proofs.GroundingLemmas.{grounded_if, grounded_decides, by_structs}
 
-both : (a b : Bool) → (a && b) ≡ true → (a ≡ true) × (b ≡ true)
+pub both : (a b : Bool) → (a && b) ≡ true → (a ≡ true) × (b ≡ true)
 both true b e = (refl, e)
 both false b e = cc
 
-both_are : (a b : Bool) → a ≡ true → b ≡ true → (a && b) ≡ true
+pub both_are : (a b : Bool) → a ≡ true → b ≡ true → (a && b) ≡ true
 both_are a b p q = rw (p, q) refl
 
 never_both : (a b : Bool) → (a ≡ true → b ≡ false) → (a && b) ≡ false
@@ -61,7 +61,7 @@ picked_passing g p test start (t ∷ types) each =
     step g start (picked_from p (start + 1) types) (indices_where test (start + 1) (length types)) (p t) (g (Concrete start)) (test start) refl first
     (picked_passing g p test (start + 1) types (λ k u at. let next : start + suc k ≡ start + 1 + k = omega arith in subst (λ (n : ℕ). (p u && g (Concrete n)) ≡ test n) next (each (suc k) u at)))
 
-picks : (g : HeapType → Bool) (p : SubType → Bool) (test : ℕ → Bool) (types : List SubType) → ((k : ℕ) (t : SubType) → slice_get types k ≡ Some t → (p t && g (Concrete k)) ≡ test k) → filter g (picked_from p 0 types) ≡ map Concrete (indices_where test 0 (length types))
+pub picks : (g : HeapType → Bool) (p : SubType → Bool) (test : ℕ → Bool) (types : List SubType) → ((k : ℕ) (t : SubType) → slice_get types k ≡ Some t → (p t && g (Concrete k)) ≡ test k) → filter g (picked_from p 0 types) ≡ map Concrete (indices_where test 0 (length types))
 picks g p test types each = picked_passing g p test 0 types (λ k t at. let same : k ≡ 0 + k = omega arith in subst (λ (n : ℕ). (p t && g (Concrete n)) ≡ test n) same (each k t at))
 
 none_where : (first count : ℕ) → indices_where (λ _. false) first count ≡ []
@@ -86,7 +86,7 @@ kind_is_above types s a j t at on =
 structs_above : (types : List SubType) (descriptors : Bool) (a b : HeapType) → IsBelow types a b → IsGroundedByStructs types descriptors a → IsGroundedByStructs types descriptors b
 structs_above types descriptors a b below (i, by) = (i, record { fields = by.fields; struct = by.struct; defaults = by.defaults; below = IsBelow-trans types by.below below })
 
-functions_above : (context : Context) (a b : HeapType) → IsBelow context.types a b → IsGroundedByFuncs context a → IsGroundedByFuncs context b
+pub functions_above : (context : Context) (a b : HeapType) → IsBelow context.types a b → IsGroundedByFuncs context a → IsGroundedByFuncs context b
 functions_above context a b below (function, index, at, by) =
     (function, index, at, IsValBelow-trans context.types (function_reference context function index) (reference_to a) (reference_to b) by (record { heap = below; nullable = λ is. is }))
 

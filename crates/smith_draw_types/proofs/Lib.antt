@@ -11,6 +11,7 @@ pub mod StandingLemmas
 pub mod GroundedLoop
 pub mod GroundedKindLemmas
 pub mod GroundedTailLemmas
+pub mod GroundedFamilyLemmas
 pub mod MatchingLemmas
 pub mod ChosenLemmas
 pub mod ValueTypeLemmas

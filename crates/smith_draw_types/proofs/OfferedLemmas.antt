@@ -50,7 +50,7 @@ shared_as false t h = not_shared (shared t) h
 pub of_kind : (a : AbstractHeapType) (inner : CompositeInnerType) → IsTrue (is_of_kind a inner) → kind_of inner ≡ a
 of_kind a inner h = search rules
 
-supertype_is : (index : ℕ) (o : Option ℕ) → IsTrue (is_index index o) → o ≡ Some index
+pub supertype_is : (index : ℕ) (o : Option ℕ) → IsTrue (is_index index o) → o ≡ Some index
 supertype_is index None h = cc
 supertype_is index (Some other) h = ap Some (eqb-true other index h)
 

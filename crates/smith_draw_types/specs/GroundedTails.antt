@@ -1,11 +1,12 @@
--- The grounded types among the last of the offered subtypes of a heap type.
-use Rattle.std.specs.Prelude.{◌≡◌, ◌^◌, ◌<◌, ◌≤◌, length, map, drop, filter}
+-- The grounded types among the last of the offered subtypes of an abstract heap type, and among the
+-- direct subtypes of a concrete one.
+use Rattle.std.specs.Prelude.{◌≡◌, ℕ, ◌^◌, ◌<◌, ◌≤◌, List, length, map, drop, filter}
 use Rattle.smith_syntax.specs.declared.value_type.HeapType.{HeapType}
 use Rattle.smith_syntax.specs.declared.value_type.HeapType.TheVariants.{Concrete}
 use Rattle.smith_types.specs.Expressions.{Context}
 use Rattle.smith_config.specs.declared.config.Config.{Config}
 use Rattle.smith_draw_types.specs.Grounding.{is_grounded}
-use Rattle.smith_draw_types.specs.Offered.{gc_subtypes}
+use Rattle.smith_draw_types.specs.Offered.{gc_subtypes, offered_direct_subtypes}
 use Rattle.smith_draw_types.specs.declared.matching.GroundedTail.{GroundedTail}
 
 -- these are the indices of the grounded types from a position on
@@ -14,3 +15,8 @@ pub record IsGroundedTail (config : Config) (context : Context) (ty : HeapType) 
   pub few : tail.start < 2 ^ 8
   pub within : tail.start ≤ length (gc_subtypes config context.types ty)
   pub rest : filter (is_grounded context) (drop tail.start (gc_subtypes config context.types ty)) ≡ map Concrete tail.indices.now
+
+-- these are the indices of the grounded direct subtypes of an existing type
+pub record IsGroundedFamily (context : Context) (index : ℕ) (indices : List ℕ) : Type 0 where
+  pub stands : index < length context.types
+  pub direct : filter (is_grounded context) (offered_direct_subtypes context.types index) ≡ map Concrete indices

@@ -1,5 +1,5 @@
 ghost use Rattle.std.specs.Prelude.{◌≡◌, ◌+◌, ◌<◌, ◌≤◌, ◌↔◌, ◌⊎◌, false, IsTrue, Some, IfOk, IfSome, drop, filter};
-ghost use Rattle.std.specs.Prelude.{length, map, ◌++◌, slice_get, ◌||◌, not, All};
+ghost use Rattle.std.specs.Prelude.{length, map, ◌++◌, slice_get, ◌||◌, not, All, if◌then◌else◌};
 ghost use Rattle.smith_bytes.specs.Draws.{choose_at};
 ghost use Rattle.smith_types.specs.Subtyping.{IsBelow, IsRefBelow, IsValBelow, IsInRange};
 ghost use Rattle.smith_types.specs.Subtyping.{IsValInRange};
@@ -24,7 +24,7 @@ ghost use Rattle.smith_draw_types.specs.Drawing.{AlwaysDraws, Draws};
 ghost use Rattle.smith_config.specs.Granted.{IsGranted};
 ghost use Rattle.smith_config.specs.declared.config.Config.{Config as Configuration};
 ghost use Rattle.smith_draw_types.specs.Grounding.{is_grounded, standing_in};
-ghost use Rattle.smith_draw_types.specs.GroundedTails.{IsGroundedTail};
+ghost use Rattle.smith_draw_types.specs.GroundedTails.{IsGroundedTail, IsGroundedFamily};
 ghost use Rattle.smith_draw_types.specs.Kept.{
   StaysValid,
   IsStorageValid,
@@ -33,7 +33,7 @@ ghost use Rattle.smith_draw_types.specs.Kept.{
   IsFuncShareable,
 };
 ghost use Rattle.smith_draw_types.specs.Offered.{abstract_subtypes, gc_subtypes, kinds_below, of_kinds};
-ghost use Rattle.smith_draw_types.specs.Offered.{subtypes_offered};
+ghost use Rattle.smith_draw_types.specs.Offered.{subtypes_offered, exact_subtypes, bottom_at};
 ghost use Rattle.smith_draw_types.specs.MatchingTypes.{
   first_and_passing,
   references_offered,
@@ -49,7 +49,7 @@ use crate::call_grounds::CallGrounds;
 use crate::each::{Replacement, draw_each};
 use crate::offers::{
     abstract_subtypes, count_concrete_subtypes, count_of_kinds_below, count_subtypes, kinds_below,
-    offered_abstract, offered_concrete_subtype, offered_subtype,
+    offered_abstract, offered_bottom, offered_concrete_subtype, offered_subtype,
 };
 use crate::reference_scope::ReferenceScope;
 use crate::spaces::{Spaces, orderly};
@@ -179,6 +179,20 @@ fn count_grounded(config: &Config, standing: &ReferenceScope<'_>, ty: HeapType) 
     ensures { result ≡ length (filter (is_grounded standing.now)
         (drop 1 (gc_subtypes config.now standing.now.types ty))) }
 {
+    let HeapType::Concrete(index) = ty else {
+        return count_by_tail(config, standing, ty);
+    };
+    match standing.grounded_direct(index) {
+        Some(direct) => count_in_family(config, standing, index, direct),
+        None => count_by_tail(config, standing, ty),
+    }
+}
+
+/// Returns the same as [`count_grounded`], without the record of direct subtypes.
+fn count_by_tail(config: &Config, standing: &ReferenceScope<'_>, ty: HeapType) -> usize
+    ensures { result ≡ length (filter (is_grounded standing.now)
+        (drop 1 (gc_subtypes config.now standing.now.types ty))) }
+{
     match grounded_tail(standing, ty) {
         Some(tail) => count_grounded_before(config, standing, ty, tail.start) + tail.indices.len(),
         None => {
@@ -186,6 +200,52 @@ fn count_grounded(config: &Config, standing: &ReferenceScope<'_>, ty: HeapType) 
             count_grounded_before(config, standing, ty, end)
         }
     }
+}
+
+/// Counts the grounded types among the subtypes of the type `index` that are offered with garbage
+/// collection, without that type. `direct` are the indices of its grounded direct subtypes.
+fn count_in_family(
+    config: &Config,
+    standing: &ReferenceScope<'_>,
+    index: u32,
+    direct: &[u32],
+) -> usize
+    requires { IsGroundedFamily standing.now index direct.now }
+    ensures { result ≡ length (filter (is_grounded standing.now)
+        (drop 1 (gc_subtypes config.now standing.now.types (Concrete index)))) }
+{
+    direct.len() + count_after_direct(config, standing, index, direct)
+}
+
+/// Counts the grounded types among the subtypes of the type `index` that are offered after its direct
+/// subtypes. `direct` are the indices of the grounded ones among these.
+fn count_after_direct(
+    config: &Config,
+    standing: &ReferenceScope<'_>,
+    index: u32,
+    direct: &[u32],
+) -> usize
+    requires { IsGroundedFamily standing.now index direct.now }
+    ensures counted { result ≡ length (filter (is_grounded standing.now)
+        (exact_subtypes config.now standing.now.types index
+        ++ bottom_at standing.now.types index)) }
+    ensures few { result ≤ length direct.now + 2 }
+{
+    let space = standing.types();
+    let bottom = offered_bottom(space.types(), index);
+    let last = count_if(standing.is_grounded(bottom));
+    if !config.custom_descriptors_enabled {
+        return last;
+    }
+    let exact = standing.is_grounded(HeapType::Exact(index));
+    count_if(exact) + (direct.len() + last)
+}
+
+/// Returns 1 if `wanted` is `true`, otherwise 0.
+fn count_if(wanted: bool) -> usize
+    ensures { result ≡ (if wanted then 1 else 0) }
+{
+    if wanted { 1 } else { 0 }
 }
 
 /// Counts the grounded types among the first `end` subtypes of `ty` that are offered with garbage
@@ -229,6 +289,28 @@ fn offered_grounded(
         (drop 1 (gc_subtypes config.now standing.now.types ty))) place
         ≡ Some result }
 {
+    let HeapType::Concrete(index) = ty else {
+        return offered_by_tail(config, standing, ty, place);
+    };
+    match standing.grounded_direct(index) {
+        Some(direct) => offered_in_family(config, standing, index, direct, place),
+        None => offered_by_tail(config, standing, ty, place),
+    }
+}
+
+/// Returns the same as [`offered_grounded`], without the record of direct subtypes.
+fn offered_by_tail(
+    config: &Config,
+    standing: &ReferenceScope<'_>,
+    ty: HeapType,
+    place: usize,
+) -> HeapType
+    requires { place < length (filter (is_grounded standing.now)
+        (drop 1 (gc_subtypes config.now standing.now.types ty))) }
+    ensures { slice_get (filter (is_grounded standing.now)
+        (drop 1 (gc_subtypes config.now standing.now.types ty))) place
+        ≡ Some result }
+{
     let Some(tail) = grounded_tail(standing, ty) else {
         return search_grounded(config, standing, ty, place);
     };
@@ -237,6 +319,61 @@ fn offered_grounded(
         return search_grounded(config, standing, ty, place);
     }
     HeapType::Concrete(tail.indices[place - before])
+}
+
+/// Returns the type at `place` among those that [`count_in_family`] counts: the direct subtypes,
+/// and then those that are offered after them.
+fn offered_in_family(
+    config: &Config,
+    standing: &ReferenceScope<'_>,
+    index: u32,
+    direct: &[u32],
+    place: usize,
+) -> HeapType
+    requires family { IsGroundedFamily standing.now index direct.now }
+    requires inside { place < length (filter (is_grounded standing.now)
+        (drop 1 (gc_subtypes config.now standing.now.types (Concrete index)))) }
+    ensures { slice_get (filter (is_grounded standing.now)
+        (drop 1 (gc_subtypes config.now standing.now.types (Concrete index)))) place
+        ≡ Some result }
+{
+    if place < direct.len() {
+        return HeapType::Concrete(direct[place]);
+    }
+    offered_after_direct(config, standing, index, direct, place - direct.len())
+}
+
+/// Returns the type at `place` among those that [`count_after_direct`] counts: with custom
+/// descriptors the exact type and the direct subtypes, and then the bottom.
+fn offered_after_direct(
+    config: &Config,
+    standing: &ReferenceScope<'_>,
+    index: u32,
+    direct: &[u32],
+    place: usize,
+) -> HeapType
+    requires family { IsGroundedFamily standing.now index direct.now }
+    requires inside { place < length (filter (is_grounded standing.now)
+        (exact_subtypes config.now standing.now.types index
+        ++ bottom_at standing.now.types index)) }
+    ensures { slice_get (filter (is_grounded standing.now)
+        (exact_subtypes config.now standing.now.types index
+        ++ bottom_at standing.now.types index)) place ≡ Some result }
+{
+    let space = standing.types();
+    let bottom = offered_bottom(space.types(), index);
+    if !config.custom_descriptors_enabled {
+        return bottom;
+    }
+    let exact = HeapType::Exact(index);
+    let first = count_if(standing.is_grounded(exact));
+    if place < first {
+        return exact;
+    }
+    if place - first < direct.len() {
+        return HeapType::Concrete(direct[place - first]);
+    }
+    bottom
 }
 
 /// Returns the same as [`offered_grounded`], by a test of each offered subtype up to it.

@@ -332,7 +332,7 @@ fn offered_below(
 }
 
 /// Returns the bottom of the kind of the type `index`. Requires the type to exist.
-fn offered_bottom(types: &[SubType], index: u32) -> HeapType
+pub(crate) fn offered_bottom(types: &[SubType], index: u32) -> HeapType
     requires { 0 < length (bottom_at types.now index) }
     ensures { bottom_at types.now index ≡ result ∷ [] }
 {

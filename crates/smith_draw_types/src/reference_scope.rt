@@ -7,6 +7,7 @@ ghost use Rattle.smith_types.specs.Expressions.{reference_to, function_reference
 ghost use Rattle.smith_types.specs.FuncGrounds.{AreFuncGrounds};
 ghost use Rattle.smith_draw_types.specs.Grounding.{standing_in, functions_of, over, any_from};
 ghost use Rattle.smith_draw_types.specs.Grounding.{function_grounds, is_grounded};
+ghost use Rattle.smith_draw_types.specs.GroundedTails.{IsGroundedFamily};
 ghost use Rattle.smith_draw_types.specs.Offered.{kinds_below, of_kinds};
 ghost use Rattle.smith_draw_types.specs.KeptGrounds.{AreEarlyGrounds, IsRecordOver};
 
@@ -159,6 +160,22 @@ impl<'a> ReferenceScope<'a> {
             return None;
         }
         self.types.grounded_by_structs(shared)
+    }
+
+    /// Returns the indices of the grounded direct subtypes of the type `index`, in order. Returns
+    /// `None` if they are not recorded.
+    pub(crate) fn grounded_direct(&self, index: u32) -> Option<&'a [u32]>
+        ensures { IfSome result (λ indices. IsGroundedFamily self.now index indices.now) }
+    {
+        self.orderly();
+        let above = HeapType::Concrete(index);
+        if !is_in_range(self.types.types(), above) {
+            return None;
+        }
+        if self.is_grounded_by_functions(above) {
+            return None;
+        }
+        self.types.grounded_direct_subtypes(index)
     }
 
     /// Returns no indices if no type of the kind `kind` with the sharedness `shared` is grounded.

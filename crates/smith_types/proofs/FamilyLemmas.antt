@@ -53,10 +53,10 @@ direct_same types t s off = indices-push (is_directly_below s) 0 (length types) 
 direct_more : (types : List SubType) (t : SubType) (s : ℕ) → is_directly_below s t ≡ true → direct_subtypes (types ++ t ∷ []) s ≡ direct_subtypes types s ++ length types ∷ []
 direct_more types t s on = indices-push (is_directly_below s) 0 (length types) types t (omega arith) ∙ ap (λ (b : Bool). direct_subtypes types s ++ (if b then length types ∷ [] else [])) on
 
-below_itself : (t : SubType) (s : ℕ) → t.supertype ≡ Some s → is_directly_below s t ≡ true
+pub below_itself : (t : SubType) (s : ℕ) → t.supertype ≡ Some s → is_directly_below s t ≡ true
 below_itself t s up = rw up (eq-eqb s s refl)
 
-below_other : (t : SubType) (s i : ℕ) → t.supertype ≡ Some s → (i ≡ s → ⊥) → is_directly_below i t ≡ false
+pub below_other : (t : SubType) (s i : ℕ) → t.supertype ≡ Some s → (i ≡ s → ⊥) → is_directly_below i t ≡ false
 below_other t s i up other = rw up (ne_eqb s i (λ same. other (sym same)))
 
 -- a type without a supertype changes no family

@@ -27,6 +27,7 @@ use Rattle.smith_types.proofs.GrowthLemmas.{IsBelow-trans}
 use Rattle.smith_types.proofs.PathLemmas.{exact_below}
 use Rattle.smith_types.proofs.WalkLemmas.{IsUnder, by_cases_from_below, below_from_by_cases, path_along, concrete_not_below_exact}
 use Rattle.smith_types.proofs.MarkLemmas.{said_is}
+use Rattle.smith_types.specs.MarkedFamilies.{is_directly_below_at, is_marked_below, DecidesGroundedBelow}
 use Rattle.smith_types.proofs.MarkedLemmas.{where_same, stands}
 
 both : (a b : Bool) → (a && b) ≡ true → (a ≡ true) × (b ≡ true)
@@ -121,6 +122,18 @@ marked_decided types now grounds s marked view o h listed descriptors test decid
     ((λ on. let (a, b) = both (below_at grounds j) (is_shared_at types s j) on in (known.0 a, b)), (λ (a, b). both_are (below_at grounds j) (is_shared_at types s j) (known.1 a) b))
     (decided j (omega (arith, less))) in
     subst (λ (xs : List SubType). marked ≡ indices_where test 0 (length xs)) view (listed ∙ where_same (is_marked types grounds s) test 0 (length types) each)
+
+-- the indices of the marked direct subtypes are those of the direct subtypes that structs ground
+pub family_decided : (types now : List SubType) (grounds : List Ground) (index : ℕ) (listed : List ℕ) → types ≡ now → IsOrderly types → AreGrounds types grounds → listed ≡ indices_where (is_marked_below types grounds index) 0 (length types) → (descriptors : Bool) (test : ℕ → Bool) → DecidesGroundedBelow now descriptors index test
+    → listed ≡ indices_where test 0 (length now)
+family_decided types now grounds index listed view o h are descriptors test decides =
+    let decided : DecidesGroundedBelow types descriptors index test = subst (λ xs. DecidesGroundedBelow xs descriptors index test) (sym view) decides in
+    let each : (j : ℕ) → 0 ≤ j → j < 0 + length types → is_marked_below types grounds index j ≡ test j = λ j least less.
+    let known = concrete_grounded types types grounds descriptors j (below_at grounds j) refl o h refl in
+    same_from_decides {P = IsGroundedByStructs types descriptors (Concrete j) × IsTrue (is_directly_below_at types index j)} (is_marked_below types grounds index j) (test j)
+    ((λ on. let (a, b) = both (below_at grounds j) (is_directly_below_at types index j) on in (known.0 a, b)), (λ (a, b). both_are (below_at grounds j) (is_directly_below_at types index j) (known.1 a) b))
+    (decided j (omega (arith, less))) in
+    subst (λ (xs : List SubType). listed ≡ indices_where test 0 (length xs)) view (are ∙ where_same (is_marked_below types grounds index) test 0 (length types) each)
 
 -- an exact type is grounded if it is a grounding struct type and creation is exact
 exact_grounded : (types now : List SubType) (grounds : List Ground) (j : ℕ) (said : Bool) → types ≡ now → IsOrderly types → AreGrounds types grounds → own_at grounds j ≡ said → (t : SubType) → slice_get types j ≡ Some t → IsTrue said ↔ IsGroundedByStructs now true (Exact j)

@@ -16,6 +16,7 @@ pub mod FamilyLemmas
 pub mod MarkLemmas
 pub mod GroundLemmas
 pub mod MarkedLemmas
+pub mod MarkedFamilyLemmas
 pub mod GroundedLemmas
 pub mod FuncGroundLemmas
 pub mod GroundGrowthLemmas

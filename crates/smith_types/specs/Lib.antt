@@ -20,6 +20,7 @@ pub mod HeldValues
 pub mod Imports
 pub mod KindCounts
 pub mod Laws
+pub mod MarkedFamilies
 pub mod Matching
 pub mod OpenTypes
 pub mod Places

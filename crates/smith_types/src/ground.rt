@@ -7,7 +7,9 @@ ghost use Rattle.smith_types.specs.Grounded.{is_defaultable, are_defaultable};
 ghost use Rattle.smith_types.specs.Grounds.{is_ground, kind_at, ground_kinds_with, AreGrounds};
 ghost use Rattle.smith_types.specs.Grounds.{AreGroundKinds, AreClosed, AreMarked, below_at};
 ghost use Rattle.smith_types.specs.Grounds.{AreMarkedTypes, HasIndexRoom};
+ghost use Rattle.smith_types.specs.MarkedFamilies.{AreMarkedFamilies, HasFamilyRoom};
 
+use crate::marked_families::MarkedFamilies;
 use crate::marked_types::MarkedTypes;
 use smith_syntax::{CompositeInnerType, FieldType, StorageType, SubType, ValType};
 
@@ -59,8 +61,8 @@ pub(crate) fn no_grounds() -> GroundKinds
     }
 }
 
-// Updates `grounds`, `kinds` and `marked` with the type `added`, the next one after `types`, if
-// `kept` is `true`. Requires room in `grounds` and `marked`.
+// Updates `grounds`, `kinds`, `marked` and `families` with the type `added`, the next one after
+// `types`, if `kept` is `true`. Requires room in `grounds`, `marked` and `families`.
 pub(crate) fn note_ground(
     kept: bool,
     types: &[SubType],
@@ -68,6 +70,7 @@ pub(crate) fn note_ground(
     grounds: &mut Vec<Ground>,
     kinds: &mut GroundKinds,
     marked: &mut MarkedTypes,
+    families: &mut MarkedFamilies,
 )
     requires orderly { IsOrderly types.now }
     requires follows { MayFollow types.now added.now }
@@ -75,12 +78,17 @@ pub(crate) fn note_ground(
     requires kinds { kept ≡ true → AreGroundKinds types.now kinds.old }
     requires marked { kept ≡ true
         → AreMarkedTypes types.now grounds.old.items (length types.now) marked.old }
+    requires families { kept ≡ true
+        → AreMarkedFamilies types.now grounds.old.items families.old }
     requires room { kept ≡ true → vec_len grounds.old < vec_capacity grounds.old }
     requires index_room { kept ≡ true → HasIndexRoom (length types.now + 1) marked.old }
+    requires family_room { kept ≡ true → HasFamilyRoom added.now.supertype families.old.lists.items }
     ensures grounds { kept ≡ true → AreGrounds (types.now ++ added.now ∷ []) grounds.new.items }
     ensures kinds { kept ≡ true → AreGroundKinds (types.now ++ added.now ∷ []) kinds.new }
     ensures marked { kept ≡ true → AreMarkedTypes (types.now ++ added.now ∷ []) grounds.new.items
         (length types.now + 1) marked.new }
+    ensures families { kept ≡ true
+        → AreMarkedFamilies (types.now ++ added.now ∷ []) grounds.new.items families.new }
 {
     if !kept {
         return;
@@ -90,6 +98,7 @@ pub(crate) fn note_ground(
     join_grounds(types, added, own, grounds);
     *kinds = kinds.with(own, added.composite_type.shared);
     marked.note(changed, own, types, added, grounds.as_slice());
+    families.note(changed, own, added.supertype, types.len() as u32);
 }
 
 // Returns whether a type marks others: whether `own` is `true`, and its supertype `supertype`, if

@@ -14,6 +14,7 @@ mod grouped_types;
 mod kind_counts;
 /// Laws: functions with empty bodies whose clauses state theorems.
 pub mod laws;
+mod marked_families;
 mod marked_types;
 mod matching;
 mod noted_kinds;

@@ -35,6 +35,8 @@ ghost use Rattle.smith_types.specs.Places.{IsPlace, ArePlaces, AreBeside, depths
 ghost use Rattle.smith_types.specs.Families.{direct_subtypes, AreFamilies};
 ghost use Rattle.smith_types.specs.Grounded.{IsGroundedBy, IsGroundedByStructs};
 ghost use Rattle.smith_types.specs.Grounds.{DecidesGrounded, HasIndexRoom, indices_where};
+ghost use Rattle.smith_types.specs.MarkedFamilies.{AreMarkedFamilies, HasFamilyRoom};
+ghost use Rattle.smith_types.specs.MarkedFamilies.{DecidesGroundedBelow};
 ghost use Rattle.smith_types.specs.KindCounts.{indices_of_kind, indices_in};
 ghost use Rattle.smith_types.specs.Sizes.{value_count};
 ghost use Rattle.smith_types.specs.Matching.{IsCompositeMatch, IsInnerInRange};
@@ -45,6 +47,7 @@ ghost use Rattle.smith_types.specs.Subtyping.{IsValInRange};
 use crate::family::{Family, extend_families, join_family};
 use crate::ground::{Ground, GroundKinds, is_ground, no_grounds, note_ground};
 use crate::kind_counts::TypeSet;
+use crate::marked_families::MarkedFamilies;
 use crate::marked_types::MarkedTypes;
 use crate::matching::composite_type_is_match;
 use crate::place::{Place, find_ancestor, last_counts, place_of};
@@ -77,13 +80,15 @@ pub struct TypeSpace {
     // The families of the first types, at least up to the last type with a supertype.
     families: Vec<Family>,
     extensible: Vec<u32>,
-    // Whether `grounds`, `ground_kinds` and `marked` are kept up to date.
+    // Whether `grounds`, `ground_kinds`, `marked` and `marked_families` are kept up to date.
     keeps_grounds: bool,
     // The mark of each type, if `keeps_grounds` is set.
     grounds: Vec<Ground>,
     ground_kinds: GroundKinds,
     // The indices of the types that are marked as grounded.
     marked: MarkedTypes,
+    // Those of the direct subtypes of each type.
+    marked_families: MarkedFamilies,
     groups: Vec<Range<usize>>,
 }
 
@@ -94,6 +99,7 @@ impl Model for TypeSpace {
     ghost use Rattle.smith_types.specs.Families.{AreFamilies};
     ghost use Rattle.std.specs.Prelude.{length};
     ghost use Rattle.smith_types.specs.Grounds.{AreGrounds, AreGroundKinds, AreMarkedTypes};
+    ghost use Rattle.smith_types.specs.MarkedFamilies.{AreMarkedFamilies};
 
     ghost Value = { GroupedTypes };
 
@@ -107,7 +113,9 @@ impl Model for TypeSpace {
         × (a.keeps_grounds ≡ true → AreGroundKinds a.types.items a.ground_kinds)
         × AreBeside a.types a.places
         × (a.keeps_grounds ≡ true
-        → AreMarkedTypes a.types.items a.grounds.items (length a.types.items) a.marked) };
+        → AreMarkedTypes a.types.items a.grounds.items (length a.types.items) a.marked)
+        × (a.keeps_grounds ≡ true
+        → AreMarkedFamilies a.types.items a.grounds.items a.marked_families) };
 }
 
 /// Formats the types and the groups.
@@ -140,6 +148,7 @@ impl TypeSpace {
             grounds: Vec::new(alloc),
             ground_kinds: no_grounds(),
             marked: MarkedTypes::none(alloc),
+            marked_families: MarkedFamilies::none(alloc),
             groups: Vec::new(alloc),
         }
     }
@@ -160,6 +169,7 @@ impl TypeSpace {
             grounds: Vec::new(alloc),
             ground_kinds: no_grounds(),
             marked: MarkedTypes::none(alloc),
+            marked_families: MarkedFamilies::none(alloc),
             groups: Vec::with_capacity(alloc, types)?,
         })
     }
@@ -307,6 +317,20 @@ impl TypeSpace {
         Some(self.marked.of(shared))
     }
 
+    /// Returns the indices of the types that declare the type `index` as their supertype and are
+    /// grounded by a struct type whose fields all have defaults, in order. Returns `None` after
+    /// [`TypeSpace::keep_no_grounds`], or if such a struct type has a supertype that is none.
+    pub fn grounded_direct_subtypes(&self, index: u32) -> Option<&[u32]>
+        ensures { IfSome result (λ indices. (descriptors : Bool) (test : ℕ → Bool)
+            → DecidesGroundedBelow self.now.types descriptors index test
+            → indices.now ≡ indices_where test 0 (length self.now.types)) }
+    {
+        if !self.keeps_grounds {
+            return None;
+        }
+        self.marked_families.of(index)
+    }
+
     /// Returns whether a struct type whose fields all have defaults grounds the heap type `ty`:
     /// creating such a struct pushes a reference below `ty`. With `descriptors` that reference is
     /// exact. Requires the type named by `ty`, if any, to exist.
@@ -413,6 +437,11 @@ impl TypeSpace {
         make_room(&mut self.types, &mut self.places)?;
         make_ground_room(self.keeps_grounds, 1, &mut self.grounds)?;
         make_index_room(self.keeps_grounds, self.types.len() + 1, &mut self.marked)?;
+        make_family_room(
+            self.keeps_grounds,
+            added.supertype,
+            &mut self.marked_families,
+        )?;
         let types = self.types.as_slice();
         let index = types.len() as u32;
         let place = make_place(
@@ -432,6 +461,7 @@ impl TypeSpace {
             &mut self.grounds,
             &mut self.ground_kinds,
             &mut self.marked,
+            &mut self.marked_families,
         );
         self.types.push_reserved(added);
         Ok(index)
@@ -578,6 +608,24 @@ fn make_index_room(kept: bool, count: usize, marked: &mut MarkedTypes) -> Result
 {
     if kept {
         marked.make_room(count)?;
+    }
+    Ok(())
+}
+
+// Reserves room for one more direct subtype of the type `supertype` in `families` if `kept` is
+// `true`.
+fn make_family_room(
+    kept: bool,
+    supertype: Option<u32>,
+    families: &mut MarkedFamilies,
+) -> Result<(), Error>
+    ensures kept { (types : List SubType) (grounds : List Ground)
+        → AreMarkedFamilies types grounds families.old → AreMarkedFamilies types grounds families.new }
+    ensures room { kept ≡ true → OnOk result (HasFamilyRoom supertype families.new.lists.items) }
+    ensures memory { IfErr result (λ e. e ≡ Error.Memory) }
+{
+    if kept {
+        families.make_room(supertype)?;
     }
     Ok(())
 }

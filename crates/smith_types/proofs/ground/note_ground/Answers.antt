@@ -1,4 +1,4 @@
-use Rattle.std.proofs.Common.{◌≡◌, ◌+◌, ◌∙◌, sym, ap, length, arith, ◌++◌, ◌∷◌, []}
+use Rattle.std.proofs.Common.{◌≡◌, ◌+◌, ◌∙◌, refl, sym, ap, length, arith, ◌++◌, ◌∷◌, []}
 use Rattle.std.proofs.lemmas.Option.{slice_get_within}
 use Rattle.std.proofs.lemmas.List.{length-append}
 use Rattle.smith_types.proofs.GroundLemmas.{marks_unchanged}
@@ -35,3 +35,15 @@ note-requires c =
 
 pub returns-clause-marked : goal.returns-clause-marked
 returns-clause-marked c = λ kept. rw c.as_slice-2.ensures.value at c.note.ensures
+
+pub note-requires-2 : goal.note-requires-2
+note-requires-2 c = record { room = c.requires.family_room c.if-not-kept.false }
+
+pub returns-clause-families : goal.returns-clause-families
+returns-clause-families c = λ kept.
+    let types = c.args.types.now in
+    let added = c.args.added.now in
+    c.note-2.ensures types added c.args.grounds.now.items c.join_grounds.new.grounds.items refl refl
+    (λ same. marks_unchanged types added c.requires.orderly c.requires.follows c.args.grounds.now.items c.join_grounds.new.grounds.items (c.requires.grounds kept) c.join_grounds.ensures.grounds
+    (λ on s is. rw c.as_slice.ensures.value at (c.marks_above-changed.ensures same (c.is_ground-own.ensures ∙ on) s is)))
+    c.join_grounds.ensures.last (c.requires.families kept)

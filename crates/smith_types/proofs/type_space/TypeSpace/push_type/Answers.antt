@@ -20,6 +20,7 @@ invariant_of-self-in_err-place c =
       λ kept. rw room.types (c.self.invariant.5 kept),
       room.beside,
       λ kept. marked_moved _ _ _ c.self.inside.marked _ c.make_index_room.ensures.plain c.make_index_room.ensures.shared (rw (room.types, c.make_ground_room.ensures.grounds) (c.self.invariant.7 kept)),
+      λ kept. c.make_family_room.ensures.kept _ _ (rw (room.types, c.make_ground_room.ensures.grounds) (c.self.invariant.8 kept)),
     )
 
 pub invariant_of-self-2 : goal.invariant_of-self-2
@@ -43,6 +44,7 @@ invariant_of-self-2 c =
         room = omega (arith, c.push_reserved.ensures.capacity, c.push_reserved-2.ensures.capacity, beside.room);
       },
       λ kept. rw (all, length-append types (added ∷ [])) (rw seen at c.note_ground.ensures.marked kept),
+      λ kept. rw all (rw seen at c.note_ground.ensures.families kept),
     )
 
 pub returns-clause-stands : goal.returns-clause-stands
