@@ -17,3 +17,6 @@ pub mod ConstExprLemmas
 pub mod ConstTaskLemmas
 pub mod ConstFloatLemmas
 pub mod SpelledConstExprLemmas
+pub mod TriedStepLemmas
+pub mod TriedListLemmas
+pub mod TriedLoop

@@ -3,6 +3,7 @@ pub mod ConstScopes
 pub mod ConstOffers
 pub mod Constants
 pub mod ConstNodes
+pub mod TriedLists
 pub mod ConstExprs
 pub mod ConstBounds
 pub mod Putting

@@ -1,11 +1,12 @@
 -- Drawn element segments fit into a module: they are valid, and with `disallow_traps` the items
 -- that they copy fit.
-use Rattle.std.proofs.Common.{◌≡◌, ℕ, ◌≤◌, true, Option, Some, None, List, [], length, inl, refl, arith}
+use Rattle.std.proofs.Common.{ℕ, ◌≤◌, true, Option, Some, None, List, [], length, inl, refl, subst, arith}
 use Rattle.std.specs.Prelude.{All, IsTrue, IsSomeAnd, IfOk, Result, Ok, Err}
 use Rattle.std.specs.List.{flat_map}
 use Rattle.std.proofs.lemmas.List.Elements.{All-weaker, recursion_from_All}
 use Rattle.smith_bytes.specs.declared.error.Error.{Error}
-use Rattle.smith_bytes.proofs.GrownLemmas.{grow_least}
+use Rattle.smith_bytes.specs.Steps.{Returns, is_memory}
+use Rattle.smith_draw_consts.proofs.TriedListLemmas.{try_grow_least}
 use Rattle.smith_types.specs.Expressions.{Context, IsConstExpr}
 use Rattle.smith_types.specs.Floats.{HasNoFloat, GivesNoFloat}
 use Rattle.smith_types.specs.Segments.{item_count, IsOffsetInside, IsElementKindValid, AreElementsInside}
@@ -27,7 +28,6 @@ use Rattle.smith_config.specs.Granted.{IsUngrounded}
 use Rattle.smith_draw_consts.specs.ConstScopes.{seen_by}
 use Rattle.smith_draw_types.specs.Grounding.{standing_in}
 use Rattle.smith_draw_types.specs.declared.spaces.Spaces.{Spaces}
-use Rattle.smith_draw_types.proofs.ValueTypeLemmas.{drawn_is}
 use Rattle.smith_draw_contents.specs.DrawnElements.{HasUngroundedElements, IsTarget, IsKindOffered, IsPlaced, IsKindDrawn, FitsTable, MayHoldItems, AreItemsFit, IsElementFit}
 use Rattle.smith_draw_contents.specs.ElementSegments.{KindChoice, most_items, expression_item_at, drawn_expressions_at}
 use Rattle.smith_module_rules.specs.Held.{expressions_of}
@@ -35,12 +35,12 @@ use Rattle.smith_draw_contents.specs.declared.element_kinds.KindChoice.TheVarian
 
 -- drawn expressions fit
 pub expressions_fit : (config : Config) (context : Context) (ty : RefType) (most : ℕ) (bytes after : List ℕ) (result : Result (List (List ConstInstr)) Error) → IsTrue context.features.reference_types → config.min_elements ≤ most
-    → IfOk result (λ items. drawn_expressions_at config context ty most bytes ≡ (items, after)) → IfOk result (All (IsConstExpr context (Ref ty))) → (All HasNoFloat context.types → IfOk result (All (All GivesNoFloat)))
+    → Returns is_memory (λ items. (items, after)) result (drawn_expressions_at config context ty most bytes) → IfOk result (All (IsConstExpr context (Ref ty))) → (All HasNoFloat context.types → IfOk result (All (All GivesNoFloat)))
     → IfOk result (λ items. AreItemsFit config context ty (Expressions items))
 unfolding drawn_expressions_at
 expressions_fit config context ty most bytes after (Ok items) references within drawn typed floats =
-    let enough = grow_least (λ _. expression_item_at config context ty) config.min_elements most [] bytes (omega arith) in
-    record { valid = (references, typed); enough = inl (drawn_is (λ (made : List (List ConstInstr)). config.min_elements ≤ length made) _ enough drawn); floats = floats }
+    let enough = try_grow_least (λ _. expression_item_at config context ty) config.min_elements most [] bytes (omega arith) in
+    record { valid = (references, typed); enough = inl (subst (λ (read : Result (List (List ConstInstr) × List ℕ) Error). IfOk read (λ made. config.min_elements ≤ length made.0)) drawn enough); floats = floats }
 expressions_fit config context ty most bytes after (Err e) references within drawn typed floats = tt
 
 -- fewer items end within a limit if more items do

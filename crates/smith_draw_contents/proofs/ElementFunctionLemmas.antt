@@ -5,7 +5,7 @@ use Rattle.std.specs.List.{AllByRecursion as Each}
 use Rattle.std.proofs.Math.Bool.{or-false}
 use Rattle.std.proofs.lemmas.Bool.{cond_both, eqb-true, eqb-false, ltb-false, not-false}
 use Rattle.std.proofs.lemmas.List.Elements.{All-nil, All-weaker, All-from_recursion, recursion_from_All}
-use Rattle.smith_bytes.specs.declared.error.Why.{Why}
+use Rattle.smith_bytes.specs.declared.error.Error.{Error}
 use Rattle.smith_bytes.proofs.GrownLemmas.{grow_all, grow_least}
 use Rattle.smith_types.specs.Entities.{IsFuncTypeIndex}
 use Rattle.smith_types.specs.Expressions.{Context, created, reference_to, function_reference}
@@ -129,7 +129,7 @@ pub functions_fit : (config : Config) (context : Context) (ty : RefType) (most :
 unfolding functions_at chosen_functions_at
 functions_fit config context ty most bytes valid plain =
     let funcs = unshared_funcs context.types context.funcs in
-    let Fit = λ (r : Result (List ℕ × List ℕ) Why). IfOk r (λ drawn. AreItemsFit config context ty (Functions drawn.0)) in
+    let Fit = λ (r : Result (List ℕ × List ℕ) Error). IfOk r (λ drawn. AreItemsFit config context ty (Functions drawn.0)) in
     cond_both (eqb (length funcs) 0) _ _ Fit
     (λ none. record { valid = All-nil (IsItem context ty); enough = inr (refl, all_shared context.types context.funcs valid (eqb-true (length funcs) 0 none)); floats = λ calm. All-nil (All GivesNoFloat) })
     (λ some. cond_both (ltb most config.min_elements) _ _ Fit (λ lacks. tt) (λ within.

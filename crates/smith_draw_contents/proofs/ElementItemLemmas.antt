@@ -1,6 +1,6 @@
 -- Properties of the items of element segments.
 use Rattle.std.proofs.Common.{◌≡◌, ◌∙◌, ℕ, ◌≤◌, Bool, true, false, List, [], length, refl, ap, inl, inr, arith}
-use Rattle.std.specs.Prelude.{All, slice_index_or}
+use Rattle.std.specs.Prelude.{All, IfOk, slice_index_or}
 use Rattle.std.proofs.lemmas.Option.{slice_get-get_or, slice_get_within, get_or_from_slice_get}
 use Rattle.smith_bytes.specs.declared.error.Error.{Error}
 use Rattle.smith_bytes.proofs.GrownLemmas.{grow_most}
@@ -15,6 +15,7 @@ use Rattle.smith_types.proofs.GroupGrowthLemmas.{AreTypesOpen-at, AreTypesOpen-s
 use Rattle.smith_config.specs.declared.config.Config.{Config}
 use Rattle.smith_config.specs.Features.{features_of}
 use Rattle.smith_config.specs.Sanitized.{IsSanitized}
+use Rattle.smith_draw_consts.proofs.TriedListLemmas.{try_grow_most}
 use Rattle.smith_draw_types.specs.Choices.{chosen_at}
 use Rattle.smith_draw_types.specs.Kept.{IsSharingEnabled}
 use Rattle.smith_draw_types.specs.MatchingTypes.{matching_ref_type_at}
@@ -101,6 +102,6 @@ pub functions_few : (config : Config) (funcs : List ℕ) (most : ℕ) (bytes : L
 unfolding chosen_functions_at
 functions_few config funcs most bytes = grow_most (λ _. chosen_at 0 funcs) config.min_elements most most [] bytes (omega arith)
 
-pub expressions_few : (config : Config) (context : Context) (ty : RefType) (most : ℕ) (bytes : List ℕ) → length (drawn_expressions_at config context ty most bytes).0 ≤ most
+pub expressions_few : (config : Config) (context : Context) (ty : RefType) (most : ℕ) (bytes : List ℕ) → IfOk (drawn_expressions_at config context ty most bytes) (λ drawn. length drawn.0 ≤ most)
 unfolding drawn_expressions_at
-expressions_few config context ty most bytes = grow_most (λ _. expression_item_at config context ty) config.min_elements most most [] bytes (omega arith)
+expressions_few config context ty most bytes = try_grow_most (λ _. expression_item_at config context ty) config.min_elements most most [] bytes (omega arith)

@@ -1,10 +1,7 @@
 -- One iteration of the loop that draws element segments.
-use Rattle.std.proofs.Common.{◌≡◌, ◌∙◌, ℕ, suc, ◌+◌, ◌-◌, ◌≤◌, ◌<◌, Bool, true, false, Result, Ok, Err, List, [], ◌∷◌, ◌++◌, length, nat_lt, Option, refl, sym, subst, ap, arith, length-append}
-use Rattle.std.specs.Prelude.{IsErrAnd}
+use Rattle.std.proofs.Common.{◌≡◌, ◌∙◌, ℕ, suc, ◌+◌, ◌-◌, ◌≤◌, ◌<◌, Bool, true, false, Result, Ok, Err, List, [], ◌∷◌, ◌++◌, length, nat_lt, Option, refl, sym, ap, arith, length-append}
 use Rattle.std.proofs.lemmas.List.Sums.{sum_by_push}
-use Rattle.smith_bytes.specs.declared.error.Why.{Why}
 use Rattle.smith_bytes.specs.declared.error.Error.{Error}
-use Rattle.smith_bytes.specs.declared.error.Error.TheVariants as errors
 use Rattle.smith_bytes.specs.Growth.{goes_at}
 use Rattle.smith_bytes.specs.Source.{KeepsPieces}
 use Rattle.smith_types.specs.Expressions.{Context}
@@ -14,7 +11,7 @@ use Rattle.smith_syntax.specs.declared.segments.Elements.{Elements}
 use Rattle.smith_syntax.specs.declared.segments.ElementSegment.{ElementSegment}
 use Rattle.smith_syntax.specs.declared.value_type.RefType.{RefType}
 use Rattle.smith_config.specs.declared.config.Config.{Config}
-use Rattle.smith_bytes.specs.Steps.{◌>>=◌, ReturnsWhy}
+use Rattle.smith_bytes.specs.Steps.{◌>>=◌}
 use Rattle.smith_draw_types.specs.Choices.{chosen_at}
 use Rattle.smith_draw_types.specs.Grounding.{without_globals}
 use Rattle.smith_draw_contents.specs.declared.element_kinds.KindChoice.TheVariants as choice
@@ -31,12 +28,12 @@ module _ (config : Config) (context : Context) (kinds : List KindChoice) (total 
       → items_at config context ty most third ≡ Ok (items, after) → element_segment_at config context kinds total bytes ≡ Ok (record { kind = kind.0; ty = ty; items = items }, after)
   segment_drawn chosen placed typed limit drawn = segment_turn chosen placed typed limit ∙ rw drawn refl
 
-  pub segment_not_drawn : {why : Why} → chosen_at choice.Passive kinds bytes ≡ (one, first) → element_kind_at config context one first ≡ (kind, second) → item_type_at config (without_globals context) one second ≡ (ty, third) → most ≡ most_items config kind.1 total
-      → items_at config context ty most third ≡ Err why → element_segment_at config context kinds total bytes ≡ Err why
+  pub segment_not_drawn : {e : Error} → chosen_at choice.Passive kinds bytes ≡ (one, first) → element_kind_at config context one first ≡ (kind, second) → item_type_at config (without_globals context) one second ≡ (ty, third) → most ≡ most_items config kind.1 total
+      → items_at config context ty most third ≡ Err e → element_segment_at config context kinds total bytes ≡ Err e
   segment_not_drawn chosen placed typed limit drawn = segment_turn chosen placed typed limit ∙ rw drawn refl
 
 -- n segments are made, with `total` items together, and the draws from here on complete the whole
-pub record AreSegmentsMade (config : Config) (context : Context) (kinds : List KindChoice) (n : ℕ) (made : List ElementSegment) (total : ℕ) (start bytes : List ℕ) (whole : Result (List ElementSegment × List ℕ) Why) : Type 0 where
+pub record AreSegmentsMade (config : Config) (context : Context) (kinds : List KindChoice) (n : ℕ) (made : List ElementSegment) (total : ℕ) (start bytes : List ℕ) (whole : Result (List ElementSegment × List ℕ) Error) : Type 0 where
   pub len : length made ≡ n
   pub total_is : total ≡ items_in made
   pub within : total ≤ config.max_elements
@@ -44,7 +41,7 @@ pub record AreSegmentsMade (config : Config) (context : Context) (kinds : List K
   pub so_far : element_segments_at config context kinds (config.max_element_segments - n) made bytes ≡ whole
   pub left : KeepsPieces start bytes
 
-module _ {config : Config} {context : Context} {kinds : List KindChoice} {n total : ℕ} {made : List ElementSegment} {start bytes mid : List ℕ} {b : Bool} {whole : Result (List ElementSegment × List ℕ) Why} where
+module _ {config : Config} {context : Context} {kinds : List KindChoice} {n total : ℕ} {made : List ElementSegment} {start bytes mid : List ℕ} {b : Bool} {whole : Result (List ElementSegment × List ℕ) Error} where
   -- the drawn bool ends the segments
   pub segments_stop : AreSegmentsMade config context kinds n made total start bytes whole → n < config.max_element_segments → goes_at (nat_lt n config.min_element_segments) bytes ≡ (b, mid) → b ≡ false → whole ≡ Ok (made, mid)
   unfolding element_segments_at
@@ -63,8 +60,8 @@ module _ {config : Config} {context : Context} {kinds : List KindChoice} {n tota
       sym now.so_far ∙ one
 
   -- a segment was refused
-  pub segments_refused : {why : Why} → AreSegmentsMade config context kinds n made total start bytes whole → n < config.max_element_segments → goes_at (nat_lt n config.min_element_segments) bytes ≡ (b, mid) → b ≡ true
-      → element_segment_at config context kinds total mid ≡ Err why → whole ≡ Err why
+  pub segments_refused : {e : Error} → AreSegmentsMade config context kinds n made total start bytes whole → n < config.max_element_segments → goes_at (nat_lt n config.min_element_segments) bytes ≡ (b, mid) → b ≡ true
+      → element_segment_at config context kinds total mid ≡ Err e → whole ≡ Err e
   segments_refused now lt go on drawn = segments_turn now lt go on ∙ rw drawn refl
 
   -- one more segment was drawn
@@ -83,15 +80,10 @@ module _ {config : Config} {context : Context} {kinds : List KindChoice} {n tota
       })
 
 -- no more segments may be drawn
-pub segments_full : {config : Config} {context : Context} {kinds : List KindChoice} {n total : ℕ} {made : List ElementSegment} {start bytes : List ℕ} {whole : Result (List ElementSegment × List ℕ) Why}
+pub segments_full : {config : Config} {context : Context} {kinds : List KindChoice} {n total : ℕ} {made : List ElementSegment} {start bytes : List ℕ} {whole : Result (List ElementSegment × List ℕ) Error}
     → AreSegmentsMade config context kinds n made total start bytes whole → config.max_element_segments ≤ n → whole ≡ Ok (made, bytes)
 unfolding element_segments_at
 segments_full {config = config} {context = context} {kinds = kinds} {n = n} {made = made} {bytes = bytes} now le =
     let k : config.max_element_segments - n ≡ 0 = omega arith in
     let one : element_segments_at config context kinds (config.max_element_segments - n) made bytes ≡ Ok (made, bytes) = rw k refl in
     sym now.so_far ∙ one
-
--- lack of memory is left open
-pub memory_lacks : {Y B : Type 0} (of_whole : Y → B) (e : Error) (whole : Result B Why) (result : Result Y Error) → e ≡ errors.Memory → IsErrAnd result (λ y. y ≡ e) → ReturnsWhy of_whole result whole
-memory_lacks of_whole e whole (Ok y) memory h = absurd h
-memory_lacks of_whole e whole (Err own) memory h = subst (λ (one : Error). ReturnsWhy of_whole (Err one) whole) (sym (h ∙ memory)) tt

@@ -1,9 +1,10 @@
 -- The element segments that the bytes produce. Rules of this project.
-use Rattle.std.specs.Prelude.{ℕ, zero, suc, ◌-◌, min, Bool, true, false, not, ◌&&◌, ◌==◌, nat_lt, Option, Some, None, option_to_list, unwrap_or, List, [], ◌∷◌, ◌++◌, length, slice_get, sum_by, Result, Ok, Err, if◌then◌else◌}
+use Rattle.std.specs.Prelude.{ℕ, zero, suc, ◌-◌, min, Bool, true, false, not, ◌&&◌, ◌==◌, nat_lt, Option, Some, None, option_to_list, ok_or, unwrap_or, List, [], ◌∷◌, ◌++◌, length, slice_get, sum_by, Result, Ok, Err, if◌then◌else◌}
 use Rattle.std.specs.Int.{cast_signed, w32, w64}
 use Rattle.std.specs.List.{list_any}
 use Rattle.smith_bytes.specs.declared.error.Count.TheVariants as counts
-use Rattle.smith_bytes.specs.declared.error.Why.{Why}
+use Rattle.smith_bytes.specs.declared.error.Error.{Error}
+use Rattle.smith_bytes.specs.declared.error.Error.TheVariants.{EmptyChoose, IncorrectFormat}
 use Rattle.smith_bytes.specs.declared.error.Why.TheVariants.{Unmet}
 use Rattle.smith_bytes.specs.Draws.{bool_at, range_at}
 use Rattle.smith_bytes.specs.Growth.{goes_at, grow_at}
@@ -29,6 +30,7 @@ use Rattle.smith_config.specs.declared.config.Config.{Config}
 use Rattle.smith_draw_types.specs.Choices.{chosen_at}
 use Rattle.smith_draw_consts.specs.ConstExprs.{const_expr_at}
 use Rattle.smith_draw_consts.specs.ConstOffers.{readable_globals}
+use Rattle.smith_draw_consts.specs.TriedLists.{try_grow_at}
 use Rattle.smith_draw_types.specs.Grounding.{without_globals}
 use Rattle.smith_draw_types.specs.MatchingTypes.{matching_ref_type_at}
 use Rattle.smith_draw_types.specs.Offsets.{offset_at}
@@ -156,28 +158,28 @@ unfoldable pub chosen_functions_at : Config → List ℕ → ℕ → List ℕ �
 chosen_functions_at config funcs most bytes = grow_at (λ _. chosen_at 0 funcs) config.min_elements most [] bytes
 
 -- functions that are not shared; none, whatever the minimum is, if there is no such function
-unfoldable pub functions_at : Config → Context → ℕ → List ℕ → Result (List ℕ × List ℕ) Why
+unfoldable pub functions_at : Config → Context → ℕ → List ℕ → Result (List ℕ × List ℕ) Error
 functions_at config context most bytes =
     let funcs = unshared_funcs context.types context.funcs in
     if length funcs == 0 then Ok ([], bytes)
-    else if nat_lt most config.min_elements then Err (Unmet counts.Elements)
+    else if nat_lt most config.min_elements then Err (IncorrectFormat (Unmet counts.Elements))
     else Ok (chosen_functions_at config funcs most bytes)
 
--- an item as an expression
-unfoldable pub expression_item_at : Config → Context → RefType → List ℕ → List ConstInstr × List ℕ
-expression_item_at config context ty bytes = unwrap_or (const_expr_at config context (Ref ty) bytes) ([], bytes)
+-- an item as an expression; refused if there is nothing to choose from
+unfoldable pub expression_item_at : Config → Context → RefType → List ℕ → Result (List ConstInstr × List ℕ) Error
+expression_item_at config context ty bytes = ok_or (const_expr_at config context (Ref ty) bytes) EmptyChoose
 
 -- at most `most` items as expressions
-unfoldable pub drawn_expressions_at : Config → Context → RefType → ℕ → List ℕ → List (List ConstInstr) × List ℕ
-drawn_expressions_at config context ty most bytes = grow_at (λ _. expression_item_at config context ty) config.min_elements most [] bytes
+unfoldable pub drawn_expressions_at : Config → Context → RefType → ℕ → List ℕ → Result (List (List ConstInstr) × List ℕ) Error
+drawn_expressions_at config context ty most bytes = try_grow_at (λ _. expression_item_at config context ty) config.min_elements most [] bytes
 
 -- the same, refused if `most` items are fewer than required
-unfoldable pub expressions_at : Config → Context → RefType → ℕ → List ℕ → Result (List (List ConstInstr) × List ℕ) Why
+unfoldable pub expressions_at : Config → Context → RefType → ℕ → List ℕ → Result (List (List ConstInstr) × List ℕ) Error
 expressions_at config context ty most bytes =
-    if nat_lt most config.min_elements then Err (Unmet counts.Elements) else Ok (drawn_expressions_at config context ty most bytes)
+    if nat_lt most config.min_elements then Err (IncorrectFormat (Unmet counts.Elements)) else drawn_expressions_at config context ty most bytes
 
 -- at most `most` items of a segment with items of a type
-unfoldable pub items_at : Config → Context → RefType → ℕ → List ℕ → Result (Elements × List ℕ) Why
+unfoldable pub items_at : Config → Context → RefType → ℕ → List ℕ → Result (Elements × List ℕ) Error
 items_at config context ty most bytes =
     let listed = are_functions_at config ty bytes in
     if listed.0 then (do
@@ -192,7 +194,7 @@ abbrev pub items_in : List ElementSegment → ℕ
 items_in segments = sum_by (λ (segment : ElementSegment). item_count segment.items) segments
 
 -- a segment of one of these kinds, after segments of `total` items
-unfoldable pub element_segment_at : Config → Context → List KindChoice → ℕ → List ℕ → Result (ElementSegment × List ℕ) Why
+unfoldable pub element_segment_at : Config → Context → List KindChoice → ℕ → List ℕ → Result (ElementSegment × List ℕ) Error
 element_segment_at config context kinds total bytes = do
   let chosen = chosen_at choice.Passive kinds bytes
   let kind = element_kind_at config context chosen.0 chosen.1
@@ -201,7 +203,7 @@ element_segment_at config context kinds total bytes = do
   Ok (record { kind = kind.0.0; ty = ty.0; items = items.0 }, items.1)
 
 -- at most `most` segments of these kinds, after those made before
-unfoldable pub element_segments_at : Config → Context → List KindChoice → ℕ → List ElementSegment → List ℕ → Result (List ElementSegment × List ℕ) Why
+unfoldable pub element_segments_at : Config → Context → List KindChoice → ℕ → List ElementSegment → List ℕ → Result (List ElementSegment × List ℕ) Error
 element_segments_at config context kinds zero made bytes = Ok (made, bytes)
 element_segments_at config context kinds (suc most) made bytes =
     let go = goes_at (nat_lt (length made) config.min_element_segments) bytes in
@@ -212,8 +214,8 @@ element_segments_at config context kinds (suc most) made bytes =
 
 -- the element segments of a module with these tables; none if no kind is offered, refused if some
 -- are required
-unfoldable pub all_element_segments_at : Config → Context → List TableType → List ℕ → Result (List ElementSegment × List ℕ) Why
+unfoldable pub all_element_segments_at : Config → Context → List TableType → List ℕ → Result (List ElementSegment × List ℕ) Error
 all_element_segments_at config context tables bytes =
     let kinds = element_kinds_at config tables bytes in
-    if length kinds.0 == 0 then (if config.min_element_segments == 0 then Ok ([], kinds.1) else Err (Unmet counts.ElementSegments))
+    if length kinds.0 == 0 then (if config.min_element_segments == 0 then Ok ([], kinds.1) else Err (IncorrectFormat (Unmet counts.ElementSegments)))
     else element_segments_at config context kinds.0 config.max_element_segments [] kinds.1

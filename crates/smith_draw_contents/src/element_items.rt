@@ -13,7 +13,7 @@ ghost use Rattle.smith_draw_consts.specs.ConstBounds.{MayRefuseConstExpr};
 ghost use Rattle.smith_draw_consts.specs.ConstScopes.{AreSpacesValid, seen_by};
 ghost use Rattle.smith_draw_types.specs.Drawing.{AlwaysDraws, Draws};
 ghost use Rattle.smith_draw_consts.specs.KeptOffers.{AreKeptOffers};
-ghost use Rattle.smith_bytes.specs.Steps.{ReturnsWhy};
+ghost use Rattle.smith_bytes.specs.Steps.{Returns, is_memory};
 ghost use Rattle.smith_draw_contents.specs.DrawnElements.{IsKindOffered, FitsTable, AreItemsFit};
 ghost use Rattle.smith_draw_contents.specs.DrawnElements.{MayDrawElements, MayHoldItems};
 ghost use Rattle.smith_draw_contents.specs.DrawnElements.{MayRefuseFunctions, MayRefuseItems};
@@ -174,7 +174,7 @@ fn draw_unshared(
     u: &mut Unstructured<'_>,
 ) -> Result<Items<u32>, Error>
     requires few { length spaces.now.entities.funcs.now < 2 ^ 32 }
-    ensures exact { ReturnsWhy (λ items. (items, u.new)) result
+    ensures exact { Returns is_memory (λ items. (items, u.new)) result
         (functions_at config.now (seen_by config.now spaces.now true) most u.old) }
     ensures few { IfOk result (λ items. length items ≤ most) }
     ensures refusal { IfErr result (MayRefuseFunctions config.now) }
@@ -197,7 +197,7 @@ fn draw_functions(
     u: &mut Unstructured<'_>,
 ) -> Result<Items<u32>, Error>
     requires { AreSpacesValid config.now spaces.now }
-    ensures exact { ReturnsWhy (λ items. (items, u.new)) result
+    ensures exact { Returns is_memory (λ items. (items, u.new)) result
         (functions_at config.now (seen_by config.now spaces.now true) most u.old) }
     ensures few { IfOk result (λ items. length items ≤ most) }
     ensures fit { (ty : RefType) → IsTrue (is_funcref ty) → IfOk result (λ items.
@@ -223,9 +223,8 @@ fn draw_expression_item(
     requires kept { AreKeptOffers (seen_by config.now spaces.now true) kept.old }
 
     // The draw.
-    ensures exact { IfOk result (λ drawn.
-        expression_item_at config.now (seen_by config.now spaces.now true) ty u.old
-        ≡ (drawn, u.new)) }
+    ensures exact { Returns is_memory (λ drawn. (drawn, u.new)) result
+        (expression_item_at config.now (seen_by config.now spaces.now true) ty u.old) }
 
     // Validity and floats.
     ensures typed { IfOk result (IsConstExpr (seen_by config.now spaces.now true) (Ref ty)) }
@@ -253,9 +252,8 @@ fn draw_each_expression(
     requires references { IsTrue config.now.reference_types_enabled }
     requires may { MayHoldItems config.now spaces.now ty }
     requires kept { AreKeptOffers (seen_by config.now spaces.now true) kept.old }
-    ensures exact { IfOk result (λ drawn.
-        drawn_expressions_at config.now (seen_by config.now spaces.now true) ty most u.old
-        ≡ (drawn, u.new)) }
+    ensures exact { Returns is_memory (λ drawn. (drawn, u.new)) result
+        (drawn_expressions_at config.now (seen_by config.now spaces.now true) ty most u.old) }
     ensures typed { IfOk result (All (IsConstExpr (seen_by config.now spaces.now true) (Ref ty))) }
     ensures floats { All HasNoFloat spaces.now.types.now.types
         → IfOk result (All (All GivesNoFloat)) }
@@ -284,7 +282,7 @@ fn draw_expressions(
 ) -> Result<Items<Items<ConstInstr>>, Error>
     requires references { IsTrue config.now.reference_types_enabled }
     requires may { MayHoldItems config.now spaces.now ty }
-    ensures exact { ReturnsWhy (λ items. (items, u.new)) result
+    ensures exact { Returns is_memory (λ items. (items, u.new)) result
         (expressions_at config.now (seen_by config.now spaces.now true) ty most u.old) }
     ensures few { IfOk result (λ items. length items ≤ most) }
     ensures fit { IfOk result (λ items.
@@ -311,7 +309,7 @@ pub(crate) fn draw_items(
     u: &mut Unstructured<'_>,
 ) -> Result<Elements, Error>
     requires may { MayHoldItems config.now spaces.now ty }
-    ensures exact { ReturnsWhy (λ items. (items, u.new)) result
+    ensures exact { Returns is_memory (λ items. (items, u.new)) result
         (items_at config.now (seen_by config.now spaces.now true) ty most u.old) }
     ensures few { IfOk result (λ items. item_count items ≤ most) }
     ensures fit { IfOk result (AreItemsFit config.now (seen_by config.now spaces.now true) ty) }

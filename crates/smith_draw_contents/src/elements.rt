@@ -10,7 +10,7 @@ ghost use Rattle.smith_draw_types.specs.Grounding.{standing_in};
 ghost use Rattle.smith_draw_types.specs.KeptGrounds.{AreKeptGrounds};
 ghost use Rattle.smith_draw_consts.specs.ConstScopes.{seen_by};
 ghost use Rattle.smith_bytes.specs.Spelling.{SpellsEmpty};
-ghost use Rattle.smith_bytes.specs.Steps.{ReturnsWhy};
+ghost use Rattle.smith_bytes.specs.Steps.{Returns, is_memory};
 ghost use Rattle.smith_module_rules.specs.Held.{HasItems, expressions_of};
 ghost use Rattle.smith_config.specs.Granted.{HasGroundedItems};
 ghost use Rattle.smith_draw_contents.specs.DrawnElements.{HasUngroundedElements, IsKindOffered};
@@ -62,7 +62,7 @@ fn draw_segment(
     requires total { total ≤ config.now.max_elements }
     ensures within { IfOk result (λ segment.
         total + item_count segment.items ≤ config.now.max_elements) }
-    ensures exact { ReturnsWhy (λ segment. (segment, u.new)) result
+    ensures exact { Returns is_memory (λ segment. (segment, u.new)) result
         (element_segment_at config.now (seen_by config.now spaces.now true) kinds.now total u.old) }
     ensures fit { IfOk result (IsElementFit config.now
         (seen_by config.now spaces.now true) spaces.now.entities.tables.now) }
@@ -102,7 +102,7 @@ fn draw_segments(
     requires some { 0 < length kinds.now }
     requires offered { All (IsKindOffered config.now spaces.now.types.now.types
         spaces.now.entities.tables.now) kinds.now }
-    ensures exact { ReturnsWhy (λ segments. (segments, u.new)) result
+    ensures exact { Returns is_memory (λ segments. (segments, u.new)) result
         (element_segments_at config.now
         (seen_by config.now spaces.now true) kinds.now config.now.max_element_segments [] u.old) }
     ensures fit { IfOk result (All (IsElementFit config.now
@@ -149,7 +149,7 @@ fn draw_elements(
 ) -> Result<Items<ElementSegment>, Error>
     requires may { MayDrawElements config.now spaces.now }
     requires kept { AreKeptGrounds (standing_in config.now spaces.now) grounds.now }
-    ensures exact { ReturnsWhy (λ segments. (segments, u.new)) result (all_element_segments_at config.now
+    ensures exact { Returns is_memory (λ segments. (segments, u.new)) result (all_element_segments_at config.now
         (seen_by config.now spaces.now true) spaces.now.entities.tables.now u.old) }
     ensures fit { IfOk result (All (IsElementFit config.now
         (seen_by config.now spaces.now true) spaces.now.entities.tables.now)) }
@@ -195,7 +195,7 @@ pub fn arbitrary_elements(
     requires kept { AreKeptGrounds (standing_in config.now spaces.now) grounds.now }
 
     // The draw.
-    ensures exact { ReturnsWhy (λ segments. (segments, u.new)) result (all_element_segments_at config.now
+    ensures exact { Returns is_memory (λ segments. (segments, u.new)) result (all_element_segments_at config.now
         (seen_by config.now spaces.now true) spaces.now.entities.tables.now u.old) }
 
     // Validity and traps.

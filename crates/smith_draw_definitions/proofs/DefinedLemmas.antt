@@ -1,7 +1,7 @@
 -- Properties of items that are defined after imported ones, and the bytes that they take, for every
 -- draw.
 use Rattle.std.proofs.Common.{◌≡◌, ℕ, zero, suc, ◌+◌, ◌-◌, ◌<◌, ◌≤◌, Bool, true, false, ◌&&◌, nat_lt, nat_le, max, ◌∷◌, List, [], ◌++◌, map, length, refl, arith, length-append, append_assoc, ap, lt-ltb, ◌∙◌}
-use Rattle.std.specs.Prelude.{All}
+use Rattle.std.specs.Prelude.{All, Result, Ok, IfOk}
 use Rattle.std.proofs.lemmas.List.{append-nil, length-map}
 use Rattle.std.proofs.lemmas.List.Elements.{All-nil, All-append, All-push, All-weaker}
 use Rattle.smith_bytes.specs.Draws.{bool_at}
@@ -10,8 +10,12 @@ use Rattle.smith_bytes.specs.ReadLaws.{ReadsEach}
 use Rattle.smith_bytes.specs.Spelling.{Listed, SpellsNone}
 use Rattle.smith_bytes.proofs.GrownLemmas.{cond_both, grow_most, grow_least, grow_all}
 use Rattle.smith_bytes.proofs.SpelledLemmas.{listed_read}
+use Rattle.smith_bytes.specs.declared.error.Error.{Error}
 use Rattle.smith_draw_definitions.specs.Defined.{IsFilled, AreAdded}
-use Rattle.smith_draw_definitions.specs.Definitions.{items_defined_at}
+use Rattle.smith_draw_consts.specs.TriedLists.{try_grow_at}
+use Rattle.smith_draw_consts.proofs.TriedListLemmas.{try_grow_most, try_grow_least, try_grow_none}
+use Rattle.smith_draw_consts.proofs.TriedStepLemmas.{following_so, both_ok, then_ok}
+use Rattle.smith_draw_definitions.specs.Definitions.{items_defined_at, items_tried_at, past_maximum_at}
 
 defined_items : {A : Type 0} (draw : List A → List ℕ → A × List ℕ) (least most imported : ℕ) (bytes : List ℕ) → (items_defined_at draw least most imported bytes).0 ≡ (grow_at draw (least - imported) (most - imported) [] bytes).0
 unfolding items_defined_at
@@ -41,15 +45,25 @@ pub defined_filled : {A : Type 0} (draw : List A → List ℕ → A × List ℕ)
 defined_filled draw least most imported bytes le =
     filled least most imported (items_defined_at draw least most (length imported) bytes).0 (defined_least draw least most (length imported) bytes le) (defined_most draw least most (length imported) bytes)
 
--- the same for a part of each item
-pub parts_filled : {A B : Type 0} (part : B → A) (draw : List B → List ℕ → B × List ℕ) (least most : ℕ) (imported : List A) (bytes : List ℕ) → least ≤ most
-    → IsFilled least most imported (imported ++ map part (items_defined_at draw least most (length imported) bytes).0)
-parts_filled part draw least most imported bytes le =
-    let drawn = (items_defined_at draw least most (length imported) bytes).0 in
-    let as_many = length-map drawn part in
-    let enough = defined_least draw least most (length imported) bytes le in
-    let within = defined_most draw least most (length imported) bytes in
-    filled least most imported (map part drawn) (omega (arith, as_many, enough)) (omega (arith, as_many, within))
+-- the bool that is drawn at the maximum adds no item
+past_items : {A : Type 0} (most before : ℕ) (grown : List A × List ℕ) → (past_maximum_at most before grown).0 ≡ grown.0
+past_items {A = A} most before grown =
+    cond_both (λ (r : List A × List ℕ). r.0 ≡ grown.0) ((nat_lt 0 before && nat_lt 0 most) && nat_le most (before + length grown.0)) (grown.0, (bool_at grown.1).1) grown refl refl
+
+-- the same for a part of each item, where a draw may be refused
+pub parts_filled : {A B : Type 0} (part : B → A) (draw : List B → List ℕ → Result (B × List ℕ) Error) (least most : ℕ) (imported : List A) (bytes : List ℕ) → least ≤ most
+    → IfOk (items_tried_at draw least most (length imported) bytes) (λ drawn. IsFilled least most imported (imported ++ map part drawn.0))
+unfolding items_tried_at
+parts_filled {B = B} part draw least most imported bytes le =
+    let before = length imported in
+    let Enough = λ (grown : List B × List ℕ). least - before ≤ length grown.0 in
+    let Within = λ (grown : List B × List ℕ). length grown.0 ≤ most - before in
+    let grown = try_grow_at draw (least - before) (most - before) [] bytes in
+    following_so (λ one. Enough one × Within one) (λ (drawn : List B × List ℕ). IsFilled least most imported (imported ++ map part drawn.0)) grown _
+    (both_ok Enough Within grown (try_grow_least draw (least - before) (most - before) [] bytes (omega arith)) (try_grow_most draw (least - before) (most - before) (most - before) [] bytes (omega arith)))
+    (λ one bounds.
+    let as_many = length-map one.0 part in
+    rw (past_items most before one) (filled least most imported (map part one.0) (omega (arith, as_many, bounds.0)) (omega (arith, as_many, bounds.1))))
 
 -- there are several only if several are allowed
 pub several_so : (on : Bool) (most before n : ℕ) → (on ≡ false → most ≤ 1) → n ≤ max most before → (1 < before → on ≡ true) → 1 < n → on ≡ true
@@ -94,3 +108,11 @@ pub defined_none : {A : Type 0} (draw : List A → List ℕ → A × List ℕ) (
 defined_none {A = A} draw least most imported piece after no_least no_import h =
     let Never = λ (x : A) (one : List ℕ). ⊥ in
     defined_read Never draw least most imported [] piece after no_least no_import (λ made x one rest never. absurd never) (none_listed Never most piece h)
+
+-- the same, where a draw may be refused
+pub tried_alone : {A : Type 0} (draw : List A → List ℕ → Result (A × List ℕ) Error) (least most imported : ℕ) (bytes : List ℕ) → least ≡ 0 → imported ≡ 0 → items_tried_at draw least most imported bytes ≡ try_grow_at draw 0 most [] bytes
+unfolding items_tried_at
+tried_alone draw least most imported bytes no_least no_import = let all : most - 0 ≡ most = omega arith in rw (no_least, no_import, all) (then_ok (try_grow_at draw 0 most [] bytes))
+
+pub tried_none : {A : Type 0} (draw : List A → List ℕ → Result (A × List ℕ) Error) (least most imported : ℕ) (piece after : List ℕ) → least ≡ 0 → imported ≡ 0 → SpellsNone most piece → items_tried_at draw least most imported (piece ++ after) ≡ Ok ([], after)
+tried_none draw least most imported piece after no_least no_import h = tried_alone draw least most imported (piece ++ after) no_least no_import ∙ try_grow_none draw most piece after h

@@ -1,14 +1,18 @@
 -- The iterations of a loop that defines items after imported ones, for every draw.
 use Rattle.std.proofs.Common.{◌≡◌, ℕ, ◌+◌, ◌-◌, ◌<◌, ◌≤◌, Bool, true, false, ◌&&◌, cond, nat_lt, nat_le, List, [], ◌∷◌, ◌++◌, length, refl, ap, ◌∙◌, subst, arith, append_assoc}
-use Rattle.std.specs.Prelude.{if◌then◌else◌}
+use Rattle.std.specs.Prelude.{Result, Ok, Err, IfOk, if◌then◌else◌}
 use Rattle.std.proofs.lemmas.Bool.{and_right, le-leb, lt-leb}
 use Rattle.std.proofs.lemmas.List.{append-nil}
 use Rattle.smith_bytes.specs.Draws.{bool_at}
 use Rattle.smith_bytes.specs.Growth.{goes_at, grow_at}
 use Rattle.smith_bytes.specs.Source.{KeepsPieces}
+use Rattle.smith_bytes.specs.declared.error.Error.{Error}
 use Rattle.smith_bytes.proofs.GrowingLoop.{IsGrowing, grow_go, grow_stop, grow_full}
 use Rattle.smith_bytes.proofs.GrownLemmas.{grow_most}
-use Rattle.smith_draw_definitions.specs.Definitions.{items_defined_at, appended_to}
+use Rattle.smith_draw_consts.specs.TriedLists.{try_grow_at}
+use Rattle.smith_draw_consts.proofs.TriedListLemmas.{try_grow_most}
+use Rattle.smith_draw_consts.proofs.TriedLoop.{IsTrying, try_start, try_go, try_refused, try_stop, try_full}
+use Rattle.smith_draw_definitions.specs.Definitions.{items_defined_at, items_tried_at, appended_to}
 
 -- the items that are defined so far, after a number of imported ones
 pub record IsDefining {A : Type 0} (draw : List A → List ℕ → A × List ℕ) (least most imported n : ℕ) (made : List A) (start bytes : List ℕ) : Type 0 where
@@ -53,6 +57,48 @@ defined_full {draw = draw} {least = least} {most = most} {imported = imported} {
     subst (λ (r : List _ × List ℕ). length r.0 ≤ most - imported) grown (grow_most draw (least - imported) (most - imported) (most - imported) [] start (omega arith)) in
     let full : nat_le most (imported + length made) ≡ true = le-leb most (imported + length made) (omega arith) in
     rw (grown, full) (full_turn (nat_lt 0 imported && nat_lt 0 most) made bytes after is)
+
+-- the items that are defined so far by draws that may be refused, after a number of imported ones
+pub record IsTried {A : Type 0} (draw : List A → List ℕ → Result (A × List ℕ) Error) (least most imported n : ℕ) (made : List A) (start bytes : List ℕ) : Type 0 where
+  pub trying : IsTrying draw (least - imported) (most - imported) n made start bytes (try_grow_at draw (least - imported) (most - imported) [] start)
+
+pub tried_start : {A : Type 0} (draw : List A → List ℕ → Result (A × List ℕ) Error) (least most imported : ℕ) (start : List ℕ) → IsTried draw least most imported 0 [] start start
+tried_start draw least most imported start = record { trying = try_start draw (least - imported) (most - imported) start }
+
+module _ {A : Type 0} {draw : List A → List ℕ → Result (A × List ℕ) Error} {least most imported n : ℕ} {made : List A} {start bytes mid : List ℕ} {b : Bool} where
+  pub tried_go : {more : List A} {x : A} {after : List ℕ}
+      → IsTried draw least most imported n made start bytes → n < most - imported → goes_at (nat_lt n (least - imported)) bytes ≡ (b, mid) → b ≡ true → draw made mid ≡ Ok (x, after) → more ≡ made ++ x ∷ [] → KeepsPieces bytes mid → KeepsPieces mid after
+      → IsTried draw least most imported (n + 1) more start after
+  tried_go now lt go on drawn longer p q = record { trying = try_go now.trying lt go on drawn longer p q }
+
+  -- an item was refused
+  pub tried_refused : {e : Error}
+      → IsTried draw least most imported n made start bytes → n < most - imported → goes_at (nat_lt n (least - imported)) bytes ≡ (b, mid) → b ≡ true → draw made mid ≡ Err e
+      → items_tried_at draw least most imported start ≡ Err e
+  unfolding items_tried_at
+  tried_refused now lt go on refused = rw (try_refused now.trying lt go on refused) refl
+
+  pub tried_stop :
+      IsTried draw least most imported n made start bytes → n < most - imported → goes_at (nat_lt n (least - imported)) bytes ≡ (b, mid) → b ≡ false
+      → items_tried_at draw least most imported start ≡ Ok (made, mid)
+  unfolding items_tried_at
+  tried_stop now lt go off =
+      let grown = try_stop now.trying lt go off in
+      let len = now.trying.len in
+      let room : nat_le most (imported + length made) ≡ false = lt-leb most (imported + length made) (omega arith) in
+      rw (grown, and_right (nat_lt 0 imported && nat_lt 0 most) (nat_le most (imported + length made)) room) refl
+
+pub tried_full : {A : Type 0} {draw : List A → List ℕ → Result (A × List ℕ) Error} {least most imported n : ℕ} {made : List A} {start bytes after : List ℕ}
+    → IsTried draw least most imported n made start bytes → most - imported ≤ n → after ≡ (if nat_lt 0 imported && nat_lt 0 most then (bool_at bytes).1 else bytes)
+    → items_tried_at draw least most imported start ≡ Ok (made, after)
+unfolding items_tried_at
+tried_full {A = A} {draw = draw} {least = least} {most = most} {imported = imported} {made = made} {start = start} {bytes = bytes} {after = after} now le is =
+    let grown = try_full now.trying le in
+    let len = now.trying.len in
+    let few : length made ≤ most - imported =
+    subst (λ (r : Result (List A × List ℕ) Error). IfOk r (λ (one : List A × List ℕ). length one.0 ≤ most - imported)) grown (try_grow_most draw (least - imported) (most - imported) (most - imported) [] start (omega arith)) in
+    let full : nat_le most (imported + length made) ≡ true = le-leb most (imported + length made) (omega arith) in
+    rw (grown, full) (ap (λ (one : List A × List ℕ). Ok one) (full_turn (nat_lt 0 imported && nat_lt 0 most) made bytes after is))
 
 -- the items that are defined so far follow the imported ones
 pub record IsAfter {A : Type 0} (draw : List A → List ℕ → A × List ℕ) (least most : ℕ) (imported space : List A) (n : ℕ) (start bytes : List ℕ) : Type 0 where

@@ -1,13 +1,16 @@
 -- Properties of tables after imported ones, with their initialisers.
 use Rattle.std.proofs.Common.{◌≡◌, ℕ, zero, suc, ◌<◌, ◌≤◌, Bool, true, false, ◌&&◌, cond, List, [], ◌∷◌, ◌++◌, map, length, refl, ap, subst, arith}
-use Rattle.std.specs.Prelude.{Option, Some, None, All, IfSome, IsSome, IsTrue, slice_get}
+use Rattle.std.specs.Prelude.{Option, Some, None, Result, Ok, Err, All, IfOk, IfSome, IsSome, IsTrue, slice_get}
 use Rattle.std.specs.List.{flat_map, AllByRecursion as Each}
 use Rattle.std.proofs.lemmas.Bool.{and_right}
 use Rattle.std.proofs.lemmas.List.{append-nil}
 use Rattle.std.proofs.lemmas.Grind.{flat_map-append}
 use Rattle.std.proofs.lemmas.List.Elements.{All-nil, All-cons, All-append, All-map, All-weaker, recursion_from_All}
 use Rattle.smith_bytes.specs.Takes.{Takes}
-use Rattle.smith_bytes.proofs.SpelledLemmas.{takes_by}
+use Rattle.smith_bytes.specs.Steps.{◌>>=◌}
+use Rattle.smith_bytes.specs.declared.error.Error.{Error}
+use Rattle.smith_bytes.specs.declared.error.Error.TheVariants.{EmptyChoose}
+use Rattle.smith_draw_consts.proofs.TriedStepLemmas.{following_so, takes_if_read}
 use Rattle.smith_types.specs.Entities.{IsTableValid}
 use Rattle.smith_types.specs.Expressions.{IsConstExpr}
 use Rattle.smith_types.specs.Floats.{HasNoFloat, GivesNoFloat}
@@ -31,7 +34,7 @@ use Rattle.smith_draw_definitions.specs.DefinedTables.{IsTableFit, AreTablesDraw
 use Rattle.smith_draw_definitions.specs.Definitions.{InitialiserScope, Table, table_at, tables_at, table_scope}
 use Rattle.smith_module_rules.specs.Promises.{initial_of}
 use Rattle.smith_bytes.specs.Spelling.{SpellsNone}
-use Rattle.smith_draw_definitions.proofs.DefinedLemmas.{parts_filled, several_so, all_after, defined_none}
+use Rattle.smith_draw_definitions.proofs.DefinedLemmas.{parts_filled, several_so, all_after, tried_none}
 
 -- with defined globals invisible, the imported ones are visible
 imported_seen : (on : Bool) (globals imported : ℕ) → cond (on && false) globals imported ≡ imported
@@ -54,9 +57,15 @@ spaces_valid config spaces may all = record {
 
 -- a table is that of its draws
 pub table_is : (config : Config) (spaces : Spaces) (bytes mid after : List ℕ) (table : TableType) (initial : Option (List ConstInstr)) → spaces.entities.imported_globals ≡ length spaces.entities.globals.now
-    → table_type_at config (drawn_over config (scope_of_spaces spaces)) bytes ≡ (table, mid) → table_init_at config (seen_by config spaces false) table.element_type mid ≡ Some (initial, after) → table_at config (scope_of_spaces spaces) bytes ≡ ((table, initial), after)
+    → table_type_at config (drawn_over config (scope_of_spaces spaces)) bytes ≡ (table, mid) → table_init_at config (seen_by config spaces false) table.element_type mid ≡ Some (initial, after) → table_at config (scope_of_spaces spaces) bytes ≡ Ok ((table, initial), after)
 unfolding table_at
 table_is config spaces bytes mid after table initial all type_drawn init_drawn = rw (type_drawn, ← seen_by_table config spaces all, init_drawn) refl
+
+-- there is nothing to choose from for the initialiser of a table
+pub table_lacks : (config : Config) (spaces : Spaces) (bytes mid : List ℕ) (table : TableType) → spaces.entities.imported_globals ≡ length spaces.entities.globals.now
+    → table_type_at config (drawn_over config (scope_of_spaces spaces)) bytes ≡ (table, mid) → table_init_at config (seen_by config spaces false) table.element_type mid ≡ None → table_at config (scope_of_spaces spaces) bytes ≡ Err EmptyChoose
+unfolding table_at
+table_lacks config spaces bytes mid table all type_drawn none = rw (type_drawn, ← seen_by_table config spaces all, none) refl
 
 null_where : (b : Bool) → (b ≡ false → ⊥) → b ≡ true
 null_where true not_so = refl
@@ -124,16 +133,19 @@ tables_no_float {config = config} {standing = standing} {old = old} calm before 
     rw (so_far.initialisers, flat_map-append initial_of old drawn) (All-append (All GivesNoFloat) (flat_map initial_of old) (flat_map initial_of drawn) before calm_drawn)
 
 -- the tables, and the bytes left
-abbrev tables_alone : (List TableType × List (Option (List ConstInstr))) × List ℕ → List TableType × List ℕ
-tables_alone drawn = (drawn.0.0, drawn.1)
+abbrev tables_alone : Result ((List TableType × List (Option (List ConstInstr))) × List ℕ) Error → Result (List TableType × List ℕ) Error
+tables_alone read = read >>= (λ drawn. Ok (drawn.0.0, drawn.1))
 
 -- after imported tables there are at least the minimum, and at most the maximum
 pub tables_fill : (config : Config) (standing : InitialiserScope) (imported space : List TableType) (old initials : List (Option (List ConstInstr))) (start new : List ℕ) → config.min_tables ≤ config.max_tables
-    → tables_at config standing imported old start ≡ ((space, initials), new) → IsFilled config.min_tables config.max_tables imported space
+    → tables_at config standing imported old start ≡ Ok ((space, initials), new) → IsFilled config.min_tables config.max_tables imported space
 unfolding tables_at
 tables_fill config standing imported space old initials start new ordered exact =
-    subst (λ (tables : List TableType). IsFilled config.min_tables config.max_tables imported tables) (ap (λ drawn. (tables_alone drawn).0) exact)
-    (parts_filled (λ (one : Table). one.0) (λ (made : List Table). table_at config standing) config.min_tables config.max_tables imported start ordered)
+    let of_table = λ (one : Table). one.0 in
+    let Filled = λ (tables : List TableType). IsFilled config.min_tables config.max_tables imported tables in
+    subst (λ (read : Result ((List TableType × List (Option (List ConstInstr))) × List ℕ) Error). IfOk read (λ drawn. Filled drawn.0.0)) exact
+    (following_so (λ (drawn : List Table × List ℕ). Filled (imported ++ map of_table drawn.0)) (λ (drawn : (List TableType × List (Option (List ConstInstr))) × List ℕ). Filled drawn.0.0) _ _
+    (parts_filled of_table (λ (made : List Table). table_at config standing) config.min_tables config.max_tables imported start ordered) (λ drawn filled. filled))
 
 -- there are several tables only if several are allowed
 pub several_tables : (config : Config) (imported space : List TableType) → IsSanitized config → (1 < length imported → config.reference_types_enabled ≡ true) → IsFilled config.min_tables config.max_tables imported space → 1 < length space
@@ -141,14 +153,14 @@ pub several_tables : (config : Config) (imported space : List TableType) → IsS
 several_tables config imported space sanitized stood filled several = several_so config.reference_types_enabled config.max_tables (length imported) (length space) sanitized.one_table filled.within stood several
 
 pub no_table_read : (config : Config) (standing : InitialiserScope) (imported : List TableType) (old : List (Option (List ConstInstr))) (piece after : List ℕ) → config.min_tables ≡ 0 → imported ≡ [] → SpellsNone config.max_tables piece
-    → tables_at config standing imported old (piece ++ after) ≡ (([], old), after)
+    → tables_at config standing imported old (piece ++ after) ≡ Ok (([], old), after)
 unfolding tables_at
 no_table_read config standing imported old piece after asked none spelled =
-    let drawn = defined_none (λ (made : List Table). table_at config standing) config.min_tables config.max_tables (length imported) piece after asked (rw none refl) spelled in
+    let drawn = tried_none (λ (made : List Table). table_at config standing) config.min_tables config.max_tables (length imported) piece after asked (rw none refl) spelled in
     rw (drawn, none, append-nil old) refl
 
 -- a piece that spells that there is no table is taken
 pub no_table_taken : (config : Config) (standing : InitialiserScope) (imported space : List TableType) (old initials : List (Option (List ConstInstr))) (start new : List ℕ) → config.min_tables ≡ 0 → imported ≡ []
-    → tables_at config standing imported old start ≡ ((space, initials), new) → Takes (SpellsEmpty (SpellsNone config.max_tables)) start space new
+    → tables_at config standing imported old start ≡ Ok ((space, initials), new) → Takes (SpellsEmpty (SpellsNone config.max_tables)) start space new
 no_table_taken config standing imported space old initials start new asked none exact =
-    takes_by (λ bytes. tables_alone (tables_at config standing imported old bytes)) (λ value piece after h. rw (no_table_read config standing imported old piece after asked none h.spelled, h.none) refl) (ap tables_alone exact)
+    takes_if_read (λ bytes. tables_alone (tables_at config standing imported old bytes)) (λ value piece after h. rw (no_table_read config standing imported old piece after asked none h.spelled, h.none) refl) (ap tables_alone exact)

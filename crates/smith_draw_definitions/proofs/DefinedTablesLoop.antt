@@ -1,6 +1,7 @@
 -- The iterations of the loop that defines tables.
 use Rattle.std.proofs.Common.{◌≡◌, ℕ, ◌+◌, ◌-◌, ◌<◌, ◌≤◌, Bool, true, false, ◌&&◌, List, [], ◌∷◌, ◌++◌, map, length, refl, append_assoc, nat_lt}
-use Rattle.std.specs.Prelude.{Option, if◌then◌else◌}
+use Rattle.std.specs.Prelude.{Option, Ok, Err, if◌then◌else◌}
+use Rattle.smith_bytes.specs.declared.error.Error.{Error}
 use Rattle.std.proofs.lemmas.List.{append-nil, map-append}
 use Rattle.std.proofs.lemmas.List.Elements.{All-nil, All-push}
 use Rattle.smith_bytes.specs.Draws.{bool_at}
@@ -11,18 +12,18 @@ use Rattle.smith_syntax.specs.declared.entity_type.TableType.{TableType}
 use Rattle.smith_config.specs.declared.config.Config.{Config}
 use Rattle.smith_draw_definitions.specs.DefinedTables.{IsTableFit, AreTablesDrawn}
 use Rattle.smith_draw_definitions.specs.Definitions.{InitialiserScope, Table, table_at, tables_at}
-use Rattle.smith_draw_definitions.proofs.DefinedLoop.{IsDefining, defined_start, defined_go, defined_stop, defined_full}
+use Rattle.smith_draw_definitions.proofs.DefinedLoop.{IsTried, tried_start, tried_go, tried_refused, tried_stop, tried_full}
 
 -- the tables that are defined so far, and their initialisers
 pub record IsDefiningTables (config : Config) (standing : InitialiserScope) (imported space : List TableType) (old initials : List (Option (List ConstInstr))) (n : ℕ) (start bytes : List ℕ) : Type 0 where
   pub so_far : AreTablesDrawn config standing imported space old initials
-  pub defining : IsDefining (λ _. table_at config standing) config.min_tables config.max_tables (length imported) n so_far.drawn start bytes
+  pub defining : IsTried (λ _. table_at config standing) config.min_tables config.max_tables (length imported) n so_far.drawn start bytes
 
 -- none is defined yet
 pub tables_start : (config : Config) (standing : InitialiserScope) (imported : List TableType) (old : List (Option (List ConstInstr))) (start : List ℕ) → IsDefiningTables config standing imported imported old old 0 start start
 tables_start config standing imported old start = record {
   so_far = record { drawn = []; tables = rw append-nil refl; initialisers = rw append-nil refl; fit = All-nil (IsTableFit config standing) };
-  defining = defined_start (λ _. table_at config standing) config.min_tables config.max_tables (length imported) start;
+  defining = tried_start (λ _. table_at config standing) config.min_tables config.max_tables (length imported) start;
 }
 
 module _ {config : Config} {standing : InitialiserScope} {imported space : List TableType} {old initials : List (Option (List ConstInstr))} {n : ℕ} {start bytes : List ℕ} where
@@ -30,7 +31,7 @@ module _ {config : Config} {standing : InitialiserScope} {imported space : List 
   pub tables_go : {mid after : List ℕ} {b : Bool} {one : Table} {more : List TableType} {longer : List (Option (List ConstInstr))}
       → IsDefiningTables config standing imported space old initials n start bytes
       → n < config.max_tables - length imported → goes_at (nat_lt n (config.min_tables - length imported)) bytes ≡ (b, mid) → b ≡ true
-      → table_at config standing mid ≡ (one, after) → IsTableFit config standing one → more ≡ space ++ one.0 ∷ [] → longer ≡ initials ++ one.1 ∷ []
+      → table_at config standing mid ≡ Ok (one, after) → IsTableFit config standing one → more ≡ space ++ one.0 ∷ [] → longer ≡ initials ++ one.1 ∷ []
       → KeepsPieces bytes mid → KeepsPieces mid after → IsDefiningTables config standing imported more old longer (n + 1) start after
   tables_go {one = one} now lt go on drawn fit next last p q =
       let made = now.so_far.drawn in
@@ -43,21 +44,29 @@ module _ {config : Config} {standing : InitialiserScope} {imported space : List 
           initialisers = rw (last, now.so_far.initialisers, map-append of_initial made (one ∷ [])) (append_assoc old (map of_initial made) (one.1 ∷ []));
           fit = All-push (IsTableFit config standing) made one now.so_far.fit fit;
         };
-        defining = defined_go now.defining lt go on drawn refl p q;
+        defining = tried_go now.defining lt go on drawn refl p q;
       }
+
+  -- a table was refused
+  pub tables_refused : {mid : List ℕ} {b : Bool} {e : Error}
+      → IsDefiningTables config standing imported space old initials n start bytes
+      → n < config.max_tables - length imported → goes_at (nat_lt n (config.min_tables - length imported)) bytes ≡ (b, mid) → b ≡ true
+      → table_at config standing mid ≡ Err e → tables_at config standing imported old start ≡ Err e
+  unfolding tables_at
+  tables_refused now lt go on refused = rw (tried_refused now.defining lt go on refused) refl
 
   -- the drawn bool ends the tables, though more are allowed
   pub tables_stop : {b : Bool} {after : List ℕ}
       → IsDefiningTables config standing imported space old initials n start bytes
       → n < config.max_tables - length imported → goes_at (nat_lt n (config.min_tables - length imported)) bytes ≡ (b, after) → b ≡ false
-      → tables_at config standing imported old start ≡ ((space, initials), after)
+      → tables_at config standing imported old start ≡ Ok ((space, initials), after)
   unfolding tables_at
-  tables_stop now lt go off = rw (defined_stop now.defining lt go off, now.so_far.tables, now.so_far.initialisers) refl
+  tables_stop now lt go off = rw (tried_stop now.defining lt go off, now.so_far.tables, now.so_far.initialisers) refl
 
   -- no more are allowed
   pub tables_full : {after : List ℕ}
       → IsDefiningTables config standing imported space old initials n start bytes
       → config.max_tables - length imported ≤ n → after ≡ (if nat_lt 0 (length imported) && nat_lt 0 config.max_tables then (bool_at bytes).1 else bytes)
-      → tables_at config standing imported old start ≡ ((space, initials), after)
+      → tables_at config standing imported old start ≡ Ok ((space, initials), after)
   unfolding tables_at
-  tables_full now le is = rw (defined_full now.defining le is, now.so_far.tables, now.so_far.initialisers) refl
+  tables_full now le is = rw (tried_full now.defining le is, now.so_far.tables, now.so_far.initialisers) refl

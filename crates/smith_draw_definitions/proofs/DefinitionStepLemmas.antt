@@ -1,10 +1,6 @@
 -- The definitions that the bytes produce, by the draws of each kind of items.
-use Rattle.std.proofs.Common.{◌≡◌, ◌∙◌, inl, inr, ℕ, ◌-◌, Result, Ok, Err, Option, List, length, refl, sym, subst}
-use Rattle.std.specs.Prelude.{◌⊎◌, IsErrAnd}
+use Rattle.std.proofs.Common.{◌≡◌, ℕ, ◌-◌, Ok, Err, Option, List, length, refl}
 use Rattle.smith_bytes.specs.declared.error.Error.{Error}
-use Rattle.smith_bytes.specs.declared.error.Error.TheVariants as errors
-use Rattle.smith_bytes.specs.declared.error.Why.{Why}
-use Rattle.smith_bytes.specs.Steps.{ReturnsWhy}
 use Rattle.smith_types.specs.Imports.{EntitySpaces}
 use Rattle.smith_syntax.specs.declared.composite_type.SubType.{SubType}
 use Rattle.smith_syntax.specs.declared.const_instr.ConstInstr.{ConstInstr}
@@ -17,30 +13,39 @@ use Rattle.smith_draw_definitions.specs.declared.definitions.Definitions.{Defini
 
 module _ (config : Config) (types : List SubType) (before : EntitySpaces) (so_far : Definitions) (bytes : List ℕ) where
   -- tags were refused
-  pub tags_refused : (why : Why) → tags_at config types before.tags bytes ≡ Err why → definitions_at config types before so_far bytes ≡ Err why
+  pub tags_refused : {e : Error} → tags_at config types before.tags bytes ≡ Err e → definitions_at config types before so_far bytes ≡ Err e
   unfolding definitions_at
-  tags_refused why refused = rw refused refl
+  tags_refused refused = rw refused refl
 
   -- functions were refused after tags
-  pub funcs_refused : {tags mid : List ℕ} → tags_at config types before.tags bytes ≡ Ok (tags, mid) → (why : Why) → funcs_at config types before.funcs mid ≡ Err why → definitions_at config types before so_far bytes ≡ Err why
+  pub funcs_refused : {tags mid : List ℕ} {e : Error} → tags_at config types before.tags bytes ≡ Ok (tags, mid) → funcs_at config types before.funcs mid ≡ Err e → definitions_at config types before so_far bytes ≡ Err e
   unfolding definitions_at
-  funcs_refused drawn why refused = rw (drawn, refused) refl
+  funcs_refused drawn refused = rw (drawn, refused) refl
 
   -- what initialisers may refer to after these functions
   abbrev scope_after : List ℕ → InitialiserScope
   scope_after funcs = scope_among types funcs (length before.funcs - so_far.num_funcs) (length before.globals - length so_far.globals) before.globals
 
+  -- tables were refused after functions
+  pub tables_not_drawn : {tags funcs first second : List ℕ} {e : Error}
+      → tags_at config types before.tags bytes ≡ Ok (tags, first) → funcs_at config types before.funcs first ≡ Ok (funcs, second) → tables_at config (scope_after funcs) before.tables so_far.tables second ≡ Err e
+      → definitions_at config types before so_far bytes ≡ Err e
+  unfolding definitions_at
+  tables_not_drawn of_tags of_funcs refused = rw (of_tags, of_funcs, refused) refl
+
+  -- globals were refused after memories
+  pub globals_not_drawn : {tags funcs first second third fourth : List ℕ} {tables : List TableType} {initials : List (Option (List ConstInstr))} {memories : List MemoryType} {e : Error}
+      → tags_at config types before.tags bytes ≡ Ok (tags, first) → funcs_at config types before.funcs first ≡ Ok (funcs, second) → tables_at config (scope_after funcs) before.tables so_far.tables second ≡ Ok ((tables, initials), third)
+      → memories_at config before.memories third ≡ (memories, fourth) → globals_at config (scope_after funcs) before.globals so_far.globals fourth ≡ Err e
+      → definitions_at config types before so_far bytes ≡ Err e
+  unfolding definitions_at
+  globals_not_drawn of_tags of_funcs of_tables of_memories refused = rw (of_tags, of_funcs, of_tables, of_memories, refused) refl
+
   -- items of all kinds were drawn
   pub definitions_drawn : {tags funcs first second third fourth last : List ℕ} {tables : List TableType} {initials : List (Option (List ConstInstr))} {memories : List MemoryType} {globals : List GlobalType} {constants : List (ℕ × List ConstInstr)}
-      → tags_at config types before.tags bytes ≡ Ok (tags, first) → funcs_at config types before.funcs first ≡ Ok (funcs, second) → tables_at config (scope_after funcs) before.tables so_far.tables second ≡ ((tables, initials), third)
-      → memories_at config before.memories third ≡ (memories, fourth) → globals_at config (scope_after funcs) before.globals so_far.globals fourth ≡ ((globals, constants), last)
+      → tags_at config types before.tags bytes ≡ Ok (tags, first) → funcs_at config types before.funcs first ≡ Ok (funcs, second) → tables_at config (scope_after funcs) before.tables so_far.tables second ≡ Ok ((tables, initials), third)
+      → memories_at config before.memories third ≡ (memories, fourth) → globals_at config (scope_after funcs) before.globals so_far.globals fourth ≡ Ok ((globals, constants), last)
       → let spaces : EntitySpaces = record { tags = tags; funcs = funcs; tables = tables; memories = memories; globals = globals } in
       definitions_at config types before so_far bytes ≡ Ok ((spaces, defined_in before so_far spaces initials constants), last)
   unfolding definitions_at
   definitions_drawn of_tags of_funcs of_tables of_memories of_globals = rw (of_tags, of_funcs, of_tables, of_memories, of_globals) refl
-
--- lack of memory, or of anything to choose from, is left open
-pub lack_left : {Y B : Type 0} (Holds : Type 0) (of_whole : Y → B) (e : Error) (whole : Result B Why) (result : Result Y Error) → (e ≡ errors.Memory) ⊎ ((e ≡ errors.EmptyChoose) × Holds) → IsErrAnd result (λ y. y ≡ e) → ReturnsWhy of_whole result whole
-lack_left Holds of_whole e whole (Ok y) lacks h = absurd h
-lack_left Holds of_whole e whole (Err own) (inl memory) h = subst (λ (one : Error). ReturnsWhy of_whole (Err one) whole) (sym (h ∙ memory)) tt
-lack_left Holds of_whole e whole (Err own) (inr (empty, holds)) h = subst (λ (one : Error). ReturnsWhy of_whole (Err one) whole) (sym (h ∙ empty)) tt

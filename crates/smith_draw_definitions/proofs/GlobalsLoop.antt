@@ -1,6 +1,12 @@
 -- One iteration of the loop over the defined globals.
 use Rattle.std.proofs.Common.{◌≡◌, ℕ, ◌+◌, ◌-◌, ◌≤◌, ◌<◌, Bool, true, false, ◌&&◌, nat_lt, List, [], ◌∷◌, ◌++◌, length, map, inl, inr, refl, sym, ap, subst, ◌∙◌, arith, append_assoc, length-append, append-nil}
-use Rattle.std.specs.Prelude.{if◌then◌else◌}
+use Rattle.std.specs.Prelude.{Option, Some, None, Result, Ok, Err, ok_or, if◌then◌else◌}
+use Rattle.smith_bytes.specs.Steps.{◌>>=◌}
+use Rattle.smith_bytes.specs.declared.error.Error.{Error}
+use Rattle.smith_bytes.specs.declared.error.Error.TheVariants.{EmptyChoose}
+use Rattle.smith_draw_consts.specs.ConstExprs.{const_expr_at}
+use Rattle.smith_draw_types.specs.GlobalTypes.{global_type_at}
+use Rattle.smith_draw_types.specs.Grounding.{without_globals}
 use Rattle.std.specs.List.{All}
 use Rattle.std.proofs.lemmas.List.{map-append, length-map}
 use Rattle.std.proofs.lemmas.List.Elements.{All-nil, All-push, All-map}
@@ -21,7 +27,7 @@ use Rattle.smith_draw_definitions.specs.Definitions.{InitialiserScope, Global, c
 use Rattle.smith_config.specs.Granted.{HasGroundedValue}
 use Rattle.smith_draw_definitions.specs.Defined.{AreAdded, IsGlobalInitialised, AreGlobalsDefined, drawn_over}
 use Rattle.smith_draw_definitions.proofs.ExtensionLemmas.{all_kept}
-use Rattle.smith_draw_definitions.proofs.DefinedLoop.{IsDefining, defined_start, defined_go, defined_stop, defined_full}
+use Rattle.smith_draw_definitions.proofs.DefinedLoop.{IsTried, tried_start, tried_go, tried_refused, tried_stop, tried_full}
 
 -- the initialisers
 abbrev expressions : List (ℕ × List ConstInstr) → List (List ConstInstr)
@@ -36,7 +42,7 @@ pub record AreDefining (config : Config) (standing : InitialiserScope) (before :
   pub made : List Global
   pub globals_are : globals ≡ globals_of before made
   pub initials_are : initials ≡ old ++ map (λ (one : Global). one.1) made
-  pub defining : IsDefining (global_at config standing before) config.min_globals config.max_globals (length before) n made start bytes
+  pub defining : IsTried (global_at config standing before) config.min_globals config.max_globals (length before) n made start bytes
   pub valid : All (IsGlobalValid (features_of config) standing.types) globals
   pub defined : AreGlobalsDefined config standing before old → AreGlobalsDefined config standing globals initials
   pub floats : config.allow_floats ≡ false → AreNoFloats before → AreNoFloats globals
@@ -48,7 +54,7 @@ pub count_is : {config : Config} {standing : InitialiserScope} {before : List Gl
     → AreDefining config standing before old n globals initials start bytes → length globals ≡ length before + n
 count_is {before = before} now =
     let lens = length-append before (map (λ (one : Global). one.0) now.made) in
-    let len = now.defining.growing.len in
+    let len = now.defining.trying.len in
     ap length now.globals_are ∙ lens ∙ ap (λ (k : ℕ). length before + k) (length-map now.made (λ (one : Global). one.0) ∙ len)
 
 -- before the first iteration
@@ -57,7 +63,7 @@ none_made config standing before old start valid = record {
   made = [];
   globals_are = sym (append-nil before);
   initials_are = sym (append-nil old);
-  defining = defined_start (global_at config standing before) config.min_globals config.max_globals (length before) start;
+  defining = tried_start (global_at config standing before) config.min_globals config.max_globals (length before) start;
   valid = valid;
   defined = λ stood. stood;
   floats = λ off calm. calm;
@@ -116,14 +122,32 @@ unfolding global_at
 drawn_in config standing before made globals bytes are = ap (λ (standing_globals : List GlobalType). initialised_at config (global_scope config standing standing_globals) bytes) (sym are)
 
 -- its index is the number of globals before it
-index_is : (config : Config) (context : Context) (bytes : List ℕ) (one : Global) (after : List ℕ) → initialised_at config context bytes ≡ (one, after) → one.1.0 ≡ length context.globals
+abbrev with_initial : GlobalType → ℕ → List ConstInstr × List ℕ → Result (Global × List ℕ) Error
+with_initial global count initial = Ok ((global, (count, initial.0)), initial.1)
+
+index_of : (global : GlobalType) (count : ℕ) (drawn : Option (List ConstInstr × List ℕ)) (one : Global) (after : List ℕ)
+    → (ok_or drawn EmptyChoose >>= with_initial global count) ≡ Ok (one, after) → one.1.0 ≡ count
+index_of global count None one after is = cc
+index_of global count (Some initial) one after is =
+    let pair : ((global, (count, initial.0)), initial.1) ≡ (one, after) = cc in
+    sym (ap (λ (r : Global × List ℕ). r.0.1.0) pair)
+
+index_is : (config : Config) (context : Context) (bytes : List ℕ) (one : Global) (after : List ℕ) → initialised_at config context bytes ≡ Ok (one, after) → one.1.0 ≡ length context.globals
 unfolding initialised_at
-index_is config context bytes one after drawn = sym (ap (λ (r : Global × List ℕ). r.0.1.0) drawn)
+index_is config context bytes one after drawn =
+    let global = global_type_at config (without_globals context) bytes in
+    index_of global.0 (length context.globals) (const_expr_at config context global.0.val_type global.1) one after drawn
+
+-- there is nothing to choose from for the initialiser of a global
+pub global_lacks : (config : Config) (context : Context) (bytes mid : List ℕ) (global : GlobalType) → global_type_at config (without_globals context) bytes ≡ (global, mid) → const_expr_at config context global.val_type mid ≡ None
+    → initialised_at config context bytes ≡ Err EmptyChoose
+unfolding initialised_at
+global_lacks config context bytes mid global typed none = rw (typed, none) refl
 
 -- one more global was drawn
 pub define_more : {config : Config} {standing : InitialiserScope} {before : List GlobalType} {old : List (ℕ × List ConstInstr)} {n : ℕ} {globals more : List GlobalType} {initials longer : List (ℕ × List ConstInstr)} {start bytes mid after : List ℕ} {b : Bool} {one : Global}
     → AreDefining config standing before old n globals initials start bytes → n < config.max_globals - length before
-    → goes_at (nat_lt n (config.min_globals - length before)) bytes ≡ (b, mid) → b ≡ true → initialised_at config (global_scope config standing globals) mid ≡ (one, after)
+    → goes_at (nat_lt n (config.min_globals - length before)) bytes ≡ (b, mid) → b ≡ true → initialised_at config (global_scope config standing globals) mid ≡ Ok (one, after)
     → IsGlobalValid (features_of config) standing.types one.0 → IsConstExpr (global_scope config standing globals) one.0.val_type one.1.1
     → (config.allow_floats ≡ false → IsNoFloat one.0.val_type) → HasGroundedValue config (drawn_over config standing) one.0 → (config.allow_floats ≡ false → All HasNoFloat standing.types → All GivesNoFloat one.1.1)
     → more ≡ globals ++ one.0 ∷ [] → longer ≡ initials ++ one.1 ∷ [] → KeepsPieces bytes mid → KeepsPieces mid after
@@ -139,7 +163,7 @@ define_more {config = config} {standing = standing} {before = before} {old = old
       initials_are = ap (λ (xs : List (ℕ × List ConstInstr)). xs ++ one.1 ∷ []) now.initials_are
           ∙ (append_assoc old (map (λ (g : Global). g.1) now.made) (one.1 ∷ [])
           ∙ ap (λ (xs : List (ℕ × List ConstInstr)). old ++ xs) (sym (map-append (λ (g : Global). g.1) now.made (one ∷ []))));
-      defining = defined_go now.defining fewer go odd following refl p q;
+      defining = tried_go now.defining fewer go odd following refl p q;
       valid = All-push (IsGlobalValid (features_of config) standing.types) globals one.0 now.valid valid;
       defined = λ stood. subst (λ (k : ℕ). AreGlobalsDefined config standing (globals ++ one.0 ∷ []) (initials ++ (k, one.1.1) ∷ [])) (sym place) (defined_more config standing globals one.0 initials one.1.1 (now.defined stood) typed);
       floats = λ off imported. All-push (λ (g : GlobalType). IsNoFloat g.val_type) globals one.0 (now.floats off imported) (calm off);
@@ -156,16 +180,24 @@ globals_added {config = config} {standing = standing} now = record {
   each = All-map (HasGroundedValue config (drawn_over config standing)) (λ (one : Global). one.0) now.made now.grounded;
 }
 
+-- a global was refused
+pub define_refused : {config : Config} {standing : InitialiserScope} {before : List GlobalType} {old : List (ℕ × List ConstInstr)} {n : ℕ} {globals : List GlobalType} {initials : List (ℕ × List ConstInstr)} {start bytes mid : List ℕ} {b : Bool} {e : Error}
+    → AreDefining config standing before old n globals initials start bytes → n < config.max_globals - length before
+    → goes_at (nat_lt n (config.min_globals - length before)) bytes ≡ (b, mid) → b ≡ true → initialised_at config (global_scope config standing globals) mid ≡ Err e → globals_at config standing before old start ≡ Err e
+unfolding globals_at
+define_refused {config = config} {standing = standing} {before = before} {globals = globals} {mid = mid} now fewer go odd refused =
+    rw (tried_refused now.defining fewer go odd (drawn_in config standing before now.made globals mid now.globals_are ∙ refused)) refl
+
 -- no global was drawn
 pub define_stop : {config : Config} {standing : InitialiserScope} {before : List GlobalType} {old : List (ℕ × List ConstInstr)} {n : ℕ} {globals : List GlobalType} {initials : List (ℕ × List ConstInstr)} {start bytes after : List ℕ} {b : Bool}
     → AreDefining config standing before old n globals initials start bytes → n < config.max_globals - length before
-    → goes_at (nat_lt n (config.min_globals - length before)) bytes ≡ (b, after) → b ≡ false → globals_at config standing before old start ≡ ((globals, initials), after)
+    → goes_at (nat_lt n (config.min_globals - length before)) bytes ≡ (b, after) → b ≡ false → globals_at config standing before old start ≡ Ok ((globals, initials), after)
 unfolding globals_at
-define_stop now fewer go even = rw (defined_stop now.defining fewer go even, now.globals_are, now.initials_are) refl
+define_stop now fewer go even = rw (tried_stop now.defining fewer go even, now.globals_are, now.initials_are) refl
 
 -- no more globals may be drawn
 pub define_full : {config : Config} {standing : InitialiserScope} {before : List GlobalType} {old : List (ℕ × List ConstInstr)} {n : ℕ} {globals : List GlobalType} {initials : List (ℕ × List ConstInstr)} {start bytes after : List ℕ}
     → AreDefining config standing before old n globals initials start bytes → config.max_globals - length before ≤ n
-    → after ≡ (if nat_lt 0 (length before) && nat_lt 0 config.max_globals then (bool_at bytes).1 else bytes) → globals_at config standing before old start ≡ ((globals, initials), after)
+    → after ≡ (if nat_lt 0 (length before) && nat_lt 0 config.max_globals then (bool_at bytes).1 else bytes) → globals_at config standing before old start ≡ Ok ((globals, initials), after)
 unfolding globals_at
-define_full now all asked = rw (defined_full now.defining all asked, now.globals_are, now.initials_are) refl
+define_full now all asked = rw (tried_full now.defining all asked, now.globals_are, now.initials_are) refl

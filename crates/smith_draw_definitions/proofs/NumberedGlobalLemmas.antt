@@ -1,13 +1,17 @@
 -- From a source that begins with the spelling of mutable globals with numbers, these are drawn.
 use Rattle.std.proofs.Common.{◌≡◌, ℕ, ℤ, zero, suc, true, false, List, [], ◌∷◌, ◌++◌, length, map, refl, sym, ap, ◌∙◌, arith, append_assoc, append-nil}
 use Rattle.std.specs.List.{All}
+use Rattle.std.specs.Prelude.{Result, Ok}
 use Rattle.std.proofs.lemmas.Bool.{le-ltb}
 use Rattle.std.proofs.lemmas.List.{map-append}
 use Rattle.std.proofs.lemmas.List.Elements.{All-nil, All-push}
-use Rattle.smith_bytes.specs.Growth.{grow_at}
 use Rattle.smith_bytes.specs.Spelling.{Listed}
 use Rattle.smith_bytes.specs.Takes.{Takes}
-use Rattle.smith_bytes.proofs.SpelledLemmas.{joined_parts, bool_read, takes_by}
+use Rattle.smith_bytes.proofs.SpelledLemmas.{joined_parts, bool_read}
+use Rattle.smith_bytes.specs.Steps.{◌>>=◌}
+use Rattle.smith_bytes.specs.declared.error.Error.{Error}
+use Rattle.smith_draw_consts.specs.TriedLists.{try_grow_at}
+use Rattle.smith_draw_consts.proofs.TriedStepLemmas.{takes_if_read}
 use Rattle.smith_syntax.specs.declared.entity_type.GlobalType.{GlobalType}
 use Rattle.smith_syntax.specs.declared.const_instr.ConstInstr.{ConstInstr}
 use Rattle.smith_syntax.specs.declared.const_instr.ConstInstr.TheVariants.{I32Const}
@@ -23,7 +27,7 @@ use Rattle.smith_draw_consts.proofs.SpelledConstExprLemmas.{constant_read, mutab
 use Rattle.smith_draw_types.specs.SpelledParts.{SpellsGlobal}
 use Rattle.smith_draw_definitions.specs.NumberedGlobals.{SpellsGlobals}
 use Rattle.smith_draw_definitions.specs.Definitions.{InitialiserScope, Global, globals_of, global_scope, initialised_at, global_at, globals_at}
-use Rattle.smith_draw_definitions.proofs.DefinedLemmas.{defined_alone}
+use Rattle.smith_draw_definitions.proofs.DefinedLemmas.{tried_alone}
 
 -- each global is mutable
 abbrev AreMutable : List GlobalType → Type 0
@@ -47,7 +51,7 @@ type_read config context piece after h =
 
 -- after mutable globals a spelled one is read
 global_read : (config : Config) (standing : InitialiserScope) (before : List GlobalType) (made : List Global) (number : ℤ) (piece after : List ℕ) → AreMutable (globals_of before made) → SpellsGlobal config number piece
-    → global_at config standing before made (piece ++ after) ≡ (numbered (length (globals_of before made)) number, after)
+    → global_at config standing before made (piece ++ after) ≡ Ok (numbered (length (globals_of before made)) number, after)
 unfolding global_at initialised_at SpellsGlobal
 global_read config standing before made number piece after mutable h =
     let scope = global_scope config standing (globals_of before made) in
@@ -59,15 +63,15 @@ global_read config standing before made number piece after mutable h =
     ) refl
 
 -- globals and constants for these numbers follow those made before
-record AreRead (numbers : List ℤ) (made : List Global) (after : List ℕ) (grown : List Global × List ℕ) : Type 0 where
+record AreRead (numbers : List ℤ) (made : List Global) (after : List ℕ) (grown : Result (List Global × List ℕ) Error) : Type 0 where
   more : List Global
-  all : grown ≡ (made ++ more, after)
+  all : grown ≡ Ok (made ++ more, after)
   types : map (λ (one : Global). one.0) more ≡ map (λ number. mutable_i32) numbers
   constants : map (λ (one : ℕ × List ConstInstr). one.1) (map (λ (one : Global). one.1) more) ≡ map (λ number. I32Const number ∷ []) numbers
 
 globals_read : (config : Config) (standing : InitialiserScope) (before : List GlobalType) (most : ℕ) (made : List Global) (numbers : List ℤ) (piece after : List ℕ) → AreMutable (globals_of before made) → Listed (SpellsGlobal config) most numbers piece
-    → AreRead numbers made after (grow_at (global_at config standing before) 0 most made (piece ++ after))
-unfolding grow_at Listed
+    → AreRead numbers made after (try_grow_at (global_at config standing before) 0 most made (piece ++ after))
+unfolding try_grow_at Listed
 globals_read config standing before zero made [] piece after mutable h = record { more = []; all = rw (h, append-nil) refl; types = refl; constants = refl }
 globals_read config standing before zero made (number ∷ numbers) piece after mutable h = absurd h
 globals_read config standing before (suc most) made [] piece after mutable h =
@@ -85,28 +89,31 @@ globals_read config standing before (suc most) made (number ∷ numbers) piece a
     record {
       more = one ∷ rest.more;
       all = rw (joined_parts h after, joined_parts item after, le-ltb (length made) 0 (omega arith), bool_read true h.first (item.first ++ later) h.is_first, global_read config standing before made number item.first later mutable item.is_first)
-          (rest.all ∙ ap (λ (l : List Global). (l, after)) (append_assoc made (one ∷ []) rest.more));
+          (rest.all ∙ ap (λ (l : List Global). Ok (l, after)) (append_assoc made (one ∷ []) rest.more));
       types = ap (λ (l : List GlobalType). mutable_i32 ∷ l) rest.types;
       constants = ap (λ (l : List (List ConstInstr)). (I32Const number ∷ []) ∷ l) rest.constants;
     }
 
 -- the globals and the initialisers, without their indices, if there are none before
-abbrev pub listed_at : Config → InitialiserScope → List ℕ → (List GlobalType × List (List ConstInstr)) × List ℕ
-listed_at config standing bytes = let drawn = globals_at config standing [] [] bytes in ((drawn.0.0, map (λ (one : ℕ × List ConstInstr). one.1) drawn.0.1), drawn.1)
+abbrev pub listed_of : Result ((List GlobalType × List (ℕ × List ConstInstr)) × List ℕ) Error → Result ((List GlobalType × List (List ConstInstr)) × List ℕ) Error
+listed_of read = read >>= (λ drawn. Ok ((drawn.0.0, map (λ (one : ℕ × List ConstInstr). one.1) drawn.0.1), drawn.1))
+
+abbrev pub listed_at : Config → InitialiserScope → List ℕ → Result ((List GlobalType × List (List ConstInstr)) × List ℕ) Error
+listed_at config standing bytes = listed_of (globals_at config standing [] [] bytes)
 
 pub listed_read : (config : Config) (standing : InitialiserScope) → config.min_globals ≡ 0 → (globals : List GlobalType × List (List ConstInstr)) (piece after : List ℕ) → SpellsGlobals config globals piece
-    → listed_at config standing (piece ++ after) ≡ (globals, after)
+    → listed_at config standing (piece ++ after) ≡ Ok (globals, after)
 unfolding globals_at
 listed_read config standing least globals piece after h =
     let read = globals_read config standing [] config.max_globals [] h.numbers piece after (All-nil (λ (g : GlobalType). g.mutable ≡ true)) h.spelled in
-    let drawn = defined_alone (global_at config standing []) config.min_globals config.max_globals 0 (piece ++ after) least refl ∙ read.all in
+    let drawn = tried_alone (global_at config standing []) config.min_globals config.max_globals 0 (piece ++ after) least refl ∙ read.all in
     let types : globals_of [] read.more ≡ globals.0 = read.types ∙ sym h.types in
     let constants : map (λ (one : ℕ × List ConstInstr). one.1) (map (λ (one : Global). one.1) read.more) ≡ globals.1 = read.constants ∙ sym h.initials in
-    rw drawn (λ i. ((types i, constants i), after))
+    rw drawn (λ i. Ok ((types i, constants i), after))
 
 pub globals_taken : (config : Config) (standing : InitialiserScope) {before : List GlobalType} {before_initials : List (ℕ × List ConstInstr)} {old new : List ℕ} {globals : List GlobalType} {initials : List (ℕ × List ConstInstr)}
-    → config.min_globals ≡ 0 → before ≡ [] → before_initials ≡ [] → globals_at config standing before before_initials old ≡ ((globals, initials), new)
+    → config.min_globals ≡ 0 → before ≡ [] → before_initials ≡ [] → globals_at config standing before before_initials old ≡ Ok ((globals, initials), new)
     → Takes (SpellsGlobals config) old (globals, map (λ (one : ℕ × List ConstInstr). one.1) initials) new
 globals_taken config standing {old = old} {new = new} {globals = globals} {initials = initials} least none unmade drawn =
-    let alone : globals_at config standing [] [] old ≡ ((globals, initials), new) = rw (none, unmade) at drawn in
-    takes_by (listed_at config standing) (listed_read config standing least) (ap (λ (r : (List GlobalType × List (ℕ × List ConstInstr)) × List ℕ). ((r.0.0, map (λ (one : ℕ × List ConstInstr). one.1) r.0.1), r.1)) alone)
+    let alone : globals_at config standing [] [] old ≡ Ok ((globals, initials), new) = rw (none, unmade) at drawn in
+    takes_if_read (listed_at config standing) (listed_read config standing least) (rw alone refl)

@@ -6,7 +6,6 @@ use Rattle.std.proofs.lemmas.Bool.{cond_both, ltb-false, eqb-false, and_right, n
 use Rattle.std.proofs.lemmas.List.Elements.{All-nil, All-append}
 use Rattle.smith_bytes.specs.Spelling.{SpellsBool, Where, Listed}
 use Rattle.smith_bytes.specs.declared.error.Count.{Count}
-use Rattle.smith_bytes.specs.declared.error.Why.{Why}
 use Rattle.smith_bytes.specs.declared.error.Count.TheVariants as counts
 use Rattle.smith_bytes.specs.declared.error.Error.{Error}
 use Rattle.smith_types.specs.Entities.{IsTagValid, IsFuncTypeIndex}
@@ -19,14 +18,14 @@ use Rattle.smith_draw_types.specs.declared.type_use.TypeUse.TheVariants.{Tag, De
 use Rattle.smith_draw_types.proofs.SpelledValueLemmas.{chosen_read}
 use Rattle.smith_draw_types.proofs.SupertypeLemmas.{chosen_of}
 use Rattle.smith_draw_types.proofs.TypeUseLemmas.{types_usable, places_any}
-use Rattle.smith_bytes.specs.Steps.{ReturnsWhy}
+use Rattle.smith_bytes.specs.Steps.{Returns, is_memory}
 use Rattle.smith_bytes.specs.Spelling.{SpellsEmpty}
 use Rattle.smith_draw_definitions.specs.Defined.{IsFilled}
 use Rattle.smith_draw_definitions.specs.Definitions.{items_defined_at, type_indices_at, tag_types, tags_at, funcs_at}
 use Rattle.smith_draw_types.specs.SpelledParts.{SpellsNoTag, SpellsFuncs}
 use Rattle.smith_draw_definitions.proofs.ExtensionLemmas.{all_kept}
 use Rattle.smith_draw_definitions.proofs.DefinedLemmas.{defined_all, defined_filled, defined_read, none_listed}
-use Rattle.smith_bytes.proofs.StepLemmas.{given_is}
+use Rattle.smith_draw_consts.proofs.TriedStepLemmas.{returned_so}
 
 -- properties of items whose types are chosen
 pub record AreTyped (Holds : ℕ → Type 0) (choices : List ℕ) (least most : ℕ) (imported items : List ℕ) : Type 0 where
@@ -48,7 +47,7 @@ module _ (Holds : ℕ → Type 0) (count : Count) (choices : List ℕ) (least mo
   typed_are : (bytes : List ℕ) → least ≤ most → All Holds choices → IfOk (type_indices_at count choices least most imported bytes) (λ drawn. AreTyped Holds choices least most imported drawn.0)
   unfolding type_indices_at
   typed_are bytes le each =
-      let Are = λ (r : Result (List ℕ × List ℕ) Why). IfOk r (λ drawn. AreTyped Holds choices least most imported drawn.0) in
+      let Are = λ (r : Result (List ℕ × List ℕ) Error). IfOk r (λ drawn. AreTyped Holds choices least most imported drawn.0) in
       cond_both (eqb (length choices) 0) _ _ Are
       (λ none. cond_both (ltb (length imported) least) _ _ Are (λ lacks. tt) (λ enough. none_typed (ltb-false (length imported) least enough)))
       (λ off. let apart = eqb-false (length choices) 0 off in some_typed bytes le each (omega arith))
@@ -66,12 +65,12 @@ typed_read count (choice ∷ others) most items piece after h =
 tag_types_usable : (config : Config) (types : List SubType) → All (IsTagValid types) (tag_types config types)
 tag_types_usable config types = cond_both config.exceptions_enabled (types_for Tag types) [] (All (IsTagValid types)) (λ on. types_usable Tag types) (λ off. All-nil (IsTagValid types))
 
-pub tags_are : (config : Config) (types : List SubType) (imported items bytes after : List ℕ) (result : Result (Unit {0}) Error) → config.min_tags ≤ config.max_tags → ReturnsWhy (λ _. (items, after)) result (tags_at config types imported bytes)
+pub tags_are : (config : Config) (types : List SubType) (imported items bytes after : List ℕ) (result : Result (Unit {0}) Error) → config.min_tags ≤ config.max_tags → Returns is_memory (λ _. (items, after)) result (tags_at config types imported bytes)
     → OnOk result (AreTyped (IsTagValid types) (tag_types config types) config.min_tags config.max_tags imported items)
 unfolding tags_at
 tags_are config types imported items bytes after result le given =
-    given_is (AreTyped (IsTagValid types) (tag_types config types) config.min_tags config.max_tags imported) (λ _. items) (tags_at config types imported bytes) after result
-    (typed_are (IsTagValid types) counts.Tags (tag_types config types) config.min_tags config.max_tags imported bytes le (tag_types_usable config types)) given
+    let Are = λ (r : Result (List ℕ × List ℕ) Error). IfOk r (λ drawn. AreTyped (IsTagValid types) (tag_types config types) config.min_tags config.max_tags imported drawn.0) in
+    returned_so result (λ read. subst Are read (typed_are (IsTagValid types) counts.Tags (tag_types config types) config.min_tags config.max_tags imported bytes le (tag_types_usable config types))) given
 
 enabled_by : (on : Bool) (places imported items : List ℕ) → (length (cond on places []) ≡ 0 → items ≡ imported) → (0 < length imported → IsTrue on) → 0 < length items → IsTrue on
 enabled_by true places imported items none before some = refl
@@ -97,12 +96,12 @@ unfolding tags_at
 no_tag_read config types imported items piece after none empty h =
     rw (none, empty, h.none) (typed_read counts.Tags (tag_types config types) config.max_tags [] piece after (no_tag_turn config.exceptions_enabled (list_any is_tag_type types) config.max_tags (types_for Tag types) piece (places_any is_tag_type 0 types) h.spelled))
 
-pub funcs_are : (config : Config) (types : List SubType) (imported items bytes after : List ℕ) (result : Result (Unit {0}) Error) → config.min_funcs ≤ config.max_funcs → ReturnsWhy (λ _. (items, after)) result (funcs_at config types imported bytes)
+pub funcs_are : (config : Config) (types : List SubType) (imported items bytes after : List ℕ) (result : Result (Unit {0}) Error) → config.min_funcs ≤ config.max_funcs → Returns is_memory (λ _. (items, after)) result (funcs_at config types imported bytes)
     → OnOk result (AreTyped (IsFuncTypeIndex types) (func_types types) config.min_funcs config.max_funcs imported items)
 unfolding funcs_at
 funcs_are config types imported items bytes after result le given =
-    given_is (AreTyped (IsFuncTypeIndex types) (func_types types) config.min_funcs config.max_funcs imported) (λ _. items) (funcs_at config types imported bytes) after result
-    (typed_are (IsFuncTypeIndex types) counts.Funcs (func_types types) config.min_funcs config.max_funcs imported bytes le (types_usable DefinedFunc types)) given
+    let Are = λ (r : Result (List ℕ × List ℕ) Error). IfOk r (λ drawn. AreTyped (IsFuncTypeIndex types) (func_types types) config.min_funcs config.max_funcs imported drawn.0) in
+    returned_so result (λ read. subst Are read (typed_are (IsFuncTypeIndex types) counts.Funcs (func_types types) config.min_funcs config.max_funcs imported bytes le (types_usable DefinedFunc types))) given
 
 pub funcs_read : (config : Config) (types : List SubType) (imported funcs piece after : List ℕ) → config.min_funcs ≡ 0 → imported ≡ [] → SpellsFuncs config types funcs piece → funcs_at config types imported (piece ++ after) ≡ Ok (funcs, after)
 unfolding funcs_at

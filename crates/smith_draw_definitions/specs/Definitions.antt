@@ -1,9 +1,10 @@
 -- The items of each kind that are defined after the items before, and the bytes that they take.
 -- Rules of this project.
-use Rattle.std.specs.Prelude.{ℕ, ◌+◌, ◌-◌, Bool, ◌&&◌, ◌==◌, nat_lt, nat_le, Option, Some, List, [], ◌++◌, map, take, length, Result, Ok, Err, if◌then◌else◌, unwrap_or}
+use Rattle.std.specs.Prelude.{ℕ, ◌+◌, ◌-◌, Bool, ◌&&◌, ◌==◌, nat_lt, nat_le, Option, List, [], ◌++◌, map, take, length, Result, Ok, Err, ok_or, if◌then◌else◌}
 use Rattle.smith_bytes.specs.declared.error.Count.{Count}
 use Rattle.smith_bytes.specs.declared.error.Count.TheVariants as counts
-use Rattle.smith_bytes.specs.declared.error.Why.{Why}
+use Rattle.smith_bytes.specs.declared.error.Error.{Error}
+use Rattle.smith_bytes.specs.declared.error.Error.TheVariants.{EmptyChoose, IncorrectFormat}
 use Rattle.smith_bytes.specs.declared.error.Why.TheVariants.{Unmet}
 use Rattle.smith_bytes.specs.Draws.{bool_at}
 use Rattle.smith_bytes.specs.Growth.{grow_at}
@@ -18,6 +19,7 @@ use Rattle.smith_config.specs.declared.config.Config.{Config}
 use Rattle.smith_config.specs.Features.{features_of}
 use Rattle.smith_draw_types.specs.Choices.{chosen_at}
 use Rattle.smith_draw_consts.specs.ConstExprs.{const_expr_at, table_init_at}
+use Rattle.smith_draw_consts.specs.TriedLists.{try_grow_at}
 use Rattle.smith_draw_types.specs.Grounding.{without_globals}
 use Rattle.smith_draw_types.specs.GlobalTypes.{global_type_at}
 use Rattle.smith_draw_types.specs.Memories.{memtype_at}
@@ -28,13 +30,22 @@ use Rattle.smith_draw_definitions.specs.declared.definitions.Definitions.{Defini
 use Rattle.smith_draw_types.specs.declared.type_use.TypeUse.{TypeUse}
 use Rattle.smith_draw_types.specs.declared.type_use.TypeUse.TheVariants as uses
 
--- the items of a kind that are defined after `before` items: they are drawn one after another until
--- the minimum is met, then while a drawn bool is true; if there were items before and the maximum
--- is above 0, that bool is drawn once more at the maximum
-unfoldable pub items_defined_at : {A : Type 0} → (List A → List ℕ → A × List ℕ) → ℕ → ℕ → ℕ → List ℕ → List A × List ℕ
-items_defined_at draw least most before bytes =
-    let grown = grow_at draw (least - before) (most - before) [] bytes in
+-- items that were drawn after `before` items: if there were items before and the maximum is above 0,
+-- a bool is drawn once more at the maximum
+abbrev pub past_maximum_at : {A : Type 0} → ℕ → ℕ → List A × List ℕ → List A × List ℕ
+past_maximum_at most before grown =
     if (nat_lt 0 before && nat_lt 0 most) && nat_le most (before + length grown.0) then (grown.0, (bool_at grown.1).1) else grown
+
+-- the items of a kind that are defined after `before` items: they are drawn one after another until
+-- the minimum is met, then while a drawn bool is true
+unfoldable pub items_defined_at : {A : Type 0} → (List A → List ℕ → A × List ℕ) → ℕ → ℕ → ℕ → List ℕ → List A × List ℕ
+items_defined_at draw least most before bytes = past_maximum_at most before (grow_at draw (least - before) (most - before) [] bytes)
+
+-- the same for draws that may be refused
+unfoldable pub items_tried_at : {A : Type 0} → (List A → List ℕ → Result (A × List ℕ) Error) → ℕ → ℕ → ℕ → List ℕ → Result (List A × List ℕ) Error
+items_tried_at draw least most before bytes = do
+  grown ← try_grow_at draw (least - before) (most - before) [] bytes
+  Ok (past_maximum_at most before grown)
 
 -- items after those before
 abbrev pub appended_to : {A : Type 0} → List A → List A × List ℕ → List A × List ℕ
@@ -42,9 +53,9 @@ appended_to before drawn = (before ++ drawn.0, drawn.1)
 
 -- tags or functions after those before, each as the index of its type, which is drawn from these
 -- indices; without an index none is defined, and too few are refused
-unfoldable pub type_indices_at : Count → List ℕ → ℕ → ℕ → List ℕ → List ℕ → Result (List ℕ × List ℕ) Why
+unfoldable pub type_indices_at : Count → List ℕ → ℕ → ℕ → List ℕ → List ℕ → Result (List ℕ × List ℕ) Error
 type_indices_at count choices least most before bytes =
-    if length choices == 0 then (if nat_lt (length before) least then Err (Unmet count) else Ok (before, bytes))
+    if length choices == 0 then (if nat_lt (length before) least then Err (IncorrectFormat (Unmet count)) else Ok (before, bytes))
     else Ok (appended_to before (items_defined_at (λ _. chosen_at 0 choices) least most (length before) bytes))
 
 -- the types for a use, if it is enabled
@@ -55,11 +66,11 @@ types_if on for_use types = if on then types_for for_use types else []
 abbrev pub tag_types : Config → List SubType → List ℕ
 tag_types config types = types_if config.exceptions_enabled uses.Tag types
 
-unfoldable pub tags_at : Config → List SubType → List ℕ → List ℕ → Result (List ℕ × List ℕ) Why
+unfoldable pub tags_at : Config → List SubType → List ℕ → List ℕ → Result (List ℕ × List ℕ) Error
 tags_at config types before bytes = type_indices_at counts.Tags (tag_types config types) config.min_tags config.max_tags before bytes
 
 -- the types of functions are function types that are not shared
-unfoldable pub funcs_at : Config → List SubType → List ℕ → List ℕ → Result (List ℕ × List ℕ) Why
+unfoldable pub funcs_at : Config → List SubType → List ℕ → List ℕ → Result (List ℕ × List ℕ) Error
 funcs_at config types before bytes = type_indices_at counts.Funcs (types_for uses.DefinedFunc types) config.min_funcs config.max_funcs before bytes
 
 unfoldable pub memories_at : Config → List MemoryType → List ℕ → List MemoryType × List ℕ
@@ -106,18 +117,18 @@ global_scope config standing globals =
 abbrev pub Table : Type 0
 Table = TableType × Option (List ConstInstr)
 
--- if no expression can be chosen for its initialiser, the initialiser has no instruction
-unfoldable pub table_at : Config → InitialiserScope → List ℕ → Table × List ℕ
-table_at config standing bytes =
-    let table = table_type_at config (without_globals (table_scope config standing)) bytes in
-    let initial = unwrap_or (table_init_at config (table_scope config standing) table.0.element_type table.1) (Some [], table.1) in
-    ((table.0, initial.0), initial.1)
+-- refused if there is nothing to choose from for its initialiser
+unfoldable pub table_at : Config → InitialiserScope → List ℕ → Result (Table × List ℕ) Error
+table_at config standing bytes = do
+  let table = table_type_at config (without_globals (table_scope config standing)) bytes
+  initial ← ok_or (table_init_at config (table_scope config standing) table.0.element_type table.1) EmptyChoose
+  Ok ((table.0, initial.0), initial.1)
 
 -- the tables after those before, and their initialisers after those before
-unfoldable pub tables_at : Config → InitialiserScope → List TableType → List (Option (List ConstInstr)) → List ℕ → (List TableType × List (Option (List ConstInstr))) × List ℕ
-tables_at config standing before initials bytes =
-    let drawn = items_defined_at (λ _. table_at config standing) config.min_tables config.max_tables (length before) bytes in
-    ((before ++ map (λ (one : Table). one.0) drawn.0, initials ++ map (λ (one : Table). one.1) drawn.0), drawn.1)
+unfoldable pub tables_at : Config → InitialiserScope → List TableType → List (Option (List ConstInstr)) → List ℕ → Result ((List TableType × List (Option (List ConstInstr))) × List ℕ) Error
+tables_at config standing before initials bytes = do
+  drawn ← items_tried_at (λ _. table_at config standing) config.min_tables config.max_tables (length before) bytes
+  Ok ((before ++ map (λ (one : Table). one.0) drawn.0, initials ++ map (λ (one : Table). one.1) drawn.0), drawn.1)
 
 -- a defined global, its index and its initialiser
 abbrev pub Global : Type 0
@@ -127,22 +138,23 @@ Global = GlobalType × (ℕ × List ConstInstr)
 abbrev pub globals_of : List GlobalType → List Global → List GlobalType
 globals_of before defined = before ++ map (λ (one : Global). one.0) defined
 
--- a global after those of a context, its index and its initialiser
-unfoldable pub initialised_at : Config → Context → List ℕ → Global × List ℕ
-initialised_at config context bytes =
-    let global = global_type_at config (without_globals context) bytes in
-    let initial = unwrap_or (const_expr_at config context global.0.val_type global.1) ([], global.1) in
-    ((global.0, (length context.globals, initial.0)), initial.1)
+-- a global after those of a context, its index and its initialiser; refused if there is nothing to
+-- choose from for this
+unfoldable pub initialised_at : Config → Context → List ℕ → Result (Global × List ℕ) Error
+initialised_at config context bytes = do
+  let global = global_type_at config (without_globals context) bytes
+  initial ← ok_or (const_expr_at config context global.0.val_type global.1) EmptyChoose
+  Ok ((global.0, (length context.globals, initial.0)), initial.1)
 
 -- a global after those defined so far
-unfoldable pub global_at : Config → InitialiserScope → List GlobalType → List Global → List ℕ → Global × List ℕ
+unfoldable pub global_at : Config → InitialiserScope → List GlobalType → List Global → List ℕ → Result (Global × List ℕ) Error
 global_at config standing before defined = initialised_at config (global_scope config standing (globals_of before defined))
 
 -- the globals after those before, and their indices and initialisers after those before
-unfoldable pub globals_at : Config → InitialiserScope → List GlobalType → List (ℕ × List ConstInstr) → List ℕ → (List GlobalType × List (ℕ × List ConstInstr)) × List ℕ
-globals_at config standing before initials bytes =
-    let drawn = items_defined_at (global_at config standing before) config.min_globals config.max_globals (length before) bytes in
-    ((globals_of before drawn.0, initials ++ map (λ (one : Global). one.1) drawn.0), drawn.1)
+unfoldable pub globals_at : Config → InitialiserScope → List GlobalType → List (ℕ × List ConstInstr) → List ℕ → Result ((List GlobalType × List (ℕ × List ConstInstr)) × List ℕ) Error
+globals_at config standing before initials bytes = do
+  drawn ← items_tried_at (global_at config standing before) config.min_globals config.max_globals (length before) bytes
+  Ok ((globals_of before drawn.0, initials ++ map (λ (one : Global). one.1) drawn.0), drawn.1)
 
 -- the definitions in index spaces after the items before, with these initialisers of tables and
 -- globals
@@ -157,13 +169,13 @@ defined_in before defined spaces tables globals = record {
 
 -- the index spaces that the bytes produce after the items before, and their definitions; entities
 -- that are not defined are imported
-unfoldable pub definitions_at : Config → List SubType → EntitySpaces → Definitions → List ℕ → Result ((EntitySpaces × Definitions) × List ℕ) Why
+unfoldable pub definitions_at : Config → List SubType → EntitySpaces → Definitions → List ℕ → Result ((EntitySpaces × Definitions) × List ℕ) Error
 definitions_at config types before defined bytes = do
   tags ← tags_at config types before.tags bytes
   funcs ← funcs_at config types before.funcs tags.1
   let standing = scope_among types funcs.0 (length before.funcs - defined.num_funcs) (length before.globals - length defined.globals) before.globals
-  let tables = tables_at config standing before.tables defined.tables funcs.1
+  tables ← tables_at config standing before.tables defined.tables funcs.1
   let memories = memories_at config before.memories tables.1
-  let globals = globals_at config standing before.globals defined.globals memories.1
+  globals ← globals_at config standing before.globals defined.globals memories.1
   let spaces : EntitySpaces = record { tags = tags.0; funcs = funcs.0; tables = tables.0.0; memories = memories.0; globals = globals.0.0 }
   Ok ((spaces, defined_in before defined spaces tables.0.1 globals.0.1), globals.1)

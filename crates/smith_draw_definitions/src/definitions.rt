@@ -4,7 +4,7 @@ ghost use Rattle.smith_types.specs.Floats.{HasNoFloat};
 ghost use Rattle.smith_types.specs.EntitySpaces.{spaces_in};
 ghost use Rattle.smith_draw_types.specs.KeptGrounds.{AreKeptGrounds};
 ghost use Rattle.smith_draw_definitions.specs.Definitions.{definitions_at};
-ghost use Rattle.smith_bytes.specs.Steps.{ReturnsWhy};
+ghost use Rattle.smith_bytes.specs.Steps.{Returns, is_memory};
 ghost use Rattle.smith_draw_definitions.specs.Defined.{nothing_defined, drawn_beside, MayDefine};
 ghost use Rattle.smith_draw_definitions.specs.Defined.{MayRefuseDefined, AreDefinedMore, HaveNoFloats};
 
@@ -81,7 +81,7 @@ pub fn define(
     requires may { MayDefine config.now types.now (spaces_in spaces.old) definitions.old }
     requires kept { AreKeptGrounds (drawn_beside config.now types.now.types
         (spaces_in spaces.old) definitions.old) grounds.old }
-    ensures exact { ReturnsWhy (λ _. ((spaces_in spaces.new, definitions.new), u.new)) result
+    ensures exact { Returns is_memory (λ _. ((spaces_in spaces.new, definitions.new), u.new)) result
         (definitions_at config.now types.now.types (spaces_in spaces.old) definitions.old u.old) }
     ensures defined { OnOk result (AreDefinedMore config.now types.now
         (spaces_in spaces.old) definitions.old (spaces_in spaces.new) definitions.new) }

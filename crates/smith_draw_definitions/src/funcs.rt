@@ -7,7 +7,7 @@ ghost use Rattle.smith_types.specs.ValidTypes.{AreTypesValid};
 ghost use Rattle.smith_config.specs.Faults.{Passes};
 ghost use Rattle.smith_config.specs.Features.{features_of};
 ghost use Rattle.smith_config.specs.Sanitized.{IsSanitized};
-ghost use Rattle.smith_bytes.specs.Steps.{ReturnsWhy};
+ghost use Rattle.smith_bytes.specs.Steps.{Returns, is_memory};
 ghost use Rattle.smith_draw_definitions.specs.Defined.{IsFilled};
 ghost use Rattle.smith_draw_definitions.specs.Definitions.{funcs_at};
 ghost use Rattle.smith_draw_types.specs.Grounding.{function_context};
@@ -31,7 +31,7 @@ fn push_funcs(
     u: &mut Unstructured<'_>,
 ) -> Result<(), Error>
     requires few_types { length types.now.types < 2 ^ 32 }
-    ensures exact { ReturnsWhy (λ _. (funcs.new, u.new)) result
+    ensures exact { Returns is_memory (λ _. (funcs.new, u.new)) result
         (funcs_at config.now types.now.types funcs.old u.old) }
     ensures refusal { IfErr result (λ e. (e ≡ Error.Memory)
         ⊎ ((e ≡ Error.IncorrectFormat (Why.Unmet Count.Funcs)) × (0 < config.now.min_funcs)
@@ -65,7 +65,7 @@ pub(crate) fn define_funcs(
     requires few_types { length types.now.types < 2 ^ 32 }
 
     // The draw.
-    ensures exact { ReturnsWhy (λ _. (funcs.new, u.new)) result
+    ensures exact { Returns is_memory (λ _. (funcs.new, u.new)) result
         (funcs_at config.now types.now.types funcs.old u.old) }
 
     // Validity and bounds.

@@ -1,6 +1,7 @@
 ghost use Rattle.std.specs.Prelude.{◌≡◌, ◌<◌, ◌≤◌, ◌^◌, ℕ, true, false, List, [], map, length};
 ghost use Rattle.std.specs.Prelude.{IfOk, IfErr, OnOk, All};
 ghost use Rattle.smith_bytes.specs.Source.{KeepsPieces};
+ghost use Rattle.smith_bytes.specs.Steps.{Returns, is_memory};
 ghost use Rattle.smith_bytes.specs.Takes.{Takes};
 ghost use Rattle.smith_types.specs.Entities.{IsGlobalValid};
 ghost use Rattle.smith_types.specs.Expressions.{IsConstExpr};
@@ -42,8 +43,8 @@ fn draw_initialised_global(
     requires kept { AreKeptOffers (seen_by config.now spaces.now true) kept.old }
 
     // The draw.
-    ensures exact { IfOk result (λ drawn.
-        initialised_at config.now (seen_by config.now spaces.now true) u.old ≡ (drawn, u.new)) }
+    ensures exact { Returns is_memory (λ drawn. (drawn, u.new)) result
+        (initialised_at config.now (seen_by config.now spaces.now true) u.old) }
 
     // Validity.
     ensures valid { IfOk result (λ drawn.
@@ -95,9 +96,9 @@ fn push_globals<'a>(
         imported_funcs imported_globals globals.old) globals.old) kept.old }
 
     // The draw.
-    ensures exact { OnOk result (globals_at config.now (scope_among types.now.types funcs.now
-        imported_funcs imported_globals globals.old) globals.old initials.old u.old
-        ≡ ((globals.new, initials.new), u.new)) }
+    ensures exact { Returns is_memory (λ _. ((globals.new, initials.new), u.new)) result
+        (globals_at config.now (scope_among types.now.types funcs.now
+        imported_funcs imported_globals globals.old) globals.old initials.old u.old) }
 
     // Validity.
     ensures valid { OnOk result
@@ -177,9 +178,9 @@ pub(crate) fn define_globals<'a>(
     requires few { length globals.old < 2 ^ 32 }
 
     // The draw.
-    ensures exact { OnOk result (globals_at config.now (scope_among types.now.types funcs.now
-        imported_funcs imported_globals globals.old) globals.old initials.old u.old
-        ≡ ((globals.new, initials.new), u.new)) }
+    ensures exact { Returns is_memory (λ _. ((globals.new, initials.new), u.new)) result
+        (globals_at config.now (scope_among types.now.types funcs.now
+        imported_funcs imported_globals globals.old) globals.old initials.old u.old) }
 
     // Validity and bounds.
     ensures filled { OnOk result

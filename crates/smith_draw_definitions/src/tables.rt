@@ -1,6 +1,7 @@
 ghost use Rattle.std.specs.Prelude.{◌≡◌, ◌<◌, [], false, length, IsTrue, IfOk, IfErr, OnOk, All};
 ghost use Rattle.std.specs.List.{flat_map};
 ghost use Rattle.smith_bytes.specs.Source.{KeepsPieces};
+ghost use Rattle.smith_bytes.specs.Steps.{Returns, is_memory};
 ghost use Rattle.smith_bytes.specs.Takes.{Takes};
 ghost use Rattle.smith_types.specs.Entities.{IsTableValid};
 ghost use Rattle.smith_types.specs.Floats.{HasNoFloat, GivesNoFloat};
@@ -38,8 +39,8 @@ fn draw_initialised_table(
     requires imported_globals { spaces.now.entities.imported_globals
         ≡ length spaces.now.entities.globals.now }
     requires kept { AreKeptOffers (seen_by config.now spaces.now false) kept.old }
-    ensures exact { IfOk result (λ drawn.
-        table_at config.now (scope_of_spaces spaces.now) u.old ≡ (drawn, u.new)) }
+    ensures exact { Returns is_memory (λ drawn. (drawn, u.new)) result
+        (table_at config.now (scope_of_spaces spaces.now) u.old) }
     ensures fit { IfOk result (IsTableFit config.now (scope_of_spaces spaces.now)) }
     ensures kept { OnOk result (AreKeptOffers (seen_by config.now spaces.now false) kept.new) }
     ensures refusal { IfErr result
@@ -67,9 +68,8 @@ fn push_tables(
     requires imported_globals { spaces.now.entities.imported_globals
         ≡ length spaces.now.entities.globals.now }
     requires kept { AreKeptOffers (seen_by config.now spaces.now false) kept.old }
-    ensures exact { OnOk result
-        (tables_at config.now (scope_of_spaces spaces.now) tables.old initials.old u.old
-        ≡ ((tables.new, initials.new), u.new)) }
+    ensures exact { Returns is_memory (λ _. ((tables.new, initials.new), u.new)) result
+        (tables_at config.now (scope_of_spaces spaces.now) tables.old initials.old u.old) }
     ensures drawn { OnOk result (AreTablesDrawn config.now
         (scope_of_spaces spaces.now) tables.old tables.new initials.old initials.new) }
     ensures refusal { IfErr result
@@ -108,9 +108,8 @@ pub(crate) fn define_tables(
         ≡ length spaces.now.entities.globals.now }
 
     // The draw.
-    ensures exact { OnOk result
-        (tables_at config.now (scope_of_spaces spaces.now) tables.old initials.old u.old
-        ≡ ((tables.new, initials.new), u.new)) }
+    ensures exact { Returns is_memory (λ _. ((tables.new, initials.new), u.new)) result
+        (tables_at config.now (scope_of_spaces spaces.now) tables.old initials.old u.old) }
 
     // Validity and bounds.
     ensures filled { OnOk result

@@ -3,7 +3,7 @@ ghost use Rattle.smith_bytes.specs.Source.{KeepsPieces};
 ghost use Rattle.smith_bytes.specs.Takes.{Takes};
 ghost use Rattle.smith_types.specs.Entities.{IsTagValid};
 ghost use Rattle.smith_config.specs.Faults.{Passes};
-ghost use Rattle.smith_bytes.specs.Steps.{ReturnsWhy};
+ghost use Rattle.smith_bytes.specs.Steps.{Returns, is_memory};
 ghost use Rattle.smith_bytes.specs.Spelling.{SpellsEmpty};
 ghost use Rattle.smith_draw_definitions.specs.Defined.{IsFilled};
 ghost use Rattle.smith_draw_definitions.specs.Definitions.{tags_at};
@@ -25,7 +25,7 @@ fn push_tags(
     u: &mut Unstructured<'_>,
 ) -> Result<(), Error>
     requires few_types { length types.now.types < 2 ^ 32 }
-    ensures exact { ReturnsWhy (λ _. (tags.new, u.new)) result
+    ensures exact { Returns is_memory (λ _. (tags.new, u.new)) result
         (tags_at config.now types.now.types tags.old u.old) }
     ensures refusal { IfErr result (MayRefuse config.now) }
     ensures left { KeepsPieces u.old u.new }
@@ -54,7 +54,7 @@ pub(crate) fn define_tags(
     requires few_types { length types.now.types < 2 ^ 32 }
 
     // The draw.
-    ensures exact { ReturnsWhy (λ _. (tags.new, u.new)) result
+    ensures exact { Returns is_memory (λ _. (tags.new, u.new)) result
         (tags_at config.now types.now.types tags.old u.old) }
 
     // Validity and bounds.

@@ -3,7 +3,7 @@ ghost use Rattle.smith_bytes.specs.Source.{KeepsPieces};
 ghost use Rattle.smith_draw_types.specs.Choices.{chosen_at};
 ghost use Rattle.smith_draw_types.specs.Drawing.{DrawsInto};
 ghost use Rattle.smith_draw_types.specs.TypeUses.{types_for};
-ghost use Rattle.smith_bytes.specs.Steps.{ReturnsWhy};
+ghost use Rattle.smith_bytes.specs.Steps.{Returns, is_memory};
 ghost use Rattle.smith_draw_definitions.specs.Definitions.{items_defined_at, appended_to, types_if, type_indices_at};
 
 use crate::past_maximum::discard_past_maximum;
@@ -52,7 +52,7 @@ pub(crate) fn define_typed(
     items: &mut Items<u32>,
     u: &mut Unstructured<'_>,
 ) -> Result<(), Error>
-    ensures exact { ReturnsWhy (λ _. (items.new, u.new)) result
+    ensures exact { Returns is_memory (λ _. (items.new, u.new)) result
         (type_indices_at count (types_if enabled for_use types.now.types) least most items.old u.old) }
     ensures refusal { IfErr result (λ e. (e ≡ Error.Memory)
         ⊎ ((e ≡ Error.IncorrectFormat (Why.Unmet count)) × (0 < least)

@@ -8,11 +8,11 @@ use Rattle.smith_types.specs.Imports.{flattened, imported_spaces}
 use Rattle.smith_types.specs.EntitySpaces.{spaces_in}
 use Rattle.smith_config.specs.declared.config.Config.{Config}
 use Rattle.smith_config.specs.InUse.{FixesImports, HasNoShapes}
-use Rattle.smith_bytes.specs.Steps.{section_flag_at, Returns, is_lack}
+use Rattle.smith_bytes.specs.Steps.{section_flag_at, Returns, is_memory}
 use Rattle.smith_draw_imports.specs.declared.imports_so_far.Imported.{Imported}
 use Rattle.smith_draw_contents.specs.declared.exports_so_far.Exports.{Exports}
 use Rattle.wasm_smith.specs.FirstParts.{ModuleSoFar, StandsWhole}
-use Rattle.wasm_smith.specs.Build.{first_parts_typed_at, defined_at, exported_at, exports_of, imported_at, in_full, module_at, module_of}
+use Rattle.wasm_smith.specs.Build.{first_parts_typed_at, defined_at, exported_at, exports_of, imported_at, module_at, module_of}
 use Rattle.wasm_smith.specs.DrawnContents.{AreContents, HasGrantedContents, HasNoFloatContents, after_exports_at, imported_in}
 use Rattle.wasm_smith.specs.DrawnParts.{IsDrawnFor}
 use Rattle.wasm_smith.specs.DrawnSteps.{AreExportsDrawn, AreFreeImports, HasSameImports, drawn_next}
@@ -25,41 +25,40 @@ use Rattle.wasm_smith.specs.declared.build.parts_so_far.PartsSoFar.{PartsSoFar}
 pub module_read : (distinct : Bool) (config : Config) (bytes : List ℕ) (typed imported defined whole : ModuleSoFar) (flag : Bool) (made : Exports) (contents : Contents) (count : ℕ) (first second third fourth fifth last : List ℕ)
     → first_parts_typed_at config bytes ≡ Ok (typed, first) → imported_at distinct config typed first ≡ Ok (imported, second) → section_flag_at (length imported.groups) second ≡ (flag, third)
     → defined_at config imported third ≡ Ok (defined, fourth) → exported_at config defined fourth ≡ Ok (whole, fifth) → made ≡ exports_of config whole
-    → in_full (after_exports_at config whole.types.types (imported_spaces (flattened whole.groups)) whole.spaces made fifth) ≡ Ok (contents, last) → count ≡ length (flattened whole.groups)
+    → after_exports_at config whole.types.types (imported_spaces (flattened whole.groups)) whole.spaces made fifth ≡ Ok (contents, last) → count ≡ length (flattened whole.groups)
     → module_at distinct config bytes ≡ Ok (record (module_of config whole contents flag) { num_imports = count }, last)
 unfolding module_at
 module_read distinct config bytes typed imported defined whole flag made contents count first second third fourth fifth last begins imports flags defines exports size remaining counted =
-    let after_own = subst (λ (own : Exports). in_full (after_exports_at config whole.types.types (imported_spaces (flattened whole.groups)) whole.spaces own fifth) ≡ Ok (contents, last)) size remaining in
+    let after_own = subst (λ (own : Exports). after_exports_at config whole.types.types (imported_spaces (flattened whole.groups)) whole.spaces own fifth ≡ Ok (contents, last)) size remaining in
     rw (begins, imports, flags, defines, exports, after_own, counted) refl
 
-lacks_so : {X Y Z : Type 0} (view : X → ModuleParts × List ℕ) (own : Z → Y) (e : Error) (read : Result Y Error) (whole : Result (ModuleParts × List ℕ) Error) → (read ≡ Err e → whole ≡ Err e) → Returns is_lack own (Err e) read
-    → Returns is_lack view (Err e) whole
-lacks_so view own errors.Memory read whole both h = tt
-lacks_so view own errors.EmptyChoose read whole both h = tt
-lacks_so view own e read whole both h = both h
+refused_so : {X Y Z : Type 0} (view : X → ModuleParts × List ℕ) (own : Z → Y) (e : Error) (read : Result Y Error) (whole : Result (ModuleParts × List ℕ) Error) → (read ≡ Err e → whole ≡ Err e) → Returns is_memory own (Err e) read
+    → Returns is_memory view (Err e) whole
+refused_so view own errors.Memory read whole both h = tt
+refused_so view own e read whole both h = both h
 
 -- if exports are refused, so is the module
 pub exports_refused : {X Z : Type 0} (view : X → ModuleParts × List ℕ) (own : Z → ModuleSoFar × List ℕ) (result : Result X Error) (e : Error) (distinct : Bool) (config : Config) (bytes : List ℕ) (typed imported defined : ModuleSoFar) (flag : Bool)
     (first second third fourth : List ℕ) → first_parts_typed_at config bytes ≡ Ok (typed, first) → imported_at distinct config typed first ≡ Ok (imported, second) → section_flag_at (length imported.groups) second ≡ (flag, third)
-    → defined_at config imported third ≡ Ok (defined, fourth) → Returns is_lack own (Err e) (exported_at config defined fourth) → IsErrAnd result (λ y. y ≡ e) → Returns is_lack view result (module_at distinct config bytes)
+    → defined_at config imported third ≡ Ok (defined, fourth) → Returns is_memory own (Err e) (exported_at config defined fourth) → IsErrAnd result (λ y. y ≡ e) → Returns is_memory view result (module_at distinct config bytes)
 unfolding module_at
 exports_refused view own (Ok x) e distinct config bytes typed imported defined flag first second third fourth begins imports flags defines refused passed = absurd passed
 exports_refused view own (Err y) e distinct config bytes typed imported defined flag first second third fourth begins imports flags defines refused passed =
-    subst (λ (one : Error). Returns is_lack view (Err one) (module_at distinct config bytes)) (sym passed)
-    (lacks_so view own e (exported_at config defined fourth) (module_at distinct config bytes) (λ fails. rw (begins, imports, flags, defines, fails) refl) refused)
+    subst (λ (one : Error). Returns is_memory view (Err one) (module_at distinct config bytes)) (sym passed)
+    (refused_so view own e (exported_at config defined fourth) (module_at distinct config bytes) (λ fails. rw (begins, imports, flags, defines, fails) refl) refused)
 
 -- if contents are refused, so is the module
 pub module_refused : {X Z : Type 0} (view : X → ModuleParts × List ℕ) (own : Z → Contents × List ℕ) (result : Result X Error) (e : Error) (distinct : Bool) (config : Config) (bytes : List ℕ) (typed imported defined whole : ModuleSoFar) (flag : Bool) (made : Exports)
     (first second third fourth fifth : List ℕ) → first_parts_typed_at config bytes ≡ Ok (typed, first) → imported_at distinct config typed first ≡ Ok (imported, second) → section_flag_at (length imported.groups) second ≡ (flag, third)
     → defined_at config imported third ≡ Ok (defined, fourth) → exported_at config defined fourth ≡ Ok (whole, fifth) → made ≡ exports_of config whole
-    → Returns is_lack own (Err e) (in_full (after_exports_at config whole.types.types (imported_spaces (flattened whole.groups)) whole.spaces made fifth)) → IsErrAnd result (λ y. y ≡ e) → Returns is_lack view result (module_at distinct config bytes)
+    → Returns is_memory own (Err e) (after_exports_at config whole.types.types (imported_spaces (flattened whole.groups)) whole.spaces made fifth) → IsErrAnd result (λ y. y ≡ e) → Returns is_memory view result (module_at distinct config bytes)
 unfolding module_at
 module_refused view own (Ok x) e distinct config bytes typed imported defined whole flag made first second third fourth fifth begins imports flags defines exports size refused passed = absurd passed
 module_refused view own (Err y) e distinct config bytes typed imported defined whole flag made first second third fourth fifth begins imports flags defines exports size refused passed =
-    let after_exports = λ (given : Exports). in_full (after_exports_at config whole.types.types (imported_spaces (flattened whole.groups)) whole.spaces given fifth) in
-    let refused_own = subst (λ (given : Exports). Returns is_lack own (Err e) (after_exports given)) size refused in
-    subst (λ (one : Error). Returns is_lack view (Err one) (module_at distinct config bytes)) (sym passed)
-    (lacks_so view own e (after_exports (exports_of config whole)) (module_at distinct config bytes) (λ fails. rw (begins, imports, flags, defines, exports, fails) refl) refused_own)
+    let after_exports = λ (given : Exports). after_exports_at config whole.types.types (imported_spaces (flattened whole.groups)) whole.spaces given fifth in
+    let refused_own = subst (λ (given : Exports). Returns is_memory own (Err e) (after_exports given)) size refused in
+    subst (λ (one : Error). Returns is_memory view (Err one) (module_at distinct config bytes)) (sym passed)
+    (refused_so view own e (after_exports (exports_of config whole)) (module_at distinct config bytes) (λ fails. rw (begins, imports, flags, defines, exports, fails) refl) refused_own)
 
 -- a whole state stays whole with contents
 whole_with : {config : Config} {drawn : PartsSoFar} (later : PartsSoFar) → later.types ≡ drawn.types → later.imported ≡ drawn.imported → later.definitions ≡ drawn.definitions → StandsWhole config drawn → StandsWhole config later

@@ -1,7 +1,7 @@
 -- From a source that begins with bytes that spell types and functions, a module with these is
 -- drawn; and if bytes follow that spell globals and passive data, a module with only these in
 -- addition.
-use Rattle.std.proofs.Common.{◌≡◌, ◌∙◌, ℕ, ℤ, Bool, true, false, cond, List, [], ◌∷◌, ◌++◌, length, map, Option, Some, None, refl, sym, ap, subst}
+use Rattle.std.proofs.Common.{◌≡◌, ◌∙◌, ℕ, ℤ, Bool, true, false, cond, List, [], ◌∷◌, ◌++◌, length, map, Option, Some, None, refl, ap, subst}
 use Rattle.std.specs.Prelude.{Result, Ok, Err, IfOk, IfErr, MatchResult, IsSome, IsSomeAnd, ⊤, ◌==◌}
 use Rattle.smith_bytes.specs.Draws.{bool_at}
 use Rattle.smith_bytes.specs.Spelling.{SpellsAnyByte, Where, Joined, Listed, SpellsNone}
@@ -30,11 +30,12 @@ use Rattle.smith_spell.specs.Spelling.{SpellsMember, SpellsRest, SpellsSegments}
 use Rattle.smith_draw_types.specs.SpelledParts.{SpellsNoTag, SpellsFuncs, SpellsGlobal, SpellsNoStart}
 use Rattle.smith_spell.proofs.FamilyFitLemmas.{family_fits}
 use Rattle.wasm_smith.specs.FirstParts.{ModuleSoFar, first_parts_at, nothing_so_far}
-use Rattle.smith_bytes.specs.Steps.{Returns, is_lack, ◌>>=◌, section_flag_at}
-use Rattle.wasm_smith.specs.Build.{IsGiven, as_drawn, size_so_far, first_parts_typed_at, defined_at, exported_at, exported_for, exports_of, functions_so_far, imported_at, in_full, module_at, module_of, with_types_at}
+use Rattle.smith_bytes.specs.Steps.{Returns, is_memory, ◌>>=◌, section_flag_at}
+use Rattle.wasm_smith.specs.Build.{IsGiven, as_drawn, size_so_far, first_parts_typed_at, defined_at, exported_at, exported_for, exports_of, functions_so_far, imported_at, module_at, module_of, with_types_at}
 use Rattle.smith_draw_definitions.specs.Defined.{nothing_defined}
 use Rattle.smith_draw_definitions.specs.Definitions.{defined_in, definitions_at, scope_over, tables_at, memories_at, globals_at}
-use Rattle.wasm_smith.specs.DrawnContents.{segment_scope, all_segments_at, after_exports_at}
+use Rattle.wasm_smith.specs.DrawnContents.{segment_scope, all_segments_at, after_exports_at, in_full}
+use Rattle.smith_draw_consts.proofs.TriedStepLemmas.{following, following_so}
 use Rattle.wasm_smith.specs.Members.{HasMember, HasRest}
 use Rattle.smith_module_rules.specs.Module.{ModuleParts}
 use Rattle.smith_draw_contents.specs.PassiveData.{passive_data}
@@ -53,7 +54,7 @@ use Rattle.wasm_smith.proofs.NoShapeLemmas.{no_shapes_valid, none_used}
 use Rattle.smith_draw_contents.proofs.ElementCountLemmas.{elements_none}
 use Rattle.smith_draw_contents.proofs.ExportRefusalLemmas.{exports_free, no_export_read}
 use Rattle.smith_draw_imports.proofs.NoImportLemmas.{no_import_read}
-use Rattle.smith_draw_definitions.proofs.NumberedGlobalLemmas.{listed_read}
+use Rattle.smith_draw_definitions.proofs.NumberedGlobalLemmas.{listed_of, listed_read}
 use Rattle.smith_draw_contents.proofs.PassiveDataLemmas.{data_read}
 use Rattle.smith_draw_contents.proofs.StartLemmas.{start_none}
 use Rattle.smith_draw_definitions.proofs.TypedLemmas.{no_tag_read, funcs_read}
@@ -73,17 +74,23 @@ abbrev nothing : EntitySpaces
 nothing = imported_spaces (flattened [])
 
 -- the tables, memories and globals that the bytes after functions produce, without imports
-abbrev after_funcs_at : Config → List SubType → List ℕ → List ℕ → (EntitySpaces × Definitions) × List ℕ
-after_funcs_at config types funcs bytes =
-    let standing = scope_over types funcs 0 [] in
-    let tables = tables_at config standing [] [] bytes in
-    let memories = memories_at config [] tables.1 in
-    let globals = globals_at config standing [] [] memories.1 in
-    let spaces : EntitySpaces = record { tags = []; funcs = funcs; tables = tables.0.0; memories = memories.0; globals = globals.0.0 } in
-    ((spaces, defined_in nothing nothing_defined spaces tables.0.1 globals.0.1), globals.1)
+abbrev after_funcs_at : Config → List SubType → List ℕ → List ℕ → Result ((EntitySpaces × Definitions) × List ℕ) Error
+after_funcs_at config types funcs bytes = do
+  let standing = scope_over types funcs 0 []
+  tables ← tables_at config standing [] [] bytes
+  let memories = memories_at config [] tables.1
+  globals ← globals_at config standing [] [] memories.1
+  let spaces : EntitySpaces = record { tags = []; funcs = funcs; tables = tables.0.0; memories = memories.0; globals = globals.0.0 }
+  Ok ((spaces, defined_in nothing nothing_defined spaces tables.0.1 globals.0.1), globals.1)
+
+-- these are the functions
+same_funcs : (config : Config) (types : List SubType) (funcs bytes : List ℕ) → IfOk (after_funcs_at config types funcs bytes) (λ drawn. drawn.0.0.funcs ≡ funcs)
+same_funcs config types funcs bytes =
+    let Same = λ (drawn : (EntitySpaces × Definitions) × List ℕ). drawn.0.0.funcs ≡ funcs in
+    following Same _ _ (λ tables. following Same _ _ (λ globals. refl))
 
 definitions_read : (config : Config) (types : List SubType) (funcs piece after : List ℕ) → HasNoMinimums config → Joined (SpellsNoTag config types) (SpellsFuncs config types funcs) piece
-    → definitions_at config types nothing nothing_defined (piece ++ after) ≡ Ok (after_funcs_at config types funcs after)
+    → definitions_at config types nothing nothing_defined (piece ++ after) ≡ after_funcs_at config types funcs after
 unfolding definitions_at
 definitions_read config types funcs piece after least h =
     rw (
@@ -99,7 +106,7 @@ with_entities groups made = record nothing_so_far { types = space_of groups; spa
 -- the module that the bytes after exports produce, with this flag of imports
 abbrev whole_at : Config → Bool → ModuleSoFar → List ℕ → Result (ModuleParts × List ℕ) Error
 whole_at config flag whole bytes =
-    in_full (after_exports_at config whole.types.types (imported_spaces (flattened whole.groups)) whole.spaces (exports_of config whole) bytes) >>= λ (contents : Contents × List ℕ). Ok (module_of config whole contents.0 flag, contents.1)
+    after_exports_at config whole.types.types (imported_spaces (flattened whole.groups)) whole.spaces (exports_of config whole) bytes >>= λ (contents : Contents × List ℕ). Ok (module_of config whole contents.0 flag, contents.1)
 
 -- the module that the bytes after entities produce
 abbrev ending_at : Config → Bool → ModuleSoFar → List ℕ → Result (ModuleParts × List ℕ) Error
@@ -122,12 +129,17 @@ freely_exported config so_far bytes none =
     ap (λ (given : Option Shape). exported_for config given config.exports so_far bytes) none.module_shape ∙ ap (λ (given : Option Shape). exported_for config None given so_far bytes) none.exports
 
 entities_defined : (config : Config) (groups : List (List SubType)) (funcs piece after : List ℕ) → HasNoMinimums config → Joined (SpellsNoTag config (space_of groups).types) (SpellsFuncs config (space_of groups).types funcs) piece
-    → (let drawn = after_funcs_at config (space_of groups).types funcs after in defined_at config (with_entities groups (nothing, nothing_defined)) (piece ++ after) ≡ Ok (with_entities groups drawn.0, drawn.1))
+    → defined_at config (with_entities groups (nothing, nothing_defined)) (piece ++ after) ≡ then_with (λ made. with_entities groups made) (after_funcs_at config (space_of groups).types funcs after)
 unfolding defined_at
 entities_defined config groups funcs piece after least h = rw (definitions_read config (space_of groups).types funcs piece after least h) refl
 
+-- the next step after the result of a step is changed
+mapped_then : {A B C : Type 0} (f : A → B) (first : Result (A × List ℕ) Error) (next : B × List ℕ → Result C Error) → (then_with f first >>= next) ≡ (first >>= λ (drawn : A × List ℕ). next (f drawn.0, drawn.1))
+mapped_then f (Ok drawn) next = refl
+mapped_then f (Err e) next = refl
+
 member_read : (distinct : Bool) (config : Config) (groups : List (List SubType)) (funcs piece after : List ℕ) → IsSanitized config → HasNoShapes config → HasNoMinimums config → IsInFamily config groups funcs → SpellsMember config groups funcs piece
-    → (let drawn = after_funcs_at config (space_of groups).types funcs after in (flag : Bool) × (module_at distinct config (piece ++ after) ≡ ending_at config flag (with_entities groups drawn.0) drawn.1))
+    → (flag : Bool) × (module_at distinct config (piece ++ after) ≡ (after_funcs_at config (space_of groups).types funcs after >>= λ (drawn : (EntitySpaces × Definitions) × List ℕ). ending_at config flag (with_entities groups drawn.0) drawn.1))
 unfolding module_at SpellsMember
 member_read distinct config groups funcs piece after sanitized none least member h =
     let imports = h.is_second in
@@ -145,14 +157,14 @@ member_read distinct config groups funcs piece after sanitized none least member
         joined_parts flag after,
         flag_read 0 flag.first flagged flag.is_first,
         entities_defined config groups funcs flag.second after least flag.is_second,
-      ) refl,
+      ) (mapped_then (λ made. with_entities groups made) (after_funcs_at config types funcs after) _),
     )
 
 -- these are the types and functions of the module, whatever bytes follow
-whole_ended : (config : Config) (groups : List (List SubType)) (so_far : ModuleSoFar) (flag : Bool) (contents : Result (Contents × List ℕ) Why) → so_far.types ≡ space_of groups
-    → IfOk {T = ModuleParts × List ℕ} (in_full contents >>= λ (made : Contents × List ℕ). Ok (module_of config so_far made.0 flag, made.1)) (λ drawn. HasMember groups so_far.spaces.funcs drawn.0)
+whole_ended : (config : Config) (groups : List (List SubType)) (so_far : ModuleSoFar) (flag : Bool) (contents : Result (Contents × List ℕ) Error) → so_far.types ≡ space_of groups
+    → IfOk {T = ModuleParts × List ℕ} (contents >>= λ (made : Contents × List ℕ). Ok (module_of config so_far made.0 flag, made.1)) (λ drawn. HasMember groups so_far.spaces.funcs drawn.0)
 whole_ended config groups so_far flag (Ok made) same = record { types = ap (λ (space : GroupedTypes). space.types) same; groups_are = ap (λ (space : GroupedTypes). space.groups) same; funcs_are = refl }
-whole_ended config groups so_far flag (Err why) same = tt
+whole_ended config groups so_far flag (Err e) same = tt
 
 member_ended : (config : Config) (groups : List (List SubType)) (made : EntitySpaces × Definitions) (flag : Bool) (exports : Result (List Export × List ℕ) Why)
     → IfOk (then_with (λ exports. record (with_entities groups made) { exports = exports }) (in_full exports) >>= λ (exported : ModuleSoFar × List ℕ). whole_at config flag exported.0 exported.1) (λ drawn. HasMember groups made.0.funcs drawn.0)
@@ -165,9 +177,12 @@ member_reached : (distinct : Bool) (config : Config) (groups : List (List SubTyp
     → IfOk (module_at distinct config (piece ++ after)) (λ drawn. HasMember groups funcs drawn.0)
 member_reached distinct config groups funcs piece after sanitized none least member h =
     let read = member_read distinct config groups funcs piece after sanitized none least member h in
-    let drawn = after_funcs_at config (space_of groups).types funcs after in
+    rw read.1 (following_so (λ (drawn : (EntitySpaces × Definitions) × List ℕ). drawn.0.0.funcs ≡ funcs) (λ (drawn : ModuleParts × List ℕ). HasMember groups funcs drawn.0) (after_funcs_at config (space_of groups).types funcs after) _
+    (same_funcs config (space_of groups).types funcs after)
+    (λ drawn same.
     let so_far = with_entities groups drawn.0 in
-    rw (read.1, freely_exported config so_far drawn.1 none) (member_ended config groups drawn.0 read.0 (exports_at config so_far.types.types so_far.spaces (size_so_far config so_far) drawn.1))
+    let ended = member_ended config groups drawn.0 read.0 (exports_at config so_far.types.types so_far.spaces (size_so_far config so_far) drawn.1) in
+    rw (freely_exported config so_far drawn.1 none) (subst (λ (those : List ℕ). IfOk (exported_for config None None so_far drawn.1 >>= λ (exported : ModuleSoFar × List ℕ). whole_at config read.0 exported.0 exported.1) (λ (made : ModuleParts × List ℕ). HasMember groups those made.0)) same ended)))
 
 -- contents have these passive data, and no export, start or element segment
 record IsBare (passive : List (List ℕ)) (contents : Contents) : Type 0 where
@@ -217,21 +232,42 @@ record AreNumbered (numbers : List ℤ) (drawn : (EntitySpaces × Definitions) �
   initials : map (λ (one : ℕ × List ConstInstr). one.1) drawn.0.1.globals ≡ map (λ number. I32Const number ∷ []) numbers
   left : drawn.1 ≡ after
 
+-- the globals that were drawn if they and their initialisers are these
+record AreDrawn (listed : Listing) (after : List ℕ) (read : Result ((List GlobalType × List (ℕ × List ConstInstr)) × List ℕ) Error) : Type 0 where
+  drawn : (List GlobalType × List (ℕ × List ConstInstr)) × List ℕ
+  is : read ≡ Ok drawn
+  globals : drawn.0.0 ≡ listed.0
+  initials : map (λ (one : ℕ × List ConstInstr). one.1) drawn.0.1 ≡ listed.1
+  left : drawn.1 ≡ after
+
+drawn_by : (listed : Listing) (after : List ℕ) (read : Result ((List GlobalType × List (ℕ × List ConstInstr)) × List ℕ) Error)
+    → listed_of read ≡ Ok (listed, after) → AreDrawn listed after read
+drawn_by listed after (Ok drawn) is =
+    let same : ((drawn.0.0, map (λ (one : ℕ × List ConstInstr). one.1) drawn.0.1), drawn.1) ≡ (listed, after) = cc in
+    record {
+      drawn = drawn;
+      is = refl;
+      globals = ap (λ (read : Listing × List ℕ). read.0.0) same;
+      initials = ap (λ (read : Listing × List ℕ). read.0.1) same;
+      left = ap (λ (read : Listing × List ℕ). read.1) same;
+    }
+drawn_by listed after (Err e) is = cc
+
 entities_read : (config : Config) (types : List SubType) (funcs : List ℕ) (numbers : List ℤ) (tables memories globals after : List ℕ) → HasNoMinimums config → SpellsNone config.max_tables tables → SpellsNone config.max_memories memories
-    → Listed (SpellsGlobal config) config.max_globals numbers globals → AreNumbered numbers (after_funcs_at config types funcs (tables ++ (memories ++ (globals ++ after)))) after
+    → Listed (SpellsGlobal config) config.max_globals numbers globals
+    → (drawn : (EntitySpaces × Definitions) × List ℕ) × (after_funcs_at config types funcs (tables ++ (memories ++ (globals ++ after))) ≡ Ok drawn) × AreNumbered numbers drawn after
 entities_read config types funcs numbers tables memories globals after least no_table no_memory h =
     let standing = scope_over types funcs 0 [] in
     let none = no_table_read config standing [] [] tables (memories ++ (globals ++ after)) (least counts.Tables) refl no_table in
     let no_memories = no_memory_read config [] [] memories (globals ++ after) (least counts.Memories) refl (record { none = refl; spelled = no_memory }) in
     let listed : Listing = (map (λ number. mutable_i32) numbers, map (λ number. I32Const number ∷ []) numbers) in
-    let numbered = listed_read config standing (least counts.Globals) listed globals after (record { numbers = numbers; types = refl; initials = refl; spelled = h }) in
-    rw (none, no_memories) (record {
-      tables = refl;
-      memories = refl;
-      globals = ap (λ (read : Listing × List ℕ). read.0.0) numbered;
-      initials = ap (λ (read : Listing × List ℕ). read.0.1) numbered;
-      left = ap (λ (read : Listing × List ℕ). read.1) numbered;
-    })
+    let made = drawn_by listed after (globals_at config standing [] [] (globals ++ after)) (listed_read config standing (least counts.Globals) listed globals after (record { numbers = numbers; types = refl; initials = refl; spelled = h })) in
+    let given = made.drawn in
+    let spaces : EntitySpaces = record { tags = []; funcs = funcs; tables = []; memories = []; globals = given.0.0 } in (
+      ((spaces, defined_in nothing nothing_defined spaces [] given.0.1), given.1),
+      rw (none, no_memories, made.is) refl,
+      record { tables = refl; memories = refl; globals = made.globals; initials = made.initials; left = made.left },
+    )
 
 -- without shapes, there is no export if the bytes spell none
 no_export_made : (config : Config) (so_far : ModuleSoFar) (piece after : List ℕ) → HasNoShapes config → HasNoMinimums config → config.export_everything ≡ false → SpellsNone config.max_exports piece
@@ -244,9 +280,9 @@ no_export_made config so_far piece after none least some h =
       no_export_read config so_far.types.types so_far.spaces size [] piece after (least counts.Exports) (record { none = refl; spelled = h }),
     ) refl
 
-rest_ended : (config : Config) (groups : List (List SubType)) (numbers : List ℤ) (passive : List (List ℕ)) (drawn : (EntitySpaces × Definitions) × List ℕ) (after : List ℕ) (flag : Bool) (contents : Result (Contents × List ℕ) Why)
+rest_ended : (config : Config) (groups : List (List SubType)) (numbers : List ℤ) (passive : List (List ℕ)) (drawn : (EntitySpaces × Definitions) × List ℕ) (after : List ℕ) (flag : Bool) (contents : Result (Contents × List ℕ) Error)
     → AreNumbered numbers drawn after → IfOk contents (λ made. IsBare passive made.0)
-    → IfOk {T = ModuleParts × List ℕ} (in_full contents >>= λ (made : Contents × List ℕ). Ok (module_of config (with_entities groups drawn.0) made.0 flag, made.1)) (λ made. HasRest numbers passive made.0)
+    → IfOk {T = ModuleParts × List ℕ} (contents >>= λ (made : Contents × List ℕ). Ok (module_of config (with_entities groups drawn.0) made.0 flag, made.1)) (λ made. HasRest numbers passive made.0)
 rest_ended config groups numbers passive drawn after flag (Ok made) numbered bare = record {
   tables = numbered.tables;
   memories = numbered.memories;
@@ -257,7 +293,7 @@ rest_ended config groups numbers passive drawn after flag (Ok made) numbered bar
   elems = bare.elems;
   data_segments = bare.data_segments;
 }
-rest_ended config groups numbers passive drawn after flag (Err why) numbered bare = tt
+rest_ended config groups numbers passive drawn after flag (Err e) numbered bare = tt
 
 rest_reached : (distinct : Bool) (config : Config) (groups : List (List SubType)) (funcs : List ℕ) (numbers : List ℤ) (passive : List (List ℕ)) (piece rest after : List ℕ) → IsSanitized config → HasNoShapes config → HasNoMinimums config → config.export_everything ≡ false
     → IsInFamily config groups funcs → SpellsMember config groups funcs piece → SpellsRest config groups funcs numbers passive rest → IfOk (module_at distinct config (piece ++ (rest ++ after))) (λ drawn. HasRest numbers passive drawn.0)
@@ -271,18 +307,19 @@ rest_reached distinct config groups funcs numbers passive piece rest after sanit
     let later = exports.first ++ after_exports in
     let read = member_read distinct config groups funcs piece (rest ++ after) sanitized none least member spelled in
     let parts : rest ++ after ≡ h.first ++ (memories.first ++ (globals.first ++ later)) = rw (joined_parts h after, joined_parts memories after, joined_parts globals after, joined_parts exports after) refl in
-    let drawn = after_funcs_at config types funcs (h.first ++ (memories.first ++ (globals.first ++ later))) in
+    let (drawn, is, numbered) = entities_read config types funcs numbers h.first memories.first globals.first later least h.is_first memories.is_first globals.is_first in
     let so_far = with_entities groups drawn.0 in
-    let numbered = entities_read config types funcs numbers h.first memories.first globals.first later least h.is_first memories.is_first globals.is_first in
     let made = no_export_made config so_far exports.first after_exports none least some exports.is_first in
     let whole : ModuleSoFar = record so_far { exports = [] } in
-    let bare = contents_read config types nothing drawn.0.0 (exports_of config whole) passive exports.second after least refl numbered.tables numbered.memories exports.is_second in
+    let same = same_funcs config types funcs (h.first ++ (memories.first ++ (globals.first ++ later))) in
+    let own : drawn.0.0.funcs ≡ funcs = subst (λ (read : Result ((EntitySpaces × Definitions) × List ℕ) Error). IfOk read (λ one. one.0.0.funcs ≡ funcs)) is same in
+    let spelled_after : SpellsAfterExports config types drawn.0.0.funcs passive exports.second = rw own exports.is_second in
+    let bare = contents_read config types nothing drawn.0.0 (exports_of config whole) passive exports.second after least refl numbered.tables numbered.memories spelled_after in
     let ended = rest_ended config groups numbers passive drawn later read.0 (after_exports_at config types nothing drawn.0.0 (exports_of config whole) after_exports) numbered bare in
-    let ending : IfOk (ending_at config read.0 so_far drawn.1) (λ made. HasRest numbers passive made.0) = rw (numbered.left, made) ended in
-    rw read.1 (subst (λ (bytes : List ℕ). let all = after_funcs_at config types funcs bytes in IfOk (ending_at config read.0 (with_entities groups all.0) all.1) (λ made. HasRest numbers passive made.0)) (sym parts) ending)
+    rw (read.1, parts, is, numbered.left, made) ended
 
 -- a property of every module of these bytes, apart from interesting values, holds for the result
-answered : (Holds : ModuleParts → Type 0) (distinct : Bool) (config : Config) (bytes left : List ℕ) (answer : Result ModuleParts Error) → ((m : ModuleParts) → Holds (as_drawn m) → Holds m) → Returns is_lack (λ m. (as_drawn m, left)) answer (module_at distinct config bytes)
+answered : (Holds : ModuleParts → Type 0) (distinct : Bool) (config : Config) (bytes left : List ℕ) (answer : Result ModuleParts Error) → ((m : ModuleParts) → Holds (as_drawn m) → Holds m) → Returns is_memory (λ m. (as_drawn m, left)) answer (module_at distinct config bytes)
     → IfErr answer (λ e. e ≡ errors.Memory) → IfOk (module_at distinct config bytes) (λ drawn. Holds drawn.0) → MatchResult answer Holds (λ e. e ≡ errors.Memory)
 answered Holds distinct config bytes left (Ok m) keeps given memory held = keeps m (subst (λ (read : Result (ModuleParts × List ℕ) Error). IfOk read (λ drawn. Holds drawn.0)) given held)
 answered Holds distinct config bytes left (Err e) keeps given memory held = memory

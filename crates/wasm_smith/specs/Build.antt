@@ -1,10 +1,8 @@
 -- The module that the bytes produce, step by step, and the bytes that each step leaves: the
 -- definition for `exact` of `Module::new`. The properties of a module are stated separately, and do
 -- not depend on it.
-use Rattle.std.specs.Prelude.{ℕ, ◌+◌, ◌-◌, Bool, true, ◌||◌, is_some, Option, Some, None, List, [], length, Result, Ok, Err, if◌then◌else◌}
+use Rattle.std.specs.Prelude.{ℕ, ◌+◌, ◌-◌, Bool, true, ◌||◌, is_some, Option, Some, None, List, [], length, Result, Ok, if◌then◌else◌}
 use Rattle.smith_bytes.specs.declared.error.Error.{Error}
-use Rattle.smith_bytes.specs.declared.error.Error.TheVariants as errors
-use Rattle.smith_bytes.specs.declared.error.Why.{Why}
 use Rattle.smith_types.specs.Expressions.{Context}
 use Rattle.smith_types.specs.Imports.{EntitySpaces, flattened, imported_spaces}
 use Rattle.smith_config.specs.declared.config.Config.{Config}
@@ -12,13 +10,13 @@ use Rattle.smith_config.specs.declared.shape.Shape.{Shape}
 use Rattle.smith_config.specs.Features.{features_of}
 use Rattle.smith_draw_types.specs.RecGroups.{types_at}
 use Rattle.smith_draw_imports.specs.Importing.{imports_at}
-use Rattle.smith_bytes.specs.Steps.{◌>>=◌, section_flag_at, Returns, is_lack}
+use Rattle.smith_bytes.specs.Steps.{◌>>=◌, section_flag_at, Returns, is_memory}
 use Rattle.smith_draw_contents.specs.AllExports.{exports_at}
 use Rattle.smith_module_rules.specs.ExportedItems.{exported_size}
 use Rattle.smith_draw_contents.specs.declared.exports_so_far.Exports.{Exports}
 use Rattle.wasm_smith.specs.FirstParts.{ModuleSoFar, first_parts_at, module_so_far, size_of_imports}
 use Rattle.smith_draw_definitions.specs.Definitions.{definitions_at}
-use Rattle.wasm_smith.specs.DrawnContents.{after_exports_at}
+use Rattle.wasm_smith.specs.DrawnContents.{after_exports_at, in_full}
 use Rattle.smith_module_rules.specs.Module.{ModuleParts}
 use Rattle.smith_module_rules.specs.Refusals.{MayGive}
 use Rattle.smith_draw_definitions.specs.RequiredExports.{Required, required_at, then_with}
@@ -38,11 +36,6 @@ functions_so_far config so_far = functions_over config so_far.spaces.funcs (leng
 abbrev pub with_types_at : Config → ModuleSoFar → List ℕ → ModuleSoFar × List ℕ
 with_types_at config so_far bytes = let types = types_at config (functions_so_far config so_far) so_far.types bytes in (record so_far { types = types.0 }, types.1)
 
--- the result of a step, with its reason for a refusal as the error `IncorrectFormat`
-abbrev pub in_full : {A : Type 0} → Result A Why → Result A Error
-in_full (Ok drawn) = Ok drawn
-in_full (Err why) = Err (errors.IncorrectFormat why)
-
 -- the state with imports, unless a shape fixes them; with `distinct` no two have the same names
 unfoldable pub imported_at : Bool → Config → ModuleSoFar → List ℕ → Result (ModuleSoFar × List ℕ) Error
 imported_at distinct config so_far bytes =
@@ -52,7 +45,7 @@ imported_at distinct config so_far bytes =
 -- the state with entities defined after those so far
 unfoldable pub defined_at : Config → ModuleSoFar → List ℕ → Result (ModuleSoFar × List ℕ) Error
 defined_at config so_far bytes =
-    then_with (λ (made : EntitySpaces × Definitions). record so_far { spaces = made.0; defined = made.1 }) (in_full (definitions_at config so_far.types.types so_far.spaces so_far.defined bytes))
+    then_with (λ (made : EntitySpaces × Definitions). record so_far { spaces = made.0; defined = made.1 }) (definitions_at config so_far.types.types so_far.spaces so_far.defined bytes)
 
 -- the amount that the imports of a module add to its type size
 abbrev pub size_so_far : Config → ModuleSoFar → ℕ
@@ -124,7 +117,7 @@ module_at distinct config bytes = do
   defined ← defined_at config imported.0 import_flag.1
   exported ← exported_at config defined.0 defined.1
   let whole = exported.0
-  contents ← in_full (after_exports_at config whole.types.types (imported_spaces (flattened whole.groups)) whole.spaces (exports_of config whole) exported.1)
+  contents ← after_exports_at config whole.types.types (imported_spaces (flattened whole.groups)) whole.spaces (exports_of config whole) exported.1
   Ok (module_of config whole contents.0 import_flag.0, contents.1)
 
 -- the parts that were drawn, as a module
@@ -141,6 +134,6 @@ abbrev pub as_drawn : ModuleParts → ModuleParts
 as_drawn m = record m { interesting_values32 = []; interesting_values64 = [] }
 
 -- the result is the module that a configuration and bytes produce, with the bytes left, or their
--- refusal, if a module can be drawn for the configuration
+-- refusal, if a module can be drawn for the configuration; only lack of memory is left open
 pub record IsGiven (distinct : Bool) (config : Config) (bytes : List ℕ) (answer : Result ModuleParts Error) (left : List ℕ) : Type 0 where
-  pub exact : MayGive config → Returns is_lack (λ m. (as_drawn m, left)) answer (module_at distinct config bytes)
+  pub exact : MayGive config → Returns is_memory (λ m. (as_drawn m, left)) answer (module_at distinct config bytes)

@@ -1,7 +1,9 @@
 -- The contents drawn after all definitions: exports, a start function, segments and bodies. Rules
 -- of this project.
-use Rattle.std.specs.Prelude.{◌≡◌, ℕ, ◌+◌, ◌-◌, ◌<◌, ◌≤◌, false, IsTrue, None, List, length, Result, Ok, All}
+use Rattle.std.specs.Prelude.{◌≡◌, ℕ, ◌+◌, ◌-◌, ◌<◌, ◌≤◌, false, IsTrue, None, List, length, Result, Ok, Err, All}
 use Rattle.std.specs.List.{flat_map}
+use Rattle.smith_bytes.specs.declared.error.Error.{Error}
+use Rattle.smith_bytes.specs.declared.error.Error.TheVariants as errors
 use Rattle.smith_bytes.specs.declared.error.Why.{Why}
 use Rattle.smith_types.specs.Bodies.{IsBodyValid}
 use Rattle.smith_types.specs.Exports.{AreExportsValid, IsStartValid}
@@ -46,16 +48,21 @@ pub record TellsImported (imported spaces : EntitySpaces) (defined : Definitions
 abbrev pub segment_scope : Config → List SubType → EntitySpaces → EntitySpaces → Context
 segment_scope config types imported spaces = global_scope config (scope_in types imported spaces) spaces.globals
 
+-- the result of a step, with its reason for a refusal as the error `IncorrectFormat`
+abbrev pub in_full : {A : Type 0} → Result A Why → Result A Error
+in_full (Ok drawn) = Ok drawn
+in_full (Err why) = Err (errors.IncorrectFormat why)
+
 -- the element segments, then the data segments
-unfoldable pub all_segments_at : Config → List SubType → EntitySpaces → EntitySpaces → List ℕ → Result (Segments × List ℕ) Why
+unfoldable pub all_segments_at : Config → List SubType → EntitySpaces → EntitySpaces → List ℕ → Result (Segments × List ℕ) Error
 all_segments_at config types imported spaces bytes = do
   elems ← all_element_segments_at config (segment_scope config types imported spaces) spaces.tables bytes
-  data_segments ← data_at config (segment_scope config types imported spaces) spaces.memories elems.1
+  data_segments ← in_full (data_at config (segment_scope config types imported spaces) spaces.memories elems.1)
   Ok (record { elems = elems.0; data_segments = data_segments.0 }, data_segments.1)
 
 -- the contents that the bytes produce after exports, over types and index spaces that begin with
 -- imports: whether a type section is written, a start function, segments and bodies
-unfoldable pub after_exports_at : Config → List SubType → EntitySpaces → EntitySpaces → Exports → List ℕ → Result (Contents × List ℕ) Why
+unfoldable pub after_exports_at : Config → List SubType → EntitySpaces → EntitySpaces → Exports → List ℕ → Result (Contents × List ℕ) Error
 after_exports_at config types imported spaces made bytes = do
   let type_flag = section_flag_at (length types) bytes
   let start = start_at config types spaces.funcs type_flag.1

@@ -153,8 +153,9 @@ impl Module {
     /// - `IncorrectFormat` if a minimum stays unmet, if the exports of everything would exceed the
     ///   maximum type size, or if a shape requires a second memory or table that `config` does not
     ///   enable.
-    /// - `EmptyChoose` if a shape holds a reference type that is not nullable, and no expression
-    ///   has it.
+    /// - `EmptyChoose` exactly where the draws come to an initialiser or an item of a segment for
+    ///   which there is no constant expression. This requires a shape that holds a reference type
+    ///   that is not nullable.
     /// - `Memory` if an allocation fails.
     ///
     /// # Examples

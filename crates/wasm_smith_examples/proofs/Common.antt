@@ -27,11 +27,12 @@ pub use Rattle.smith_config.specs.declared.config.Config.{Config}
 pub use Rattle.smith_config.specs.declared.shape.Shape.{Shape}
 unfoldable pub use Rattle.smith_draw_contents.specs.AllExports.{everything_at, exports_at, exports_of_items}
 unfoldable pub use Rattle.smith_draw_contents.specs.DataSegments.{counting_at, data_at, data_segments_at}
+unfoldable pub use Rattle.smith_draw_consts.specs.TriedLists.{try_grow_at}
 unfoldable pub use Rattle.smith_draw_contents.specs.DrawnBodies.{bodies_at}
 unfoldable pub use Rattle.smith_draw_contents.specs.ElementSegments.{element_kinds_at, element_segments_at, all_element_segments_at, table_kinds_at}
 unfoldable pub use Rattle.smith_draw_contents.specs.Exporting.{export_at, export_name_at, exports_from, free_exports_at}
 unfoldable pub use Rattle.smith_draw_contents.specs.Start.{start_at, start_wanted_at}
-unfoldable pub use Rattle.smith_draw_definitions.specs.Definitions.{definitions_at, funcs_at, globals_at, items_defined_at, memories_at, tables_at, tags_at, type_indices_at}
+unfoldable pub use Rattle.smith_draw_definitions.specs.Definitions.{definitions_at, funcs_at, globals_at, items_defined_at, items_tried_at, memories_at, tables_at, tags_at, type_indices_at}
 unfoldable pub use Rattle.smith_draw_types.specs.Choices.{chosen_at}
 unfoldable pub use Rattle.smith_draw_types.specs.CompositeTypes.{composite_type_at, func_type_at, val_types_at}
 unfoldable pub use Rattle.smith_draw_types.specs.GlobalTypes.{global_type_at}

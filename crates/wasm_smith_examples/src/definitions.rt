@@ -1,5 +1,6 @@
 ghost use Rattle.std.specs.Prelude.{◌≡◌, [], ◌∷◌, true, false, pos, None, Some, Ok, Err};
 ghost use Rattle.smith_bytes.specs.declared.error.Count.TheVariants as counts;
+ghost use Rattle.smith_bytes.specs.declared.error.Error.TheVariants.{IncorrectFormat};
 ghost use Rattle.smith_bytes.specs.declared.error.Why.TheVariants.{Unmet};
 ghost use Rattle.smith_types.specs.Flags.{funcref};
 ghost use Rattle.smith_types.specs.ExampleTypes.{nullable, not_null, plain, shared_type};
@@ -53,9 +54,9 @@ fn tags()
         ≡ Ok ([], 1 ∷ 9 ∷ []) }
     ensures asked_for_without_exceptions { tags_at
         (record two_of_each { min_tags = 1; exceptions_enabled = false }) several_types [] []
-        ≡ Err (Unmet counts.Tags) }
+        ≡ Err (IncorrectFormat (Unmet counts.Tags)) }
     ensures of_no_type { tags_at (record two_of_each { min_tags = 1 }) (final giving_two ∷ []) [] []
-        ≡ Err (Unmet counts.Tags) }
+        ≡ Err (IncorrectFormat (Unmet counts.Tags)) }
 {}
 
 #[tactic(auto, unfolding(smith_draw_definitions::specs::Definitions::items_defined_at, smith_draw_definitions::specs::Definitions::type_indices_at, smith_draw_definitions::specs::Definitions::tags_at, smith_draw_definitions::specs::Definitions::funcs_at, smith_draw_types::specs::TypeUses::is_tag_type, smith_draw_types::specs::TypeUses::is_unshared_function, smith_draw_types::specs::Choices::chosen_at, smith_bytes::specs::Growth::grow_at, smith_bytes::specs::Draws::bool_at, smith_bytes::specs::Draws::range_at, smith_bytes::specs::Draws::digit_count))]
@@ -68,7 +69,7 @@ fn funcs()
         ≡ Ok (4 ∷ 2 ∷ [], 9 ∷ []) }
     ensures of_no_type { funcs_at (record two_of_each { min_funcs = 1 })
         (shared_type plain_func ∷ []) [] []
-        ≡ Err (Unmet counts.Funcs) }
+        ≡ Err (IncorrectFormat (Unmet counts.Funcs)) }
     ensures enough_imported { funcs_at (record two_of_each { min_funcs = 1 })
         (shared_type plain_func ∷ []) (0 ∷ []) (1 ∷ [])
         ≡ Ok (0 ∷ [], 1 ∷ []) }
@@ -77,31 +78,31 @@ fn funcs()
         ≡ Ok (0 ∷ [], 1 ∷ []) }
     ensures too_few_imported { funcs_at (record two_of_each { min_funcs = 2 })
         (shared_type plain_func ∷ []) (0 ∷ []) []
-        ≡ Err (Unmet counts.Funcs) }
+        ≡ Err (IncorrectFormat (Unmet counts.Funcs)) }
 {}
 
-#[tactic(auto, unfolding(smith_draw_definitions::specs::Definitions::items_defined_at, smith_bytes::specs::Growth::grow_at, smith_draw_definitions::specs::Definitions::tables_at, smith_draw_definitions::specs::Definitions::table_at, smith_draw_types::specs::TableTypes::table_type_at, smith_draw_types::specs::TableTypes::drawn_elements, smith_draw_types::specs::Memories::memory64_at, smith_draw_consts::specs::ConstExprs::table_init_at, smith_draw_types::specs::Limits::limits64_at, smith_draw_types::specs::Limits::gradually_at, smith_draw_types::specs::Limits::gradual, smith_draw_types::specs::Limits::sixth_power, smith_draw_types::specs::Limits::scaled, smith_draw_types::specs::ValueTypes::val_type_at, smith_draw_types::specs::ValueTypes::ref_type_at, smith_draw_types::specs::ValueTypes::granted_at, smith_draw_types::specs::ValueTypes::heap_type_at, smith_draw_types::specs::ValueTypes::type_index_at, smith_draw_types::specs::ValueTypes::abstract_heap_type_at, smith_draw_types::specs::ValueTypes::sharedness_at, smith_draw_types::specs::Choices::chosen_at, smith_draw_consts::specs::ConstExprs::expression_alone_at, smith_draw_consts::specs::ConstExprs::expression_at, smith_draw_consts::specs::ConstNodes::node_at, smith_draw_consts::specs::Constants::constant_at, smith_draw_consts::specs::ConstOffers::offers, smith_draw_types::specs::Offered::ancestors, smith_draw_types::specs::Below::is_heap_below, smith_bytes::specs::Draws::choose_at, smith_bytes::specs::Draws::whole_at, smith_bytes::specs::Draws::bool_at, smith_bytes::specs::Draws::range_at, smith_bytes::specs::Draws::digit_count))]
+#[tactic(auto, unfolding(smith_draw_definitions::specs::Definitions::items_tried_at, smith_draw_consts::specs::TriedLists::try_grow_at, smith_draw_definitions::specs::Definitions::tables_at, smith_draw_definitions::specs::Definitions::table_at, smith_draw_types::specs::TableTypes::table_type_at, smith_draw_types::specs::TableTypes::drawn_elements, smith_draw_types::specs::Memories::memory64_at, smith_draw_consts::specs::ConstExprs::table_init_at, smith_draw_types::specs::Limits::limits64_at, smith_draw_types::specs::Limits::gradually_at, smith_draw_types::specs::Limits::gradual, smith_draw_types::specs::Limits::sixth_power, smith_draw_types::specs::Limits::scaled, smith_draw_types::specs::ValueTypes::val_type_at, smith_draw_types::specs::ValueTypes::ref_type_at, smith_draw_types::specs::ValueTypes::granted_at, smith_draw_types::specs::ValueTypes::heap_type_at, smith_draw_types::specs::ValueTypes::type_index_at, smith_draw_types::specs::ValueTypes::abstract_heap_type_at, smith_draw_types::specs::ValueTypes::sharedness_at, smith_draw_types::specs::Choices::chosen_at, smith_draw_consts::specs::ConstExprs::expression_alone_at, smith_draw_consts::specs::ConstExprs::expression_at, smith_draw_consts::specs::ConstNodes::node_at, smith_draw_consts::specs::Constants::constant_at, smith_draw_consts::specs::ConstOffers::offers, smith_draw_types::specs::Offered::ancestors, smith_draw_types::specs::Below::is_heap_below, smith_bytes::specs::Draws::choose_at, smith_bytes::specs::Draws::whole_at, smith_bytes::specs::Draws::bool_at, smith_bytes::specs::Draws::range_at, smith_bytes::specs::Draws::digit_count))]
 fn tables()
     ensures without_an_initialiser { tables_at two_of_each (beside_globals []) [] []
         (1 ∷ 0 ∷ 0 ∷ 0 ∷ 0 ∷ 0 ∷ 0 ∷ 1 ∷ 0 ∷ 9 ∷ [])
-        ≡ ((table funcref 0 None ∷ [], None ∷ []), 9 ∷ []) }
+        ≡ Ok ((table funcref 0 None ∷ [], None ∷ []), 9 ∷ []) }
     ensures with_an_initialiser { tables_at (record two_of_each { min_tables = 1 })
         (beside_globals []) [] [] (0 ∷ 0 ∷ 0 ∷ 0 ∷ 0 ∷ 0 ∷ 0 ∷ 0 ∷ 9 ∷ [])
-        ≡ ((table funcref 0 None ∷ [], Some no_function ∷ []), 9 ∷ []) }
+        ≡ Ok ((table funcref 0 None ∷ [], Some no_function ∷ []), 9 ∷ []) }
     ensures without_garbage_collection { tables_at
         (record two_of_each { min_tables = 1; gc_enabled = false })
         (beside_globals []) [] [] (0 ∷ 0 ∷ 0 ∷ 0 ∷ 0 ∷ 0 ∷ 0 ∷ 9 ∷ [])
-        ≡ ((table funcref 0 None ∷ [], None ∷ []), 9 ∷ []) }
+        ≡ Ok ((table funcref 0 None ∷ [], None ∷ []), 9 ∷ []) }
     ensures reading_an_imported_global { tables_at (record two_of_each { min_tables = 1 })
         (beside_globals (global (Ref funcref) false ∷ [])) [] []
         (0 ∷ 0 ∷ 0 ∷ 0 ∷ 0 ∷ 0 ∷ 0 ∷ 0 ∷ 0 ∷ 9 ∷ [])
-        ≡ ((table funcref 0 None ∷ [], Some (GlobalGet 0 ∷ []) ∷ []), 9 ∷ []) }
+        ≡ Ok ((table funcref 0 None ∷ [], Some (GlobalGet 0 ∷ []) ∷ []), 9 ∷ []) }
     ensures after_an_imported_one { tables_at (record two_of_each { min_tables = 2 })
         (beside_globals []) (table funcref 5 None ∷ []) [] (0 ∷ 0 ∷ 0 ∷ 0 ∷ 0 ∷ 0 ∷ 1 ∷ 0 ∷ 9 ∷ [])
-        ≡ ((table funcref 5 None ∷ table funcref 0 None ∷ [], None ∷ []), 9 ∷ []) }
+        ≡ Ok ((table funcref 5 None ∷ table funcref 0 None ∷ [], None ∷ []), 9 ∷ []) }
     ensures enough_imported { tables_at (record two_of_each { min_tables = 1 }) (beside_globals [])
         (table funcref 5 None ∷ []) [] (0 ∷ 9 ∷ [])
-        ≡ ((table funcref 5 None ∷ [], []), 9 ∷ []) }
+        ≡ Ok ((table funcref 5 None ∷ [], []), 9 ∷ []) }
 {}
 
 #[tactic(auto, unfolding(smith_draw_definitions::specs::Definitions::items_defined_at, smith_bytes::specs::Growth::grow_at, smith_draw_definitions::specs::Definitions::memories_at, smith_draw_types::specs::Memories::memtype_at, smith_draw_types::specs::Memories::shared_memory_at, smith_draw_types::specs::Memories::memory64_at, smith_draw_types::specs::Memories::page_size_at, smith_draw_types::specs::Memories::drawn_pages, smith_draw_types::specs::Memories::likely_pages, smith_draw_types::specs::Limits::limits64_at, smith_draw_types::specs::Limits::gradually_at, smith_draw_types::specs::Limits::gradual, smith_draw_types::specs::Limits::sixth_power, smith_draw_types::specs::Limits::scaled, smith_bytes::specs::Draws::whole_at, smith_bytes::specs::Draws::bool_at, smith_bytes::specs::Draws::range_at, smith_bytes::specs::Draws::digit_count))]
@@ -117,18 +118,18 @@ fn memories()
         ≡ (memory 5 None ∷ [], 9 ∷ []) }
 {}
 
-#[tactic(auto, unfolding(smith_draw_definitions::specs::Definitions::items_defined_at, smith_bytes::specs::Growth::grow_at, smith_draw_definitions::specs::Definitions::globals_at, smith_draw_definitions::specs::Definitions::global_at, smith_draw_definitions::specs::Definitions::initialised_at, smith_draw_types::specs::GlobalTypes::global_type_at, smith_draw_types::specs::ValueTypes::val_type_at, smith_draw_types::specs::ValueTypes::ref_type_at, smith_draw_types::specs::ValueTypes::granted_at, smith_draw_types::specs::ValueTypes::heap_type_at, smith_draw_types::specs::ValueTypes::type_index_at, smith_draw_types::specs::ValueTypes::abstract_heap_type_at, smith_draw_types::specs::ValueTypes::sharedness_at, smith_draw_types::specs::Choices::chosen_at, smith_draw_consts::specs::ConstExprs::expression_alone_at, smith_draw_consts::specs::ConstExprs::expression_at, smith_draw_consts::specs::ConstNodes::node_at, smith_draw_consts::specs::Constants::constant_at, smith_draw_consts::specs::ConstOffers::offers, smith_draw_types::specs::Offered::ancestors, smith_draw_types::specs::Below::is_heap_below, smith_bytes::specs::Draws::choose_at, smith_bytes::specs::Draws::whole_at, smith_bytes::specs::Draws::bool_at, smith_bytes::specs::Draws::range_at, smith_bytes::specs::Draws::digit_count))]
+#[tactic(auto, unfolding(smith_draw_definitions::specs::Definitions::items_tried_at, smith_draw_consts::specs::TriedLists::try_grow_at, smith_draw_definitions::specs::Definitions::globals_at, smith_draw_definitions::specs::Definitions::global_at, smith_draw_definitions::specs::Definitions::initialised_at, smith_draw_types::specs::GlobalTypes::global_type_at, smith_draw_types::specs::ValueTypes::val_type_at, smith_draw_types::specs::ValueTypes::ref_type_at, smith_draw_types::specs::ValueTypes::granted_at, smith_draw_types::specs::ValueTypes::heap_type_at, smith_draw_types::specs::ValueTypes::type_index_at, smith_draw_types::specs::ValueTypes::abstract_heap_type_at, smith_draw_types::specs::ValueTypes::sharedness_at, smith_draw_types::specs::Choices::chosen_at, smith_draw_consts::specs::ConstExprs::expression_alone_at, smith_draw_consts::specs::ConstExprs::expression_at, smith_draw_consts::specs::ConstNodes::node_at, smith_draw_consts::specs::Constants::constant_at, smith_draw_consts::specs::ConstOffers::offers, smith_draw_types::specs::Offered::ancestors, smith_draw_types::specs::Below::is_heap_below, smith_bytes::specs::Draws::choose_at, smith_bytes::specs::Draws::whole_at, smith_bytes::specs::Draws::bool_at, smith_bytes::specs::Draws::range_at, smith_bytes::specs::Draws::digit_count))]
 fn globals()
     ensures reading_the_one_before { globals_at (record two_of_each { min_globals = 1 })
         (beside_globals []) [] [] (0 ∷ 0 ∷ 7 ∷ 0 ∷ 0 ∷ 0 ∷ 1 ∷ 0 ∷ 1 ∷ 0 ∷ 9 ∷ [])
-        ≡ (
+        ≡ Ok (
           (number ∷ global I32 true ∷ [], (0, I32Const (pos 7) ∷ []) ∷ (1, GlobalGet 0 ∷ []) ∷ []),
           9 ∷ [],
         ) }
     ensures without_garbage_collection { globals_at
         (record two_of_each { min_globals = 1; gc_enabled = false }) (beside_globals []) [] []
         (0 ∷ 0 ∷ 7 ∷ 0 ∷ 0 ∷ 0 ∷ 1 ∷ 0 ∷ 1 ∷ 8 ∷ 0 ∷ 0 ∷ 0 ∷ 9 ∷ [])
-        ≡ (
+        ≡ Ok (
           (
             number ∷ global I32 true ∷ [],
             (0, I32Const (pos 7) ∷ []) ∷ (1, I32Const (pos 8) ∷ []) ∷ [],
@@ -138,17 +139,17 @@ fn globals()
     ensures reading_an_imported_one { globals_at
         (record two_of_each { min_globals = 2; gc_enabled = false }) (beside_globals (number ∷ []))
         (number ∷ []) [] (0 ∷ 1 ∷ 0 ∷ 1 ∷ 9 ∷ [])
-        ≡ ((number ∷ global I32 true ∷ [], (1, GlobalGet 0 ∷ []) ∷ []), 9 ∷ []) }
+        ≡ Ok ((number ∷ global I32 true ∷ [], (1, GlobalGet 0 ∷ []) ∷ []), 9 ∷ []) }
     ensures reading_a_defined_one { globals_at (record two_of_each { min_globals = 2 })
         (beside_globals []) (number ∷ []) ((0, I32Const (pos 7) ∷ []) ∷ []) (0 ∷ 1 ∷ 0 ∷ 1 ∷ 9 ∷ [])
-        ≡ (
+        ≡ Ok (
           (number ∷ global I32 true ∷ [], (0, I32Const (pos 7) ∷ []) ∷ (1, GlobalGet 0 ∷ []) ∷ []),
           9 ∷ [],
         ) }
     ensures a_defined_one_is_not_seen { globals_at
         (record two_of_each { min_globals = 2; gc_enabled = false }) (beside_globals [])
         (number ∷ []) ((0, I32Const (pos 7) ∷ []) ∷ []) (0 ∷ 1 ∷ 8 ∷ 0 ∷ 0 ∷ 0 ∷ 1 ∷ 9 ∷ [])
-        ≡ (
+        ≡ Ok (
           (
             number ∷ global I32 true ∷ [],
             (0, I32Const (pos 7) ∷ []) ∷ (1, I32Const (pos 8) ∷ []) ∷ [],
@@ -157,25 +158,25 @@ fn globals()
         ) }
     ensures enough_imported { globals_at (record two_of_each { min_globals = 1 })
         (beside_globals (number ∷ [])) (number ∷ []) [] (0 ∷ 9 ∷ [])
-        ≡ ((number ∷ [], []), 9 ∷ []) }
+        ≡ Ok ((number ∷ [], []), 9 ∷ []) }
 {}
 
-#[tactic(auto, unfolding(smith_draw_definitions::specs::Definitions::items_defined_at, smith_bytes::specs::Growth::grow_at, smith_draw_definitions::specs::Definitions::globals_at, smith_draw_definitions::specs::Definitions::global_at, smith_draw_definitions::specs::Definitions::initialised_at, smith_draw_types::specs::GlobalTypes::global_type_at, smith_draw_types::specs::ValueTypes::val_type_at, smith_draw_types::specs::ValueTypes::ref_type_at, smith_draw_types::specs::ValueTypes::granted_at, smith_draw_types::specs::ValueTypes::heap_type_at, smith_draw_types::specs::ValueTypes::type_index_at, smith_draw_types::specs::ValueTypes::abstract_heap_type_at, smith_draw_types::specs::ValueTypes::sharedness_at, smith_draw_types::specs::Choices::chosen_at, smith_draw_consts::specs::ConstExprs::expression_alone_at, smith_draw_consts::specs::ConstExprs::expression_at, smith_draw_consts::specs::ConstNodes::node_at, smith_draw_consts::specs::Constants::constant_at, smith_draw_consts::specs::ConstOffers::offers, smith_draw_types::specs::Offered::ancestors, smith_draw_types::specs::Below::is_heap_below, smith_draw_types::specs::Grounding::is_grounded, smith_bytes::specs::Draws::choose_at, smith_bytes::specs::Draws::whole_at, smith_bytes::specs::Draws::bool_at, smith_bytes::specs::Draws::range_at, smith_bytes::specs::Draws::digit_count))]
+#[tactic(auto, unfolding(smith_draw_definitions::specs::Definitions::items_tried_at, smith_draw_consts::specs::TriedLists::try_grow_at, smith_draw_definitions::specs::Definitions::globals_at, smith_draw_definitions::specs::Definitions::global_at, smith_draw_definitions::specs::Definitions::initialised_at, smith_draw_types::specs::GlobalTypes::global_type_at, smith_draw_types::specs::ValueTypes::val_type_at, smith_draw_types::specs::ValueTypes::ref_type_at, smith_draw_types::specs::ValueTypes::granted_at, smith_draw_types::specs::ValueTypes::heap_type_at, smith_draw_types::specs::ValueTypes::type_index_at, smith_draw_types::specs::ValueTypes::abstract_heap_type_at, smith_draw_types::specs::ValueTypes::sharedness_at, smith_draw_types::specs::Choices::chosen_at, smith_draw_consts::specs::ConstExprs::expression_alone_at, smith_draw_consts::specs::ConstExprs::expression_at, smith_draw_consts::specs::ConstNodes::node_at, smith_draw_consts::specs::Constants::constant_at, smith_draw_consts::specs::ConstOffers::offers, smith_draw_types::specs::Offered::ancestors, smith_draw_types::specs::Below::is_heap_below, smith_draw_types::specs::Grounding::is_grounded, smith_bytes::specs::Draws::choose_at, smith_bytes::specs::Draws::whole_at, smith_bytes::specs::Draws::bool_at, smith_bytes::specs::Draws::range_at, smith_bytes::specs::Draws::digit_count))]
 fn references()
     ensures over_a_function { globals_at
         (record two_of_each { min_globals = 1; max_globals = 1; non_nullable_enabled = true })
         (scope_over (final plain_function ∷ []) (0 ∷ []) 0 []) [] [] (5 ∷ 1 ∷ 1 ∷ 0 ∷ 9 ∷ [])
-        ≡ ((global (Ref (not_null (Concrete 0))) false ∷ [], (0, RefFunc 0 ∷ []) ∷ []), 9 ∷ []) }
+        ≡ Ok ((global (Ref (not_null (Concrete 0))) false ∷ [], (0, RefFunc 0 ∷ []) ∷ []), 9 ∷ []) }
     ensures over_no_function { globals_at
         (record two_of_each { min_globals = 1; max_globals = 1; non_nullable_enabled = true })
         (scope_over (final plain_function ∷ []) [] 0 []) [] [] (5 ∷ 1 ∷ 1 ∷ 0 ∷ 9 ∷ [])
-        ≡ (
+        ≡ Ok (
           (global (Ref (nullable (Concrete 0))) false ∷ [], (0, RefNull (Concrete 0) ∷ []) ∷ []),
           9 ∷ [],
         ) }
 {}
 
-#[tactic(auto, unfolding(smith_draw_definitions::specs::Definitions::definitions_at, smith_draw_definitions::specs::Definitions::items_defined_at, smith_bytes::specs::Growth::grow_at, smith_draw_definitions::specs::Definitions::type_indices_at, smith_draw_definitions::specs::Definitions::tags_at, smith_draw_definitions::specs::Definitions::funcs_at, smith_draw_types::specs::TypeUses::is_tag_type, smith_draw_types::specs::TypeUses::is_unshared_function, smith_draw_definitions::specs::Definitions::tables_at, smith_draw_definitions::specs::Definitions::table_at, smith_draw_types::specs::TableTypes::table_type_at, smith_draw_types::specs::TableTypes::drawn_elements, smith_draw_types::specs::Memories::memory64_at, smith_draw_consts::specs::ConstExprs::table_init_at, smith_draw_definitions::specs::Definitions::memories_at, smith_draw_types::specs::Memories::memtype_at, smith_draw_types::specs::Memories::shared_memory_at, smith_draw_types::specs::Memories::page_size_at, smith_draw_types::specs::Memories::drawn_pages, smith_draw_types::specs::Memories::likely_pages, smith_draw_definitions::specs::Definitions::globals_at, smith_draw_definitions::specs::Definitions::global_at, smith_draw_definitions::specs::Definitions::initialised_at, smith_draw_types::specs::GlobalTypes::global_type_at, smith_draw_types::specs::Limits::limits64_at, smith_draw_types::specs::Limits::gradually_at, smith_draw_types::specs::Limits::gradual, smith_draw_types::specs::Limits::sixth_power, smith_draw_types::specs::Limits::scaled, smith_draw_types::specs::ValueTypes::val_type_at, smith_draw_types::specs::ValueTypes::ref_type_at, smith_draw_types::specs::ValueTypes::granted_at, smith_draw_types::specs::ValueTypes::heap_type_at, smith_draw_types::specs::ValueTypes::type_index_at, smith_draw_types::specs::ValueTypes::abstract_heap_type_at, smith_draw_types::specs::ValueTypes::sharedness_at, smith_draw_types::specs::Choices::chosen_at, smith_draw_consts::specs::ConstExprs::expression_alone_at, smith_draw_consts::specs::ConstExprs::expression_at, smith_draw_consts::specs::ConstNodes::node_at, smith_draw_consts::specs::Constants::constant_at, smith_draw_consts::specs::ConstOffers::offers, smith_draw_types::specs::Offered::ancestors, smith_draw_types::specs::Below::is_heap_below, smith_bytes::specs::Draws::choose_at, smith_bytes::specs::Draws::whole_at, smith_bytes::specs::Draws::bool_at, smith_bytes::specs::Draws::range_at, smith_bytes::specs::Draws::digit_count))]
+#[tactic(auto, unfolding(smith_draw_definitions::specs::Definitions::definitions_at, smith_draw_definitions::specs::Definitions::items_defined_at, smith_draw_definitions::specs::Definitions::items_tried_at, smith_draw_consts::specs::TriedLists::try_grow_at, smith_bytes::specs::Growth::grow_at, smith_draw_definitions::specs::Definitions::type_indices_at, smith_draw_definitions::specs::Definitions::tags_at, smith_draw_definitions::specs::Definitions::funcs_at, smith_draw_types::specs::TypeUses::is_tag_type, smith_draw_types::specs::TypeUses::is_unshared_function, smith_draw_definitions::specs::Definitions::tables_at, smith_draw_definitions::specs::Definitions::table_at, smith_draw_types::specs::TableTypes::table_type_at, smith_draw_types::specs::TableTypes::drawn_elements, smith_draw_types::specs::Memories::memory64_at, smith_draw_consts::specs::ConstExprs::table_init_at, smith_draw_definitions::specs::Definitions::memories_at, smith_draw_types::specs::Memories::memtype_at, smith_draw_types::specs::Memories::shared_memory_at, smith_draw_types::specs::Memories::page_size_at, smith_draw_types::specs::Memories::drawn_pages, smith_draw_types::specs::Memories::likely_pages, smith_draw_definitions::specs::Definitions::globals_at, smith_draw_definitions::specs::Definitions::global_at, smith_draw_definitions::specs::Definitions::initialised_at, smith_draw_types::specs::GlobalTypes::global_type_at, smith_draw_types::specs::Limits::limits64_at, smith_draw_types::specs::Limits::gradually_at, smith_draw_types::specs::Limits::gradual, smith_draw_types::specs::Limits::sixth_power, smith_draw_types::specs::Limits::scaled, smith_draw_types::specs::ValueTypes::val_type_at, smith_draw_types::specs::ValueTypes::ref_type_at, smith_draw_types::specs::ValueTypes::granted_at, smith_draw_types::specs::ValueTypes::heap_type_at, smith_draw_types::specs::ValueTypes::type_index_at, smith_draw_types::specs::ValueTypes::abstract_heap_type_at, smith_draw_types::specs::ValueTypes::sharedness_at, smith_draw_types::specs::Choices::chosen_at, smith_draw_consts::specs::ConstExprs::expression_alone_at, smith_draw_consts::specs::ConstExprs::expression_at, smith_draw_consts::specs::ConstNodes::node_at, smith_draw_consts::specs::Constants::constant_at, smith_draw_consts::specs::ConstOffers::offers, smith_draw_types::specs::Offered::ancestors, smith_draw_types::specs::Below::is_heap_below, smith_bytes::specs::Draws::choose_at, smith_bytes::specs::Draws::whole_at, smith_bytes::specs::Draws::bool_at, smith_bytes::specs::Draws::range_at, smith_bytes::specs::Draws::digit_count))]
 fn spaces()
     ensures one_of_each { definitions_at one_of_each_kind several_types no_imports nothing_defined
         (1 ∷ 0 ∷ 0 ∷ 0 ∷ 0 ∷ 0 ∷ 0 ∷ 1 ∷ 0 ∷ 0 ∷ 0 ∷ 0 ∷ 1 ∷ 0 ∷ 0 ∷ 3 ∷ 0 ∷ 1 ∷ 7 ∷ 0 ∷ 0
@@ -282,7 +283,7 @@ fn spaces()
         ) }
 {}
 
-#[tactic(auto, unfolding(smith_draw_types::specs::RecGroups::types_at, smith_draw_types::specs::RecGroups::least_types_at, smith_draw_types::specs::RecGroups::more_types_at, smith_draw_imports::specs::Importing::imports_at, smith_draw_imports::specs::Importing::groups_at, wasm_smith::specs::Build::module_at, wasm_smith::specs::Build::first_parts_typed_at, wasm_smith::specs::FirstParts::first_parts_at, wasm_smith::specs::Build::imported_at, wasm_smith::specs::Build::defined_at, wasm_smith::specs::Build::exported_at, smith_draw_definitions::specs::Definitions::definitions_at, smith_bytes::specs::Steps::section_flag_at, wasm_smith::specs::DrawnContents::after_exports_at, wasm_smith::specs::DrawnContents::all_segments_at, smith_draw_contents::specs::AllExports::exports_at, smith_draw_contents::specs::Exporting::free_exports_at, smith_draw_contents::specs::Exporting::exports_from, smith_draw_contents::specs::Start::start_at, smith_draw_contents::specs::Start::start_wanted_at, smith_draw_contents::specs::ElementSegments::all_element_segments_at, smith_draw_contents::specs::ElementSegments::element_kinds_at, smith_draw_contents::specs::ElementSegments::table_kinds_at, smith_draw_contents::specs::DataSegments::data_at, smith_draw_contents::specs::DataSegments::counting_at, smith_draw_contents::specs::DrawnBodies::bodies_at, smith_draw_definitions::specs::Definitions::items_defined_at, smith_bytes::specs::Growth::grow_at, smith_draw_definitions::specs::Definitions::type_indices_at, smith_draw_definitions::specs::Definitions::tags_at, smith_draw_definitions::specs::Definitions::funcs_at, smith_draw_types::specs::TypeUses::is_tag_type, smith_draw_types::specs::TypeUses::is_unshared_function, smith_draw_definitions::specs::Definitions::tables_at, smith_draw_definitions::specs::Definitions::table_at, smith_draw_types::specs::TableTypes::table_type_at, smith_draw_types::specs::TableTypes::drawn_elements, smith_draw_types::specs::Memories::memory64_at, smith_draw_consts::specs::ConstExprs::table_init_at, smith_draw_definitions::specs::Definitions::memories_at, smith_draw_types::specs::Memories::memtype_at, smith_draw_types::specs::Memories::shared_memory_at, smith_draw_types::specs::Memories::page_size_at, smith_draw_types::specs::Memories::drawn_pages, smith_draw_types::specs::Memories::likely_pages, smith_draw_definitions::specs::Definitions::globals_at, smith_draw_definitions::specs::Definitions::global_at, smith_draw_definitions::specs::Definitions::initialised_at, smith_draw_types::specs::GlobalTypes::global_type_at, smith_draw_types::specs::Limits::limits64_at, smith_draw_types::specs::Limits::gradually_at, smith_draw_types::specs::Limits::gradual, smith_draw_types::specs::Limits::sixth_power, smith_draw_types::specs::Limits::scaled, smith_draw_types::specs::ValueTypes::val_type_at, smith_draw_types::specs::ValueTypes::ref_type_at, smith_draw_types::specs::ValueTypes::granted_at, smith_draw_types::specs::ValueTypes::heap_type_at, smith_draw_types::specs::ValueTypes::type_index_at, smith_draw_types::specs::ValueTypes::abstract_heap_type_at, smith_draw_types::specs::ValueTypes::sharedness_at, smith_draw_types::specs::Choices::chosen_at, smith_draw_consts::specs::ConstExprs::expression_alone_at, smith_draw_consts::specs::ConstExprs::expression_at, smith_draw_consts::specs::ConstNodes::node_at, smith_draw_consts::specs::Constants::constant_at, smith_draw_consts::specs::ConstOffers::offers, smith_draw_types::specs::Offered::ancestors, smith_draw_types::specs::Below::is_heap_below, smith_bytes::specs::Draws::choose_at, smith_bytes::specs::Draws::whole_at, smith_bytes::specs::Draws::bool_at, smith_bytes::specs::Draws::range_at, smith_bytes::specs::Draws::digit_count))]
+#[tactic(auto, unfolding(smith_draw_types::specs::RecGroups::types_at, smith_draw_types::specs::RecGroups::least_types_at, smith_draw_types::specs::RecGroups::more_types_at, smith_draw_imports::specs::Importing::imports_at, smith_draw_imports::specs::Importing::groups_at, wasm_smith::specs::Build::module_at, wasm_smith::specs::Build::first_parts_typed_at, wasm_smith::specs::FirstParts::first_parts_at, wasm_smith::specs::Build::imported_at, wasm_smith::specs::Build::defined_at, wasm_smith::specs::Build::exported_at, smith_draw_definitions::specs::Definitions::definitions_at, smith_bytes::specs::Steps::section_flag_at, wasm_smith::specs::DrawnContents::after_exports_at, wasm_smith::specs::DrawnContents::all_segments_at, smith_draw_contents::specs::AllExports::exports_at, smith_draw_contents::specs::Exporting::free_exports_at, smith_draw_contents::specs::Exporting::exports_from, smith_draw_contents::specs::Start::start_at, smith_draw_contents::specs::Start::start_wanted_at, smith_draw_contents::specs::ElementSegments::all_element_segments_at, smith_draw_contents::specs::ElementSegments::element_kinds_at, smith_draw_contents::specs::ElementSegments::table_kinds_at, smith_draw_contents::specs::DataSegments::data_at, smith_draw_contents::specs::DataSegments::counting_at, smith_draw_contents::specs::DrawnBodies::bodies_at, smith_draw_definitions::specs::Definitions::items_defined_at, smith_draw_definitions::specs::Definitions::items_tried_at, smith_draw_consts::specs::TriedLists::try_grow_at, smith_bytes::specs::Growth::grow_at, smith_draw_definitions::specs::Definitions::type_indices_at, smith_draw_definitions::specs::Definitions::tags_at, smith_draw_definitions::specs::Definitions::funcs_at, smith_draw_types::specs::TypeUses::is_tag_type, smith_draw_types::specs::TypeUses::is_unshared_function, smith_draw_definitions::specs::Definitions::tables_at, smith_draw_definitions::specs::Definitions::table_at, smith_draw_types::specs::TableTypes::table_type_at, smith_draw_types::specs::TableTypes::drawn_elements, smith_draw_types::specs::Memories::memory64_at, smith_draw_consts::specs::ConstExprs::table_init_at, smith_draw_definitions::specs::Definitions::memories_at, smith_draw_types::specs::Memories::memtype_at, smith_draw_types::specs::Memories::shared_memory_at, smith_draw_types::specs::Memories::page_size_at, smith_draw_types::specs::Memories::drawn_pages, smith_draw_types::specs::Memories::likely_pages, smith_draw_definitions::specs::Definitions::globals_at, smith_draw_definitions::specs::Definitions::global_at, smith_draw_definitions::specs::Definitions::initialised_at, smith_draw_types::specs::GlobalTypes::global_type_at, smith_draw_types::specs::Limits::limits64_at, smith_draw_types::specs::Limits::gradually_at, smith_draw_types::specs::Limits::gradual, smith_draw_types::specs::Limits::sixth_power, smith_draw_types::specs::Limits::scaled, smith_draw_types::specs::ValueTypes::val_type_at, smith_draw_types::specs::ValueTypes::ref_type_at, smith_draw_types::specs::ValueTypes::granted_at, smith_draw_types::specs::ValueTypes::heap_type_at, smith_draw_types::specs::ValueTypes::type_index_at, smith_draw_types::specs::ValueTypes::abstract_heap_type_at, smith_draw_types::specs::ValueTypes::sharedness_at, smith_draw_types::specs::Choices::chosen_at, smith_draw_consts::specs::ConstExprs::expression_alone_at, smith_draw_consts::specs::ConstExprs::expression_at, smith_draw_consts::specs::ConstNodes::node_at, smith_draw_consts::specs::Constants::constant_at, smith_draw_consts::specs::ConstOffers::offers, smith_draw_types::specs::Offered::ancestors, smith_draw_types::specs::Below::is_heap_below, smith_bytes::specs::Draws::choose_at, smith_bytes::specs::Draws::whole_at, smith_bytes::specs::Draws::bool_at, smith_bytes::specs::Draws::range_at, smith_bytes::specs::Draws::digit_count))]
 fn modules()
     ensures flags { module_at false (record two_of_each {
       max_types = 0;

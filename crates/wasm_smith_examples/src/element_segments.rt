@@ -55,7 +55,7 @@ fn items()
 {}
 
 // Element segments without any type, function, table or global.
-#[tactic(auto, unfolding(smith_draw_contents::specs::ElementSegments::all_element_segments_at, smith_draw_contents::specs::ElementSegments::element_segments_at, smith_draw_contents::specs::ElementSegments::element_segment_at, smith_draw_contents::specs::ElementSegments::element_kind_at, smith_draw_contents::specs::ElementSegments::item_type_at, smith_draw_contents::specs::ElementSegments::items_at, smith_draw_contents::specs::ElementSegments::functions_at, smith_draw_contents::specs::ElementSegments::expressions_at, smith_draw_contents::specs::ElementSegments::drawn_expressions_at, smith_draw_contents::specs::ElementSegments::element_kinds_at, smith_draw_contents::specs::ElementSegments::table_kinds_at, smith_draw_contents::specs::ElementSegments::are_functions_at, smith_draw_types::specs::ValueTypes::ref_type_at, smith_draw_types::specs::ValueTypes::granted_at, smith_draw_types::specs::ValueTypes::heap_type_at, smith_draw_types::specs::ValueTypes::type_index_at, smith_draw_types::specs::ValueTypes::abstract_heap_type_at, smith_draw_types::specs::ValueTypes::sharedness_at, smith_draw_types::specs::Choices::chosen_at, smith_bytes::specs::Growth::grow_at, smith_bytes::specs::Draws::bool_at, smith_bytes::specs::Draws::range_at, smith_bytes::specs::Draws::digit_count))]
+#[tactic(auto, unfolding(smith_draw_contents::specs::ElementSegments::all_element_segments_at, smith_draw_contents::specs::ElementSegments::element_segments_at, smith_draw_contents::specs::ElementSegments::element_segment_at, smith_draw_contents::specs::ElementSegments::element_kind_at, smith_draw_contents::specs::ElementSegments::item_type_at, smith_draw_contents::specs::ElementSegments::items_at, smith_draw_contents::specs::ElementSegments::functions_at, smith_draw_contents::specs::ElementSegments::expressions_at, smith_draw_contents::specs::ElementSegments::drawn_expressions_at, smith_draw_contents::specs::ElementSegments::element_kinds_at, smith_draw_contents::specs::ElementSegments::table_kinds_at, smith_draw_contents::specs::ElementSegments::are_functions_at, smith_draw_types::specs::ValueTypes::ref_type_at, smith_draw_types::specs::ValueTypes::granted_at, smith_draw_types::specs::ValueTypes::heap_type_at, smith_draw_types::specs::ValueTypes::type_index_at, smith_draw_types::specs::ValueTypes::abstract_heap_type_at, smith_draw_types::specs::ValueTypes::sharedness_at, smith_draw_types::specs::Choices::chosen_at, smith_bytes::specs::Growth::grow_at, smith_draw_consts::specs::TriedLists::try_grow_at, smith_bytes::specs::Draws::bool_at, smith_bytes::specs::Draws::range_at, smith_bytes::specs::Draws::digit_count))]
 fn segments()
     ensures none { all_element_segments_at default_config
         (table_scope default_config (beside_globals [])) [] (0 ∷ 9 ∷ [])
@@ -70,14 +70,14 @@ fn segments()
     ensures more_than_may_be { all_element_segments_at
         (record default_config { min_elements = 60; max_elements = 50 })
         (table_scope default_config (beside_globals [])) [] (1 ∷ 0 ∷ 0 ∷ 0 ∷ [])
-        ≡ Err (Unmet counts.Elements) }
+        ≡ Err (errors.IncorrectFormat (Unmet counts.Elements)) }
     ensures of_no_kind { all_element_segments_at (record default_config { bulk_memory_enabled = false })
         (table_scope default_config (beside_globals [])) [] (1 ∷ [])
         ≡ Ok ([], 1 ∷ []) }
     ensures asked_for_of_no_kind { all_element_segments_at
         (record default_config { bulk_memory_enabled = false; min_element_segments = 1 })
         (table_scope default_config (beside_globals [])) [] []
-        ≡ Err (Unmet counts.ElementSegments) }
+        ≡ Err (errors.IncorrectFormat (Unmet counts.ElementSegments)) }
 {}
 
 // An element segment takes its kind and its offset. The items take no byte for the table's only

@@ -7,8 +7,7 @@ ghost use Rattle.smith_types.specs.EntitySpaces.{spaces_in};
 ghost use Rattle.smith_config.specs.Faults.{Passes};
 ghost use Rattle.smith_config.specs.Sanitized.{IsSanitized};
 ghost use Rattle.smith_draw_types.specs.KeptGrounds.{AreKeptGrounds};
-ghost use Rattle.smith_bytes.specs.Steps.{Returns, is_lack, ReturnsWhy};
-ghost use Rattle.wasm_smith.specs.Build.{in_full};
+ghost use Rattle.smith_bytes.specs.Steps.{Returns, is_memory};
 ghost use Rattle.wasm_smith.specs.DrawnSteps.{AreExportsDrawn, drawn_next};
 ghost use Rattle.smith_draw_definitions.specs.Defined.{drawn_beside};
 ghost use Rattle.smith_module_rules.specs.Refusals.{AreShapesValid, MayRefuse};
@@ -94,7 +93,7 @@ pub(crate) fn draw_after_exports(
         (spaces_of imported.now) imported.now.type_size made }
 
     // The draw.
-    ensures exact { ReturnsWhy (λ contents. (contents, u.new)) result (after_exports_at config.now
+    ensures exact { Returns is_memory (λ contents. (contents, u.new)) result (after_exports_at config.now
         types.now.types (imported_in imported.now) (spaces_of imported.now) made u.old) }
     ensures kept { IfOk result (AreContents config.now types.now.types (imported_in imported.now)
         (spaces_of imported.now) imported.now.type_size) }
@@ -149,9 +148,9 @@ pub(crate) fn draw_contents(
         (spaces_in drawn.now.imported.spaces) drawn.now.imported.type_size made }
 
     // The draw.
-    ensures exact { Returns is_lack (λ contents. (contents, u.new)) result
-        (in_full (after_exports_at config.now drawn.now.types.types
-        (imported_in drawn.now.imported) (spaces_in drawn.now.imported.spaces) made u.old)) }
+    ensures exact { Returns is_memory (λ contents. (contents, u.new)) result
+        (after_exports_at config.now drawn.now.types.types
+        (imported_in drawn.now.imported) (spaces_in drawn.now.imported.spaces) made u.old) }
     ensures kept { IfOk result
         (AreContents config.now drawn.now.types.types (imported_in drawn.now.imported)
         (spaces_in drawn.now.imported.spaces) drawn.now.imported.type_size) }

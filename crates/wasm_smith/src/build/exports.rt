@@ -10,7 +10,7 @@ ghost use Rattle.smith_config.specs.Sanitized.{IsSanitized};
 ghost use Rattle.smith_config.specs.Shapes.{shape_spaces, shape_types};
 ghost use Rattle.smith_draw_types.specs.KeptGrounds.{AreKeptGrounds};
 ghost use Rattle.wasm_smith.specs.FirstParts.{module_so_far};
-ghost use Rattle.smith_bytes.specs.Steps.{Returns, is_lack};
+ghost use Rattle.smith_bytes.specs.Steps.{Returns, is_memory};
 ghost use Rattle.wasm_smith.specs.Build.{exported_at, exports_of};
 ghost use Rattle.wasm_smith.specs.DrawnContents.{AreExportsMade};
 ghost use Rattle.wasm_smith.specs.DrawnSteps.{AreEntitiesDrawn, AreExportsDrawn, HasSameImports};
@@ -47,7 +47,7 @@ pub(crate) fn make_exports(
     requires grounds { AreKeptGrounds (drawn_next config.now drawn.old) grounds.old }
 
     // The draw.
-    ensures exact { Returns is_lack
+    ensures exact { Returns is_memory
         (λ made. (record (module_so_far drawn.new) { exports = made.exports }, u.new)) result
         (exported_at config.now (module_so_far drawn.old) u.old) }
     ensures size { IfOk result (λ made. made

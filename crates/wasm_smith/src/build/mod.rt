@@ -5,7 +5,7 @@ ghost use Rattle.smith_bytes.specs.Source.{KeepsPieces};
 ghost use Rattle.smith_config.specs.Faults.{Passes};
 ghost use Rattle.smith_config.specs.Sanitized.{IsSanitized};
 ghost use Rattle.smith_module_rules.specs.Bounds.{KeepsBounds, MeetsMinimums};
-ghost use Rattle.smith_bytes.specs.Steps.{Returns, is_lack};
+ghost use Rattle.smith_bytes.specs.Steps.{Returns, is_memory};
 ghost use Rattle.wasm_smith.specs.Build.{as_drawn, module_at};
 ghost use Rattle.smith_module_rules.specs.InterestingValues.{HasInterestingValues};
 ghost use Rattle.smith_module_rules.specs.Module.{IsValid};
@@ -48,7 +48,7 @@ pub(crate) fn build(
     requires valid { AreShapesValid config }
 
     // The draw.
-    ensures exact { Returns is_lack (λ m. (as_drawn m, u.new)) result
+    ensures exact { Returns is_memory (λ m. (as_drawn m, u.new)) result
         (module_at distinct config u.old) }
     ensures config { IfOk result (λ m. m.config ≡ record config { available_imports = None }) }
 

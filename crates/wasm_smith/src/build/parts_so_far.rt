@@ -6,7 +6,7 @@ ghost use Rattle.smith_config.specs.Faults.{Passes};
 ghost use Rattle.smith_config.specs.Sanitized.{IsSanitized};
 ghost use Rattle.wasm_smith.specs.FirstParts.{HasNothing};
 ghost use Rattle.smith_module_rules.specs.Bounds.{KeepsBounds, MeetsMinimums};
-ghost use Rattle.smith_bytes.specs.Steps.{Returns, is_lack};
+ghost use Rattle.smith_bytes.specs.Steps.{Returns, is_memory};
 ghost use Rattle.wasm_smith.specs.Build.{parts_of, as_drawn, module_at};
 ghost use Rattle.wasm_smith.specs.DrawnParts.{IsDrawnFor};
 ghost use Rattle.smith_module_rules.specs.InterestingValues.{HasInterestingValues};
@@ -78,7 +78,7 @@ fn draw_parts(
     requires sanitized { IsSanitized config.now }
     requires valid { AreShapesValid config.now }
     requires nothing { HasNothing drawn.old }
-    ensures exact { Returns is_lack (λ _. (as_drawn (parts_of config.now drawn.new), u.new)) result
+    ensures exact { Returns is_memory (λ _. (as_drawn (parts_of config.now drawn.new), u.new)) result
         (module_at distinct config.now u.old) }
     ensures drawn { OnOk result (IsDrawnFor distinct config.now drawn.new) }
     ensures kept { OnOk result (KeepsShapes config.now u.old (parts_of config.now drawn.new)) }
@@ -116,7 +116,7 @@ pub(crate) fn draw(
     requires valid { AreShapesValid config.now }
 
     // The draw.
-    ensures exact { Returns is_lack (λ drawn. (as_drawn (parts_of config.now drawn.value), u.new))
+    ensures exact { Returns is_memory (λ drawn. (as_drawn (parts_of config.now drawn.value), u.new))
         result (module_at distinct config.now u.old) }
 
     // Validity and bounds.

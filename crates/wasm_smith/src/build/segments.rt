@@ -8,7 +8,7 @@ ghost use Rattle.wasm_smith.specs.DrawnContents.{TellsImported, AreSegmentsFit, 
 ghost use Rattle.wasm_smith.specs.DrawnContents.{imported_in, all_segments_at};
 ghost use Rattle.smith_config.specs.Granted.{HasGroundedItems, HasGroundedElements};
 ghost use Rattle.smith_draw_imports.specs.Imported.{spaces_of};
-ghost use Rattle.smith_bytes.specs.Steps.{ReturnsWhy};
+ghost use Rattle.smith_bytes.specs.Steps.{Returns, is_memory};
 
 use crate::build::segment_spaces::segment_spaces;
 use smith_bytes::{Error, Unstructured};
@@ -60,7 +60,7 @@ pub(crate) fn draw_segments(
         (spaces_of imported.now) definitions.now) grounds.now }
 
     // The draw.
-    ensures exact { ReturnsWhy (λ segments. (segments, u.new)) result (all_segments_at config.now
+    ensures exact { Returns is_memory (λ segments. (segments, u.new)) result (all_segments_at config.now
         types.now.types (imported_in imported.now) (spaces_of imported.now) u.old) }
     ensures fit { IfOk result (AreSegmentsFit config.now types.now.types (imported_in imported.now)
         (spaces_of imported.now)) }

@@ -7,7 +7,7 @@ ghost use Rattle.smith_config.specs.InUse.{FixesImports};
 ghost use Rattle.smith_config.specs.Sanitized.{IsSanitized};
 ghost use Rattle.smith_draw_types.specs.KeptGrounds.{AreKeptGrounds};
 ghost use Rattle.wasm_smith.specs.FirstParts.{HasNothing, module_so_far};
-ghost use Rattle.smith_bytes.specs.Steps.{Returns, is_lack};
+ghost use Rattle.smith_bytes.specs.Steps.{Returns, is_memory};
 ghost use Rattle.wasm_smith.specs.Build.{first_parts_typed_at, imported_at, defined_at};
 ghost use Rattle.wasm_smith.specs.DrawnSteps.{AreTypesDrawn, AreImportsDrawn, AreFreeImports};
 ghost use Rattle.wasm_smith.specs.DrawnSteps.{AreEntitiesDrawn, HasSameImports, IsBeyond};
@@ -37,7 +37,7 @@ pub(crate) fn begin_with_types(
     requires sanitized { IsSanitized config.now }
     requires valid { AreShapesValid config.now }
     requires nothing { HasNothing drawn.old }
-    ensures exact { Returns is_lack (λ _. (module_so_far drawn.new, u.new)) result
+    ensures exact { Returns is_memory (λ _. (module_so_far drawn.new, u.new)) result
         (first_parts_typed_at config.now u.old) }
     ensures drawn { OnOk result (AreTypesDrawn config.now drawn.new) }
     ensures kept { OnOk result (KeepsShapesSoFar config.now u.old (module_so_far drawn.new)) }
@@ -67,7 +67,7 @@ pub(crate) fn add_imports(
     requires grounds { AreKeptGrounds (drawn_next config.now drawn.old) grounds.old }
 
     // The draw.
-    ensures exact { Returns is_lack (λ _. (module_so_far drawn.new, u.new)) result
+    ensures exact { Returns is_memory (λ _. (module_so_far drawn.new, u.new)) result
         (imported_at distinct config.now (module_so_far drawn.old) u.old) }
 
     // The parts so far and the record.
@@ -106,7 +106,7 @@ pub(crate) fn add_definitions(
     requires grounds { AreKeptGrounds (drawn_next config.now drawn.old) grounds.old }
 
     // The draw.
-    ensures exact { Returns is_lack (λ _. (module_so_far drawn.new, u.new)) result
+    ensures exact { Returns is_memory (λ _. (module_so_far drawn.new, u.new)) result
         (defined_at config.now (module_so_far drawn.old) u.old) }
 
     // The parts so far and the record.

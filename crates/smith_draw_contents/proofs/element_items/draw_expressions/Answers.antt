@@ -1,8 +1,9 @@
-use Rattle.std.proofs.Common.{true, ◌≤◌, List, length}
-use Rattle.std.proofs.lemmas.Result.{IfOk-weaker}
+use Rattle.std.proofs.Common.{true, ◌≤◌, ℕ, List, length, subst}
+use Rattle.std.specs.Prelude.{Result, IfOk}
+use Rattle.smith_bytes.specs.declared.error.Error.{Error}
 use Rattle.smith_syntax.specs.declared.const_instr.ConstInstr.{ConstInstr}
 use Rattle.smith_draw_consts.specs.ConstScopes.{seen_by}
-use Rattle.smith_draw_types.proofs.ValueTypeLemmas.{drawn_is}
+use Rattle.smith_draw_consts.proofs.TriedStepLemmas.{returned}
 use Rattle.smith_draw_contents.proofs.ElementFitLemmas.{expressions_fit}
 use Rattle.smith_draw_contents.proofs.ElementItemLemmas.{expressions_few}
 use Rattle.smith_draw_contents.proofs.element_items.draw_expressions.Goals as goal
@@ -13,7 +14,8 @@ draw_each_expression-drawn-requires-clause-kept c = c.new-kept.ensures _
 pub returns-clause-few : goal.returns-clause-few
 returns-clause-few c =
     let few = expressions_few c.args.config.now (seen_by c.args.config.now c.args.spaces.now true) c.args.ty c.args.most _ in
-    IfOk-weaker c.draw_each_expression-drawn.result _ _ (λ items. drawn_is (λ (made : List (List ConstInstr)). length made ≤ c.args.most) _ few) c.draw_each_expression-drawn.ensures.exact
+    returned _ (λ (items : List (List ConstInstr)). length items ≤ c.args.most) c.draw_each_expression-drawn.result
+    (λ items read. subst (λ (r : Result (List (List ConstInstr) × List ℕ) Error). IfOk r (λ made. length made.0 ≤ c.args.most)) read few) c.draw_each_expression-drawn.ensures.exact
 
 pub returns-clause-fit : goal.returns-clause-fit
 returns-clause-fit c =

@@ -1,4 +1,6 @@
-use Rattle.std.proofs.Common.{◌≤◌, List, length, true}
+use Rattle.std.proofs.Common.{◌≤◌, ℕ, List, length, subst, true}
+use Rattle.std.specs.Prelude.{Result, IfOk}
+use Rattle.smith_bytes.specs.declared.error.Error.{Error}
 use Rattle.std.proofs.lemmas.List.Elements.{All-weaker}
 use Rattle.std.proofs.lemmas.Result.{IfOk-weaker}
 use Rattle.smith_bytes.specs.declared.error.Count.TheVariants as counts
@@ -8,10 +10,9 @@ use Rattle.smith_draw_types.specs.Grounding.{standing_in}
 use Rattle.smith_module_rules.specs.Held.{HasItems}
 use Rattle.smith_config.specs.Granted.{HasGroundedItems}
 use Rattle.smith_draw_contents.specs.DrawnElements.{IsElementFit}
-use Rattle.smith_draw_contents.specs.ElementSegments.{all_element_segments_at}
 use Rattle.smith_draw_contents.proofs.ElementCountLemmas.{elements_least, elements_taken}
 use Rattle.smith_draw_contents.proofs.ElementFitLemmas.{elements_no_float}
-use Rattle.smith_bytes.proofs.StepLemmas.{given_is}
+use Rattle.smith_draw_consts.proofs.TriedStepLemmas.{returned}
 use Rattle.smith_draw_contents.proofs.elements.arbitrary_elements.Goals as goal
 
 pub returns-clause-least : goal.returns-clause-least
@@ -19,8 +20,9 @@ returns-clause-least c =
     let config = c.args.config.now in
     let context = seen_by config c.args.spaces.now true in
     let tables = c.args.spaces.now.entities.tables.now in
-    given_is (λ (segments : List ElementSegment). config.min_element_segments ≤ length segments) (λ segments. segments) (all_element_segments_at config context tables c.args.u.now) _ c.draw_elements.result
-    (elements_least config context tables c.args.u.now (c.requires.may.passes.ordered counts.ElementSegments tt)) c.draw_elements.ensures.exact
+    returned _ (λ (segments : List ElementSegment). config.min_element_segments ≤ length segments) c.draw_elements.result
+    (λ segments read. subst (λ (r : Result (List ElementSegment × List ℕ) Error). IfOk r (λ drawn. config.min_element_segments ≤ length drawn.0)) read (elements_least config context tables c.args.u.now (c.requires.may.passes.ordered counts.ElementSegments tt)))
+    c.draw_elements.ensures.exact
 
 pub returns-clause-enough : goal.returns-clause-enough
 returns-clause-enough c =

@@ -9,8 +9,8 @@ use Rattle.smith_draw_contents.specs.DrawnElements.{IsKindOffered}
 use Rattle.smith_draw_contents.specs.declared.element_kinds.KindChoice.TheVariants.{Passive}
 use Rattle.smith_draw_contents.proofs.ElementFitLemmas.{element_fit}
 use Rattle.smith_draw_contents.proofs.ElementItemLemmas.{fits_addresses, segment_refused}
-use Rattle.smith_bytes.proofs.StepLemmas.{refused_by}
-use Rattle.smith_draw_contents.proofs.ElementsLoop.{segment_drawn, segment_not_drawn, memory_lacks}
+use Rattle.smith_draw_consts.proofs.TriedStepLemmas.{memory_open, refused_with}
+use Rattle.smith_draw_contents.proofs.ElementsLoop.{segment_drawn, segment_not_drawn}
 use Rattle.smith_draw_contents.proofs.elements.draw_segment.Goals as goal
 
 pub draw_item_type-requires-clause-offered : goal.draw_item_type-requires-clause-offered
@@ -31,12 +31,12 @@ returns-clause-fit c =
     element_fit c.args.config.now c.args.spaces.now _ _ _ _ _ c.args.total offered c.draw_kind-kind.ensures.placed c.in_ok-ty.ensures.may c.in_ok-ty.ensures.fits items.fit (rw c.most_items-most.ensures.exact at items.few) c.in_ok-ty.ensures.needed
 
 pub returns-in_err-ty-clause-exact : goal.returns-in_err-ty-clause-exact
-returns-in_err-ty-clause-exact c = memory_lacks _ _ _ c.from_residual.result c.in_err-ty.ensures.draws.memory c.from_residual.ensures.1
+returns-in_err-ty-clause-exact c = memory_open _ _ _ c.from_residual.result c.in_err-ty.ensures.draws.memory c.from_residual.ensures.1
 
 pub returns-in_err-items-clause-exact : goal.returns-in_err-items-clause-exact
 returns-in_err-items-clause-exact c =
-    refused_by {X = Elements} (λ items. (items, c.draw_items.new.u)) _ c.in_err-items.field-0.0 _ _ c.from_residual-in_err-items.result c.in_err-items.ensures.exact
-    (λ why refused. segment_not_drawn c.args.config.now (seen_by c.args.config.now c.args.spaces.now true) c.args.kinds.now c.args.total c.args.u.now c.choose-choice.ensures.exact c.draw_kind-kind.ensures.draws.exact c.in_ok-ty.ensures.draws.exact c.most_items-most.ensures.exact refused)
+    refused_with {X = Elements} (λ items. (items, c.draw_items.new.u)) _ c.in_err-items.field-0.0 _ _ c.from_residual-in_err-items.result c.in_err-items.ensures.exact
+    (λ refused. segment_not_drawn c.args.config.now (seen_by c.args.config.now c.args.spaces.now true) c.args.kinds.now c.args.total c.args.u.now c.choose-choice.ensures.exact c.draw_kind-kind.ensures.draws.exact c.in_ok-ty.ensures.draws.exact c.most_items-most.ensures.exact refused)
     c.from_residual-in_err-items.ensures.1
 
 pub returns-in_err-items-clause-refusal : goal.returns-in_err-items-clause-refusal

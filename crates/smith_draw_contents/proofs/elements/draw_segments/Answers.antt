@@ -4,7 +4,7 @@ use Rattle.smith_bytes.specs.declared.error.Count.TheVariants as counts
 use Rattle.smith_syntax.specs.declared.segments.ElementSegment.{ElementSegment}
 use Rattle.smith_draw_consts.specs.ConstScopes.{seen_by}
 use Rattle.smith_draw_contents.specs.DrawnElements.{IsElementFit}
-use Rattle.smith_bytes.proofs.StepLemmas.{refused_by}
+use Rattle.smith_draw_consts.proofs.TriedStepLemmas.{refused_with}
 use Rattle.smith_draw_contents.proofs.ElementsLoop.{segments_go, segments_stop, segments_full, segments_refused}
 use Rattle.smith_draw_contents.proofs.elements.draw_segments.Goals as goal
 
@@ -13,8 +13,8 @@ returns-then-not-goes_on-clause-exact c = segments_stop c.loop-made.invariant.gr
 
 pub returns-in_err-segment-clause-exact : goal.returns-in_err-segment-clause-exact
 returns-in_err-segment-clause-exact c =
-    refused_by {X = ElementSegment} (λ segment. (segment, c.draw_segment.new.u)) _ c.in_err-segment.field-0.0 _ _ c.from_residual.result c.in_err-segment.ensures.exact
-    (λ why drawn. segments_refused c.loop-made.invariant.growing c.loop-made-test.true c.goes_on.ensures.exact c.if-not-goes_on.false drawn)
+    refused_with {X = ElementSegment} (λ segment. (segment, c.draw_segment.new.u)) _ c.in_err-segment.field-0.0 _ _ c.from_residual.result c.in_err-segment.ensures.exact
+    (λ drawn. segments_refused c.loop-made.invariant.growing c.loop-made-test.true c.goes_on.ensures.exact c.if-not-goes_on.false drawn)
     c.from_residual.ensures.1
 
 pub overflow_add-total : goal.overflow_add-total

@@ -5,20 +5,20 @@ use Rattle.smith_draw_types.specs.Grounding.{function_context}
 use Rattle.smith_draw_types.specs.KeptGrounds.{AreKeptGrounds}
 use Rattle.smith_draw_consts.proofs.ConstStepLemmas.{passed_on}
 use Rattle.smith_draw_definitions.proofs.DrawnStepLemmas.{functions_noted, may_initialise, refused_before}
-use Rattle.smith_bytes.proofs.StepLemmas.{refused_by}
-use Rattle.smith_draw_definitions.proofs.DefinitionStepLemmas.{tags_refused, funcs_refused, definitions_drawn, lack_left}
+use Rattle.smith_draw_consts.proofs.TriedStepLemmas.{refused_with, memory_open}
+use Rattle.smith_draw_definitions.proofs.DefinitionStepLemmas.{tags_refused, funcs_refused, tables_not_drawn, globals_not_drawn, definitions_drawn}
 use Rattle.smith_draw_definitions.proofs.DefinedGrowthLemmas.{defined_more, still_imported}
 use Rattle.smith_draw_definitions.proofs.definitions.define.Goals as goal
 
 pub returns-in_err-define_tags-clause-exact : goal.returns-in_err-define_tags-clause-exact
 returns-in_err-define_tags-clause-exact c =
-    refused_by {X = Unit {0}} (λ _. (c.define_tags.new.tags, c.define_tags.new.u)) _ c.in_err-define_tags.field-0.0 _ _ c.from_residual.result c.in_err-define_tags.ensures.exact
-    (tags_refused c.args.config.now c.args.types.now.types (spaces_in c.args.spaces.now) c.args.definitions.now c.args.u.now) c.from_residual.ensures.1
+    refused_with {X = Unit {0}} (λ _. (c.define_tags.new.tags, c.define_tags.new.u)) _ c.in_err-define_tags.field-0.0 _ _ c.from_residual.result c.in_err-define_tags.ensures.exact
+    (λ refused. tags_refused c.args.config.now c.args.types.now.types (spaces_in c.args.spaces.now) c.args.definitions.now c.args.u.now refused) c.from_residual.ensures.1
 
 pub returns-in_err-define_funcs-clause-exact : goal.returns-in_err-define_funcs-clause-exact
 returns-in_err-define_funcs-clause-exact c =
-    refused_by {X = Unit {0}} (λ _. (c.define_funcs.new.funcs, c.define_funcs.new.u)) _ c.in_err-define_funcs.field-0.0 _ _ c.from_residual-in_err-define_funcs.result c.in_err-define_funcs.ensures.exact
-    (funcs_refused c.args.config.now c.args.types.now.types (spaces_in c.args.spaces.now) c.args.definitions.now c.args.u.now c.in_ok-define_tags.ensures.exact) c.from_residual-in_err-define_funcs.ensures.1
+    refused_with {X = Unit {0}} (λ _. (c.define_funcs.new.funcs, c.define_funcs.new.u)) _ c.in_err-define_funcs.field-0.0 _ _ c.from_residual-in_err-define_funcs.result c.in_err-define_funcs.ensures.exact
+    (λ refused. funcs_refused c.args.config.now c.args.types.now.types (spaces_in c.args.spaces.now) c.args.definitions.now c.args.u.now c.in_ok-define_tags.ensures.exact refused) c.from_residual-in_err-define_funcs.ensures.1
 
 pub scope-drawn-requires : goal.scope-drawn-requires
 scope-drawn-requires c =
@@ -145,16 +145,27 @@ pub returns-in_err-define_funcs-clause-left : goal.returns-in_err-define_funcs-c
 returns-in_err-define_funcs-clause-left c = λ whole h. c.define_funcs.ensures.left whole (c.define_tags.ensures.left whole h)
 
 pub returns-in_err-define_tables-clause-exact : goal.returns-in_err-define_tables-clause-exact
-returns-in_err-define_tables-clause-exact c = lack_left _ _ _ _ c.from_residual-in_err-define_tables.result c.in_err-define_tables.ensures.refusal c.from_residual-in_err-define_tables.ensures.1
+returns-in_err-define_tables-clause-exact c =
+    let over = c.reference_scope_of_imports-imported.ensures in
+    refused_with {X = Unit {0}} (λ _. ((c.define_tables.new.tables, c.define_tables.new.initials), c.define_tables.new.u)) _ c.in_err-define_tables.field-0.0 _ _ c.from_residual-in_err-define_tables.result c.in_err-define_tables.ensures.exact
+    (λ refused. tables_not_drawn c.args.config.now c.args.types.now.types (spaces_in c.args.spaces.now) c.args.definitions.now c.args.u.now c.in_ok-define_tags.ensures.exact c.in_ok-define_funcs.ensures.exact
+    (rw (over.types, over.funcs, over.imported_funcs, over.globals, c.as_slice-func_types.ensures, c.as_slice-globals.ensures, c.len-funcs_before.ensures, c.len-globals_before.ensures, c.len-globals_defined.ensures) at refused))
+    c.from_residual-in_err-define_tables.ensures.1
 
 pub returns-in_err-define_tables-clause-left : goal.returns-in_err-define_tables-clause-left
 returns-in_err-define_tables-clause-left c = λ whole h. c.define_tables.ensures.left whole (c.define_funcs.ensures.left whole (c.define_tags.ensures.left whole h))
 
 pub returns-in_err-define_memories-clause-exact : goal.returns-in_err-define_memories-clause-exact
-returns-in_err-define_memories-clause-exact c = lack_left ⊥ _ _ _ c.from_residual-in_err-define_memories.result (inl c.in_err-define_memories.ensures.draws.memory) c.from_residual-in_err-define_memories.ensures.1
+returns-in_err-define_memories-clause-exact c = memory_open _ _ _ c.from_residual-in_err-define_memories.result c.in_err-define_memories.ensures.draws.memory c.from_residual-in_err-define_memories.ensures.1
 
 pub returns-in_err-define_memories-clause-refusal : goal.returns-in_err-define_memories-clause-refusal
 returns-in_err-define_memories-clause-refusal c = passed_on _ c.from_residual-in_err-define_memories.result c.in_err-define_memories.field-0.0 c.from_residual-in_err-define_memories.ensures.1 (inr (inl c.in_err-define_memories.ensures.draws.memory))
 
 pub returns-in_err-define_globals-clause-exact : goal.returns-in_err-define_globals-clause-exact
-returns-in_err-define_globals-clause-exact c = lack_left _ _ _ _ c.from_residual-in_err-define_globals.result c.in_err-define_globals.ensures.refusal c.from_residual-in_err-define_globals.ensures.1
+returns-in_err-define_globals-clause-exact c =
+    let over = c.reference_scope_of_imports-imported.ensures in
+    refused_with {X = Unit {0}} (λ _. ((c.define_globals.new.globals, c.define_globals.new.initials), c.define_globals.new.u)) _ c.in_err-define_globals.field-0.0 _ _ c.from_residual-in_err-define_globals.result c.in_err-define_globals.ensures.exact
+    (λ refused. globals_not_drawn c.args.config.now c.args.types.now.types (spaces_in c.args.spaces.now) c.args.definitions.now c.args.u.now c.in_ok-define_tags.ensures.exact c.in_ok-define_funcs.ensures.exact
+    (rw (over.types, over.funcs, over.imported_funcs, over.globals, c.as_slice-func_types.ensures, c.as_slice-globals.ensures, c.len-funcs_before.ensures, c.len-globals_before.ensures, c.len-globals_defined.ensures) at c.in_ok-define_tables.ensures.exact) c.in_ok-define_memories.ensures.draws.exact
+    (rw (c.as_slice-func_types.ensures, c.len-funcs_before.ensures, c.len-globals_before.ensures, c.len-globals_defined.ensures) at refused))
+    c.from_residual-in_err-define_globals.ensures.1

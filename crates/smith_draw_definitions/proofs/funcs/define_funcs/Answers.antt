@@ -3,7 +3,7 @@ use Rattle.smith_bytes.specs.declared.error.Count.TheVariants.{Funcs}
 use Rattle.smith_draw_definitions.specs.Definitions.{funcs_at}
 use Rattle.smith_draw_types.specs.SpelledParts.{SpellsFuncs}
 use Rattle.smith_draw_definitions.proofs.FuncRefusalLemmas.{funcs_refuse}
-use Rattle.smith_bytes.proofs.StepLemmas.{given_takes}
+use Rattle.smith_draw_consts.proofs.TriedStepLemmas.{takes_if_read, returned_so}
 use Rattle.smith_draw_definitions.proofs.TypedLemmas.{funcs_are, funcs_read}
 use Rattle.smith_draw_definitions.proofs.funcs.define_funcs.Goals as goal
 
@@ -18,5 +18,5 @@ returns-clause-refusal c = funcs_refuse _ _ c.push_funcs.result c.requires.sanit
 
 pub returns-clause-reach : goal.returns-clause-reach
 returns-clause-reach c = λ none empty.
-    given_takes (SpellsFuncs c.args.config.now c.args.types.now.types) (λ _. c.push_funcs.new.funcs) (funcs_at c.args.config.now c.args.types.now.types c.args.funcs.now) _ _ c.push_funcs.result
-    (λ funcs piece after h. funcs_read _ _ _ funcs piece after none empty h) c.push_funcs.ensures.exact
+    returned_so c.push_funcs.result (takes_if_read {Spelled = SpellsFuncs c.args.config.now c.args.types.now.types} (funcs_at c.args.config.now c.args.types.now.types c.args.funcs.now) (λ funcs piece after h. funcs_read _ _ _ funcs piece after none empty h))
+    c.push_funcs.ensures.exact

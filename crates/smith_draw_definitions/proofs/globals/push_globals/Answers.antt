@@ -2,9 +2,10 @@ use Rattle.std.proofs.Common.{arith}
 use Rattle.std.proofs.Math.Bool.{and-true}
 use Rattle.std.proofs.lemmas.List.{length-take-le}
 use Rattle.smith_bytes.specs.declared.error.Count.TheVariants as counts
-use Rattle.smith_draw_definitions.specs.Definitions.{scope_among}
+use Rattle.smith_draw_consts.proofs.TriedStepLemmas.{refused_with}
+use Rattle.smith_draw_definitions.specs.Definitions.{Global, scope_among}
 use Rattle.smith_draw_definitions.proofs.KeptOfferLemmas.{kept_pushed}
-use Rattle.smith_draw_definitions.proofs.GlobalsLoop.{none_made, define_more, define_stop, define_full, count_is, globals_added}
+use Rattle.smith_draw_definitions.proofs.GlobalsLoop.{none_made, define_more, define_refused, define_stop, define_full, count_is, globals_added}
 use Rattle.smith_draw_definitions.proofs.globals.push_globals.Goals as goal
 
 pub loop-made-init : goal.loop-made-init
@@ -72,3 +73,12 @@ draw_initialised_global-requires-clause-kept c =
     let visible = and-true c.args.config.now.gc_enabled in
     let seen = length-take-le c.args.imported_globals c.args.globals.now c.requires.imported in
     rw (c.as_slice.ensures, visible, ← seen) c.loop-made.invariant.kept
+
+pub returns-in_err-global-clause-exact : goal.returns-in_err-global-clause-exact
+returns-in_err-global-clause-exact c =
+    let visible = and-true c.args.config.now.gc_enabled in
+    let seen = length-take-le c.args.imported_globals c.args.globals.now c.requires.imported in
+    refused_with {X = Global} (λ drawn. (drawn, c.draw_initialised_global.new.u)) _ c.in_err-global.field-0.0 _ _ c.from_residual.result c.in_err-global.ensures.exact
+    (λ refused. define_refused c.loop-made.invariant.defining (rw (c.saturating_sub-made-end.ensures, c.len-before.ensures) at c.loop-made-test.true) (rw (c.saturating_sub-least.ensures, c.len-before.ensures) at c.goes_on.ensures.exact) c.if-not-goes_on.false
+    (rw (c.as_slice.ensures, visible, ← seen) at refused))
+    c.from_residual.ensures.1

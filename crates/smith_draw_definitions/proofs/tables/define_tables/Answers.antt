@@ -4,6 +4,7 @@ use Rattle.smith_types.specs.Entities.{IsTableValid}
 use Rattle.smith_config.specs.Features.{features_of}
 use Rattle.smith_config.specs.EntityBounds.{IsTableWithin}
 use Rattle.smith_draw_definitions.specs.Defined.{scope_of_spaces}
+use Rattle.smith_draw_consts.proofs.TriedStepLemmas.{returned_so}
 use Rattle.smith_draw_definitions.proofs.DefinedTableLemmas.{tables_fill, several_tables, tables_added, tables_all, tables_no_float, no_table_taken}
 use Rattle.smith_draw_definitions.proofs.tables.define_tables.Goals as goal
 
@@ -12,11 +13,11 @@ push_tables-pushed-requires-clause-kept c = c.new-kept.ensures _
 
 pub returns-clause-filled : goal.returns-clause-filled
 returns-clause-filled c =
-    on_ok_weaker c.push_tables-pushed.result (tables_fill c.args.config.now (scope_of_spaces c.args.spaces.now) _ _ _ _ _ _ (c.requires.may.passes.ordered Tables tt)) c.push_tables-pushed.ensures.exact
+    returned_so c.push_tables-pushed.result (tables_fill c.args.config.now (scope_of_spaces c.args.spaces.now) _ _ _ _ _ _ (c.requires.may.passes.ordered Tables tt)) c.push_tables-pushed.ensures.exact
 
 pub returns-clause-several : goal.returns-clause-several
 returns-clause-several c = λ stood.
-    on_ok_weaker c.push_tables-pushed.result
+    returned_so c.push_tables-pushed.result
     (λ exact. several_tables c.args.config.now _ _ c.requires.may.sanitized stood (tables_fill c.args.config.now (scope_of_spaces c.args.spaces.now) _ _ _ _ _ _ (c.requires.may.passes.ordered Tables tt) exact))
     c.push_tables-pushed.ensures.exact
 
@@ -31,4 +32,4 @@ pub returns-clause-floats : goal.returns-clause-floats
 returns-clause-floats c = λ calm before. on_ok_weaker c.push_tables-pushed.result (tables_no_float calm before) c.push_tables-pushed.ensures.drawn
 
 pub returns-clause-none : goal.returns-clause-none
-returns-clause-none c = λ least none. on_ok_weaker c.push_tables-pushed.result (no_table_taken c.args.config.now (scope_of_spaces c.args.spaces.now) _ _ _ _ _ _ least none) c.push_tables-pushed.ensures.exact
+returns-clause-none c = λ least none. returned_so c.push_tables-pushed.result (no_table_taken c.args.config.now (scope_of_spaces c.args.spaces.now) _ _ _ _ _ _ least none) c.push_tables-pushed.ensures.exact

@@ -1,5 +1,7 @@
+use Rattle.smith_draw_consts.proofs.TriedStepLemmas.{refused_with}
 use Rattle.smith_draw_definitions.specs.Defined.{scope_of_spaces}
-use Rattle.smith_draw_definitions.proofs.DefinedTablesLoop.{tables_start, tables_go, tables_stop, tables_full}
+use Rattle.smith_draw_definitions.specs.Definitions.{Table}
+use Rattle.smith_draw_definitions.proofs.DefinedTablesLoop.{tables_start, tables_go, tables_refused, tables_stop, tables_full}
 use Rattle.smith_draw_definitions.proofs.tables.push_tables.Goals as goal
 
 pub loop-made-init : goal.loop-made-init
@@ -29,4 +31,11 @@ returns-clause-exact c =
     tables_full c.loop-made.invariant.defining (rw (c.saturating_sub-most.ensures, count) at c.loop-made-test.false) (rw count at c.discard_past_maximum.ensures.exact)
 
 pub returns-in_err-push-clause-left : goal.returns-in_err-push-clause-left
-returns-in_err-push-clause-left c = λ whole is. c.in_ok-table.ensures.left whole (c.goes_on.ensures.left whole (c.loop-made.invariant.defining.defining.growing.left whole is))
+returns-in_err-push-clause-left c = λ whole is. c.in_ok-table.ensures.left whole (c.goes_on.ensures.left whole (c.loop-made.invariant.defining.defining.trying.left whole is))
+
+pub returns-in_err-table-clause-exact : goal.returns-in_err-table-clause-exact
+returns-in_err-table-clause-exact c =
+    let count = c.len-before.ensures in
+    refused_with {X = Table} (λ drawn. (drawn, c.draw_initialised_table.new.u)) _ c.in_err-table.field-0.0 _ _ c.from_residual.result c.in_err-table.ensures.exact
+    (λ refused. tables_refused c.loop-made.invariant.defining (rw (c.saturating_sub-most.ensures, count) at c.loop-made-test.true) (rw (c.saturating_sub-least.ensures, count) at c.goes_on.ensures.exact) c.if-not-goes_on.false refused)
+    c.from_residual.ensures.1

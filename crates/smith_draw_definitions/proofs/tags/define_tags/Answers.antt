@@ -3,7 +3,7 @@ use Rattle.smith_bytes.specs.declared.error.Count.TheVariants.{Tags}
 use Rattle.smith_bytes.specs.Spelling.{SpellsEmpty}
 use Rattle.smith_draw_definitions.specs.Definitions.{tags_at}
 use Rattle.smith_draw_types.specs.SpelledParts.{SpellsNoTag}
-use Rattle.smith_bytes.proofs.StepLemmas.{given_takes}
+use Rattle.smith_draw_consts.proofs.TriedStepLemmas.{takes_if_read, returned_so}
 use Rattle.smith_draw_definitions.proofs.TypedLemmas.{tags_are, tags_enabled, no_tag_read}
 use Rattle.smith_draw_definitions.proofs.tags.define_tags.Goals as goal
 
@@ -18,5 +18,5 @@ returns-clause-enabled c = λ before. on_ok_weaker c.push_tags.result (λ are. t
 
 pub returns-clause-none : goal.returns-clause-none
 returns-clause-none c = λ none empty.
-    given_takes (SpellsEmpty (SpellsNoTag c.args.config.now c.args.types.now.types)) (λ _. c.push_tags.new.tags) (tags_at c.args.config.now c.args.types.now.types c.args.tags.now) _ _ c.push_tags.result
-    (λ tags piece after h. no_tag_read _ _ _ tags piece after none empty h) c.push_tags.ensures.exact
+    returned_so c.push_tags.result (takes_if_read {Spelled = SpellsEmpty (SpellsNoTag c.args.config.now c.args.types.now.types)} (tags_at c.args.config.now c.args.types.now.types c.args.tags.now) (λ tags piece after h. no_tag_read _ _ _ tags piece after none empty h))
+    c.push_tags.ensures.exact

@@ -7,7 +7,7 @@ use Rattle.smith_bytes.proofs.PieceLemmas.{piece_same}
 use Rattle.smith_config.specs.declared.config.Config.{Config}
 use Rattle.smith_config.specs.Faults.{Passes}
 use Rattle.smith_config.specs.Sanitized.{IsSanitized, sanitized}
-use Rattle.smith_bytes.specs.Steps.{Returns, is_lack}
+use Rattle.smith_bytes.specs.Steps.{Returns, is_memory}
 use Rattle.wasm_smith.specs.Build.{IsGiven, as_drawn, module_at}
 use Rattle.wasm_smith.specs.CheckedShapes.{IsFirstFaulty}
 use Rattle.wasm_smith.specs.Generated.{IsFaulted, IsGenerated, is_distinct}
@@ -23,7 +23,7 @@ module _ (distinct : Bool) (given : Config) (bytes : List ℕ) (sound : IsSaniti
       → (Passes (sanitized given) → (AreShapesValid (sanitized given) → ⊥) → IsFirstFaulty (sanitized given) e) → IsGenerated distinct given bytes (Err e) bytes
   refused_undrawn e refused memory fault shape_fault =
       let exact : IsGiven distinct (sanitized given) bytes (Err e) bytes = record {
-        exact = λ may_give. subst (λ (one : Error). Returns is_lack (λ m. (as_drawn m, bytes)) (Err one) (module_at distinct (sanitized given) bytes)) (sym (memory may_give)) tt;
+        exact = λ may_give. subst (λ (one : Error). Returns is_memory (λ m. (as_drawn m, bytes)) (Err one) (module_at distinct (sanitized given) bytes)) (sym (memory may_give)) tt;
       } in
       let needless : AsksNothingImpossible (sanitized given) → e ≡ Memory = λ asked. memory asked.may_give in
       record {
