@@ -248,8 +248,8 @@ pub struct Config {
     /// custom sections.
     pub generate_custom_sections: bool,
 
-    /// The minimum length of an encoded unsigned integer, in bytes. Defaults to 1. Ignored: nothing
-    /// is encoded here.
+    /// The minimum length of an encoded unsigned integer, in bytes, up to five. Defaults to 1. Only
+    /// the bytes of a module in the binary format can depend on it.
     pub min_uleb_size: u8,
 
     /// The maximum number of aliases of a component. Defaults to 1000. Ignored: no components are
