@@ -22,10 +22,11 @@ pub fn choose_select_typed(alloc: Global, wanted: ValType) -> Result<Option<Node
         → IsOffer context set (wanted ∷ []) result }
     ensures memory { IfErr result (λ e. e ≡ Error.Memory) }
 {
+    let types = Items::from_slice(alloc, &[wanted])?;
     let node = plain(
         alloc,
         &[wanted, wanted, ValType::I32],
-        Instr::SelectTyped(Items::from_slice(alloc, &[wanted])?),
+        Instr::SelectTyped(types),
         0,
     )?;
     Ok(Some(node))
