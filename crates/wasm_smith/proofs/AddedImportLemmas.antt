@@ -1,10 +1,14 @@
 -- The state after imports that no shape fixes are added.
-use Rattle.std.proofs.Common.{◌≡◌, Bool, false, List, [], length, inl, inr, refl, sym, ap, subst, arith}
-use Rattle.std.specs.Prelude.{All, IsSome, Option, Some, None, is_some}
+use Rattle.std.proofs.Common.{◌≡◌, ◌∙◌, Bool, false, List, [], length, inl, inr, refl, sym, ap, subst, arith}
+use Rattle.std.specs.Prelude.{ℕ, All, IfErr, IsSome, OnOk, Option, Result, Ok, Err, Some, None, is_some}
+use Rattle.smith_bytes.specs.declared.error.Error.{Error}
 use Rattle.smith_bytes.specs.declared.error.Count.TheVariants as counts
+use Rattle.smith_bytes.specs.declared.error.Why.{Why}
+use Rattle.smith_bytes.specs.Steps.{Returns, ReturnsWhy, is_memory}
+use Rattle.smith_syntax.specs.declared.imports.Imports.{Imports}
 use Rattle.smith_types.specs.Grown.{Extends, AreImportsGrown, AreSpacesGrown}
 use Rattle.smith_types.specs.Expressions.{Context}
-use Rattle.smith_types.specs.Imports.{EntitySpaces, imported_spaces}
+use Rattle.smith_types.specs.Imports.{EntitySpaces, flattened, imported_spaces}
 use Rattle.smith_types.specs.EntitySpaces.{spaces_in}
 use Rattle.smith_types.proofs.ExportGrowthLemmas.{AreExportsValid-grown}
 use Rattle.smith_config.specs.declared.config.Config.{Config}
@@ -14,20 +18,25 @@ use Rattle.smith_config.specs.InUse.{FixesImports}
 use Rattle.smith_config.specs.Sanitized.{IsSanitized}
 use Rattle.smith_types.specs.Floats.{HasNoFloatValue}
 use Rattle.smith_config.specs.Granted.{HasGroundedElements, HasGroundedValue, AreTypesGranted}
-use Rattle.smith_draw_imports.specs.Imported.{IsImported, MayImport}
+use Rattle.smith_draw_imports.specs.Imported.{IsImported, MayImport, MayRefuseImports}
+use Rattle.smith_draw_imports.specs.Importing.{imports_at}
 use Rattle.smith_draw_imports.specs.ImportedEntities.{import_scope}
 use Rattle.smith_draw_types.specs.HeldFields.{HoldsUngroundedField}
 use Rattle.smith_draw_types.proofs.FilledLemmas.{fields_imported}
 use Rattle.smith_draw_imports.proofs.ImportsGrownLemmas.{ungrounded_imported}
 use Rattle.smith_draw_imports.specs.declared.imports_so_far.Imported.{Imported}
-use Rattle.wasm_smith.specs.FirstParts.{module_so_far}
+use Rattle.wasm_smith.specs.Build.{imported_at}
+use Rattle.wasm_smith.specs.DrawnContents.{in_full}
+use Rattle.wasm_smith.specs.FirstParts.{ModuleSoFar, module_so_far}
 use Rattle.smith_module_rules.specs.Bounds.{items_of_shapes}
 use Rattle.wasm_smith.specs.DrawnSteps.{AreImportsDrawn, AreTypesDrawn, HoldsGrounded, IsBeyond, drawn_next}
 use Rattle.wasm_smith.specs.declared.build.parts_so_far.PartsSoFar.{PartsSoFar}
+use Rattle.smith_draw_definitions.specs.RequiredExports.{then_with}
 use Rattle.smith_draw_definitions.proofs.ExtensionLemmas.{all_kept}
 use Rattle.smith_draw_definitions.proofs.DefinedGrowthLemmas.{none_float}
 use Rattle.wasm_smith.proofs.FreelyImportedLemmas.{freely_stands}
 use Rattle.wasm_smith.proofs.GrantedLaterLemmas.{types_later}
+use Rattle.wasm_smith.proofs.ReasonLemmas.{changed_in_full, imports_choose}
 
 -- there is no shape if the test for one is false
 pub none_there : (given : Option Shape) → false ≡ is_some given → given ≡ None
@@ -130,3 +139,22 @@ module _ (config : Config) (drawn : PartsSoFar) (passes : Passes config) (saniti
       spaces = grown;
       exports = λ _. refl;
     }
+
+-- the imports of a module are drawn if no shape fixes them
+pub freely_imported : (distinct : Bool) (config : Config) (so_far : ModuleSoFar) (bytes : List ℕ) → config.module_shape ≡ None → config.available_imports ≡ None
+    → imported_at distinct config so_far bytes ≡ then_with (λ groups. record so_far { groups = groups; spaces = imported_spaces (flattened groups) }) (in_full (imports_at config so_far.types.types distinct bytes))
+unfolding imported_at
+freely_imported distinct config so_far bytes none free = rw (none, free) refl
+
+-- the parts with the imports are those that the bytes produce, or the refusal is theirs
+pub imports_read : {X : Type 0} (distinct : Bool) (config : Config) (drawn : PartsSoFar) (made : Imported) (bytes left : List ℕ) (result : Result X Error) → config.available_imports ≡ None → config.module_shape ≡ None
+    → ReturnsWhy (λ _. (made.groups, left)) result (imports_at config drawn.types.types distinct bytes) → IfErr result (MayRefuseImports config) → OnOk result (IsImported config drawn.types.types distinct made)
+    → Returns is_memory (λ _. (module_so_far (record drawn { imported = made }), left)) result (imported_at distinct config (module_so_far drawn) bytes)
+imports_read distinct config drawn made bytes left (Ok x) free none given may so_far =
+    let with_imports = λ (groups : List Imports). record (module_so_far drawn) { groups = groups; spaces = imported_spaces (flattened groups) } in
+    freely_imported distinct config (module_so_far drawn) bytes none free ∙ (ap (λ (read : Result (List Imports × List ℕ) Why). then_with with_imports (in_full read)) given
+    ∙ ap (λ (spaces : EntitySpaces). Ok (record (module_so_far drawn) { groups = made.groups; spaces = spaces }, left)) (sym so_far.counts.spaces))
+imports_read {X = X} distinct config drawn made bytes left (Err e) free none given may so_far =
+    let with_imports = λ (groups : List Imports). record (module_so_far drawn) { groups = groups; spaces = imported_spaces (flattened groups) } in
+    subst (λ (read : Result (ModuleSoFar × List ℕ) Error). Returns {X = X} is_memory (λ _. (module_so_far (record drawn { imported = made }), left)) (Err e) read) (sym (freely_imported distinct config (module_so_far drawn) bytes none free))
+    (changed_in_full {X = X} with_imports (λ _. made.groups) left (Err e) (imports_at config drawn.types.types distinct bytes) given (imports_choose config e may))

@@ -24,6 +24,7 @@ pub mod NoShapeLemmas
 pub mod NonNullableLemmas
 pub mod PartsLemmas
 pub mod ReachedLemmas
+pub mod ReasonLemmas
 pub mod RefusalLemmas
 pub mod SegmentScopeLemmas
 pub mod ShapeItemLemmas

@@ -1,13 +1,15 @@
 -- The state after the exports of a module are made: those of a module shape, those of a shape for
 -- exports, or drawn ones.
 use Rattle.std.proofs.Common.{◌≡◌, ◌∙◌, ◌⊎◌, ℕ, ◌+◌, ◌<◌, ◌≤◌, ◌^◌, ◌||◌, false, true, List, [], length, inl, inr, refl, subst, sym, ap, arith}
-use Rattle.std.specs.Prelude.{All, IfOk, IfSome, IsSome, IsTrue, Option, Some, None, Result, Ok, Err, is_some, if◌then◌else◌}
+use Rattle.std.specs.Prelude.{All, IfErr, IfOk, IfSome, IsSome, IsTrue, Option, Some, None, Result, Ok, Err, is_some, if◌then◌else◌}
 use Rattle.std.proofs.lemmas.List.Elements.{All-contains}
+use Rattle.std.proofs.lemmas.Result.{IfErr-weaker}
 use Rattle.smith_bytes.specs.declared.error.Count.{Count}
 use Rattle.smith_bytes.specs.declared.error.Count.TheVariants as counts
 use Rattle.smith_bytes.specs.declared.error.Error.{Error}
 use Rattle.smith_bytes.specs.declared.error.Error.TheVariants as errors
 use Rattle.smith_bytes.specs.declared.error.Which.TheVariants as which
+use Rattle.smith_bytes.specs.Steps.{Returns, ReturnsWhy, is_memory}
 use Rattle.smith_bytes.specs.declared.error.Why.TheVariants.{SeveralMemories, SeveralTables}
 use Rattle.smith_types.specs.Grown.{Extends, IsContextGrown, AreSpacesGrown}
 use Rattle.smith_types.specs.Imports.{flattened, imported_spaces}
@@ -29,10 +31,12 @@ use Rattle.smith_draw_types.proofs.FilledLemmas.{ungrounded_before}
 use Rattle.smith_module_rules.specs.ShapeImports.{count_in}
 use Rattle.smith_module_rules.specs.ExportedItems.{Export, exported_size}
 use Rattle.smith_draw_contents.specs.declared.exports_so_far.Exports.{Exports}
+use Rattle.smith_draw_contents.specs.AllExports.{exports_at}
+use Rattle.smith_draw_contents.specs.Exported.{MayRefuseExports}
 use Rattle.smith_draw_contents.proofs.SizedLemmas.{few_sized}
 use Rattle.wasm_smith.specs.FirstParts.{ModuleSoFar, IsOfEntities, StandsSoFar, module_so_far, size_of_imports}
 use Rattle.smith_module_rules.specs.Bounds.{items_of_exports}
-use Rattle.wasm_smith.specs.Build.{size_so_far, exports_of}
+use Rattle.wasm_smith.specs.Build.{exported_at, exported_for, exports_of, size_so_far}
 use Rattle.wasm_smith.specs.Contents.{MayHoldContents}
 use Rattle.smith_draw_definitions.specs.Defined.{StandsAfter, drawn_beside}
 use Rattle.wasm_smith.specs.DrawnSteps.{AreEntitiesDrawn, AreExportsDrawn, HoldsGrounded, IsBeyond, MayGoOn, drawn_next}
@@ -47,6 +51,7 @@ use Rattle.smith_draw_definitions.proofs.StandsAfterLemmas.{defined_end}
 use Rattle.wasm_smith.proofs.GrantedLaterLemmas.{elements_later, globals_later, types_later}
 use Rattle.wasm_smith.proofs.LackingLemmas.{shape_granted}
 use Rattle.wasm_smith.proofs.NonNullableLemmas.{holds_or_not}
+use Rattle.wasm_smith.proofs.ReasonLemmas.{changed_in_full, exports_choose}
 use Rattle.wasm_smith.proofs.StandsWholeLemmas.{either_kept, not_types, stands_required, stands_whole}
 
 -- a shape for exports is used if there is no module shape
@@ -227,3 +232,21 @@ nothing_beyond config drawn exports same = exports_beyond config drawn exports (
 pub drawn_beyond : (config : Config) (drawn : PartsSoFar) (made : Result Exports Error) → config.module_shape ≡ None → IfOk made (λ made. IsBeyond config (module_so_far drawn) (record (module_so_far drawn) { exports = made.exports }))
 drawn_beyond config drawn (Ok made) none = exports_beyond config drawn made.exports (λ shaped. let never = subst (λ (one : Option Shape). IsTrue (is_some one)) none shaped in absurd cc)
 drawn_beyond config drawn (Err e) none = tt
+
+-- the exports of a module are drawn if no shape fixes them
+pub freely_exported : (config : Config) (so_far : ModuleSoFar) (bytes : List ℕ) → config.module_shape ≡ None → config.exports ≡ None → exported_at config so_far bytes ≡ exported_for config None None so_far bytes
+unfolding exported_at
+freely_exported config so_far bytes none free =
+    ap (λ (given : Option Shape). exported_for config given config.exports so_far bytes) none ∙ ap (λ (given : Option Shape). exported_for config None given so_far bytes) free
+
+-- the parts with drawn exports are those that the bytes produce, or the refusal is theirs
+pub exports_read : (config : Config) (drawn : PartsSoFar) (bytes left : List ℕ) (result : Result Exports Error) → config.module_shape ≡ None → config.exports ≡ None → StandsSoFar config drawn
+    → ReturnsWhy (λ made. (made.exports, left)) result (exports_at config drawn.types.types (spaces_in drawn.imported.spaces) drawn.imported.type_size bytes) → IfErr result (MayRefuseExports config)
+    → Returns is_memory (λ made. (record (module_so_far drawn) { exports = made.exports }, left)) result (exported_at config (module_so_far drawn) bytes)
+exports_read config drawn bytes left result none free now given may =
+    let read = λ (size : ℕ). exports_at config drawn.types.types (spaces_in drawn.imported.spaces) size bytes in
+    let size = size_so_far config (module_so_far drawn) in
+    let sized : ReturnsWhy (λ made. (made.exports, left)) result (read size) = subst (λ (n : ℕ). ReturnsWhy (λ made. (made.exports, left)) result (read n)) now.type_size given in
+    let with_exports = λ (exports : List Export). record (module_so_far drawn) { exports = exports } in
+    subst (λ (whole : Result (ModuleSoFar × List ℕ) Error). Returns is_memory (λ made. (with_exports made.exports, left)) result whole) (sym (freely_exported config (module_so_far drawn) bytes none free))
+    (changed_in_full with_exports (λ made. made.exports) left result (read size) sized (IfErr-weaker result _ _ (λ e. exports_choose config e) may))

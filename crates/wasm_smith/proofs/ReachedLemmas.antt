@@ -1,7 +1,7 @@
 -- From a source that begins with bytes that spell types and functions, a module with these is
 -- drawn; and if bytes follow that spell globals and passive data, a module with only these in
 -- addition.
-use Rattle.std.proofs.Common.{◌≡◌, ◌∙◌, ℕ, ℤ, Bool, true, false, cond, List, [], ◌∷◌, ◌++◌, length, map, Option, Some, None, refl, ap, subst}
+use Rattle.std.proofs.Common.{◌≡◌, ℕ, ℤ, Bool, true, false, cond, List, [], ◌∷◌, ◌++◌, length, map, Option, Some, None, refl, ap, subst}
 use Rattle.std.specs.Prelude.{Result, Ok, Err, IfOk, IfErr, MatchResult, IsSome, IsSomeAnd, ⊤, ◌==◌}
 use Rattle.smith_bytes.specs.Draws.{bool_at}
 use Rattle.smith_bytes.specs.Spelling.{SpellsAnyByte, Where, Joined, Listed, SpellsNone}
@@ -17,7 +17,6 @@ use Rattle.smith_syntax.specs.declared.entity_type.GlobalType.{GlobalType}
 use Rattle.smith_syntax.specs.declared.const_instr.ConstInstr.{ConstInstr}
 use Rattle.smith_syntax.specs.declared.const_instr.ConstInstr.TheVariants.{I32Const}
 use Rattle.smith_config.specs.declared.config.Config.{Config}
-use Rattle.smith_config.specs.declared.shape.Shape.{Shape}
 use Rattle.smith_config.specs.InUse.{HasNoShapes}
 use Rattle.smith_config.specs.Sanitized.{IsSanitized}
 use Rattle.smith_config.specs.Shapes.{space_of}
@@ -31,7 +30,7 @@ use Rattle.smith_draw_types.specs.SpelledParts.{SpellsNoTag, SpellsFuncs, Spells
 use Rattle.smith_spell.proofs.FamilyFitLemmas.{family_fits}
 use Rattle.wasm_smith.specs.FirstParts.{ModuleSoFar, first_parts_at, nothing_so_far}
 use Rattle.smith_bytes.specs.Steps.{Returns, is_memory, ◌>>=◌, section_flag_at}
-use Rattle.wasm_smith.specs.Build.{IsGiven, as_drawn, size_so_far, first_parts_typed_at, defined_at, exported_at, exported_for, exports_of, functions_so_far, imported_at, module_at, module_of, with_types_at}
+use Rattle.wasm_smith.specs.Build.{IsGiven, as_drawn, size_so_far, first_parts_typed_at, defined_at, exported_at, exported_for, exports_of, functions_so_far, module_at, module_of, with_types_at}
 use Rattle.smith_draw_definitions.specs.Defined.{nothing_defined}
 use Rattle.smith_draw_definitions.specs.Definitions.{defined_in, definitions_at, scope_over, tables_at, memories_at, globals_at}
 use Rattle.wasm_smith.specs.DrawnContents.{segment_scope, all_segments_at, after_exports_at, in_full}
@@ -45,11 +44,12 @@ use Rattle.smith_draw_definitions.specs.RequiredExports.{then_with}
 use Rattle.smith_draw_contents.specs.AllExports.{exports_at}
 use Rattle.smith_module_rules.specs.ExportedItems.{Export}
 use Rattle.smith_draw_contents.specs.declared.exports_so_far.Exports.{Exports}
-use Rattle.smith_draw_imports.specs.Importing.{imports_at}
 use Rattle.wasm_smith.specs.declared.build.contents.Contents.{Contents}
 use Rattle.smith_draw_definitions.specs.declared.definitions.Definitions.{Definitions}
 use Rattle.smith_draw_definitions.proofs.DefinedMemoryLemmas.{no_memory_read}
 use Rattle.smith_draw_definitions.proofs.DefinedTableLemmas.{no_table_read}
+use Rattle.wasm_smith.proofs.AddedImportLemmas.{freely_imported}
+use Rattle.wasm_smith.proofs.MadeExportsLemmas.{freely_exported}
 use Rattle.wasm_smith.proofs.NoShapeLemmas.{no_shapes_valid, none_used}
 use Rattle.smith_draw_contents.proofs.ElementCountLemmas.{elements_none}
 use Rattle.smith_draw_contents.proofs.ExportRefusalLemmas.{exports_free, no_export_read}
@@ -117,17 +117,6 @@ types_alone : (config : Config) (bytes : List ℕ) → HasNoShapes config → fi
 unfolding first_parts_typed_at first_parts_at
 types_alone config bytes none = rw (none.module_shape, none.available_imports) refl
 
--- without shapes neither imports nor exports are fixed
-freely_imported : (distinct : Bool) (config : Config) (so_far : ModuleSoFar) (bytes : List ℕ) → HasNoShapes config
-    → imported_at distinct config so_far bytes ≡ then_with (λ groups. record so_far { groups = groups; spaces = imported_spaces (flattened groups) }) (in_full (imports_at config so_far.types.types distinct bytes))
-unfolding imported_at
-freely_imported distinct config so_far bytes none = rw (none.module_shape, none.available_imports) refl
-
-freely_exported : (config : Config) (so_far : ModuleSoFar) (bytes : List ℕ) → HasNoShapes config → exported_at config so_far bytes ≡ exported_for config None None so_far bytes
-unfolding exported_at
-freely_exported config so_far bytes none =
-    ap (λ (given : Option Shape). exported_for config given config.exports so_far bytes) none.module_shape ∙ ap (λ (given : Option Shape). exported_for config None given so_far bytes) none.exports
-
 entities_defined : (config : Config) (groups : List (List SubType)) (funcs piece after : List ℕ) → HasNoMinimums config → Joined (SpellsNoTag config (space_of groups).types) (SpellsFuncs config (space_of groups).types funcs) piece
     → defined_at config (with_entities groups (nothing, nothing_defined)) (piece ++ after) ≡ then_with (λ made. with_entities groups made) (after_funcs_at config (space_of groups).types funcs after)
 unfolding defined_at
@@ -151,7 +140,7 @@ member_read distinct config groups funcs piece after sanitized none least member
         types_alone config (piece ++ after) none,
         joined_parts h after,
         types_read config (functions_so_far config nothing_so_far) refl groups h.first (h.second ++ after) sanitized (least counts.Types) (family_fits config groups funcs member) h.is_first,
-        freely_imported distinct config (with_entities groups (nothing, nothing_defined)) (h.second ++ after) none,
+        freely_imported distinct config (with_entities groups (nothing, nothing_defined)) (h.second ++ after) none.module_shape none.available_imports,
         joined_parts imports after,
         no_import_read config types distinct imports.first (imports.second ++ after) (least counts.Imports) imports.is_first,
         joined_parts flag after,
@@ -182,7 +171,7 @@ member_reached distinct config groups funcs piece after sanitized none least mem
     (λ drawn same.
     let so_far = with_entities groups drawn.0 in
     let ended = member_ended config groups drawn.0 read.0 (exports_at config so_far.types.types so_far.spaces (size_so_far config so_far) drawn.1) in
-    rw (freely_exported config so_far drawn.1 none) (subst (λ (those : List ℕ). IfOk (exported_for config None None so_far drawn.1 >>= λ (exported : ModuleSoFar × List ℕ). whole_at config read.0 exported.0 exported.1) (λ (made : ModuleParts × List ℕ). HasMember groups those made.0)) same ended)))
+    rw (freely_exported config so_far drawn.1 none.module_shape none.exports) (subst (λ (those : List ℕ). IfOk (exported_for config None None so_far drawn.1 >>= λ (exported : ModuleSoFar × List ℕ). whole_at config read.0 exported.0 exported.1) (λ (made : ModuleParts × List ℕ). HasMember groups those made.0)) same ended)))
 
 -- contents have these passive data, and no export, start or element segment
 record IsBare (passive : List (List ℕ)) (contents : Contents) : Type 0 where
@@ -275,7 +264,7 @@ no_export_made : (config : Config) (so_far : ModuleSoFar) (piece after : List �
 no_export_made config so_far piece after none least some h =
     let size = size_so_far config so_far in
     rw (
-      freely_exported config so_far (piece ++ after) none,
+      freely_exported config so_far (piece ++ after) none.module_shape none.exports,
       exports_free config so_far.types.types so_far.spaces size (piece ++ after) some,
       no_export_read config so_far.types.types so_far.spaces size [] piece after (least counts.Exports) (record { none = refl; spelled = h }),
     ) refl

@@ -101,6 +101,33 @@ fn copied()
         ) }
 {}
 
+// No constant expression has the type of the elements.
+#[tactic(auto, unfolding(smith_draw_contents::specs::ElementSegments::all_element_segments_at, smith_draw_contents::specs::ElementSegments::element_segments_at, smith_draw_contents::specs::ElementSegments::element_segment_at, smith_draw_contents::specs::ElementSegments::element_kind_at, smith_draw_contents::specs::ElementSegments::table_offset_at, smith_draw_contents::specs::ElementSegments::is_global_wanted_at, smith_draw_contents::specs::ElementSegments::constant_offset_at, smith_draw_contents::specs::ElementSegments::hint_at, smith_draw_contents::specs::ElementSegments::item_type_at, smith_draw_contents::specs::ElementSegments::items_at, smith_draw_contents::specs::ElementSegments::expressions_at, smith_draw_contents::specs::ElementSegments::drawn_expressions_at, smith_draw_contents::specs::ElementSegments::expression_item_at, smith_draw_contents::specs::ElementSegments::element_kinds_at, smith_draw_contents::specs::ElementSegments::table_kinds_at, smith_draw_contents::specs::ElementSegments::is_offered_at, smith_draw_contents::specs::ElementSegments::are_functions_at, smith_draw_types::specs::Offsets::offset_at, smith_draw_types::specs::Limits::gradually_at, smith_draw_types::specs::Limits::gradual, smith_draw_types::specs::Limits::sixth_power, smith_draw_types::specs::Limits::scaled, smith_draw_types::specs::MatchingTypes::references_offered, smith_draw_types::specs::MatchingTypes::matching_ref_type_at, smith_draw_types::specs::MatchingTypes::matching_heap_type_at, smith_draw_types::specs::Offered::subtypes_offered, smith_draw_types::specs::Choices::chosen_at, smith_draw_consts::specs::TriedLists::try_grow_at, smith_draw_consts::specs::ConstExprs::expression_alone_at, smith_draw_consts::specs::ConstExprs::expression_at, smith_draw_consts::specs::ConstOffers::offers, smith_bytes::specs::Draws::choose_at, smith_bytes::specs::Draws::whole_at, smith_bytes::specs::Draws::bool_at, smith_bytes::specs::Draws::range_at, smith_bytes::specs::Draws::digit_count))]
+fn lacking()
+    ensures of_an_item { all_element_segments_at (record default_config {
+      gc_enabled = false;
+      disallow_traps = true;
+      min_elements = 1;
+      max_element_segments = 1;
+    }) (table_scope default_config (beside_globals []))
+        (table (not_null (plain heap.Extern)) 5 None ∷ []) (1 ∷ 2 ∷ 0 ∷ 0 ∷ 0 ∷ 0 ∷ 9 ∷ [])
+        ≡ Err errors.EmptyChoose }
+    ensures of_no_item { all_element_segments_at (record default_config {
+      gc_enabled = false;
+      disallow_traps = true;
+      max_element_segments = 1;
+    }) (table_scope default_config (beside_globals []))
+        (table (not_null (plain heap.Extern)) 5 None ∷ []) (1 ∷ 2 ∷ 0 ∷ 0 ∷ 0 ∷ 0 ∷ 0 ∷ 9 ∷ [])
+        ≡ Ok (
+          record {
+            kind = element_kind.Active (Some 0) (Const32 (pos 0));
+            ty = not_null (plain heap.Extern);
+            items = Expressions [];
+          } ∷ [],
+          9 ∷ [],
+        ) }
+{}
+
 fn enough()
     ensures as_many { HasItems (record default_config { min_elements = 1 }) [] []
         (Functions (0 ∷ [])) }

@@ -8,7 +8,7 @@ use Rattle.smith_draw_definitions.proofs.StandsAfterLemmas.{defined_end}
 use Rattle.wasm_smith.specs.FirstParts.{ModuleSoFar}
 use Rattle.wasm_smith.proofs.ContentsLemmas.{may_draw_exports}
 use Rattle.wasm_smith.proofs.RefusalLemmas.{exports_refuse}
-use Rattle.wasm_smith.proofs.MadeExportsLemmas.{exports_used, exports_free, none_given, stands_already, may_hold_contents, required_size, may_require, types_room, required_refuses, required_drawn, required_beyond, drawn_beyond, nothing_beyond}
+use Rattle.wasm_smith.proofs.MadeExportsLemmas.{exports_used, exports_free, exports_read, none_given, stands_already, may_hold_contents, required_size, may_require, types_room, required_refuses, required_drawn, required_beyond, drawn_beyond, nothing_beyond}
 use Rattle.wasm_smith.proofs.build.exports.make_exports.Goals as goal
 
 pub returns-then-is_some-clause-beyond : goal.returns-then-is_some-clause-beyond
@@ -72,6 +72,11 @@ arbitrary_exports-requires c =
           (may_hold_contents c.args.config.now c.args.drawn.now c.requires.passes c.requires.sanitized c.requires.valid (stands_already c.args.config.now c.args.drawn.now c.requires.entities))
           (exports_free c.args.config.now none c.in_default.is);
     }
+
+pub returns-clause-exact : goal.returns-clause-exact
+returns-clause-exact c =
+    let draw = c.arbitrary_exports.ensures in
+    exports_read c.args.config.now c.args.drawn.now c.args.u.now c.arbitrary_exports.new.u c.arbitrary_exports.result (none_given c.args.config.now.module_shape cc) c.in_default.is c.requires.entities.may.so_far draw.exact draw.refusal
 
 pub returns-clause-beyond : goal.returns-clause-beyond
 returns-clause-beyond c = drawn_beyond c.args.config.now c.args.drawn.now c.arbitrary_exports.result (none_given c.args.config.now.module_shape cc)

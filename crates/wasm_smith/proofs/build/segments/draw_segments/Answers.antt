@@ -1,14 +1,15 @@
-use Rattle.std.proofs.Common.{subst, arith}
+use Rattle.std.proofs.Common.{true, subst, arith}
 use Rattle.std.specs.Prelude.{All}
 use Rattle.smith_types.specs.Expressions.{Context}
 use Rattle.smith_types.specs.Segments.{IsElementSegmentValid, IsDataValid}
 use Rattle.wasm_smith.specs.DrawnContents.{imported_in}
 use Rattle.wasm_smith.proofs.ContentsLemmas.{may_draw_elements, spaces_valid, memories_few}
+use Rattle.smith_draw_consts.specs.ConstScopes.{seen_by}
 use Rattle.smith_draw_consts.proofs.ConstStepLemmas.{passed_on}
 use Rattle.smith_draw_imports.specs.Imported.{spaces_of}
 use Rattle.smith_draw_definitions.specs.Defined.{drawn_beside}
 use Rattle.wasm_smith.proofs.RefusalLemmas.{elements_refuse, none_lacks}
-use Rattle.wasm_smith.proofs.SegmentScopeLemmas.{seen_over}
+use Rattle.wasm_smith.proofs.SegmentScopeLemmas.{data_refused, elements_refused, seen_over}
 use Rattle.wasm_smith.proofs.build.segments.draw_segments.Goals as goal
 
 pub arbitrary_elements-requires-clause-may : goal.arbitrary_elements-requires-clause-may
@@ -56,3 +57,25 @@ returns-clause-grounded c = λ each.
     let context = drawn_beside c.args.config.now c.args.types.now.types (spaces_of c.args.imported.now) c.args.definitions.now in
     let grounded = rw (over.types, over.funcs, over.imported_funcs, over.tables, c.len.ensures) at c.in_ok-elems.ensures.grounded in
     grounded (none_lacks c.args.config.now context (spaces_of c.args.imported.now).tables each)
+
+pub returns-in_err-elems-clause-exact : goal.returns-in_err-elems-clause-exact
+returns-in_err-elems-clause-exact c =
+    let config = c.args.config.now in
+    let imported = c.args.imported.now in
+    let spaces = c.segment_spaces-spaces.result in
+    let over = c.segment_spaces-spaces.ensures in
+    let scope = seen_over (imported_in imported) config over (omega (arith, c.requires.told.funcs, c.len.ensures)) (omega (arith, c.requires.told.globals, c.len-2.ensures, c.len-3.ensures)) in
+    elements_refused _ config c.args.types.now.types (imported_in imported) (spaces_of imported) (seen_by config spaces true) spaces.entities.tables.now c.args.u.now c.arbitrary_elements.new.u c.from_residual.result c.in_err-elems.field-0.0 scope over.tables
+    c.in_err-elems.ensures.exact c.from_residual.ensures.1
+
+pub returns-in_err-data_segments-clause-exact : goal.returns-in_err-data_segments-clause-exact
+returns-in_err-data_segments-clause-exact c =
+    let config = c.args.config.now in
+    let imported = c.args.imported.now in
+    let spaces = c.segment_spaces-spaces.result in
+    let over = c.segment_spaces-spaces.ensures in
+    let elems = c.in_ok-elems.ensures in
+    let data_segments = c.in_err-data_segments.ensures in
+    let scope = seen_over (imported_in imported) config over (omega (arith, c.requires.told.funcs, c.len.ensures)) (omega (arith, c.requires.told.globals, c.len-2.ensures, c.len-3.ensures)) in
+    data_refused _ config c.args.types.now.types (imported_in imported) (spaces_of imported) (seen_by config spaces true) spaces.entities.tables.now spaces.entities.memories.now c.args.u.now c.arbitrary_elements.new.u c.arbitrary_data.new.u c.in_ok-elems.elems
+    c.from_residual-in_err-data_segments.result c.in_err-data_segments.field-0.0 scope over.tables over.memories elems.exact data_segments.exact data_segments.refusal c.from_residual-in_err-data_segments.ensures.1

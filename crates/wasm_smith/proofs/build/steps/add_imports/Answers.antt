@@ -2,7 +2,7 @@ use Rattle.std.proofs.Common.{sym, subst}
 use Rattle.std.proofs.lemmas.Result.{on_ok_weaker, IfErr-weaker}
 use Rattle.smith_types.specs.Expressions.{Context}
 use Rattle.smith_draw_types.specs.KeptGrounds.{AreKeptGrounds}
-use Rattle.wasm_smith.proofs.AddedImportLemmas.{imports_beyond, imports_drawn, in_scope, may_import, none_there}
+use Rattle.wasm_smith.proofs.AddedImportLemmas.{imports_beyond, imports_drawn, imports_read, in_scope, may_import, none_there}
 use Rattle.wasm_smith.proofs.RefusalLemmas.{imports_refuse}
 use Rattle.wasm_smith.proofs.build.steps.add_imports.Goals as goal
 
@@ -16,6 +16,13 @@ arbitrary_imports-requires-clause-kept c =
     let config = c.args.config.now in
     subst (λ (context : Context). AreKeptGrounds context c.args.grounds.now)
     (sym (in_scope config c.args.drawn.now c.requires.passes c.requires.sanitized c.requires.types (none_there config.available_imports c.if-is_some.ensures) (none_there config.module_shape c.if-is_some-2.ensures) c.args.drawn.now.imported)) c.requires.grounds
+
+pub returns-clause-exact : goal.returns-clause-exact
+returns-clause-exact c =
+    let config = c.args.config.now in
+    let draw = c.arbitrary_imports.ensures in
+    imports_read c.args.distinct config c.args.drawn.now c.arbitrary_imports.new.imported c.args.u.now c.arbitrary_imports.new.u c.arbitrary_imports.result (none_there config.available_imports c.if-is_some.ensures)
+    (none_there config.module_shape c.if-is_some-2.ensures) draw.exact draw.refusal draw.so_far
 
 pub returns-clause-grounds : goal.returns-clause-grounds
 returns-clause-grounds c =
