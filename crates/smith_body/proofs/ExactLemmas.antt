@@ -1,6 +1,6 @@
 -- The drawn instructions are those that the bytes produce, one part after another.
 use Rattle.std.proofs.Common.{◌≡◌, ℕ, zero, suc, ◌+◌, ◌-◌, ◌%◌, ◌<◌, ◌≤◌, Bool, true, false, List, [], ◌∷◌, ◌++◌, Option, Some, None, length, get_or, replicate, take, drop, drop-cons, refl, sym, ap, ◌∙◌, arith}
-use Rattle.std.specs.Prelude.{option_to_list, ◌==◌}
+use Rattle.std.specs.Prelude.{option_to_list, nat_le, ◌==◌}
 use Rattle.std.proofs.lemmas.Bool.{ne_eqb}
 use Rattle.smith_bytes.specs.Draws.{range_at}
 use Rattle.smith_config.specs.declared.config.Config.{Config}
@@ -10,7 +10,7 @@ use Rattle.smith_instr.specs.declared.control.BlockType.{BlockType}
 use Rattle.smith_instr.specs.declared.control.Catch.{Catch}
 use Rattle.smith_instr.specs.declared.instr.Instr.{Instr}
 use Rattle.smith_instr.specs.declared.instr.Instr.TheVariants as instr
-use Rattle.smith_body.specs.Bodies.{Drawing, State, begun, body_at, drawing_at, dropped, enclosed_at, ended, ended_by, ending_at, head_at, inside_at, leaf_in, node_at, results_at, statement_at, statements_within, value_at, values_at, written}
+use Rattle.smith_body.specs.Bodies.{Drawing, State, begun, body_at, drawing_at, dropped, enclosed_at, ended, ended_by, ending_at, head_at, inside_at, interval, leaf_in, node_at, results_at, statement_at, statements_within, value_at, values_at, written}
 use Rattle.smith_body_choices.specs.Choices.{allowed_choice_at, ending_choice_at, statement_choice_at}
 use Rattle.smith_body.specs.DraftSteps.{IsDrawn, IsEnded, IsOpened, IsWritten, state_of}
 use Rattle.smith_body_leaves.specs.Leaves.{leaf_at}
@@ -231,40 +231,33 @@ without_budget statement (suc most) s none = let test : (s.budget == 0) ≡ true
 pub none_left : (statement : State → State) (whole : Bool × State) (s : State) → s.budget ≡ 0 → AreLeft statement whole s → whole ≡ (false, s)
 none_left statement whole s none all = all.same ∙ without_budget statement all.most s none
 
-one_statement : (statement : State → State) (most number : ℕ) (s : State) (left : List ℕ) → 0 < s.budget → s.budget ≤ most → range_at 0 127 s.bytes ≡ (number, left) → ¬ (number ≡ 124) → 0 < number % 4
+one_statement : (statement : State → State) (most number : ℕ) (s : State) (left : List ℕ) → 0 < s.budget → s.budget ≤ most → range_at 0 255 s.bytes ≡ (number, left) → 0 < number % interval (length s.context.labels) s.budget
     → statements_within statement most s ≡ statements_within statement (most - 1) (statement (record s { bytes = left }))
-one_statement statement zero number s left paid few drawn other more = absurd (omega arith)
-one_statement statement (suc most) number s left paid few drawn other more =
+one_statement statement zero number s left paid few drawn more = absurd (omega arith)
+one_statement statement (suc most) number s left paid few drawn more =
     let less : suc most - 1 ≡ most = omega arith in
-    rw (less, not_zero s.budget paid, drawn, ne_eqb number 124 other, not_zero (number % 4) more) refl
+    rw (less, not_zero s.budget paid, drawn, not_zero (number % interval (length s.context.labels) s.budget) more) refl
 
-ending_statement : (statement : State → State) (most : ℕ) (s : State) (left : List ℕ) → 0 < s.budget → s.budget ≤ most → range_at 0 127 s.bytes ≡ (124, left) → statements_within statement most s ≡ (true, record s { bytes = left })
-ending_statement statement zero s left paid few drawn = absurd (omega arith)
-ending_statement statement (suc most) s left paid few drawn = rw (not_zero s.budget paid, drawn) refl
+last_statement : (statement : State → State) (most number : ℕ) (s : State) (left : List ℕ) → 0 < s.budget → s.budget ≤ most → range_at 0 255 s.bytes ≡ (number, left) → number % interval (length s.context.labels) s.budget ≡ 0
+    → statements_within statement most s ≡ (nat_le 248 number, record s { bytes = left })
+last_statement statement zero number s left paid few drawn none = absurd (omega arith)
+last_statement statement (suc most) number s left paid few drawn none =
+    let test : (number % interval (length s.context.labels) s.budget == 0) ≡ true = ap (λ (n : ℕ). n == 0) none in
+    rw (not_zero s.budget paid, drawn, test) refl
 
-last_statement : (statement : State → State) (most number : ℕ) (s : State) (left : List ℕ) → 0 < s.budget → s.budget ≤ most → range_at 0 127 s.bytes ≡ (number, left) → ¬ (number ≡ 124) → number % 4 ≡ 0
-    → statements_within statement most s ≡ (false, record s { bytes = left })
-last_statement statement zero number s left paid few drawn other none = absurd (omega arith)
-last_statement statement (suc most) number s left paid few drawn other none =
-    let test : (number % 4 == 0) ≡ true = ap (λ (n : ℕ). n == 0) none in
-    rw (not_zero s.budget paid, drawn, ne_eqb number 124 other, test) refl
-
-pub one_less : (statement : State → State) (whole : Bool × State) (s t : State) (number : ℕ) (left : List ℕ) → 0 < s.budget → range_at 0 127 s.bytes ≡ (number, left) → ¬ (number ≡ 124) → 0 < number % 4
+pub one_less : (statement : State → State) (whole : Bool × State) (s t : State) (number : ℕ) (left : List ℕ) → 0 < s.budget → range_at 0 255 s.bytes ≡ (number, left) → 0 < number % interval (length s.context.labels) s.budget
     → statement (record s { bytes = left }) ≡ t → t.budget < s.budget → AreLeft statement whole s → AreLeft statement whole t
-one_less statement whole s t number left paid drawn other more is less all =
+one_less statement whole s t number left paid drawn more is less all =
     let few = all.few in
     record {
       most = all.most - 1;
       few = omega arith;
-      same = all.same ∙ (one_statement statement all.most number s left paid all.few drawn other more ∙ ap (λ (s : State). statements_within statement (all.most - 1) s) is);
+      same = all.same ∙ (one_statement statement all.most number s left paid all.few drawn more ∙ ap (λ (s : State). statements_within statement (all.most - 1) s) is);
     }
 
-pub ending_next : (statement : State → State) (whole : Bool × State) (s : State) (left : List ℕ) → 0 < s.budget → range_at 0 127 s.bytes ≡ (124, left) → AreLeft statement whole s → whole ≡ (true, record s { bytes = left })
-ending_next statement whole s left paid drawn all = all.same ∙ ending_statement statement all.most s left paid all.few drawn
-
-pub stopped : (statement : State → State) (whole : Bool × State) (s : State) (number : ℕ) (left : List ℕ) → 0 < s.budget → range_at 0 127 s.bytes ≡ (number, left) → ¬ (number ≡ 124) → number % 4 ≡ 0
-    → AreLeft statement whole s → whole ≡ (false, record s { bytes = left })
-stopped statement whole s number left paid drawn other none all = all.same ∙ last_statement statement all.most number s left paid all.few drawn other none
+pub stopped : (statement : State → State) (whole : Bool × State) (s : State) (number : ℕ) (left : List ℕ) → 0 < s.budget → range_at 0 255 s.bytes ≡ (number, left) → number % interval (length s.context.labels) s.budget ≡ 0
+    → AreLeft statement whole s → whole ≡ (nat_le 248 number, record s { bytes = left })
+stopped statement whole s number left paid drawn none all = all.same ∙ last_statement statement all.most number s left paid all.few drawn none
 
 -- the statements of a depth
 pub last_statements : (config : Config) (depth : ℕ) (s : State) → depth ≡ 0 → (drawing_at config depth).statements s ≡ (false, s)

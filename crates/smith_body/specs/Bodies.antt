@@ -1,5 +1,5 @@
 -- The body that the bytes produce. Rules of this project.
-use Rattle.std.specs.Prelude.{ℕ, zero, suc, ◌-◌, ◌%◌, ◌==◌, not, Bool, true, false, Option, Some, None, option_to_list, List, [], ◌∷◌, ◌++◌, length, replicate, if◌then◌else◌}
+use Rattle.std.specs.Prelude.{ℕ, zero, suc, ◌+◌, ◌-◌, ◌/◌, ◌%◌, ◌==◌, nat_le, not, Bool, true, false, Option, Some, None, option_to_list, List, [], ◌∷◌, ◌++◌, length, replicate, if◌then◌else◌}
 use Rattle.smith_bytes.specs.Draws.{range_at}
 use Rattle.smith_config.specs.declared.config.Config.{Config}
 use Rattle.smith_syntax.specs.declared.value_type.ValType.{ValType}
@@ -106,16 +106,20 @@ statement_at config below s =
     let chosen = statement_choice_at config s.context s.bytes in
     allowed_at config below chosen.0 (record s { bytes = chosen.1 })
 
--- at most `most` statements, until the budget is spent or a drawn number is a multiple of 4: whether
--- it is 124
+-- about how many statements a draw goes on for, by the number of labels and the budget: the more,
+-- the more of the budget is left, and inside a block about a third of it
+unfoldable pub interval : ℕ → ℕ → ℕ
+interval labels budget = if labels == 1 then 4 + budget / 4 else 4 + budget / 3
+
+-- at most `most` statements, until the budget is spent or a drawn number is a multiple of the
+-- interval: whether it is 248 or more
 abbrev pub statements_within : (State → State) → ℕ → State → Bool × State
 statements_within statement zero s = (false, s)
 statements_within statement (suc most) s =
-    let number = range_at 0 127 s.bytes in
+    let number = range_at 0 255 s.bytes in
     let next = record s { bytes = number.1 } in
     if s.budget == 0 then (false, s)
-    else if number.0 == 124 then (true, next)
-    else if number.0 % 4 == 0 then (false, next)
+    else if number.0 % interval (length s.context.labels) s.budget == 0 then (nat_le 248 number.0, next)
     else statements_within statement most (statement next)
 
 -- the node that was chosen as an ending, if one was and it is allowed

@@ -6,8 +6,8 @@ ghost use Rattle.smith_syntax.specs.declared.value_type.ValType.TheVariants.{I32
 ghost use Rattle.smith_instr.specs.Contexts.{AreBelow, AreValid, IsBlockType, IsValid};
 ghost use Rattle.smith_instr.specs.InstrTypes.{IsCatch};
 ghost use Rattle.smith_instr.specs.declared.instr.Instr.TheVariants as instr;
-ghost use Rattle.smith_body.specs.Bodies.{drawing_at, enclosed_at, head_at, inside_at, node_at};
-ghost use Rattle.smith_body.specs.Bodies.{results_at, statement_at, values_at, written};
+ghost use Rattle.smith_body.specs.Bodies.{drawing_at, enclosed_at, head_at, inside_at, interval};
+ghost use Rattle.smith_body.specs.Bodies.{node_at, results_at, statement_at, values_at, written};
 ghost use Rattle.smith_body.specs.DraftSteps.{IsDrawn, state_of};
 ghost use Rattle.smith_body_nodes.specs.Nodes.{AreSidesValid, HasHeadType, IsHeadAllowed};
 ghost use Rattle.smith_body_nodes.specs.Nodes.{IsHeadValid, IsNode, IsNodeAllowed, MayOpen};
@@ -423,7 +423,7 @@ fn draw_statement(
 }
 
 /// Draws instructions that leave the stack unchanged, until the budget is spent or a number drawn
-/// from 0 to 127 is a multiple of 4. Returns whether it is 124.
+/// from 0 to 255 is a multiple of [`interval`]. Returns whether it is 248 or more.
 #[cycle(body)]
 fn draw_statements(
     alloc: Global,
@@ -446,14 +446,24 @@ fn draw_statements(
         return Ok(false);
     }
     while draft.budget > 0 {
-        let number = u.int_in_range(0..=127u8);
-        if number == 124 {
-            return Ok(true);
-        }
-        if number % 4 == 0 {
-            return Ok(false);
+        let number = u.int_in_range(0..=255usize);
+        if number % interval(draft) == 0 {
+            return Ok(number >= 248);
         }
         draw_statement(alloc, scope, depth, draft, u)?;
     }
     Ok(false)
+}
+
+/// Returns about how many statements a draw goes on for: the more, the more of the budget is left,
+/// and inside a block about a third of it.
+#[tactic(auto, unfolding(crate::specs::Bodies::interval))]
+fn interval(draft: &Draft) -> usize
+    ensures exact { result ≡ interval (length draft.now.labels.items) draft.now.budget }
+    ensures some { 0 < result }
+{
+    if draft.labels.len() == 1 {
+        return 4 + draft.budget / 4;
+    }
+    4 + draft.budget / 3
 }

@@ -1,6 +1,6 @@
 -- The node that the bytes choose. The choices, their order and their weights are rules of this
 -- project.
-use Rattle.std.specs.Prelude.{ℕ, ◌-◌, ◌==◌, Option, Some, None, option_map, List, [], ◌∷◌, length, slice_get, if◌then◌else◌}
+use Rattle.std.specs.Prelude.{ℕ, ◌-◌, ◌==◌, Bool, false, Option, Some, None, option_map, List, [], ◌∷◌, length, slice_get, if◌then◌else◌}
 use Rattle.smith_bytes.specs.Draws.{range_at, choose_at}
 use Rattle.smith_syntax.specs.Features.{Features}
 use Rattle.smith_syntax.specs.declared.value_type.ValType.{ValType}
@@ -15,6 +15,8 @@ use Rattle.smith_body_nodes.specs.Nodes.{is_node_allowed, node_of, setting}
 use Rattle.smith_body_nodes.specs.Offered.{chunk_at, function_at, is_callable, is_local_below, is_mutable, offered}
 use Rattle.smith_body_nodes.specs.ReferenceChoices.{reference_value_at, select_typed_node}
 use Rattle.smith_body_nodes.specs.Scopes.{indexed}
+use Rattle.smith_body_nodes.specs.declared.node.Head.{Head}
+use Rattle.smith_body_nodes.specs.declared.node.Head.TheVariants as head
 use Rattle.smith_body_nodes.specs.declared.node.Node.{Node}
 use Rattle.smith_body_nodes.specs.NumericChoices.{numeric_at, select_node}
 use Rattle.smith_body_tables.specs.BulkChoices.{bulk_at}
@@ -341,7 +343,21 @@ statement_of config context statement.FieldWrite bytes = field_write_at context 
 statement_of config context statement.CastBranch bytes = cast_branch_at context bytes
 statement_of config context statement.Try bytes = any_try_at context bytes
 
-unfoldable pub statement_choice_at : Config → BodyContext → List ℕ → Node × List ℕ
-statement_choice_at config context bytes =
+unfoldable pub any_statement_at : Config → BodyContext → List ℕ → Node × List ℕ
+any_statement_at config context bytes =
     let family = chosen_at statement.Nop statement_families bytes in
     or_nop (statement_of config context family.0 family.1)
+
+-- a node is allowed, and isn't `nop`
+abbrev pub is_kept_head : Features → Config → Node → Head → Bool
+is_kept_head features config node (head.Plain instr.Nop) = false
+is_kept_head features config node _ = is_node_allowed features config node
+
+abbrev pub is_kept : Features → Config → Node → Bool
+is_kept features config node = is_kept_head features config node node.head
+
+-- a choice that isn't kept is made once more
+unfoldable pub statement_choice_at : Config → BodyContext → List ℕ → Node × List ℕ
+statement_choice_at config context bytes =
+    let first = any_statement_at config context bytes in
+    if is_kept context.features config first.0 then first else any_statement_at config context first.1

@@ -1,10 +1,12 @@
 ghost use Rattle.std.specs.Prelude.{◌≡◌, ◌<◌, List, [], ◌∷◌, length, IfOk, IfErr, IfSome};
 ghost use Rattle.smith_bytes.specs.Source.{KeepsPieces};
+ghost use Rattle.smith_syntax.specs.FeatureBits.{features_in};
 ghost use Rattle.smith_syntax.specs.declared.value_type.ValType.{ValType as Val};
 ghost use Rattle.smith_instr.specs.Contexts.{AreValid, IsValid};
-ghost use Rattle.smith_body_choices.specs.Choices.{allowed_choice_at, any_call_at, call_at, drop_at};
-ghost use Rattle.smith_body_choices.specs.Choices.{dropped_at, ending_choice_at, ending_value_at};
-ghost use Rattle.smith_body_choices.specs.Choices.{global_set_at, set_at, statement_choice_at};
+ghost use Rattle.smith_body_choices.specs.Choices.{allowed_choice_at, any_call_at, any_statement_at};
+ghost use Rattle.smith_body_choices.specs.Choices.{call_at, drop_at, dropped_at, ending_choice_at};
+ghost use Rattle.smith_body_choices.specs.Choices.{ending_value_at, global_set_at, is_kept, set_at};
+ghost use Rattle.smith_body_choices.specs.Choices.{statement_choice_at};
 ghost use Rattle.smith_body_choices.specs.Choices.{tee_at, value_choice_at};
 ghost use Rattle.smith_body_nodes.specs.Chosen.{or_nop};
 ghost use Rattle.smith_body_nodes.specs.Nodes.{IsNode, IsNodeAllowed, IsOffer};
@@ -30,7 +32,7 @@ use smith_body_memory::{
     choose_store_lane, choose_vector, choose_vector_store,
 };
 use smith_body_nodes::{
-    Draft, Node, Scope, choose_callable, choose_local, choose_mutable, choose_numeric,
+    Draft, Head, Node, Scope, choose_callable, choose_local, choose_mutable, choose_numeric,
     choose_reference_value, choose_select, choose_select_typed, function_of, indexed_count,
     is_node_allowed, plain, setter,
 };
@@ -235,7 +237,7 @@ fn choose_call(
     Ok(Some(node))
 }
 
-/// Chooses a node that leaves no value.
+/// Chooses a node that leaves no value. A choice that is `nop` or is not allowed is made once more.
 pub fn choose_statement(
     alloc: Global,
     scope: &Scope<'_>,
@@ -246,6 +248,39 @@ pub fn choose_statement(
     requires labels { AreLabels scope.now draft.now.labels.items }
     ensures exact { IfOk result (λ node.
         statement_choice_at scope.now.config.now (where_stands scope.now draft.now) u.old
+        ≡ (node, u.new)) }
+    ensures node { IfOk result (IsNode (where_stands scope.now draft.now) draft.now.set.items []) }
+    ensures memory { IfErr result (λ e. e ≡ Error.Memory) }
+    ensures left { KeepsPieces u.old u.new }
+{
+    let first = choose_any_statement(alloc, scope, draft, u)?;
+    if is_kept(scope, &first) {
+        return Ok(first);
+    }
+    choose_any_statement(alloc, scope, draft, u)
+}
+
+/// Returns whether a node is allowed, and is not `nop`.
+fn is_kept(scope: &Scope<'_>, node: &Node) -> bool
+    ensures { result ≡ is_kept (features_in scope.now.features) scope.now.config.now node.now }
+{
+    if let Head::Plain(Instr::Nop) = &node.head {
+        return false;
+    }
+    is_node_allowed(scope, node)
+}
+
+/// Chooses a node that leaves no value.
+fn choose_any_statement(
+    alloc: Global,
+    scope: &Scope<'_>,
+    draft: &Draft,
+    u: &mut Unstructured<'_>,
+) -> Result<Node, Error>
+    requires scope { IsScope (bare scope.now) }
+    requires labels { AreLabels scope.now draft.now.labels.items }
+    ensures exact { IfOk result (λ node.
+        any_statement_at scope.now.config.now (where_stands scope.now draft.now) u.old
         ≡ (node, u.new)) }
     ensures node { IfOk result (IsNode (where_stands scope.now draft.now) draft.now.set.items []) }
     ensures memory { IfErr result (λ e. e ≡ Error.Memory) }

@@ -7,7 +7,7 @@ use Rattle.smith_bytes.specs.Draws.{choose_at, range_at}
 use Rattle.smith_bytes.proofs.DrawnLemmas.{range_within}
 use Rattle.smith_syntax.specs.declared.value_type.ValType.{ValType}
 use Rattle.smith_instr.specs.Contexts.{BodyContext}
-use Rattle.smith_body_control.specs.BranchChoices.{some_targets_at, targets_at}
+use Rattle.smith_body_control.specs.BranchChoices.{some_targets_at, target_count_at, targets_at}
 use Rattle.smith_body_nodes.specs.Offered.{is_target, label_count, offered}
 use Rattle.smith_body_nodes.proofs.ChosenLemmas.{choose_none}
 use Rattle.smith_body_nodes.proofs.RepeatLemmas.{AreDrawnSoFar, all_turns, no_turn, one_turn}
@@ -56,5 +56,5 @@ targets_stop context taken count turns start done bytes left drawn so_far =
     ∙ (ap (λ (targets : List ℕ). (targets, bytes)) (append-nil done) ∙ ap (λ (b : List ℕ). (done, b)) same))
 
 -- the number of targets is drawn first
-pub targets_by : (context : BodyContext) (taken : List ValType) (bytes start left targets : List ℕ) (count : ℕ) → range_at 0 7 bytes ≡ (count, start) → targets_at context taken count start ≡ (targets, left) → some_targets_at context taken bytes ≡ (targets, left)
+pub targets_by : (context : BodyContext) (taken : List ValType) (bytes start left targets : List ℕ) (count : ℕ) → target_count_at bytes ≡ (count, start) → targets_at context taken count start ≡ (targets, left) → some_targets_at context taken bytes ≡ (targets, left)
 targets_by context taken bytes start left targets count drawn is = ap (λ (r : ℕ × List ℕ). targets_at context taken r.0 r.1) drawn ∙ is

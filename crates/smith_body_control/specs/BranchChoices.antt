@@ -1,6 +1,6 @@
 -- The branch that the bytes choose. The choices, their order and their weights are rules of this
 -- project.
-use Rattle.std.specs.Prelude.{ℕ, zero, suc, ◌-◌, ◌==◌, Option, Some, None, option_map, option_to_list, List, [], ◌∷◌, ◌++◌, length, slice_get, if◌then◌else◌}
+use Rattle.std.specs.Prelude.{ℕ, zero, suc, ◌-◌, ◌/◌, ◌==◌, Option, Some, None, option_map, option_to_list, List, [], ◌∷◌, ◌++◌, length, slice_get, if◌then◌else◌}
 use Rattle.smith_bytes.specs.Draws.{bool_at, range_at, choose_at}
 use Rattle.smith_syntax.specs.declared.value_type.ValType.{ValType}
 use Rattle.smith_syntax.specs.declared.value_type.ValType.TheVariants.{I32}
@@ -48,9 +48,14 @@ targets_at context taken (suc count) bytes =
     let more = targets_at context taken count label.1 in
     (option_to_list label.0 ++ more.0, more.1)
 
--- at most seven such labels
+-- their number: at most 7, and one of sixteen times at most 63
+unfoldable pub target_count_at : List ℕ → ℕ × List ℕ
+target_count_at bytes =
+    let number = range_at 0 15 bytes in
+    if number.0 == 15 then range_at 0 63 number.1 else (number.0 / 2, number.1)
+
 abbrev pub some_targets_at : BodyContext → List ValType → List ℕ → List ℕ × List ℕ
-some_targets_at context taken bytes = let count = range_at 0 7 bytes in targets_at context taken count.0 count.1
+some_targets_at context taken bytes = let count = target_count_at bytes in targets_at context taken count.0 count.1
 
 -- a branch to one of several labels, one of which is for every other number: out of the function if
 -- there is no label

@@ -4,7 +4,7 @@ ghost use Rattle.smith_syntax.specs.declared.value_type.ValType.{ValType as Val}
 ghost use Rattle.smith_instr.specs.Contexts.{AreValid};
 ghost use Rattle.smith_instr.specs.InstrTypes.{IsTaken};
 ghost use Rattle.smith_body_control.specs.BranchChoices.{branch_at, leaving_at, some_targets_at};
-ghost use Rattle.smith_body_control.specs.BranchChoices.{table_at};
+ghost use Rattle.smith_body_control.specs.BranchChoices.{table_at, target_count_at};
 ghost use Rattle.smith_body_nodes.specs.Chosen.{or_nop};
 ghost use Rattle.smith_body_nodes.specs.Nodes.{IsNode};
 ghost use Rattle.smith_body_nodes.specs.Scopes.{AreLabels, IsScope, bare, context_of, where_stands};
@@ -64,6 +64,20 @@ pub fn choose_branch(
     conditional(alloc, taken, Instr::BrIf(index as u32), taken.len())
 }
 
+/// Draws the number of labels of a `br_table`, besides that for every other number: at most 7, and
+/// one of sixteen times at most 63.
+#[tactic(auto, unfolding(crate::specs::BranchChoices::target_count_at))]
+fn draw_target_count(u: &mut Unstructured<'_>) -> u8
+    ensures exact { target_count_at u.old ≡ (result, u.new) }
+    ensures left { KeepsPieces u.old u.new }
+{
+    let number = u.int_in_range(0..=15u8);
+    if number == 15 {
+        return u.int_in_range(0..=63u8);
+    }
+    number / 2
+}
+
 fn draw_targets<'a>(
     alloc: Global,
     scope: &'a Scope<'a>,
@@ -80,7 +94,7 @@ fn draw_targets<'a>(
     ensures memory { IfErr result (λ e. e ≡ Error.Memory) }
     ensures left { KeepsPieces u.old u.new }
 {
-    let count = u.int_in_range(0..=7u8);
+    let count = draw_target_count(u);
     let mut targets = Items::new(alloc);
     for _ in 0..count {
         let Some(label) = choose_target(scope, labels, taken, u) else {

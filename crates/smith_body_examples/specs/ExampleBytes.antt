@@ -22,11 +22,11 @@ trapless = record default_config { disallow_traps = true }
 
 -- the bytes from which an instruction without operands is an i32 constant
 abbrev pub narrow : ℕ → List ℕ
-narrow n = 4 ∷ n ∷ 0 ∷ 0 ∷ 0 ∷ []
+narrow n = 4 ∷ 3 ∷ n ∷ 0 ∷ 0 ∷ 0 ∷ []
 
 -- the bytes from which an instruction without operands is an i64 constant
 abbrev pub wide : ℕ → List ℕ
-wide n = 4 ∷ n ∷ 0 ∷ 0 ∷ 0 ∷ 0 ∷ 0 ∷ 0 ∷ 0 ∷ []
+wide n = 4 ∷ 3 ∷ n ∷ 0 ∷ 0 ∷ 0 ∷ 0 ∷ 0 ∷ 0 ∷ 0 ∷ []
 
 abbrev pub wide_number : ℕ → Instr
 wide_number n = instr.I64Const (pos n)

@@ -71,7 +71,7 @@ fn alone()
           [],
         ) }
     ensures branch_out_of_it { body_at default_config
-        (function_of [] []) 2 (1 ∷ 7 ∷ 5 ∷ 0 ∷ 0 ∷ narrow 1 ++ (124 ∷ 0 ∷ 0 ∷ 0 ∷ []))
+        (function_of [] []) 2 (1 ∷ 7 ∷ 5 ∷ 0 ∷ 0 ∷ narrow 1 ++ (252 ∷ 0 ∷ 0 ∷ 0 ∷ []))
         ≡ (number 1 ∷ instr.If (block.Func 0) ∷ instr.Br 0 ∷ instr.End ∷ [], []) }
 {
     with_an_else();

@@ -20,8 +20,8 @@ fn budget()
               ∷ instr.Numeric (numeric.I32Unary Clz) ∷ [],
           [],
         ) }
-    ensures none_is_left { body_at default_config (function_of [] []) 2 (1 ∷ 0 ∷ 1 ∷ 0 ∷ 1 ∷ 0 ∷ [])
+    ensures none_is_left { body_at default_config (function_of [] []) 2 (1 ∷ 0 ∷ 0 ∷ 1 ∷ 0 ∷ 0 ∷ 1 ∷ 0 ∷ [])
         ≡ (instr.Nop ∷ instr.Nop ∷ [], 1 ∷ 0 ∷ []) }
-    ensures not_spent { ¬ (body_at default_config (function_of [] []) 2 (1 ∷ 0 ∷ 1 ∷ 0 ∷ 1 ∷ 0 ∷ [])
+    ensures not_spent { ¬ (body_at default_config (function_of [] []) 2 (1 ∷ 0 ∷ 0 ∷ 1 ∷ 0 ∷ 0 ∷ 1 ∷ 0 ∷ 0 ∷ [])
         ≡ (instr.Nop ∷ instr.Nop ∷ instr.Nop ∷ [], [])) }
 {}

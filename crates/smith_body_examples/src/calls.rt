@@ -1,4 +1,4 @@
-#![tactic(auto, unfolding(smith_body_control::specs::CallChoices::by_reference_at, smith_body_control::specs::CallChoices::indirect_at, smith_body_control::specs::CallChoices::return_call_at, smith_body_control::specs::CallChoices::tail_call_at, smith_body_choices::specs::Choices::statement_choice_at, smith_body_choices::specs::Choices::value_choice_at, smith_body_nodes::specs::Offered::chunk_at, smith_body_nodes::specs::Offered::offered, smith_draw_types::specs::Below::is_heap_below, smith_draw_types::specs::Choices::chosen_at, smith_bytes::specs::Draws::choose_at, smith_bytes::specs::Draws::digit_count, smith_bytes::specs::Draws::range_at))]
+#![tactic(auto, unfolding(smith_body_control::specs::CallChoices::by_reference_at, smith_body_control::specs::CallChoices::indirect_at, smith_body_control::specs::CallChoices::return_call_at, smith_body_control::specs::CallChoices::tail_call_at, smith_body_choices::specs::Choices::any_statement_at, smith_body_choices::specs::Choices::statement_choice_at, smith_body_choices::specs::Choices::value_choice_at, smith_body_nodes::specs::Offered::chunk_at, smith_body_nodes::specs::Offered::offered, smith_body_nodes::specs::Scopes::is_permitted, smith_instr::specs::Enabled::is_enabled, smith_draw_types::specs::Below::is_heap_below, smith_draw_types::specs::Choices::chosen_at, smith_bytes::specs::Draws::choose_at, smith_bytes::specs::Draws::digit_count, smith_bytes::specs::Draws::range_at))]
 
 ghost use Rattle.std.specs.Prelude.{◌≡◌, Some, None, [], ◌∷◌};
 ghost use Rattle.smith_types.specs.ExampleTypes.{nullable};
@@ -27,7 +27,7 @@ fn through_tables()
         (holding (externals ∷ wide_functions ∷ [])) (18 ∷ 0 ∷ 5 ∷ [])
         ≡ (node_of (I64 ∷ []) (instr.CallIndirect 1 0) 0, 5 ∷ []) }
     ensures no_table_of_functions { statement_choice_at default_config (holding (externals ∷ []))
-        (18 ∷ 0 ∷ 5 ∷ [])
+        (18 ∷ 0 ∷ 18 ∷ 0 ∷ 5 ∷ [])
         ≡ (node_of [] instr.Nop 0, 5 ∷ []) }
 {}
 
@@ -39,7 +39,7 @@ fn by_references()
     ensures without_gc { value_choice_at default_config (unmanaged (calling [])) I32 (20 ∷ 1 ∷ [])
         ≡ (None, 1 ∷ []) }
     ensures without_reference_types { statement_choice_at default_config
-        (without_references (calling [])) (19 ∷ 1 ∷ [])
+        (without_references (calling [])) (19 ∷ 19 ∷ 1 ∷ [])
         ≡ (node_of [] instr.Nop 0, 1 ∷ []) }
 {}
 

@@ -37,10 +37,10 @@ fn kinds()
     ensures none { body_at (of_kinds no_kind) (function_of [] (I32 ∷ I64 ∷ [])) 5 []
         ≡ (instr.Unreachable ∷ instr.Unreachable ∷ [], []) }
     ensures no_statement { body_at (of_kinds (kinds_of NumericInt))
-        (function_of [] (I32 ∷ [])) 1 (1 ∷ 3 ∷ narrow 7)
+        (function_of [] (I32 ∷ [])) 1 (1 ∷ 3 ∷ 3 ∷ narrow 7)
         ≡ (number 7 ∷ [], []) }
     ensures nothing_is_dropped { body_at (of_kinds (kinds_of Control)) (calling []) 1
-        (1 ∷ 5 ∷ 1 ∷ wide 5)
+        (1 ∷ 5 ∷ 1 ∷ 5 ∷ 1 ∷ wide 5)
         ≡ ([], wide 5) }
 {}
 

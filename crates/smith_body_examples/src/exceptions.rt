@@ -14,20 +14,20 @@ ghost use Rattle.smith_body_examples.specs.ExampleBytes.{without_exceptions};
 
 fn throws()
     ensures exception_of_a_tag { body_at default_config
-        (function_of [] []) 1 (124 ∷ 4 ∷ 1 ∷ narrow 5)
+        (function_of [] []) 1 (252 ∷ 4 ∷ 1 ∷ narrow 5)
         ≡ (number 5 ∷ instr.Throw 0 ∷ [], []) }
     ensures for_a_value { body_at default_config (function_of [] (I64 ∷ [])) 1
         (0 ∷ 12 ∷ 7 ∷ 4 ∷ 1 ∷ narrow 5)
         ≡ (number 5 ∷ instr.Throw 0 ∷ [], []) }
     ensures without_its_value { ¬ (body_at default_config (function_of [] []) 1
-        (124 ∷ 4 ∷ 1 ∷ narrow 5) ≡ (instr.Throw 0 ∷ [], narrow 5)) }
+        (252 ∷ 4 ∷ 1 ∷ narrow 5) ≡ (instr.Throw 0 ∷ [], narrow 5)) }
     ensures no_tag { body_at default_config (record (function_of [] []) { tags = [] }) 1
-        (124 ∷ 4 ∷ 1 ∷ [])
+        (252 ∷ 4 ∷ 1 ∷ [])
         ≡ ([], []) }
     ensures no_tag_for_a_value { body_at default_config
         (record (function_of [] (I64 ∷ [])) { tags = [] }) 1 (0 ∷ 12 ∷ 7 ∷ 4 ∷ 1 ∷ wide 5)
         ≡ (wide_number 5 ∷ [], []) }
-    ensures by_reference { body_at default_config (function_of [] []) 1 (124 ∷ 4 ∷ 0 ∷ 4 ∷ [])
+    ensures by_reference { body_at default_config (function_of [] []) 1 (252 ∷ 4 ∷ 0 ∷ 4 ∷ [])
         ≡ (instr.Reference (reference.Null exn) ∷ instr.ThrowRef ∷ [], []) }
 {}
 
@@ -87,10 +87,10 @@ fn labels()
 {}
 
 fn features()
-    ensures no_throw { body_at default_config (without_exceptions []) 1 (124 ∷ 4 ∷ 1 ∷ narrow 5)
+    ensures no_throw { body_at default_config (without_exceptions []) 1 (252 ∷ 4 ∷ 1 ∷ narrow 5)
         ≡ ([], narrow 5) }
     ensures no_throw_of_a_reference { body_at default_config (without_exceptions []) 1
-        (124 ∷ 4 ∷ 0 ∷ [])
+        (252 ∷ 4 ∷ 0 ∷ [])
         ≡ ([], []) }
     ensures no_block { body_at default_config (without_exceptions (I32 ∷ [])) 1
         (0 ∷ 34 ∷ 0 ∷ narrow 5)

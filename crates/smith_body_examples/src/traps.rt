@@ -123,7 +123,7 @@ fn with_traps()
     ensures division { body_at default_config (function_of [] (I32 ∷ [])) 1
         (0 ∷ 1 ∷ 6 ∷ narrow 5 ++ narrow 7)
         ≡ (number 5 ∷ number 7 ∷ instr.Numeric (numeric.I32Binary int_binary.DivS) ∷ [], []) }
-    ensures stop { body_at default_config (function_of [] []) 1 (124 ∷ 7 ∷ [])
+    ensures stop { body_at default_config (function_of [] []) 1 (252 ∷ 7 ∷ [])
         ≡ (instr.Unreachable ∷ [], []) }
     ensures constant_that_is_none { body_at default_config (function_of [] (some_func ∷ [])) 1
         (0 ∷ 0 ∷ 4 ∷ [])
@@ -139,12 +139,12 @@ fn without_traps()
         ≡ (number 5 ∷ number 7 ∷ instr.Numeric (numeric.I32Binary int_binary.Sub) ∷ [], []) }
     ensures call { body_at trapless (function_of [] []) 1 (1 ∷ 5 ∷ 0 ∷ [])
         ≡ (instr.Call 0 ∷ [], []) }
-    ensures stop { body_at trapless (function_of [] []) 1 (124 ∷ 7 ∷ []) ≡ ([], []) }
+    ensures stop { body_at trapless (function_of [] []) 1 (252 ∷ 7 ∷ []) ≡ ([], []) }
     ensures growth { body_at trapless (function_of [] (I32 ∷ [])) 1 (0 ∷ 15 ∷ 1 ∷ narrow 2)
         ≡ (number 2 ∷ instr.Memory (memory.Grow 0) ∷ [], []) }
-    ensures thrown { body_at trapless (function_of [] []) 1 (124 ∷ 4 ∷ 1 ∷ narrow 5)
+    ensures thrown { body_at trapless (function_of [] []) 1 (252 ∷ 4 ∷ 1 ∷ narrow 5)
         ≡ (number 5 ∷ instr.Throw 0 ∷ [], []) }
-    ensures thrown_again { body_at trapless (function_of [] []) 1 (124 ∷ 4 ∷ 0 ∷ 4 ∷ [])
+    ensures thrown_again { body_at trapless (function_of [] []) 1 (252 ∷ 4 ∷ 0 ∷ 4 ∷ [])
         ≡ ([], 4 ∷ []) }
     ensures block_that_catches { body_at trapless
         (function_of [] (I32 ∷ [])) 1 (0 ∷ 34 ∷ 0 ∷ narrow 5)

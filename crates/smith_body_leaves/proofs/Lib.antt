@@ -5,5 +5,6 @@ pub mod LeafChoiceLemmas
 pub mod OtherLemmas
 pub mod SearchLemmas
 pub mod LawLemmas
+pub mod ConstantLemmas
 pub mod ConversionLemmas
 pub mod SingleLemmas

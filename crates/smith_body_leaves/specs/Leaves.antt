@@ -2,8 +2,7 @@
 -- project.
 use Rattle.std.specs.Prelude.{◌≡◌, ℕ, zero, suc, ◌+◌, max, ◌&&◌, Bool, false, true, Option, Some, None, is_some, option_and_then, option_map, option_to_list, unwrap_or, List, [], ◌∷◌, ◌++◌, length, pos, slice_get, if◌then◌else◌}
 use Rattle.std.specs.Option.{option_or}
-use Rattle.std.specs.Int.{cast_signed, w32, w64, w128}
-use Rattle.smith_bytes.specs.Draws.{choose_at, whole_at}
+use Rattle.smith_bytes.specs.Draws.{choose_at}
 use Rattle.smith_config.specs.declared.config.Config.{Config}
 use Rattle.smith_types.specs.Expressions.{field_values, reference_to, unpacked}
 use Rattle.smith_types.specs.Subtyping.{IsValBelow}
@@ -26,6 +25,7 @@ use Rattle.smith_instr.specs.declared.aggregate.AggregateInstr.TheVariants as ag
 use Rattle.smith_instr.specs.declared.instr.Instr.{Instr}
 use Rattle.smith_instr.specs.declared.instr.Instr.TheVariants as instr
 use Rattle.smith_instr.specs.declared.reference.ReferenceInstr.TheVariants as reference
+use Rattle.smith_body_leaves.specs.Constants.{double_at, float_at, integer32_at, integer64_at, vector_at, with_value}
 use Rattle.smith_body_leaves.specs.FirstCreated.{first_created_array, first_created_struct}
 use Rattle.smith_body_nodes.specs.IndexedTypes.{is_created_below, struct_in}
 use Rattle.smith_body_nodes.specs.Chosen.{giving}
@@ -44,11 +44,11 @@ null_or_stop to = if to.nullable then instr.Reference (reference.Null to.heap_ty
 
 -- a constant of a type: the value or the bits that are drawn, or null for a reference
 unfoldable pub constant_instr_at : ValType → List ℕ → Instr × List ℕ
-constant_instr_at I32 bytes = let drawn = whole_at 4 bytes in (instr.I32Const (cast_signed w32 drawn.0), drawn.1)
-constant_instr_at I64 bytes = let drawn = whole_at 8 bytes in (instr.I64Const (cast_signed w64 drawn.0), drawn.1)
-constant_instr_at F32 bytes = let drawn = whole_at 4 bytes in (instr.F32Const drawn.0, drawn.1)
-constant_instr_at F64 bytes = let drawn = whole_at 8 bytes in (instr.F64Const drawn.0, drawn.1)
-constant_instr_at V128 bytes = let drawn = whole_at 16 bytes in (instr.V128Const (cast_signed w128 drawn.0), drawn.1)
+constant_instr_at I32 bytes = with_value instr.I32Const (integer32_at bytes)
+constant_instr_at I64 bytes = with_value instr.I64Const (integer64_at bytes)
+constant_instr_at F32 bytes = with_value instr.F32Const (float_at bytes)
+constant_instr_at F64 bytes = with_value instr.F64Const (double_at bytes)
+constant_instr_at V128 bytes = with_value instr.V128Const (vector_at bytes)
 constant_instr_at (Ref to) bytes = (null_or_stop to, bytes)
 
 -- the instruction of an index that was drawn

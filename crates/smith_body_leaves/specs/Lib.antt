@@ -1,3 +1,4 @@
+pub mod Constants
 pub mod FirstCreated
 pub mod Laws
 pub mod Leaves

@@ -4,6 +4,8 @@
 //! A call that returns a `Result` fails only if an allocation fails.
 #![tactic(auto)]
 
+mod constant_tables;
+mod constants;
 mod creations;
 mod families;
 mod first_created;

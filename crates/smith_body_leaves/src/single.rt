@@ -7,6 +7,7 @@ ghost use Rattle.smith_body_leaves.specs.Leaves.{empty_array, first_constant, fi
 ghost use Rattle.smith_body_leaves.specs.Leaves.{leaf_choice_at, leaf_of};
 ghost use Rattle.smith_body_nodes.specs.Scopes.{IsScope, bare, where_stands};
 
+use crate::constants::{draw_double, draw_float, draw_integer32, draw_integer64, draw_vector};
 use crate::families::{LeafFamily, leaf_families};
 use crate::first_created::{first_created_array, first_created_struct};
 use crate::references::choose_reference;
@@ -207,11 +208,11 @@ fn draw_constant(wanted: ValType, u: &mut Unstructured<'_>) -> Instr
     ensures left { KeepsPieces u.old u.new }
 {
     match wanted {
-        ValType::I32 => Instr::I32Const(u.arbitrary()),
-        ValType::I64 => Instr::I64Const(u.arbitrary()),
-        ValType::F32 => Instr::F32Const(u.arbitrary()),
-        ValType::F64 => Instr::F64Const(u.arbitrary()),
-        ValType::V128 => Instr::V128Const(u.arbitrary()),
+        ValType::I32 => Instr::I32Const(draw_integer32(u)),
+        ValType::I64 => Instr::I64Const(draw_integer64(u)),
+        ValType::F32 => Instr::F32Const(draw_float(u)),
+        ValType::F64 => Instr::F64Const(draw_double(u)),
+        ValType::V128 => Instr::V128Const(draw_vector(u)),
         ValType::Ref(reference) => {
             if reference.nullable {
                 Instr::Reference(ReferenceInstr::Null(reference.heap_type))

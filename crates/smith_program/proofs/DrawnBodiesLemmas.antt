@@ -13,7 +13,7 @@ use Rattle.smith_module_rules.specs.Module.{ModuleParts}
 use Rattle.smith_instr.specs.declared.instr.Instr.{Instr}
 use Rattle.smith_body.specs.Bodies.{body_at}
 use Rattle.smith_program.specs.Bodies.{HasDefinedType, function_context}
-use Rattle.smith_program.specs.DrawnBodies.{bodies_at, bodies_from, defined_func_type, one_at, unless_raw}
+use Rattle.smith_program.specs.DrawnBodies.{bodies_at, bodies_from, budget_at, defined_func_type, one_at, unless_raw}
 use Rattle.smith_program.specs.declared.program.Body.{Body}
 use Rattle.smith_program.specs.declared.program.Body.TheVariants as body
 
@@ -68,7 +68,7 @@ raw_drawn m place given raw bytes read is code at =
     ap (λ (i : Instructions). unless_raw m place code i bytes) is'
 
 function_drawn : (m : ModuleParts) (place : ℕ) (code : Code) (instructions : Instructions) (function : FuncType) (drawn : List Instr) (bytes left : List ℕ) → ¬ IsRaw instructions → defined_func_type m place ≡ Some function
-    → body_at m.config (function_context m function code.locals) m.config.max_instructions bytes ≡ (drawn, left) → unless_raw m place code instructions bytes ≡ (body.Drawn drawn, left)
+    → body_at m.config (function_context m function code.locals) (budget_at m place bytes) bytes ≡ (drawn, left) → unless_raw m place code instructions bytes ≡ (body.Drawn drawn, left)
 function_drawn m place code (Arbitrary raw) function drawn bytes left not_raw there exact = absurd (not_raw tt)
 function_drawn m place code Unreachable function drawn bytes left not_raw there exact = rw (there, exact) refl
 
@@ -76,9 +76,18 @@ defined_there : (m : ModuleParts) (place : ℕ) (function : FuncType) → HasDef
 defined_there m place function (index, here, (t, at, is)) = rw (here, at, is) refl
 
 pub instructions_drawn : (m : ModuleParts) (place : ℕ) (given : Code) (function : FuncType) (drawn : List Instr) (bytes left : List ℕ) → given ≡ get_or m.code place given → ¬ IsRaw given.instructions → HasDefinedType m place function
-    → body_at m.config (function_context m function given.locals) m.config.max_instructions bytes ≡ (drawn, left) → (code : Code) → slice_get m.code place ≡ Some code → one_at m place code bytes ≡ (body.Drawn drawn, left)
+    → body_at m.config (function_context m function given.locals) (budget_at m place bytes) bytes ≡ (drawn, left) → (code : Code) → slice_get m.code place ≡ Some code → one_at m place code bytes ≡ (body.Drawn drawn, left)
 unfolding one_at
 instructions_drawn m place given function drawn bytes left read not_raw there exact code at =
     let same : given ≡ code = read ∙ get_or_from_slice_get m.code place code given at in
     subst (λ (code : Code). unless_raw m place code code.instructions bytes ≡ (body.Drawn drawn, left)) same
     (function_drawn m place given given.instructions function drawn bytes left not_raw (defined_there m place function there) exact)
+
+-- the budget is at most that of the configuration, and none only if that is
+pub budget_within : (m : ModuleParts) (place : ℕ) (bytes : List ℕ) → budget_at m place bytes ≤ m.config.max_instructions
+unfolding budget_at
+budget_within m place bytes = omega arith
+
+pub budget_some : (m : ModuleParts) (place : ℕ) (bytes : List ℕ) → 0 < m.config.max_instructions → 0 < budget_at m place bytes
+unfolding budget_at
+budget_some m place bytes some = omega arith

@@ -4,6 +4,7 @@ use Rattle.std.specs.Prelude.{All, IsTrue, slice_get}
 use Rattle.std.specs.List.{AllByRecursion as Each}
 use Rattle.std.specs.declared.ops.Range.{Range}
 use Rattle.std.proofs.lemmas.List.Elements.{All-append, All-from_recursion, All-map, recursion_from_All, All-weaker}
+use Rattle.std.proofs.Math.Nat.{mul-le-mul_left}
 use Rattle.std.proofs.lemmas.Option.{slice_get_within, slice_get-get_or, slice_get_read, get_or_from_slice_get}
 use Rattle.smith_syntax.specs.Features.{Features}
 use Rattle.smith_types.specs.GroupedTypes.{GroupedTypes}
@@ -140,3 +141,10 @@ drawn_at m place given function instructions read drawn there typed enabled trap
     let same : given ≡ code = read ∙ get_or_from_slice_get m.code place code given at in
     subst (λ (code : Code). (¬ IsRaw code.instructions) × IsDrawnAt m place code instructions) same
     (drawn, record { body = record { function = function; there = there; typed = typed }; enabled = enabled; trapless = trapless; needed = needed; short = short })
+
+-- a lesser budget allows no more instructions
+pub allowed_by : (length longest results most budget greatest : ℕ) → budget ≤ greatest → length ≤ 1 + longest * (results + most * budget) → length ≤ 1 + longest * (results + most * greatest)
+allowed_by length longest results most budget greatest within short =
+    let inner : most * budget ≤ most * greatest = mul-le-mul_left most within in
+    let outer : longest * (results + most * budget) ≤ longest * (results + most * greatest) = mul-le-mul_left longest (omega arith) in
+    omega arith

@@ -1,5 +1,5 @@
 -- The bodies that the bytes produce, in the order of the draws. Rules of this project.
-use Rattle.std.specs.Prelude.{ℕ, suc, ◌+◌, Option, Some, None, List, [], ◌∷◌, length, slice_get}
+use Rattle.std.specs.Prelude.{ℕ, suc, ◌+◌, ◌-◌, ◌/◌, min, Option, Some, None, List, [], ◌∷◌, length, slice_get}
 use Rattle.smith_syntax.specs.declared.code.Code.{Code}
 use Rattle.smith_syntax.specs.declared.code.Instructions.{Instructions}
 use Rattle.smith_syntax.specs.declared.code.Instructions.TheVariants.{Arbitrary, Unreachable}
@@ -15,17 +15,22 @@ use Rattle.smith_program.specs.declared.program.Body.TheVariants as body
 abbrev pub defined_func_type : ModuleParts → ℕ → Option FuncType
 defined_func_type m place = function_in m.types (slice_get m.funcs (length (module_imports m).funcs + place))
 
--- the body of a function of this type
-abbrev pub body_of : ModuleParts → Code → Option FuncType → List ℕ → Body × List ℕ
-body_of m code (Some function) bytes =
-    let drawn = body_at m.config (function_context m function code.locals) m.config.max_instructions bytes in
+-- the budget of the body of the defined function at a place: 8, and a fifth of its share of the
+-- bytes left, but at most that of the configuration
+unfoldable pub budget_at : ModuleParts → ℕ → List ℕ → ℕ
+budget_at m place bytes = min m.config.max_instructions (8 + length bytes / (length m.code - place) / 5)
+
+-- the body of a function of this type, for a budget
+abbrev pub body_of : ModuleParts → Code → ℕ → Option FuncType → List ℕ → Body × List ℕ
+body_of m code budget (Some function) bytes =
+    let drawn = body_at m.config (function_context m function code.locals) budget bytes in
     (body.Drawn drawn.0, drawn.1)
-body_of m code None bytes = (body.Raw, bytes)
+body_of m code budget None bytes = (body.Raw, bytes)
 
 -- the body of the defined function at a place: raw bytes are kept, and no byte is read for them
 abbrev pub unless_raw : ModuleParts → ℕ → Code → Instructions → List ℕ → Body × List ℕ
 unless_raw m place code (Arbitrary raw) bytes = (body.Raw, bytes)
-unless_raw m place code Unreachable bytes = body_of m code (defined_func_type m place) bytes
+unless_raw m place code Unreachable bytes = body_of m code (budget_at m place bytes) (defined_func_type m place) bytes
 
 unfoldable pub one_at : ModuleParts → ℕ → Code → List ℕ → Body × List ℕ
 one_at m place code bytes = unless_raw m place code code.instructions bytes

@@ -9,7 +9,7 @@ ghost use Rattle.smith_instr.specs.Enabled.{IsEnabled};
 ghost use Rattle.smith_instr.specs.Sequences.{IsBodyTyped};
 ghost use Rattle.smith_program.specs.Bodies.{AreDrawnBodies, HasDefinedType, IsDrawnAt, IsOfBody};
 ghost use Rattle.smith_program.specs.Bodies.{function_context};
-ghost use Rattle.smith_program.specs.DrawnBodies.{bodies_at, one_at};
+ghost use Rattle.smith_program.specs.DrawnBodies.{bodies_at, budget_at, one_at};
 ghost use Rattle.smith_program.specs.Named.{IsNamed};
 ghost use Rattle.smith_body.specs.Bodies.{body_at};
 ghost use Rattle.smith_body_leaves.specs.Leaves.{longest_leaf};
@@ -108,8 +108,20 @@ fn draw_one(
         return Ok(Body::Raw);
     }
     let function = defined_type(module, place);
-    let instructions = draw_instructions(alloc, module, named, function, code, u)?;
+    let budget = budget_at(module, place, u);
+    let instructions = draw_instructions(alloc, module, named, function, code, budget, u)?;
     Ok(Body::Drawn(instructions))
+}
+
+/// Returns the budget of the body of the defined function at `place`: 8, and a fifth of its share of
+/// the bytes left, but at most that of the configuration.
+#[tactic(auto, unfolding(crate::specs::DrawnBodies::budget_at))]
+fn budget_at(module: &Module, place: usize, u: &Unstructured<'_>) -> usize
+    requires inside { place < length «module».now.code }
+    ensures { result ≡ budget_at «module».now place u.now }
+{
+    let share = u.len() / (module.code().len() - place);
+    module.config().max_instructions.min(8 + share / 5)
 }
 
 /// Returns the type of the defined function at `place`.
@@ -134,13 +146,15 @@ fn imported_funcs(module: &Module) -> usize
     module.funcs().len() - module.num_defined_funcs()
 }
 
-/// Draws the instructions of a function of the type `function` with the locals of `code`.
+/// Draws the instructions of a function of the type `function` with the locals of `code`, for
+/// `budget`.
 fn draw_instructions(
     alloc: Global,
     module: &Module,
     named: &Named,
     function: &FuncType,
     code: &Code,
+    budget: usize,
     u: &mut Unstructured<'_>,
 ) -> Result<Items<Instr>, Error>
     requires valid { IsValid «module».now }
@@ -156,18 +170,16 @@ fn draw_instructions(
     ensures enabled { IfOk result
         (All (IsEnabled (module_features «module».now) (kinds_of_bodies «module».now.config))) }
     ensures trapless { IsTrue «module».now.config.disallow_traps → IfOk result (All IsTrapless) }
-    ensures needed { 0 < «module».now.config.max_instructions
-        → IfOk result (HasNeededStops «module».now.config
+    ensures needed { 0 < budget → IfOk result (HasNeededStops «module».now.config
         (function_context «module».now function.now code.now.locals)) }
     ensures short { IfOk result (λ body. length body
         ≤ 1 + longest_leaf «module».now.config «module».now.types
-        * (length function.now.results
-        + most «module».now.types * «module».now.config.max_instructions)) }
+        * (length function.now.results + most «module».now.types * budget)) }
 
     // The draw.
     ensures exact { IfOk result (λ body.
         body_at «module».now.config (function_context «module».now function.now code.now.locals)
-        «module».now.config.max_instructions u.old ≡ (body, u.new)) }
+        budget u.old ≡ (body, u.new)) }
 
     // Refusals and the source.
     ensures refusal { IfErr result (λ e. e ≡ Error.Memory) }
@@ -192,7 +204,7 @@ fn draw_instructions(
         params: function.params.len(),
         results: function.results.as_slice(),
     };
-    draw_body(alloc, &scope, config.max_instructions, u)
+    draw_body(alloc, &scope, budget, u)
 }
 
 fn join_locals(

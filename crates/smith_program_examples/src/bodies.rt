@@ -39,7 +39,7 @@ fn several()
       funcs = 0 ∷ 0 ∷ [];
       num_defined_funcs = 2;
       code = trapping ∷ trapping ∷ [];
-    }) (1 ∷ 0 ∷ 1 ∷ 0 ∷ []) ≡ (body.Drawn (instr.Nop ∷ []) ∷ body.Drawn (instr.Nop ∷ []) ∷ [], []) }
+    }) (1 ∷ 0 ∷ 0 ∷ 1 ∷ 0 ∷ 0 ∷ []) ≡ (body.Drawn (instr.Nop ∷ []) ∷ body.Drawn (instr.Nop ∷ []) ∷ [], []) }
 {}
 
 fn raw_bytes()

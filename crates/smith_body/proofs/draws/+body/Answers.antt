@@ -9,7 +9,7 @@ use Rattle.smith_body.specs.DraftSteps.{state_of}
 use Rattle.smith_body_nodes.proofs.StopLemmas.{node_goes_on}
 use Rattle.smith_body_nodes.specs.Nodes.{IsNode, label_of, opened}
 use Rattle.smith_body_nodes.specs.Scopes.{bare, where_stands}
-use Rattle.smith_body.proofs.ExactLemmas.{all_left, chosen_ending, chosen_statement, chosen_value, deep_statements, drops_written, enclosed_exact, ending_next, forbidden_ending, forbidden_statement, head_enclosed, head_if, head_try, if_exact, inside_exact, last_statements, last_value, next_value, no_ending, no_values, node_exact, none_left, one_less, other_value, plain_exact, results_dead, results_drawn, results_ended, results_still, stopped, unpaid_value}
+use Rattle.smith_body.proofs.ExactLemmas.{all_left, chosen_ending, chosen_statement, chosen_value, deep_statements, drops_written, enclosed_exact, forbidden_ending, forbidden_statement, head_enclosed, head_if, head_try, if_exact, inside_exact, last_statements, last_value, next_value, no_ending, no_values, node_exact, none_left, one_less, other_value, plain_exact, results_dead, results_drawn, results_ended, results_still, stopped, unpaid_value}
 use Rattle.smith_instr.specs.declared.instr.Instr.TheVariants as instr
 use Rattle.smith_body_nodes.proofs.NodeLemmas.{no_valid}
 use Rattle.smith_body.proofs.draws.+body.Goals.{draw_value-then-depth-eq0-via-then-depth-eq0, draw_value-then-depth-eq0-via-else-depth-eq0+then-draft-eq0}
@@ -51,7 +51,7 @@ draw_statements-loop-draft-init t c = record { drawn = drawn_none c.args.scope.n
 pub draw_statements-loop-draft-preserved : goal.draw_statements-loop-draft-preserved
 draw_statements-loop-draft-preserved t c = record {
   drawn = drawn_then c.loop-draft.invariant.drawn c.in_ok-draw_statement.ensures.drawn;
-  rest = one_less (statement_at c.args.scope.now.config.now (drawing_at c.args.scope.now.config.now (c.args.depth - 1))) _ _ _ c.int_in_range-number.result _ (omega arith) (rw (c.new.ensures.start, c.new.ensures.end) at c.int_in_range-number.ensures.exact) c.if-number-eq124.false (omega (arith, c.if-number-eq0.false)) c.in_ok-draw_statement.ensures.exact c.in_ok-draw_statement.ensures.less c.loop-draft.invariant.rest;
+  rest = one_less (statement_at c.args.scope.now.config.now (drawing_at c.args.scope.now.config.now (c.args.depth - 1))) _ _ _ c.int_in_range-number.result _ (omega arith) (rw (c.new.ensures.start, c.new.ensures.end) at c.int_in_range-number.ensures.exact) (rw (← c.interval.ensures.exact) (omega (arith, c.if-number-interval-eq0.false))) c.in_ok-draw_statement.ensures.exact c.in_ok-draw_statement.ensures.less c.loop-draft.invariant.rest;
   labels = labels_kept c.in_ok-draw_statement.ensures.drawn c.loop-draft.invariant.labels;
   kept = λ whole h. c.draw_statement.ensures.left whole (c.int_in_range-number.ensures.left whole (c.loop-draft.invariant.kept whole h));
 }
@@ -109,15 +109,10 @@ draw_values-returns-clause-exact t c = c.loop-value.invariant.exact ∙ no_value
 pub draw_statements-returns-then-depth-eq0-clause-exact : goal.draw_statements-returns-then-depth-eq0-clause-exact
 draw_statements-returns-then-depth-eq0-clause-exact t c = last_statements c.args.scope.now.config.now c.args.depth (state_of c.args.scope.now c.args.draft.now c.args.u.now) (omega arith)
 
-pub draw_statements-returns-then-number-eq124-clause-exact : goal.draw_statements-returns-then-number-eq124-clause-exact
-draw_statements-returns-then-number-eq124-clause-exact t c =
+pub draw_statements-returns-then-number-interval-eq0-clause-exact : goal.draw_statements-returns-then-number-interval-eq0-clause-exact
+draw_statements-returns-then-number-interval-eq0-clause-exact t c =
     deep_statements c.args.scope.now.config.now c.args.depth (state_of c.args.scope.now c.args.draft.now c.args.u.now) (omega arith)
-    ∙ ending_next (statement_at c.args.scope.now.config.now (drawing_at c.args.scope.now.config.now (c.args.depth - 1))) _ _ _ (omega arith) (rw (c.new.ensures.start, c.new.ensures.end, c.if-number-eq124.true) at c.int_in_range-number.ensures.exact) c.loop-draft.invariant.rest
-
-pub draw_statements-returns-then-number-eq0-clause-exact : goal.draw_statements-returns-then-number-eq0-clause-exact
-draw_statements-returns-then-number-eq0-clause-exact t c =
-    deep_statements c.args.scope.now.config.now c.args.depth (state_of c.args.scope.now c.args.draft.now c.args.u.now) (omega arith)
-    ∙ stopped (statement_at c.args.scope.now.config.now (drawing_at c.args.scope.now.config.now (c.args.depth - 1))) _ _ c.int_in_range-number.result _ (omega arith) (rw (c.new.ensures.start, c.new.ensures.end) at c.int_in_range-number.ensures.exact) c.if-number-eq124.false (omega (arith, c.if-number-eq0.true)) c.loop-draft.invariant.rest
+    ∙ stopped (statement_at c.args.scope.now.config.now (drawing_at c.args.scope.now.config.now (c.args.depth - 1))) _ _ c.int_in_range-number.result _ (omega arith) (rw (c.new.ensures.start, c.new.ensures.end) at c.int_in_range-number.ensures.exact) (rw (← c.interval.ensures.exact) (omega (arith, c.if-number-interval-eq0.true))) c.loop-draft.invariant.rest
 
 pub draw_statements-returns-clause-exact : goal.draw_statements-returns-clause-exact
 draw_statements-returns-clause-exact t c = deep_statements c.args.scope.now.config.now c.args.depth (state_of c.args.scope.now c.args.draft.now c.args.u.now) (omega arith) ∙ none_left (statement_at c.args.scope.now.config.now (drawing_at c.args.scope.now.config.now (c.args.depth - 1))) _ _ (omega arith) c.loop-draft.invariant.rest

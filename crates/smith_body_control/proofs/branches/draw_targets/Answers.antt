@@ -7,9 +7,9 @@ use Rattle.smith_body_control.proofs.branches.draw_targets.Goals as goal
 
 pub loop-init : goal.loop-init
 loop-init c = record {
-  drawn = rw c.new-targets.ensures (targets_none (context_of c.args.scope.now c.args.labels.now) c.args.taken.now c.int_in_range-count.result c.int_in_range-count.new.self);
+  drawn = rw c.new-targets.ensures (targets_none (context_of c.args.scope.now c.args.labels.now) c.args.taken.now c.draw_target_count-count.result c.draw_target_count-count.new.u);
   all = rw c.new-targets.ensures (All-nil (IsTaken (context_of c.args.scope.now c.args.labels.now) c.args.taken.now));
-  kept = λ whole h. c.int_in_range-count.ensures.left whole h;
+  kept = λ whole h. c.draw_target_count-count.ensures.left whole h;
 }
 
 pub loop-preserved : goal.loop-preserved
@@ -25,11 +25,11 @@ loop-preserved c =
 pub returns-in_default-clause-exact : goal.returns-in_default-clause-exact
 returns-in_default-clause-exact c =
     let context = context_of c.args.scope.now c.args.labels.now in
-    targets_by context c.args.taken.now c.args.u.now _ _ c.loop.targets c.int_in_range-count.result (rw (c.new.ensures.start, c.new.ensures.end) at c.int_in_range-count.ensures.exact)
+    targets_by context c.args.taken.now c.args.u.now _ _ c.loop.targets c.draw_target_count-count.result c.draw_target_count-count.ensures.exact
     (targets_stop context c.args.taken.now _ c.loop.counter _ c.loop.targets c.loop.u _ c.in_default.ensures.exact c.loop.invariant.drawn)
 
 pub returns-clause-exact : goal.returns-clause-exact
 returns-clause-exact c =
     let context = context_of c.args.scope.now c.args.labels.now in
-    targets_by context c.args.taken.now c.args.u.now _ _ c.loop.targets c.int_in_range-count.result (rw (c.new.ensures.start, c.new.ensures.end) at c.int_in_range-count.ensures.exact)
+    targets_by context c.args.taken.now c.args.u.now _ _ c.loop.targets c.draw_target_count-count.result c.draw_target_count-count.ensures.exact
     (targets_all context c.args.taken.now _ c.loop.counter _ c.loop.targets c.loop.u c.loop-test.false c.loop.invariant.drawn)
