@@ -4,7 +4,6 @@ use Rattle.std.proofs.Common.{◌≡◌, ℕ, zero, suc, ◌+◌, ◌-◌, ◌<�
 use Rattle.std.proofs.lemmas.Bool.{ne_eqb}
 use Rattle.std.proofs.lemmas.Option.{slice_get-get_or, slice_get_past}
 use Rattle.smith_bytes.specs.Draws.{choose_at, range_at}
-use Rattle.smith_syntax.specs.Features.{Features}
 use Rattle.smith_syntax.specs.declared.value_type.ValType.{ValType}
 use Rattle.smith_syntax.specs.declared.value_type.ValType.TheVariants.{I32}
 use Rattle.smith_syntax.specs.declared.composite_type.FuncType.{FuncType}
@@ -18,11 +17,9 @@ use Rattle.smith_body_nodes.specs.Chosen.{or_nop, giving}
 use Rattle.smith_body_nodes.specs.Nodes.{is_node_allowed, node_of, setting}
 use Rattle.smith_body_nodes.specs.Offered.{chunk_at, function_at, is_callable, is_local_below, is_mutable, offered}
 use Rattle.smith_body_nodes.specs.Scopes.{indexed}
-use Rattle.smith_body_nodes.specs.declared.node.Head.{Head}
-use Rattle.smith_body_nodes.specs.declared.node.Head.TheVariants as heads
 use Rattle.smith_body_nodes.specs.declared.node.Node.{Node}
 use Rattle.smith_body_nodes.proofs.ChosenLemmas.{same_item, chosen_by, no_count, no_index}
-use Rattle.smith_body_choices.specs.Choices.{allowed_choice_at, any_call_at, any_call_node, any_statement_at, is_kept, is_kept_head, call_at, call_node, drop_at, dropped_at, dropped_types, ending_choice_at, ending_families, ending_of, ending_value_at, global_set_at, global_set_node, set_at, set_node, statement_choice_at, statement_families, statement_of, tee_at, tee_node, value_choice_at, value_families, value_of}
+use Rattle.smith_body_choices.specs.Choices.{allowed_choice_at, any_call_at, any_call_node, any_statement_at, is_kept, call_at, call_node, drop_at, dropped_at, dropped_types, ending_choice_at, ending_families, ending_of, ending_value_at, global_set_at, global_set_node, set_at, set_node, statement_choice_at, statement_families, statement_of, tee_at, tee_node, value_choice_at, value_families, value_of}
 use Rattle.smith_body_choices.specs.declared.families.EndingFamily.{EndingFamily}
 use Rattle.smith_body_choices.specs.declared.families.EndingFamily.TheVariants as ending
 use Rattle.smith_body_choices.specs.declared.families.StatementFamily.{StatementFamily}
@@ -145,14 +142,6 @@ pub chosen_twice : (config : Config) (context : BodyContext) (bytes left : List 
     → statement_choice_at config context bytes ≡ any_statement_at config context left
 unfolding statement_choice_at
 chosen_twice config context bytes left node drawn refused = rw (drawn, refused) refl
-
--- a node that isn't `nop` is kept if it is allowed
-kept_head : (features : Features) (config : Config) (node : Node) (head : Head) → ¬ (head ≡ heads.Plain instr.Nop) → is_node_allowed features config node ≡ is_kept_head features config node head
-kept_head features config node (heads.Plain instr.Nop) other = absurd (other refl)
-kept_head features config node head other = refl
-
-pub kept_by : (features : Features) (config : Config) (node : Node) → ¬ (node.head ≡ heads.Plain instr.Nop) → is_node_allowed features config node ≡ is_kept features config node
-kept_by features config node other = kept_head features config node node.head other
 
 -- an instruction after which nothing is reached, by its drawn family, and in place of a value
 pub ending_by : (context : BodyContext) (bytes left : List ℕ) (families : List EndingFamily) (drawn_family family : EndingFamily) → families ≡ ending_families → chosen_at ending.Leaving families bytes ≡ (drawn_family, left) → drawn_family ≡ family
