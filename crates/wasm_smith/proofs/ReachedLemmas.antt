@@ -14,6 +14,8 @@ use Rattle.smith_types.specs.Imports.{EntitySpaces, flattened, imported_spaces}
 use Rattle.smith_types.specs.GroupedTypes.{GroupedTypes}
 use Rattle.smith_syntax.specs.declared.composite_type.SubType.{SubType}
 use Rattle.smith_syntax.specs.declared.entity_type.GlobalType.{GlobalType}
+use Rattle.smith_syntax.specs.declared.entity_type.MemoryType.{MemoryType}
+use Rattle.smith_syntax.specs.declared.entity_type.TableType.{TableType}
 use Rattle.smith_syntax.specs.declared.const_instr.ConstInstr.{ConstInstr}
 use Rattle.smith_syntax.specs.declared.const_instr.ConstInstr.TheVariants.{I32Const}
 use Rattle.smith_config.specs.declared.config.Config.{Config}
@@ -73,21 +75,40 @@ flag_read count piece after h = flag_by (count == 0) piece after h
 abbrev nothing : EntitySpaces
 nothing = imported_spaces (flattened [])
 
+-- what draws of tables and of globals produce, with the bytes left
+abbrev TablesRead : Type 0
+TablesRead = (List TableType × List (Option (List ConstInstr))) × List ℕ
+
+abbrev GlobalsRead : Type 0
+GlobalsRead = (List GlobalType × List (ℕ × List ConstInstr)) × List ℕ
+
+abbrev EntitiesRead : Type 0
+EntitiesRead = (EntitySpaces × Definitions) × List ℕ
+
+-- the index spaces and definitions of these functions, tables, memories and globals
+abbrev entities_of : List ℕ → TablesRead → List MemoryType × List ℕ → GlobalsRead → EntitiesRead
+entities_of funcs tables memories globals =
+    let spaces : EntitySpaces = record { tags = []; funcs = funcs; tables = tables.0.0; memories = memories.0; globals = globals.0.0 } in
+    ((spaces, defined_in nothing nothing_defined spaces tables.0.1 globals.0.1), globals.1)
+
+-- the memories and globals that the bytes after tables produce
+abbrev after_tables_at : Config → List SubType → List ℕ → TablesRead → Result EntitiesRead Error
+after_tables_at config types funcs tables =
+    let memories = memories_at config [] tables.1 in
+    globals_at config (scope_over types funcs 0 []) [] [] memories.1 >>= λ (globals : GlobalsRead). Ok (entities_of funcs tables memories globals)
+
 -- the tables, memories and globals that the bytes after functions produce, without imports
-abbrev after_funcs_at : Config → List SubType → List ℕ → List ℕ → Result ((EntitySpaces × Definitions) × List ℕ) Error
-after_funcs_at config types funcs bytes = do
-  let standing = scope_over types funcs 0 []
-  tables ← tables_at config standing [] [] bytes
-  let memories = memories_at config [] tables.1
-  globals ← globals_at config standing [] [] memories.1
-  let spaces : EntitySpaces = record { tags = []; funcs = funcs; tables = tables.0.0; memories = memories.0; globals = globals.0.0 }
-  Ok ((spaces, defined_in nothing nothing_defined spaces tables.0.1 globals.0.1), globals.1)
+abbrev after_funcs_at : Config → List SubType → List ℕ → List ℕ → Result EntitiesRead Error
+after_funcs_at config types funcs bytes = tables_at config (scope_over types funcs 0 []) [] [] bytes >>= after_tables_at config types funcs
 
 -- these are the functions
 same_funcs : (config : Config) (types : List SubType) (funcs bytes : List ℕ) → IfOk (after_funcs_at config types funcs bytes) (λ drawn. drawn.0.0.funcs ≡ funcs)
 same_funcs config types funcs bytes =
-    let Same = λ (drawn : (EntitySpaces × Definitions) × List ℕ). drawn.0.0.funcs ≡ funcs in
-    following Same _ _ (λ tables. following Same _ _ (λ globals. refl))
+    let Same = λ (drawn : EntitiesRead). drawn.0.0.funcs ≡ funcs in
+    let standing = scope_over types funcs 0 [] in
+    following {A = TablesRead} {B = EntitiesRead} {E = Error} Same (tables_at config standing [] [] bytes) (after_tables_at config types funcs) (λ tables.
+    let memories = memories_at config [] tables.1 in
+    following {A = GlobalsRead} {B = EntitiesRead} {E = Error} Same (globals_at config standing [] [] memories.1) (λ (globals : GlobalsRead). Ok (entities_of funcs tables memories globals)) (λ globals. refl {A = List ℕ} {a = funcs}))
 
 definitions_read : (config : Config) (types : List SubType) (funcs piece after : List ℕ) → HasNoMinimums config → Joined (SpellsNoTag config types) (SpellsFuncs config types funcs) piece
     → definitions_at config types nothing nothing_defined (piece ++ after) ≡ after_funcs_at config types funcs after
@@ -128,7 +149,7 @@ mapped_then f (Ok drawn) next = refl
 mapped_then f (Err e) next = refl
 
 member_read : (distinct : Bool) (config : Config) (groups : List (List SubType)) (funcs piece after : List ℕ) → IsSanitized config → HasNoShapes config → HasNoMinimums config → IsInFamily config groups funcs → SpellsMember config groups funcs piece
-    → (flag : Bool) × (module_at distinct config (piece ++ after) ≡ (after_funcs_at config (space_of groups).types funcs after >>= λ (drawn : (EntitySpaces × Definitions) × List ℕ). ending_at config flag (with_entities groups drawn.0) drawn.1))
+    → (flag : Bool) × (module_at distinct config (piece ++ after) ≡ (after_funcs_at config (space_of groups).types funcs after >>= λ (drawn : EntitiesRead). ending_at config flag (with_entities groups drawn.0) drawn.1))
 unfolding module_at SpellsMember
 member_read distinct config groups funcs piece after sanitized none least member h =
     let imports = h.is_second in
@@ -166,7 +187,7 @@ member_reached : (distinct : Bool) (config : Config) (groups : List (List SubTyp
     → IfOk (module_at distinct config (piece ++ after)) (λ drawn. HasMember groups funcs drawn.0)
 member_reached distinct config groups funcs piece after sanitized none least member h =
     let read = member_read distinct config groups funcs piece after sanitized none least member h in
-    rw read.1 (following_so (λ (drawn : (EntitySpaces × Definitions) × List ℕ). drawn.0.0.funcs ≡ funcs) (λ (drawn : ModuleParts × List ℕ). HasMember groups funcs drawn.0) (after_funcs_at config (space_of groups).types funcs after) _
+    rw read.1 (following_so (λ (drawn : EntitiesRead). drawn.0.0.funcs ≡ funcs) (λ (drawn : ModuleParts × List ℕ). HasMember groups funcs drawn.0) (after_funcs_at config (space_of groups).types funcs after) _
     (same_funcs config (space_of groups).types funcs after)
     (λ drawn same.
     let so_far = with_entities groups drawn.0 in
@@ -214,7 +235,7 @@ abbrev Listing : Type 0
 Listing = List GlobalType × List (List ConstInstr)
 
 -- no table and no memory, globals of these numbers, and these bytes left
-record AreNumbered (numbers : List ℤ) (drawn : (EntitySpaces × Definitions) × List ℕ) (after : List ℕ) : Type 0 where
+record AreNumbered (numbers : List ℤ) (drawn : EntitiesRead) (after : List ℕ) : Type 0 where
   tables : drawn.0.0.tables ≡ []
   memories : drawn.0.0.memories ≡ []
   globals : drawn.0.0.globals ≡ map (λ number. mutable_i32) numbers
@@ -222,14 +243,14 @@ record AreNumbered (numbers : List ℤ) (drawn : (EntitySpaces × Definitions) �
   left : drawn.1 ≡ after
 
 -- the globals that were drawn if they and their initialisers are these
-record AreDrawn (listed : Listing) (after : List ℕ) (read : Result ((List GlobalType × List (ℕ × List ConstInstr)) × List ℕ) Error) : Type 0 where
-  drawn : (List GlobalType × List (ℕ × List ConstInstr)) × List ℕ
+record AreDrawn (listed : Listing) (after : List ℕ) (read : Result GlobalsRead Error) : Type 0 where
+  drawn : GlobalsRead
   is : read ≡ Ok drawn
   globals : drawn.0.0 ≡ listed.0
   initials : map (λ (one : ℕ × List ConstInstr). one.1) drawn.0.1 ≡ listed.1
   left : drawn.1 ≡ after
 
-drawn_by : (listed : Listing) (after : List ℕ) (read : Result ((List GlobalType × List (ℕ × List ConstInstr)) × List ℕ) Error)
+drawn_by : (listed : Listing) (after : List ℕ) (read : Result GlobalsRead Error)
     → listed_of read ≡ Ok (listed, after) → AreDrawn listed after read
 drawn_by listed after (Ok drawn) is =
     let same : ((drawn.0.0, map (λ (one : ℕ × List ConstInstr). one.1) drawn.0.1), drawn.1) ≡ (listed, after) = cc in
@@ -242,19 +263,25 @@ drawn_by listed after (Ok drawn) is =
     }
 drawn_by listed after (Err e) is = cc
 
+-- without tables and memories, the entities are the functions and these globals
+entities_are : (config : Config) (types : List SubType) (funcs bytes after_tables after_memories : List ℕ) (globals : GlobalsRead)
+    → tables_at config (scope_over types funcs 0 []) [] [] bytes ≡ Ok (([], []), after_tables) → memories_at config [] after_tables ≡ ([], after_memories)
+    → globals_at config (scope_over types funcs 0 []) [] [] after_memories ≡ Ok globals
+    → after_funcs_at config types funcs bytes ≡ Ok (entities_of funcs (([], []), after_tables) ([], after_memories) globals)
+entities_are config types funcs bytes after_tables after_memories globals no_table no_memory is = rw (no_table, no_memory, is) refl
+
 entities_read : (config : Config) (types : List SubType) (funcs : List ℕ) (numbers : List ℤ) (tables memories globals after : List ℕ) → HasNoMinimums config → SpellsNone config.max_tables tables → SpellsNone config.max_memories memories
     → Listed (SpellsGlobal config) config.max_globals numbers globals
-    → (drawn : (EntitySpaces × Definitions) × List ℕ) × (after_funcs_at config types funcs (tables ++ (memories ++ (globals ++ after))) ≡ Ok drawn) × AreNumbered numbers drawn after
+    → (drawn : EntitiesRead) × (after_funcs_at config types funcs (tables ++ (memories ++ (globals ++ after))) ≡ Ok drawn) × AreNumbered numbers drawn after
 entities_read config types funcs numbers tables memories globals after least no_table no_memory h =
     let standing = scope_over types funcs 0 [] in
     let none = no_table_read config standing [] [] tables (memories ++ (globals ++ after)) (least counts.Tables) refl no_table in
     let no_memories = no_memory_read config [] [] memories (globals ++ after) (least counts.Memories) refl (record { none = refl; spelled = no_memory }) in
     let listed : Listing = (map (λ number. mutable_i32) numbers, map (λ number. I32Const number ∷ []) numbers) in
     let made = drawn_by listed after (globals_at config standing [] [] (globals ++ after)) (listed_read config standing (least counts.Globals) listed globals after (record { numbers = numbers; types = refl; initials = refl; spelled = h })) in
-    let given = made.drawn in
-    let spaces : EntitySpaces = record { tags = []; funcs = funcs; tables = []; memories = []; globals = given.0.0 } in (
-      ((spaces, defined_in nothing nothing_defined spaces [] given.0.1), given.1),
-      rw (none, no_memories, made.is) refl,
+    let given = made.drawn in (
+      entities_of funcs (([], []), memories ++ (globals ++ after)) ([], globals ++ after) given,
+      entities_are config types funcs (tables ++ (memories ++ (globals ++ after))) (memories ++ (globals ++ after)) (globals ++ after) given none no_memories made.is,
       record { tables = refl; memories = refl; globals = made.globals; initials = made.initials; left = made.left },
     )
 
@@ -269,7 +296,7 @@ no_export_made config so_far piece after none least some h =
       no_export_read config so_far.types.types so_far.spaces size [] piece after (least counts.Exports) (record { none = refl; spelled = h }),
     ) refl
 
-rest_ended : (config : Config) (groups : List (List SubType)) (numbers : List ℤ) (passive : List (List ℕ)) (drawn : (EntitySpaces × Definitions) × List ℕ) (after : List ℕ) (flag : Bool) (contents : Result (Contents × List ℕ) Error)
+rest_ended : (config : Config) (groups : List (List SubType)) (numbers : List ℤ) (passive : List (List ℕ)) (drawn : EntitiesRead) (after : List ℕ) (flag : Bool) (contents : Result (Contents × List ℕ) Error)
     → AreNumbered numbers drawn after → IfOk contents (λ made. IsBare passive made.0)
     → IfOk {T = ModuleParts × List ℕ} (contents >>= λ (made : Contents × List ℕ). Ok (module_of config (with_entities groups drawn.0) made.0 flag, made.1)) (λ made. HasRest numbers passive made.0)
 rest_ended config groups numbers passive drawn after flag (Ok made) numbered bare = record {
@@ -284,8 +311,28 @@ rest_ended config groups numbers passive drawn after flag (Ok made) numbered bar
 }
 rest_ended config groups numbers passive drawn after flag (Err e) numbered bare = tt
 
-rest_reached : (distinct : Bool) (config : Config) (groups : List (List SubType)) (funcs : List ℕ) (numbers : List ℤ) (passive : List (List ℕ)) (piece rest after : List ℕ) → IsSanitized config → HasNoShapes config → HasNoMinimums config → config.export_everything ≡ false
-    → IsInFamily config groups funcs → SpellsMember config groups funcs piece → SpellsRest config groups funcs numbers passive rest → IfOk (module_at distinct config (piece ++ (rest ++ after))) (λ drawn. HasRest numbers passive drawn.0)
+-- the module of these entities and of bytes that spell nothing but passive data after them
+rest_held : (config : Config) (groups : List (List SubType)) (numbers : List ℤ) (passive : List (List ℕ)) (drawn : EntitiesRead) (flag : Bool) (piece after later : List ℕ)
+    → HasNoMinimums config → AreNumbered numbers drawn later → SpellsAfterExports config (space_of groups).types drawn.0.0.funcs passive piece
+    → IfOk (whole_at config flag (record (with_entities groups drawn.0) { exports = [] }) (piece ++ after)) (λ made. HasRest numbers passive made.0)
+rest_held config groups numbers passive drawn flag piece after later least numbered h =
+    let types = (space_of groups).types in
+    let whole : ModuleSoFar = record (with_entities groups drawn.0) { exports = [] } in
+    let bare = contents_read config types nothing drawn.0.0 (exports_of config whole) passive piece after least refl numbered.tables numbered.memories h in
+    rest_ended config groups numbers passive drawn later flag (after_exports_at config types nothing drawn.0.0 (exports_of config whole) (piece ++ after)) numbered bare
+
+-- the same for bytes that produce these entities, and spell no export after them
+rest_drawn : (config : Config) (groups : List (List SubType)) (funcs bytes : List ℕ) (numbers : List ℤ) (passive : List (List ℕ)) (drawn : EntitiesRead) (flag : Bool) (first second after : List ℕ)
+    → HasNoShapes config → HasNoMinimums config → config.export_everything ≡ false → AreNumbered numbers drawn (first ++ (second ++ after)) → SpellsNone config.max_exports first
+    → SpellsAfterExports config (space_of groups).types drawn.0.0.funcs passive second → after_funcs_at config (space_of groups).types funcs bytes ≡ Ok drawn
+    → IfOk (after_funcs_at config (space_of groups).types funcs bytes >>= λ (drawn : EntitiesRead). ending_at config flag (with_entities groups drawn.0) drawn.1) (λ made. HasRest numbers passive made.0)
+rest_drawn config groups funcs bytes numbers passive drawn flag first second after none least some numbered no_export h is =
+    rw (is, numbered.left, no_export_made config (with_entities groups drawn.0) first (second ++ after) none least some no_export)
+    (rest_held config groups numbers passive drawn flag second after (first ++ (second ++ after)) least numbered h)
+
+rest_reached : (distinct : Bool) (config : Config) (groups : List (List SubType)) (funcs : List ℕ) (numbers : List ℤ) (passive : List (List ℕ)) (piece rest after : List ℕ)
+    → IsSanitized config → HasNoShapes config → HasNoMinimums config → config.export_everything ≡ false → IsInFamily config groups funcs → SpellsMember config groups funcs piece
+    → SpellsRest config groups funcs numbers passive rest → IfOk (module_at distinct config (piece ++ (rest ++ after))) (λ drawn. HasRest numbers passive drawn.0)
 unfolding SpellsRest
 rest_reached distinct config groups funcs numbers passive piece rest after sanitized none least some member spelled h =
     let types = (space_of groups).types in
@@ -295,17 +342,16 @@ rest_reached distinct config groups funcs numbers passive piece rest after sanit
     let after_exports = exports.second ++ after in
     let later = exports.first ++ after_exports in
     let read = member_read distinct config groups funcs piece (rest ++ after) sanitized none least member spelled in
-    let parts : rest ++ after ≡ h.first ++ (memories.first ++ (globals.first ++ later)) = rw (joined_parts h after, joined_parts memories after, joined_parts globals after, joined_parts exports after) refl in
-    let (drawn, is, numbered) = entities_read config types funcs numbers h.first memories.first globals.first later least h.is_first memories.is_first globals.is_first in
-    let so_far = with_entities groups drawn.0 in
-    let made = no_export_made config so_far exports.first after_exports none least some exports.is_first in
-    let whole : ModuleSoFar = record so_far { exports = [] } in
+    let parts : rest ++ after ≡ h.first ++ (memories.first ++ (globals.first ++ later)) =
+    rw (joined_parts h after, joined_parts memories after, joined_parts globals after, joined_parts exports after) refl in
+    let (drawn, is, numbered) =
+    entities_read config types funcs numbers h.first memories.first globals.first later least h.is_first memories.is_first globals.is_first in
     let same = same_funcs config types funcs (h.first ++ (memories.first ++ (globals.first ++ later))) in
-    let own : drawn.0.0.funcs ≡ funcs = subst (λ (read : Result ((EntitySpaces × Definitions) × List ℕ) Error). IfOk read (λ one. one.0.0.funcs ≡ funcs)) is same in
+    let own : drawn.0.0.funcs ≡ funcs = subst (λ (read : Result EntitiesRead Error). IfOk read (λ one. one.0.0.funcs ≡ funcs)) is same in
     let spelled_after : SpellsAfterExports config types drawn.0.0.funcs passive exports.second = rw own exports.is_second in
-    let bare = contents_read config types nothing drawn.0.0 (exports_of config whole) passive exports.second after least refl numbered.tables numbered.memories spelled_after in
-    let ended = rest_ended config groups numbers passive drawn later read.0 (after_exports_at config types nothing drawn.0.0 (exports_of config whole) after_exports) numbered bare in
-    rw (read.1, parts, is, numbered.left, made) ended
+    let drawn_there : after_funcs_at config types funcs (rest ++ after) ≡ Ok drawn = rw parts is in
+    rw read.1 (rest_drawn config groups funcs (rest ++ after) numbers passive drawn read.0 exports.first exports.second after none least some numbered exports.is_first
+    spelled_after drawn_there)
 
 -- a property of every module of these bytes, apart from interesting values, holds for the result
 answered : (Holds : ModuleParts → Type 0) (distinct : Bool) (config : Config) (bytes left : List ℕ) (answer : Result ModuleParts Error) → ((m : ModuleParts) → Holds (as_drawn m) → Holds m) → Returns is_memory (λ m. (as_drawn m, left)) answer (module_at distinct config bytes)
