@@ -1,0 +1,2 @@
+pub mod ImmediateLemmas
+pub mod MemArgLemmas

@@ -9,7 +9,10 @@
 mod aggregate;
 mod atomic;
 mod control;
+mod examples;
 mod instructions;
+/// Laws: functions without effect, whose clauses state properties.
+pub mod laws;
 mod memory;
 mod numeric;
 mod references;
