@@ -10,6 +10,7 @@ mod aggregate;
 mod atomic;
 mod control;
 mod examples;
+mod expressions;
 mod instructions;
 /// Laws: functions without effect, whose clauses state properties.
 pub mod laws;
@@ -19,4 +20,5 @@ mod references;
 mod vector;
 mod vector_rows;
 
+pub use expressions::read_expr;
 pub use instructions::read_instr;
