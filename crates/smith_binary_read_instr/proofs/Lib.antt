@@ -1,0 +1,3 @@
+pub mod NestingLoopLemmas
+pub mod ImmediateLemmas
+pub mod MemArgLemmas

@@ -1,0 +1,10 @@
+pub mod NumericReadings
+pub mod ControlReadings
+pub mod ReferenceReadings
+pub mod MemoryReadings
+pub mod AggregateReadings
+pub mod VectorRows
+pub mod VectorReadings
+pub mod AtomicReadings
+pub mod InstrReadings
+pub mod ExpressionReadings
