@@ -108,6 +108,8 @@ fn lacking()
       gc_enabled = false;
       disallow_traps = true;
       min_elements = 1;
+      max_elements = 1;
+      const_expr_fuel = 0;
       max_element_segments = 1;
     }) (table_scope default_config (beside_globals []))
         (table (not_null (plain heap.Extern)) 5 None ∷ []) (1 ∷ 2 ∷ 0 ∷ 0 ∷ 0 ∷ 0 ∷ 9 ∷ [])
