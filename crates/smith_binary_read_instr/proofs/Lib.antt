@@ -1,3 +1,12 @@
 pub mod NestingLoopLemmas
 pub mod ImmediateLemmas
 pub mod MemArgLemmas
+pub mod RowLemmas
+pub mod ControlLemmas
+pub mod NumericLemmas
+pub mod MemoryLemmas
+pub mod AggregateLemmas
+pub mod AtomicLemmas
+pub mod VectorLemmas
+pub mod InstrLemmas
+pub mod NestedLemmas

@@ -1,7 +1,6 @@
 -- Readings of aggregate instructions, of tests and casts, and of branches on casts: the section
 -- Binary Format, Instructions, of the WebAssembly Core Specification 3.0.
 use Rattle.std.specs.Prelude.{ℕ, true, false, nat_lt, ◌==◌, if◌then◌else◌, List, [], ◌∷◌}
-use Rattle.smith_syntax.specs.declared.value_type.RefType.{RefType}
 use Rattle.smith_binary_read.specs.declared.error.Reason.TheVariants.{UnknownByte}
 use Rattle.smith_binary_read.specs.Readings.{Reading, ◌>>=◌, fault_at, mapped_at}
 use Rattle.smith_binary_read.specs.Numbers.{unsigned_at}

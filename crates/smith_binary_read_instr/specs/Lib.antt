@@ -8,3 +8,4 @@ pub mod VectorReadings
 pub mod AtomicReadings
 pub mod InstrReadings
 pub mod ExpressionReadings
+pub mod Expressions

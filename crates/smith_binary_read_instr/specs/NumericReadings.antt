@@ -1,7 +1,7 @@
 -- Readings of numeric instructions: the section Binary Format, Instructions, Numeric Instructions,
 -- of the WebAssembly Core Specification 3.0. Wide arithmetic is that of the wide arithmetic
 -- proposal.
-use Rattle.std.specs.Prelude.{ℕ, ◌-◌, List, [], ◌∷◌, Option, None, nat_lt, ◌==◌, if◌then◌else◌}
+use Rattle.std.specs.Prelude.{ℕ, ◌-◌, List, [], ◌∷◌, Option, nat_lt, ◌==◌, if◌then◌else◌}
 use Rattle.smith_binary_read.specs.Readings.{Reading, ◌>>=◌, byte_at, mapped_at}
 use Rattle.smith_binary_read.specs.Numbers.{signed_at, little_endian_at}
 use Rattle.smith_binary_read.specs.Choices.{item_of}

@@ -1,7 +1,11 @@
 ghost use Rattle.smith_binary_instr.specs.Control.{IsBlockType, IsBranchCast, IsCatch};
+ghost use Rattle.smith_binary_instr.specs.Instructions.{IsInstr};
 ghost use Rattle.smith_binary_instr.specs.Memory.{IsMemArg};
 ghost use Rattle.smith_binary_read.specs.Decodes.{Decodes};
 ghost use Rattle.smith_binary_read_instr.specs.ControlReadings.{block_type_at, branch_cast_at, catch_at};
+ghost use Rattle.smith_binary_read_instr.specs.ExpressionReadings.{expr_at};
+ghost use Rattle.smith_binary_read_instr.specs.Expressions.{IsNestedExpr};
+ghost use Rattle.smith_binary_read_instr.specs.InstrReadings.{instr_at};
 ghost use Rattle.smith_binary_read_instr.specs.MemoryReadings.{mem_arg_at};
 
 /// States that the type of a block, a clause of `try_table`, the immediates of a branch on a cast and
@@ -11,4 +15,11 @@ pub fn immediates_are_read()
     ensures clauses { Decodes IsCatch catch_at }
     ensures casts { Decodes IsBranchCast branch_cast_at }
     ensures places { Decodes IsMemArg mem_arg_at }
+{}
+
+/// States that an instruction, and an expression in which each block ends, are read exactly where bytes
+/// begin with one.
+pub fn instructions_are_read()
+    ensures instructions { Decodes IsInstr instr_at }
+    ensures expressions { Decodes IsNestedExpr expr_at }
 {}

@@ -20,10 +20,9 @@ use Rattle.smith_binary_sections.specs.Entities.{IsMemoryType, IsTagType}
 use Rattle.smith_binary_sections.specs.Imports.{IsImports}
 use Rattle.smith_binary_sections.specs.Definitions.{IsTable, IsGlobal}
 use Rattle.smith_binary_sections.specs.Exports.{IsExport}
-use Rattle.smith_binary_sections.specs.Codes.{IsBody}
+use Rattle.smith_instr.specs.declared.instr.Instr.{Instr}
 use Rattle.smith_binary_sections.specs.Data.{Data, IsData}
 use Rattle.smith_binary_sections.specs.Elements.{Elem, IsElem}
-use Rattle.smith_binary_sections.specs.Modules.{Contents}
 use Rattle.smith_binary_read.specs.DataReadings.{segment_view}
 use Rattle.smith_binary_read.specs.ElementReadings.{element_view}
 use Rattle.smith_binary_read.proofs.ElementLemmas.{segment_viewed}
@@ -34,7 +33,8 @@ use Rattle.smith_decode.specs.declared.error.DecodeError.TheVariants.{Memory, Ma
 use Rattle.smith_decode.specs.declared.modules.Module.{Module}
 use Rattle.smith_decode.specs.BodyReadings.{body_view}
 use Rattle.smith_decode.specs.ModuleReadings.{Parts, module_of, is_number, module_at, Locates}
-use Rattle.smith_decode.specs.Modules.{IsStated, IsModuleBinary, contents_of, Returns, table_pair, tag_index, global_pair}
+use Rattle.smith_decode.specs.Modules.{Syntax, IsFunctionBody, IsStated, IsModuleBinary, syntax_of, Returns}
+use Rattle.smith_decode.specs.Modules.{table_pair, tag_index, global_pair}
 use Rattle.smith_decode.specs.Modules.{export_triple}
 use Rattle.smith_decode.proofs.CustomLemmas.{IsMore, IsEnd}
 use Rattle.smith_decode.proofs.ModuleLemmas.{AreParts, parts_of, IsDecodedBinary, module_decodes}
@@ -46,9 +46,9 @@ abbrev Abstract : Type 0
 Abstract =
     List (List SubType) × (List Import × (List ℕ × (List (TableType × List ConstInstr) × (List MemoryType × (List ℕ
     × (List (GlobalType × List ConstInstr) × (List (List ℕ × ExportKind × ℕ) × (Option ℕ × (List Elem × (Option ℕ
-    × (List (List ValType × List ℕ) × (List Data × Unit {0}))))))))))))
+    × (List (List ValType × List Instr) × (List Data × Unit {0}))))))))))))
 
-abbrev abstract_of : Contents → Option ℕ → Abstract
+abbrev abstract_of : Syntax → Option ℕ → Abstract
 abstract_of m count = (
   m.types,
   (
@@ -63,8 +63,8 @@ abstract_of m count = (
   ),
 )
 
-abbrev contents_from : Abstract → Contents
-contents_from a = record {
+abbrev syntax_from : Abstract → Syntax
+syntax_from a = record {
   types = a.0;
   imports = a.1.0;
   functions = a.1.1.0;
@@ -93,7 +93,7 @@ IsAbstract =
     (IsMore 8 None IsStated
     (IsMore 9 [] (IsList IsElem)
     (IsMore 12 None IsStated
-    (IsMore 10 [] (IsList IsBody)
+    (IsMore 10 [] (IsList IsFunctionBody)
     (IsMore 11 [] (IsList IsData) IsEnd))))))))))))
 
 -- decoded parts in the abstract syntax
@@ -138,7 +138,7 @@ stated_again : (count : Option ℕ) (n : ℕ) → IfSome count (λ stated. state
 stated_again None n h = refl
 stated_again (Some stated) n h = eq-eqb stated n h
 
-pub module_forth : (m : Module) (bytes : List ℕ) → IsDecodedBinary m bytes → IsModuleBinary (contents_of m) bytes
+pub module_forth : (m : Module) (bytes : List ℕ) → IsDecodedBinary m bytes → IsModuleBinary (syntax_of m) bytes
 module_forth m bytes h =
     let agrees = and_parts (eqb (length m.functions) (length m.bodies)) (is_number m.data_count (length m.datas)) h.agrees in
     let functions : length m.functions ≡ length m.bodies = eqb-true (length m.functions) (length m.bodies) agrees.0 in
@@ -157,20 +157,20 @@ module_forth m bytes h =
     }
 
 -- a decoded module that is seen as one of the abstract syntax
-pub record Decoded (m : Contents) (bytes : List ℕ) : Type 0 where
+pub record Decoded (m : Syntax) (bytes : List ℕ) : Type 0 where
   pub decoded : Module
-  pub is : contents_of decoded ≡ m
+  pub is : syntax_of decoded ≡ m
   pub form : IsDecodedBinary decoded bytes
 
-pub module_back : (m : Contents) (bytes : List ℕ) → IsModuleBinary m bytes → Decoded m bytes
+pub module_back : (m : Syntax) (bytes : List ℕ) → IsModuleBinary m bytes → Decoded m bytes
 module_back m bytes h =
     let one = parts_viewed.back (abstract_of m h.count) h.form.second h.form.is_second in
     let decoded = module_of one.item in
-    let same : contents_of decoded ≡ m = ap contents_from one.is in
+    let same : syntax_of decoded ≡ m = ap syntax_from one.is in
     let count : decoded.data_count ≡ h.count = ap (λ (a : Abstract). a.1.1.1.1.1.1.1.1.1.1.0) one.is in
-    let functions : decoded.functions ≡ m.functions = ap (λ (c : Contents). c.functions) same in
-    let bodies : map body_view decoded.bodies ≡ m.bodies = ap (λ (c : Contents). c.bodies) same in
-    let datas : map segment_view decoded.datas ≡ m.datas = ap (λ (c : Contents). c.datas) same in
+    let functions : decoded.functions ≡ m.functions = ap (λ (c : Syntax). c.functions) same in
+    let bodies : map body_view decoded.bodies ≡ m.bodies = ap (λ (c : Syntax). c.bodies) same in
+    let datas : map segment_view decoded.datas ≡ m.datas = ap (λ (c : Syntax). c.datas) same in
     let many : length decoded.functions ≡ length decoded.bodies =
     ap length functions ∙ h.bodies ∙ sym (ap length bodies) ∙ length-map decoded.bodies body_view in
     let stated : IfSome decoded.data_count (λ stated. stated ≡ length decoded.datas) =
@@ -197,16 +197,16 @@ module_back m bytes h =
 
 -- what a call returned
 pub is_sound : (bytes : List ℕ) (r : Result Module DecodeError) → Locates r bytes (module_at bytes)
-    → IfOk r (λ m. IsModuleBinary (contents_of m) bytes)
+    → IfOk r (λ m. IsModuleBinary (syntax_of m) bytes)
 is_sound bytes (Ok m) read = module_forth m bytes (module_decodes.sound bytes m read)
 is_sound bytes (Err e) read = tt
 
-pub is_complete : (bytes : List ℕ) (r : Result Module DecodeError) (m : Contents) → Locates r bytes (module_at bytes)
+pub is_complete : (bytes : List ℕ) (r : Result Module DecodeError) (m : Syntax) → Locates r bytes (module_at bytes)
     → IsModuleBinary m bytes → Returns m r
 is_complete bytes (Ok x) m read h =
     let one = module_back m bytes h in
     let same : one.decoded ≡ x = let e = sym (module_decodes.complete one.decoded bytes one.form) ∙ read in cc in
-    ap contents_of (sym same) ∙ one.is
+    ap syntax_of (sym same) ∙ one.is
 is_complete bytes (Err Memory) m read h = tt
 is_complete bytes (Err (Malformed offset reason)) m read h =
     let one = module_back m bytes h in

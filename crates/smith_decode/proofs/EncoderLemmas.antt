@@ -1,16 +1,21 @@
 -- Modules without custom sections, as an encoder writes them, and what the reading says of modules.
-use Rattle.std.proofs.Common.{◌≡◌, ℕ, List, [], ◌++◌, length, Option, Some, None, Err, refl, sym, ap, ◌∙◌}
+use Rattle.std.proofs.Common.{◌≡◌, ℕ, suc, List, [], ◌∷◌, ◌++◌, length, Option, Some, None, Err, refl, sym, ap, subst, ◌∙◌}
+use Rattle.std.proofs.lemmas.List.{nil_from_length}
 use Rattle.std.proofs.Common.{append-nil}
 use Rattle.std.specs.Prelude.{IfSome}
-use Rattle.smith_binary.specs.Pieces.{Joined, IsList, IsSection}
-use Rattle.smith_binary_sections.specs.Codes.{IsBody}
+use Rattle.smith_binary.specs.Pieces.{Joined, Each, IsList, IsSection}
+use Rattle.smith_binary.specs.Numbers.{IsUnsigned}
+use Rattle.smith_syntax.specs.declared.value_type.ValType.{ValType}
+use Rattle.smith_instr.specs.declared.instr.Instr.{Instr}
+use Rattle.smith_binary_sections.specs.Codes.{IsBody, IsLocals}
 use Rattle.smith_binary_sections.specs.Data.{IsData}
 use Rattle.smith_binary_sections.specs.Modules.{Contents, IsModule, IsStartSection, IsDataCount}
 use Rattle.smith_binary_sections.specs.Sections.{IsOptionalSection, IsListSection}
 use Rattle.smith_binary_read.specs.declared.error.Fault.{Fault}
+use Rattle.smith_binary_read_instr.specs.Expressions.{IsNestedExpr}
 use Rattle.smith_decode.specs.Customs.{AreCustoms, IsThen}
 use Rattle.smith_decode.specs.ModuleReadings.{module_at}
-use Rattle.smith_decode.specs.Modules.{IsStated, IsModuleBinary, contents_of}
+use Rattle.smith_decode.specs.Modules.{AreBodiesOf, IsFunctionBody, IsStated, IsModuleBinary, Syntax, syntax_of, with_bodies}
 use Rattle.smith_decode.proofs.ContentsLemmas.{module_back}
 use Rattle.smith_decode.proofs.CustomLemmas.{no_customs}
 use Rattle.smith_decode.proofs.ModuleLemmas.{module_decodes}
@@ -62,11 +67,65 @@ last_form {piece = piece} id h = record {
   whole = refl;
 }
 
+-- bodies by their instructions
+body_form : (body : List ValType × List Instr) (raw : List ValType × List ℕ) (piece : List ℕ) → body.0 ≡ raw.0 → IsNestedExpr body.1 raw.1
+    → IsBody raw piece → IsFunctionBody body piece
+body_form body raw piece locals expression h =
+    let inner = h.is_content in
+    record {
+      content = h.content;
+      is_content = record {
+        first = inner.first;
+        second = inner.second;
+        is_first = subst (λ (types : List ValType). IsLocals types inner.first) (sym locals) inner.is_first;
+        is_second = subst (IsNestedExpr body.1) (sym inner.is_second) expression;
+        whole = inner.whole;
+      };
+      form = h.form;
+    }
+
+each_form : (bodies : List (List ValType × List Instr)) (raws : List (List ValType × List ℕ)) (piece : List ℕ) → AreBodiesOf bodies raws
+    → Each IsBody raws piece → Each IsFunctionBody bodies piece
+unfolding Each
+each_form [] [] piece same h = h
+each_form (body ∷ bodies) (raw ∷ raws) piece same h = record {
+  first = h.first;
+  second = h.second;
+  is_first = body_form body raw h.first same.0 same.1 h.is_first;
+  is_second = each_form bodies raws h.second same.2 h.is_second;
+  whole = h.whole;
+}
+each_form [] (raw ∷ raws) piece same h = absurd same
+each_form (body ∷ bodies) [] piece same h = absurd same
+
+as_many : (bodies : List (List ValType × List Instr)) (raws : List (List ValType × List ℕ)) → AreBodiesOf bodies raws
+    → length raws ≡ length bodies
+as_many [] [] same = refl
+as_many (body ∷ bodies) (raw ∷ raws) same = ap suc (as_many bodies raws same.2)
+as_many [] (raw ∷ raws) same = absurd same
+as_many (body ∷ bodies) [] same = absurd same
+
+bodies_form : (bodies : List (List ValType × List Instr)) (raws : List (List ValType × List ℕ)) (content : List ℕ)
+    → AreBodiesOf bodies raws → IsList IsBody raws content → IsList IsFunctionBody bodies content
+bodies_form bodies raws content same h = record {
+  first = h.first;
+  second = h.second;
+  is_first = subst (λ (count : ℕ). IsUnsigned 32 count h.first) (as_many bodies raws same) h.is_first;
+  is_second = each_form bodies raws h.second same h.is_second;
+  whole = h.whole;
+}
+
+no_bodies : (bodies : List (List ValType × List Instr)) (raws : List (List ValType × List ℕ)) → AreBodiesOf bodies raws → raws ≡ []
+    → bodies ≡ []
+no_bodies bodies raws same is = nil_from_length bodies (sym (as_many bodies raws same) ∙ ap length is)
+
 -- the code and data sections
-tail_form : (m : Contents) (piece : List ℕ) → Joined (IsListSection 10 IsBody m.bodies) (IsListSection 11 IsData m.datas) piece
-    → IsThen 10 (m.bodies ≡ []) (IsList IsBody m.bodies) (IsThen 11 (m.datas ≡ []) (IsList IsData m.datas) AreCustoms) piece
-tail_form m piece h =
-    before_more 10 (λ rest is. last_form 11 is) h
+tail_form : (m : Contents) (bodies : List (List ValType × List Instr)) (piece : List ℕ) → AreBodiesOf bodies m.bodies
+    → Joined (IsListSection 10 IsBody m.bodies) (IsListSection 11 IsData m.datas) piece
+    → IsThen 10 (bodies ≡ []) (IsList IsFunctionBody bodies) (IsThen 11 (m.datas ≡ []) (IsList IsData m.datas) AreCustoms) piece
+tail_form m bodies piece same h =
+    before_more 10 (λ rest is. last_form 11 is) (first_as (λ first is.
+    optional_as 10 (no_bodies bodies m.bodies same) (λ content one. bodies_form bodies m.bodies content same one) is) h)
 
 -- sections, and the number of data segments that is stated among them, if it is
 record WithCount (n : ℕ) (Sections : Option ℕ → List ℕ → Type 0) (piece : List ℕ) : Type 0 where
@@ -92,14 +151,14 @@ then_counted {piece = piece} id up h =
     }
 
 -- the sections from the number of data segments on
-abbrev FromCount : Contents → Option ℕ → List ℕ → Type 0
+abbrev FromCount : Syntax → Option ℕ → List ℕ → Type 0
 FromCount m count =
     IsThen 12 (count ≡ None) (IsStated count)
-    (IsThen 10 (m.bodies ≡ []) (IsList IsBody m.bodies) (IsThen 11 (m.datas ≡ []) (IsList IsData m.datas) AreCustoms))
+    (IsThen 10 (m.bodies ≡ []) (IsList IsFunctionBody m.bodies) (IsThen 11 (m.datas ≡ []) (IsList IsData m.datas) AreCustoms))
 
-from_count : (m : Contents) (count : Option ℕ) (piece first second : List ℕ) → IfSome count (λ stated. stated ≡ length m.datas)
+from_count : (m : Syntax) (count : Option ℕ) (piece first second : List ℕ) → IfSome count (λ stated. stated ≡ length m.datas)
     → IsOptionalSection 12 (count ≡ None) (IsStated count) first
-    → IsThen 10 (m.bodies ≡ []) (IsList IsBody m.bodies) (IsThen 11 (m.datas ≡ []) (IsList IsData m.datas) AreCustoms) second
+    → IsThen 10 (m.bodies ≡ []) (IsList IsFunctionBody m.bodies) (IsThen 11 (m.datas ≡ []) (IsList IsData m.datas) AreCustoms) second
     → piece ≡ first ++ second → WithCount (length m.datas) (FromCount m) piece
 from_count m count piece first second stated one two whole = record {
   count = count;
@@ -113,8 +172,8 @@ from_count m count piece first second stated one two whole = record {
   };
 }
 
-counts_form : (m : Contents) (piece first second : List ℕ) → IsDataCount m.datas first
-    → IsThen 10 (m.bodies ≡ []) (IsList IsBody m.bodies) (IsThen 11 (m.datas ≡ []) (IsList IsData m.datas) AreCustoms) second
+counts_form : (m : Syntax) (piece first second : List ℕ) → IsDataCount m.datas first
+    → IsThen 10 (m.bodies ≡ []) (IsList IsFunctionBody m.bodies) (IsThen 11 (m.datas ≡ []) (IsList IsData m.datas) AreCustoms) second
     → piece ≡ first ++ second → WithCount (length m.datas) (FromCount m) piece
 counts_form m piece first second (IsOptionalSection.present h) two whole =
     from_count m (Some (length m.datas)) piece first second refl
@@ -123,8 +182,9 @@ counts_form m piece first second (IsOptionalSection.absent is empty) two whole =
     from_count m None piece first second tt (IsOptionalSection.absent refl empty) two whole
 
 -- a module without custom sections
-pub encoder_form : (m : Contents) (bytes : List ℕ) → IsModule m bytes → IsModuleBinary m bytes
-encoder_form m bytes is_module =
+pub encoder_form : (m : Contents) (bodies : List (List ValType × List Instr)) (bytes : List ℕ) → IsModule m bytes
+    → AreBodiesOf bodies m.bodies → IsModuleBinary (with_bodies m bodies) bytes
+encoder_form m bodies bytes is_module same =
     let h = is_module.form in
     let sections =
     then_counted 1 (λ rest h.
@@ -137,26 +197,26 @@ encoder_form m bytes is_module =
     then_counted 7 (λ rest h.
     then_counted 8 (λ rest h.
     then_counted 9 (λ rest h.
-    counts_form m rest h.first h.second h.is_first (tail_form m h.second h.is_second) h.whole) h)
+    counts_form (with_bodies m bodies) rest h.first h.second h.is_first (tail_form m bodies h.second same h.is_second) h.whole) h)
     (first_as (λ first is. start_form m.start first is) h)) h) h) h) h) h) h) h) h.is_second in
     record {
       count = sections.count;
       form = record { first = h.first; second = h.second; is_first = h.is_first; is_second = sections.form; whole = h.whole };
-      bodies = is_module.each;
+      bodies = is_module.each ∙ as_many bodies m.bodies same;
       datas = sections.stated;
     }
 
 -- bytes are at most one module
-pub module_same : (m n : Contents) (bytes : List ℕ) → IsModuleBinary m bytes → IsModuleBinary n bytes → m ≡ n
+pub module_same : (m n : Syntax) (bytes : List ℕ) → IsModuleBinary m bytes → IsModuleBinary n bytes → m ≡ n
 module_same m n bytes h k =
     let one = module_back m bytes h in
     let other = module_back n bytes k in
     let same : one.decoded ≡ other.decoded =
     let e = sym (module_decodes.complete one.decoded bytes one.form) ∙ module_decodes.complete other.decoded bytes other.form in cc in
-    sym one.is ∙ ap contents_of same ∙ other.is
+    sym one.is ∙ ap syntax_of same ∙ other.is
 
 -- malformed bytes are no module
-pub no_module : (m : Contents) (bytes : List ℕ) (fault : Fault) → module_at bytes ≡ Err fault → IsModuleBinary m bytes → ⊥
+pub no_module : (m : Syntax) (bytes : List ℕ) (fault : Fault) → module_at bytes ≡ Err fault → IsModuleBinary m bytes → ⊥
 no_module m bytes fault read h =
     let one = module_back m bytes h in
     let never = sym (module_decodes.complete one.decoded bytes one.form) ∙ read in cc

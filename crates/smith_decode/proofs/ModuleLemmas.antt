@@ -28,6 +28,7 @@ use Rattle.smith_binary_read.proofs.ImportLemmas.{import_group_decodes}
 use Rattle.smith_binary_read.proofs.DefinitionLemmas.{global_def_decodes, table_def_decodes, tag_def_decodes}
 use Rattle.smith_binary_read.proofs.ElementLemmas as element
 use Rattle.smith_binary_read.proofs.DataLemmas as data_segment
+use Rattle.smith_binary_read_instr.proofs.NestedLemmas.{expr_decodes}
 use Rattle.smith_decode.specs.declared.bodies.Body.{Body}
 use Rattle.smith_decode.specs.declared.modules.Module.{Module}
 use Rattle.smith_decode.specs.BodyReadings.{IsLocalRun, total, IsRunContent, IsRunBody, local_run, run_at, body_of, body_whole, body_at}
@@ -124,19 +125,20 @@ run_decodes =
 body_content_decodes : DecodesWhole IsRunContent body_whole
 unfolding body_whole
 body_content_decodes = record {
-  sound = λ bytes x e. step _ _ _ e (λ runs first e. test_passed _ _ _ _ e (λ few e.
+  sound = λ bytes x e. step _ _ _ e (λ runs first e. test_passed _ _ _ _ e (λ few e. step _ _ _ e (λ instructions second e.
       let one = (list_decodes run_decodes).sound bytes runs.0 runs.1 first in
+      let expression = (whole_decodes expr_decodes).sound runs.1 instructions second in
       let below : total runs.0 < 2 ^ 32 = ltb-true (total runs.0) (2 ^ 32) few in
-      let same : body_of runs.0 runs.1 ≡ x = cc in
+      let same : body_of runs.0 instructions ≡ x = cc in
       subst (λ (body : Body). IsRunContent body bytes) same
-      (below, record { first = one.piece; second = runs.1; is_first = one.spelled; is_second = refl; whole = one.whole })));
+      (below, record { first = one.piece; second = runs.1; is_first = one.spelled; is_second = expression; whole = one.whole }))));
   complete = λ x bytes h.
       rw (
         ap (list_at run_at) h.1.whole ∙ (list_decodes run_decodes).complete x.locals h.1.first h.1.second h.1.is_first,
         lt-ltb
             (total x.locals) (2 ^ 32) h.0,
-      )
-      (ap (λ (code : List ℕ). Ok (body_of x.locals code)) h.1.is_second);
+        (whole_decodes expr_decodes).complete x.instructions h.1.second h.1.is_second,
+      ) refl;
 }
 
 pub body_decodes : Decodes IsRunBody body_at

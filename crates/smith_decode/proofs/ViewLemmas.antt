@@ -3,10 +3,10 @@ use Rattle.std.proofs.Common.{◌≡◌, ℕ, ◌<◌, ◌^◌, List, [], ◌∷
 use Rattle.std.proofs.Common.{arith}
 use Rattle.std.proofs.lemmas.List.{length-append, length-replicate}
 use Rattle.std.specs.Prelude.{replicate}
-use Rattle.smith_binary.specs.Pieces.{Is, Joined, IsList}
+use Rattle.smith_binary.specs.Pieces.{Joined, IsList}
 use Rattle.smith_syntax.specs.declared.value_type.ValType.{ValType}
 use Rattle.smith_types.specs.Imports.{flattened}
-use Rattle.smith_binary_sections.specs.Codes.{IsRun, locals_of, IsLocals, IsBody}
+use Rattle.smith_binary_sections.specs.Codes.{IsRun, locals_of, IsLocals}
 use Rattle.smith_binary_sections.specs.Data.{Data, IsData, DataMode as AbstractMode}
 use Rattle.smith_binary_sections.specs.Data.DataMode.{passive, active}
 use Rattle.smith_binary_sections.specs.Definitions.{IsTable, IsGlobal}
@@ -21,10 +21,12 @@ use Rattle.smith_binary_read.specs.DefinitionReadings.{IsTagDefinition, IsGlobal
 use Rattle.smith_binary_read.specs.EntityReadings.{IsExportItem}
 use Rattle.smith_binary_read.specs.Views.{From, Viewed}
 use Rattle.smith_binary_read.proofs.ViewLemmas.{list_viewed, sized_viewed}
+use Rattle.smith_instr.specs.declared.instr.Instr.{Instr}
+use Rattle.smith_binary_read_instr.specs.Expressions.{IsNestedExpr}
 use Rattle.smith_decode.specs.declared.bodies.Body.{Body}
 use Rattle.smith_decode.specs.declared.bodies.LocalRun.{LocalRun}
 use Rattle.smith_decode.specs.BodyReadings.{run_pair, IsLocalRun, total, IsRunContent, IsRunBody, body_view, local_run, body_of}
-use Rattle.smith_decode.specs.Modules.{table_pair, tag_index, global_pair, export_triple}
+use Rattle.smith_decode.specs.Modules.{IsFunctionBody, table_pair, tag_index, global_pair, export_triple}
 use Rattle.smith_decode.proofs.CustomLemmas.{IsMore}
 
 -- an item that is seen as itself
@@ -99,7 +101,7 @@ runs_viewed : Viewed (map run_pair) (IsList IsRun) (IsList IsLocalRun)
 runs_viewed = list_viewed run_viewed
 
 content_forth : (body : Body) (content : List ℕ) → IsRunContent body content
-    → Joined (IsLocals (body_view body).0) (Is body.code) content
+    → Joined (IsLocals (body_view body).0) (IsNestedExpr body.instructions) content
 content_forth body content h = record {
   first = h.1.first;
   second = h.1.second;
@@ -113,10 +115,10 @@ content_forth body content h = record {
   whole = h.1.whole;
 }
 
-body_forth : (body : Body) (piece : List ℕ) → IsRunBody body piece → IsBody (body_view body) piece
+body_forth : (body : Body) (piece : List ℕ) → IsRunBody body piece → IsFunctionBody (body_view body) piece
 body_forth body piece h = record { content = h.content; is_content = content_forth body h.content h.is_content; form = h.form }
 
-body_back : (x : List ValType × List ℕ) (piece : List ℕ) → IsBody x piece → From body_view IsRunBody x piece
+body_back : (x : List ValType × List Instr) (piece : List ℕ) → IsFunctionBody x piece → From body_view IsRunBody x piece
 body_back x piece h =
     let inner = h.is_content in
     let runs = runs_viewed.back inner.is_first.runs inner.first inner.is_first.form in
@@ -141,7 +143,7 @@ body_back x piece h =
       };
     }
 
-pub body_viewed : Viewed body_view IsBody IsRunBody
+pub body_viewed : Viewed body_view IsFunctionBody IsRunBody
 body_viewed = record { forth = body_forth; back = body_back }
 
 -- sections that may be left out

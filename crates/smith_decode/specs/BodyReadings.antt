@@ -1,15 +1,18 @@
 -- Bodies with runs of locals, and their readings: the section Binary Format, Modules, Code Section,
 -- of the WebAssembly Core Specification 3.0.
 use Rattle.std.specs.Prelude.{ℕ, ◌+◌, ◌^◌, ◌<◌, nat_lt, if◌then◌else◌, List, [], ◌∷◌, map, Result, Ok}
-use Rattle.smith_binary.specs.Pieces.{Is, Joined, IsList, IsSized}
+use Rattle.smith_binary.specs.Pieces.{Joined, IsList, IsSized}
 use Rattle.smith_syntax.specs.declared.value_type.ValType.{ValType}
 use Rattle.smith_binary_sections.specs.Codes.{IsRun, locals_of}
 use Rattle.smith_binary_read.specs.declared.error.Fault.{Fault}
 use Rattle.smith_binary_read.specs.declared.error.Reason.TheVariants.{ManyLocals}
-use Rattle.smith_binary_read.specs.Readings.{Reading, ◌>>=◌, fault_at, joined_at}
+use Rattle.smith_binary_read.specs.Readings.{Reading, ◌>>=◌, fault_at, joined_at, whole_at}
 use Rattle.smith_binary_read.specs.Numbers.{unsigned_at}
 use Rattle.smith_binary_read.specs.Contents.{list_at, sized_at}
 use Rattle.smith_binary_read.specs.TypeReadings.{val_type_at}
+use Rattle.smith_instr.specs.declared.instr.Instr.{Instr}
+use Rattle.smith_binary_read_instr.specs.Expressions.{IsNestedExpr}
+use Rattle.smith_binary_read_instr.specs.ExpressionReadings.{expr_at}
 use Rattle.smith_decode.specs.declared.bodies.Body.{Body}
 use Rattle.smith_decode.specs.declared.bodies.LocalRun.{LocalRun}
 
@@ -25,17 +28,17 @@ abbrev pub total : List LocalRun → ℕ
 total [] = 0
 total (run ∷ runs) = run.count + total runs
 
--- a body after its size: fewer than 2^32 locals in runs, then the bytes of its expression (Code
--- Section)
+-- a body after its size: fewer than 2^32 locals in runs, then its expression (Code Section)
 abbrev pub IsRunContent : Body → List ℕ → Type 0
-IsRunContent body content = (total body.locals < 2 ^ 32) × Joined (IsList IsLocalRun body.locals) (Is body.code) content
+IsRunContent body content =
+    (total body.locals < 2 ^ 32) × Joined (IsList IsLocalRun body.locals) (IsNestedExpr body.instructions) content
 
 abbrev pub IsRunBody : Body → List ℕ → Type 0
 IsRunBody body = IsSized (IsRunContent body)
 
--- the locals of a body, and the bytes of its expression (Code Section)
-abbrev pub body_view : Body → List ValType × List ℕ
-body_view body = (locals_of (map run_pair body.locals), body.code)
+-- the locals of a body, and its instructions (Code Section)
+abbrev pub body_view : Body → List ValType × List Instr
+body_view body = (locals_of (map run_pair body.locals), body.instructions)
 
 abbrev pub local_run : ℕ → ValType → LocalRun
 local_run count ty = record { count = count; ty = ty }
@@ -43,12 +46,13 @@ local_run count ty = record { count = count; ty = ty }
 unfoldable pub run_at : List ℕ → Reading LocalRun
 run_at bytes = joined_at local_run (unsigned_at 32) val_type_at bytes
 
-abbrev pub body_of : List LocalRun → List ℕ → Body
-body_of locals code = record { locals = locals; code = code }
+abbrev pub body_of : List LocalRun → List Instr → Body
+body_of locals instructions = record { locals = locals; instructions = instructions }
 
 unfoldable pub body_whole : List ℕ → Result Body Fault
 body_whole bytes = list_at run_at bytes >>= (λ runs.
-    if nat_lt (total runs.0) (2 ^ 32) then Ok (body_of runs.0 runs.1) else fault_at ManyLocals bytes)
+    if nat_lt (total runs.0) (2 ^ 32) then (whole_at expr_at runs.1 >>= (λ instructions. Ok (body_of runs.0 instructions)))
+    else fault_at ManyLocals bytes)
 
 unfoldable pub body_at : List ℕ → Reading Body
 body_at bytes = sized_at body_whole bytes

@@ -1,12 +1,17 @@
 -- Modules with custom sections: the section Binary Format, Modules, of the WebAssembly Core
 -- Specification 3.0.
-use Rattle.std.specs.Prelude.{◌≡◌, ℕ, Option, Some, None, List, [], length, map, IfSome, Result, Ok, Err}
+use Rattle.std.specs.Prelude.{◌≡◌, ℕ, Option, Some, None, List, [], ◌∷◌, length, map, IfSome, Result, Ok, Err}
 use Rattle.smith_binary.specs.Numbers.{IsUnsigned}
-use Rattle.smith_binary.specs.Pieces.{Joined, IsList}
+use Rattle.smith_binary.specs.Pieces.{Joined, IsList, IsSized}
+use Rattle.smith_syntax.specs.declared.composite_type.SubType.{SubType}
 use Rattle.smith_syntax.specs.declared.const_instr.ConstInstr.{ConstInstr}
 use Rattle.smith_syntax.specs.declared.entity_type.ExportKind.{ExportKind}
 use Rattle.smith_syntax.specs.declared.entity_type.GlobalType.{GlobalType}
+use Rattle.smith_syntax.specs.declared.entity_type.MemoryType.{MemoryType}
 use Rattle.smith_syntax.specs.declared.entity_type.TableType.{TableType}
+use Rattle.smith_syntax.specs.declared.imports.Import.{Import}
+use Rattle.smith_syntax.specs.declared.value_type.ValType.{ValType}
+use Rattle.smith_instr.specs.declared.instr.Instr.{Instr}
 use Rattle.smith_types.specs.Imports.{flattened}
 use Rattle.smith_binary_sections.specs.Types.{IsRecGroup}
 use Rattle.smith_binary_sections.specs.Instructions.{IsIndex}
@@ -14,9 +19,9 @@ use Rattle.smith_binary_sections.specs.Entities.{IsMemoryType, IsTagType}
 use Rattle.smith_binary_sections.specs.Imports.{IsImports}
 use Rattle.smith_binary_sections.specs.Definitions.{IsTable, IsGlobal}
 use Rattle.smith_binary_sections.specs.Exports.{IsExport}
-use Rattle.smith_binary_sections.specs.Elements.{IsElem}
-use Rattle.smith_binary_sections.specs.Codes.{IsBody}
-use Rattle.smith_binary_sections.specs.Data.{IsData}
+use Rattle.smith_binary_sections.specs.Elements.{Elem, IsElem}
+use Rattle.smith_binary_sections.specs.Codes.{IsLocals}
+use Rattle.smith_binary_sections.specs.Data.{Data, IsData}
 use Rattle.smith_binary_sections.specs.Modules.{Contents, IsPreamble}
 use Rattle.smith_binary_read.specs.declared.definitions.GlobalDefinition.{GlobalDefinition}
 use Rattle.smith_binary_read.specs.declared.definitions.TableDefinition.{TableDefinition}
@@ -24,6 +29,7 @@ use Rattle.smith_binary_read.specs.declared.definitions.TagDefinition.{TagDefini
 use Rattle.smith_binary_read.specs.declared.exports.Export.{Export}
 use Rattle.smith_binary_read.specs.DataReadings.{segment_view}
 use Rattle.smith_binary_read.specs.ElementReadings.{element_view}
+use Rattle.smith_binary_read_instr.specs.Expressions.{IsNestedExpr}
 use Rattle.smith_decode.specs.declared.error.DecodeError.{DecodeError}
 use Rattle.smith_decode.specs.declared.error.DecodeError.TheVariants.{Memory, Malformed}
 use Rattle.smith_decode.specs.declared.modules.Module.{Module}
@@ -36,9 +42,29 @@ pub record IsStated (stated : Option ℕ) (piece : List ℕ) : Type 0 where
   pub is : stated ≡ Some number
   pub form : IsUnsigned 32 number piece
 
+-- a module in the abstract syntax (Structure, Modules). A function is its type and its body, which are
+-- two lists here, as in the bytes; a body is its locals and its instructions
+pub record Syntax : Type 0 where
+  pub types : List (List SubType)
+  pub imports : List Import
+  pub functions : List ℕ
+  pub tables : List (TableType × List ConstInstr)
+  pub memories : List MemoryType
+  pub tags : List ℕ
+  pub globals : List (GlobalType × List ConstInstr)
+  pub exports : List (List ℕ × ExportKind × ℕ)
+  pub start : Option ℕ
+  pub elems : List Elem
+  pub bodies : List (List ValType × List Instr)
+  pub datas : List Data
+
+-- a body after its size: its locals, then its expression (Code Section)
+abbrev pub IsFunctionBody : List ValType × List Instr → List ℕ → Type 0
+IsFunctionBody body = IsSized (Joined (IsLocals body.0) (IsNestedExpr body.1))
+
 -- the sections of a module that states this number of data segments, in order, with custom sections
 -- before, between and after them (Modules)
-abbrev pub AreSections : Contents → Option ℕ → List ℕ → Type 0
+abbrev pub AreSections : Syntax → Option ℕ → List ℕ → Type 0
 AreSections m count =
     IsThen 1 (m.types ≡ []) (IsList IsRecGroup m.types)
     (IsThen 2 (m.imports ≡ []) (IsImports m.imports)
@@ -51,12 +77,12 @@ AreSections m count =
     (IsThen 8 (m.start ≡ None) (IsStated m.start)
     (IsThen 9 (m.elems ≡ []) (IsList IsElem m.elems)
     (IsThen 12 (count ≡ None) (IsStated count)
-    (IsThen 10 (m.bodies ≡ []) (IsList IsBody m.bodies)
+    (IsThen 10 (m.bodies ≡ []) (IsList IsFunctionBody m.bodies)
     (IsThen 11 (m.datas ≡ []) (IsList IsData m.datas) AreCustoms))))))))))))
 
 -- a module: the preamble, then its sections; it has a body for each function, and as many data
 -- segments as it states, if it states their number (Modules)
-pub record IsModuleBinary (m : Contents) (bytes : List ℕ) : Type 0 where
+pub record IsModuleBinary (m : Syntax) (bytes : List ℕ) : Type 0 where
   pub count : Option ℕ
   pub form : Joined IsPreamble (AreSections m count) bytes
   pub bodies : length m.functions ≡ length m.bodies
@@ -77,8 +103,8 @@ export_triple item = (item.name, item.kind, item.index)
 
 -- a decoded module in the abstract syntax (Structure, Modules): imports one by one, locals one by one,
 -- and functions in element segments as expressions
-abbrev pub contents_of : Module → Contents
-contents_of m = record {
+abbrev pub syntax_of : Module → Syntax
+syntax_of m = record {
   types = m.types;
   imports = flattened m.imports;
   functions = m.functions;
@@ -94,7 +120,32 @@ contents_of m = record {
 }
 
 -- a call returned this module, or memory was refused
-abbrev pub Returns : Contents → Result Module DecodeError → Type 0
-Returns m (Ok decoded) = contents_of decoded ≡ m
+abbrev pub Returns : Syntax → Result Module DecodeError → Type 0
+Returns m (Ok decoded) = syntax_of decoded ≡ m
 Returns m (Err Memory) = Unit {0}
 Returns m (Err (Malformed offset reason)) = ⊥
+
+-- bodies whose locals are those of bodies with bytes, and whose expressions are these bytes (Code
+-- Section)
+abbrev pub AreBodiesOf : List (List ValType × List Instr) → List (List ValType × List ℕ) → Type 0
+AreBodiesOf [] [] = Unit {0}
+AreBodiesOf (body ∷ bodies) (raw ∷ raws) = (body.0 ≡ raw.0) × IsNestedExpr body.1 raw.1 × AreBodiesOf bodies raws
+AreBodiesOf [] (raw ∷ raws) = ⊥
+AreBodiesOf (body ∷ bodies) [] = ⊥
+
+-- a module with these bodies (Structure, Modules)
+abbrev pub with_bodies : Contents → List (List ValType × List Instr) → Syntax
+with_bodies m bodies = record {
+  types = m.types;
+  imports = m.imports;
+  functions = m.functions;
+  tables = m.tables;
+  memories = m.memories;
+  tags = m.tags;
+  globals = m.globals;
+  exports = m.exports;
+  start = m.start;
+  elems = m.elems;
+  bodies = bodies;
+  datas = m.datas;
+}

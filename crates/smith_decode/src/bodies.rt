@@ -1,8 +1,12 @@
 ghost use Rattle.std.specs.Prelude.{◌≡◌, ◌^◌, nat_lt};
+ghost use Rattle.smith_binary_read.specs.Readings.{GivesWhole, whole_at};
+ghost use Rattle.smith_binary_read_instr.specs.ExpressionReadings.{expr_at};
 ghost use Rattle.smith_decode.specs.BodyReadings.{total};
 
-use crate::sections::{DecodeWhole, read_sized};
+use crate::sections::{DecodeWhole, finish, read_sized};
 use smith_binary_read::{Decode, ReadError, Reader, Reason, read_list};
+use smith_binary_read_instr::read_expr;
+use smith_instr::Instr;
 use smith_types::{Items, ValType};
 
 /// A run of locals of one type (Code Section).
@@ -19,8 +23,9 @@ pub struct LocalRun {
 pub struct Body {
     /// The locals in runs, of which six bytes may have 2^32 - 1. A body has no more.
     pub locals: Items<LocalRun>,
-    /// The bytes of the expression, which are not read further.
-    pub code: Items<u8>,
+    /// The instructions of the expression, without its last `end`. The start of a block, `else` and
+    /// `end` are instructions of their own.
+    pub instructions: Items<Instr>,
 }
 
 impl Decode for LocalRun {
@@ -50,6 +55,14 @@ fn are_few(runs: &[LocalRun]) -> bool
     true
 }
 
+// Reads all bytes of `reader` as an expression.
+fn read_whole_expr(reader: &mut Reader<'_>) -> Result<Items<Instr>, ReadError>
+    ensures { GivesWhole result (whole_at expr_at reader.old) }
+{
+    let instructions = read_expr(reader)?;
+    finish(instructions, reader)
+}
+
 impl DecodeWhole for Body {
     ghost use Rattle.smith_decode.specs.BodyReadings.{body_whole};
 
@@ -62,8 +75,11 @@ impl DecodeWhole for Body {
         if !are_few(locals.as_slice()) {
             return Err(many);
         }
-        let code = Items::from_vec(Vec::from_slice(reader.alloc(), reader.rest())?);
-        Ok(Body { locals, code })
+        let instructions = read_whole_expr(reader)?;
+        Ok(Body {
+            locals,
+            instructions,
+        })
     }
 }
 

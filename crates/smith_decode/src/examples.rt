@@ -1,9 +1,10 @@
 ghost use Rattle.std.specs.Prelude.{◌≡◌, Ok, Err, [], ◌∷◌};
-ghost use Rattle.smith_binary_sections.specs.Modules.{Contents};
+ghost use Rattle.smith_instr.specs.declared.instr.Instr.TheVariants as instr;
 ghost use Rattle.smith_binary_read.specs.declared.error.Reason.TheVariants as reason;
+ghost use Rattle.smith_decode.specs.BodyReadings.{body_at, body_of};
 ghost use Rattle.smith_decode.specs.ExampleModules.{no_item, after_preamble};
 ghost use Rattle.smith_decode.specs.ModuleReadings.{module_at};
-ghost use Rattle.smith_decode.specs.Modules.{IsModuleBinary, contents_of};
+ghost use Rattle.smith_decode.specs.Modules.{IsModuleBinary, Syntax, syntax_of};
 
 fn modules()
     ensures preamble { module_at (after_preamble []) ≡ Ok no_item }
@@ -24,10 +25,19 @@ fn faults()
         ≡ Err (record { left = 0; reason = reason.CountMismatch }) }
 {}
 
+fn bodies()
+    ensures one_instruction { body_at (0x03 ∷ 0x00 ∷ 0x01 ∷ 0x0B ∷ 0x7F ∷ [])
+        ≡ Ok (body_of [] (instr.Nop ∷ []), 0x7F ∷ []) }
+    ensures open_block { body_at (0x04 ∷ 0x00 ∷ 0x02 ∷ 0x40 ∷ 0x0B ∷ 0x7F ∷ [])
+        ≡ Err (record { left = 1; reason = reason.UnexpectedEnd }) }
+    ensures after_the_end { body_at (0x03 ∷ 0x00 ∷ 0x0B ∷ 0x0B ∷ [])
+        ≡ Err (record { left = 1; reason = reason.TrailingBytes }) }
+{}
+
 fn modules_in_the_abstract_syntax()
-    ensures preamble { IsModuleBinary (contents_of no_item) (after_preamble []) }
-    ensures without_a_body { (m : Contents)
+    ensures preamble { IsModuleBinary (syntax_of no_item) (after_preamble []) }
+    ensures without_a_body { (m : Syntax)
         → ¬ IsModuleBinary m (after_preamble (0x03 ∷ 0x02 ∷ 0x01 ∷ 0x00 ∷ [])) }
-    ensures out_of_order { (m : Contents)
+    ensures out_of_order { (m : Syntax)
         → ¬ IsModuleBinary m (after_preamble (0x0A ∷ 0x01 ∷ 0x00 ∷ 0x01 ∷ 0x01 ∷ 0x00 ∷ [])) }
 {}

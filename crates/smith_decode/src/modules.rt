@@ -1,12 +1,11 @@
 ghost use Rattle.std.specs.Prelude.{◌≡◌, [], ◌∷◌, IfOk, List};
-ghost use Rattle.smith_binary_sections.specs.Modules.{Contents};
 ghost use Rattle.smith_binary_read.specs.Readings.{GivesWhole};
 ghost use Rattle.smith_decode.specs.CustomReadings.{GivesRest, end_at};
 ghost use Rattle.smith_decode.specs.ModuleReadings.{literal_at, preamble_at, bodies_at, counts_at};
 ghost use Rattle.smith_decode.specs.ModuleReadings.{starts_at, globals_at, memories_at};
 ghost use Rattle.smith_decode.specs.ModuleReadings.{functions_at, sections_at, module_at};
 ghost use Rattle.smith_decode.specs.ModuleReadings.{counts_agree, Locates};
-ghost use Rattle.smith_decode.specs.Modules.{IsModuleBinary, contents_of, Returns};
+ghost use Rattle.smith_decode.specs.Modules.{Syntax, IsModuleBinary, syntax_of, Returns};
 
 use crate::bodies::Body;
 use crate::error::DecodeError;
@@ -243,8 +242,7 @@ fn read_located(alloc: Global, bytes: &[u8]) -> Result<Module, DecodeError>
     }
 }
 
-/// Decodes the module that `bytes` are. Custom sections are skipped, and the expressions of bodies are
-/// not read. `alloc` allocates the module.
+/// Decodes the module that `bytes` are. Custom sections are skipped. `alloc` allocates the module.
 ///
 /// # Errors
 ///
@@ -252,9 +250,9 @@ fn read_located(alloc: Global, bytes: &[u8]) -> Result<Module, DecodeError>
 /// is valid; this call does not.
 pub fn decode(alloc: Global, bytes: &[u8]) -> Result<Module, DecodeError>
     // The bytes are that module.
-    ensures sound { IfOk result (λ m. IsModuleBinary (contents_of m) bytes.now) }
+    ensures sound { IfOk result (λ m. IsModuleBinary (syntax_of m) bytes.now) }
     // If the bytes are a module, it is returned, unless memory was refused.
-    ensures complete { (m : Contents) → IsModuleBinary m bytes.now → Returns m result }
+    ensures complete { (m : Syntax) → IsModuleBinary m bytes.now → Returns m result }
     // Which fault it is, and where.
     ensures exact { Locates result bytes.now (module_at bytes.now) }
 {

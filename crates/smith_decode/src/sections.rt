@@ -19,8 +19,8 @@ pub(crate) trait DecodeWhole: Drop {
         ensures { GivesWhole result (Self.whole reader.old) };
 }
 
-// Returns `item` if no byte is left.
-fn finish<T: Drop>(item: T, reader: &Reader<'_>) -> Result<T, ReadError>
+/// Returns `item` if no byte is left.
+pub(crate) fn finish<T: Drop>(item: T, reader: &Reader<'_>) -> Result<T, ReadError>
     ensures { GivesWhole result (at_end item reader.now) }
 {
     if reader.left() == 0 {
