@@ -10,7 +10,7 @@ use Rattle.smith_instr.specs.declared.control.BlockType.{BlockType}
 use Rattle.smith_instr.specs.declared.control.Catch.{Catch}
 use Rattle.smith_instr.specs.declared.instr.Instr.{Instr}
 use Rattle.smith_instr.specs.declared.instr.Instr.TheVariants as instr
-use Rattle.smith_body.specs.Bodies.{Drawing, State, begun, body_at, drawing_at, dropped, enclosed_at, ended, ended_by, ending_at, head_at, inside_at, interval, leaf_in, node_at, results_at, statement_at, statements_within, value_at, values_at, written}
+use Rattle.smith_body.specs.Bodies.{Drawing, State, begun, body_at, drawing_at, dropped, enclosed_at, ended, ended_by, ending_at, head_at, inside_at, interval, leaf_in, node_at, operands_at, results_at, statement_at, statements_within, value_at, values_at, written}
 use Rattle.smith_body_choices.specs.Choices.{allowed_choice_at, ending_choice_at, statement_choice_at}
 use Rattle.smith_body.specs.DraftSteps.{IsDrawn, IsEnded, IsOpened, IsWritten, state_of}
 use Rattle.smith_body_leaves.specs.Leaves.{leaf_at}
@@ -27,10 +27,10 @@ use Rattle.smith_body_nodes.proofs.ChosenLemmas.{not_zero}
 use Rattle.smith_body.proofs.DrawnLemmas.{height_left}
 
 -- a state of these labels, instructions, locals, budget and bytes
-abbrev made : Scope → List (List ValType) → List Instr → List ℕ → ℕ → List ℕ → State
+abbrev pub made : Scope → List (List ValType) → List Instr → List ℕ → ℕ → List ℕ → State
 made scope labels out set budget bytes = record { context = context_of scope labels; out = out; set = set; budget = budget; bytes = bytes }
 
-state_is : (scope : Scope) (draft : Draft) (labels : List (List ValType)) (out : List Instr) (set : List ℕ) (budget : ℕ) (bytes : List ℕ)
+pub state_is : (scope : Scope) (draft : Draft) (labels : List (List ValType)) (out : List Instr) (set : List ℕ) (budget : ℕ) (bytes : List ℕ)
     → draft.labels.items ≡ labels → draft.out ≡ out → draft.set.items ≡ set → draft.budget ≡ budget → made scope labels out set budget bytes ≡ state_of scope draft bytes
 state_is scope draft labels out set budget bytes labels_are out_is set_is budget_is = rw (← labels_are, ← out_is, ← set_is, ← budget_is) refl
 
@@ -47,7 +47,7 @@ unpaid_value config zero wanted s none = refl
 unpaid_value config (suc depth) wanted s none = let test : (s.budget == 0) ≡ true = ap (λ (n : ℕ). n == 0) none in rw test refl
 
 pub chosen_value : (config : Config) (depth : ℕ) (wanted : ValType) (s : State) (node : Node) (left : List ℕ) → 0 < depth → 0 < s.budget → allowed_choice_at config s.context wanted s.bytes ≡ (Some node, left)
-    → (drawing_at config depth).value wanted s ≡ node_at (drawing_at config (depth - 1)) node (record s { bytes = left })
+    → (drawing_at config depth).value wanted s ≡ node_at config (drawing_at config (depth - 1)) node (record s { bytes = left })
 unfolding drawing_at value_at
 chosen_value config zero wanted s node left deep paid chosen = absurd (omega arith)
 chosen_value config (suc depth) wanted s node left deep paid chosen =
@@ -76,9 +76,10 @@ pub drops_written : (scope : Scope) (count : ℕ) (old new : Draft) (bytes : Lis
 drops_written scope count old new bytes out set labels budget = state_is scope new old.labels.items (old.out ++ replicate count instr.Drop) old.set.items old.budget bytes labels out set budget
 
 -- a node: its operands, its head, and the dropped values
-pub node_exact : (draw : Drawing) (node : Node) (s operands rest : State) → values_at draw node.operands (record s { budget = s.budget - 1 }) ≡ operands → head_at draw node.head node.sets operands ≡ rest → node_at draw node s ≡ dropped node.drops rest
+pub node_exact : (config : Config) (draw : Drawing) (node : Node) (s operands rest : State) → operands_at config draw node.head node.operands (record s { budget = s.budget - 1 }) ≡ operands → head_at draw node.head node.sets operands ≡ rest
+    → node_at config draw node s ≡ dropped node.drops rest
 unfolding node_at
-node_exact draw node s operands rest first second =
+node_exact config draw node s operands rest first second =
     ap (λ (s : State). dropped node.drops (head_at draw node.head node.sets s)) first ∙ ap (λ (s : State). dropped node.drops s) second
 
 pub plain_exact : (scope : Scope) (draw : Drawing) (head : Head) (instruction : Instr) (sets : Option ℕ) (old new : Draft) (bytes : List ℕ) → head ≡ heads.Plain instruction → IsWritten instruction sets old new
@@ -117,7 +118,7 @@ pub forbidden_ending : (config : Config) (depth : ℕ) (s : State) (rest : List 
 forbidden_ending config depth s rest node deep is forbidden = chosen_end config depth s rest (Some node) deep is ∙ rw forbidden refl
 
 pub chosen_ending : (config : Config) (depth : ℕ) (s t : State) (rest : List ℕ) (node : Node) → 0 < depth → ending_choice_at s.context s.bytes ≡ (Some node, rest) → is_node_allowed s.context.features config node ≡ true
-    → node_at (drawing_at config (depth - 1)) node (record s { bytes = rest }) ≡ t → (drawing_at config depth).ending s ≡ (true, t)
+    → node_at config (drawing_at config (depth - 1)) node (record s { bytes = rest }) ≡ t → (drawing_at config depth).ending s ≡ (true, t)
 chosen_ending config depth s t rest node deep is allowed after = chosen_end config depth s rest (Some node) deep is ∙ rw (allowed, after) refl
 
 -- statements and the results, or an ending in their place
@@ -206,7 +207,7 @@ no_values draw (value ∷ wanted) (suc place) s past = no_values draw wanted pla
 
 -- a statement
 pub chosen_statement : (config : Config) (below : Drawing) (s : State) (node : Node) (left : List ℕ) → statement_choice_at config s.context s.bytes ≡ (node, left) → is_node_allowed s.context.features config node ≡ true
-    → statement_at config below s ≡ node_at below node (record s { bytes = left })
+    → statement_at config below s ≡ node_at config below node (record s { bytes = left })
 unfolding statement_at
 chosen_statement config below s node left chosen allowed = rw (chosen, allowed) refl
 

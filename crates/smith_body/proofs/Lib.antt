@@ -3,4 +3,5 @@ pub mod DrawnLemmas
 pub mod MadeLemmas
 pub mod CreatedLemmas
 pub mod ExactLemmas
+pub mod OperandLemmas
 pub mod BodyLemmas

@@ -1,14 +1,23 @@
 -- The body that the bytes produce. Rules of this project.
-use Rattle.std.specs.Prelude.{ℕ, zero, suc, ◌+◌, ◌-◌, ◌/◌, ◌%◌, ◌==◌, nat_le, not, Bool, true, false, Option, Some, None, option_to_list, List, [], ◌∷◌, ◌++◌, length, replicate, if◌then◌else◌}
+use Rattle.std.specs.Prelude.{ℕ, zero, suc, ◌+◌, ◌-◌, ◌/◌, ◌%◌, ◌==◌, ◌||◌, nat_le, not, Bool, true, false, Option, Some, None, option_to_list, List, [], ◌∷◌, ◌++◌, length, replicate, if◌then◌else◌}
 use Rattle.smith_bytes.specs.Draws.{range_at}
 use Rattle.smith_config.specs.declared.config.Config.{Config}
 use Rattle.smith_syntax.specs.declared.value_type.ValType.{ValType}
-use Rattle.smith_instr.specs.Contexts.{BodyContext, labelled}
+use Rattle.smith_syntax.specs.declared.value_type.ValType.TheVariants.{I32, I64}
+use Rattle.smith_draw_types.specs.Choices.{chosen_at}
+use Rattle.smith_instr.specs.Contexts.{BodyContext, address, labelled}
 use Rattle.smith_instr.specs.declared.instr.Instr.{Instr}
 use Rattle.smith_instr.specs.declared.instr.Instr.TheVariants as instr
 use Rattle.smith_body_choices.specs.Choices.{allowed_choice_at, ending_choice_at, statement_choice_at}
 use Rattle.smith_body_leaves.specs.Leaves.{leaf_at}
+use Rattle.smith_body.specs.Operands.{address_constant, mask_of, masking, number_at, operand_ways}
+use Rattle.smith_body.specs.declared.operands.OperandWay.{OperandWay}
+use Rattle.smith_body.specs.declared.operands.OperandWay.TheVariants as way
+use Rattle.smith_body.specs.declared.operands.Place.{Place}
+use Rattle.smith_body.specs.declared.operands.Place.TheVariants as place
+use Rattle.smith_body.specs.Limits.{limit_at}
 use Rattle.smith_body_nodes.specs.Nodes.{is_node_allowed, label_of, opened}
+use Rattle.smith_body_nodes.specs.Scopes.{is_permitted}
 use Rattle.smith_body_nodes.specs.declared.node.Head.{Head}
 use Rattle.smith_body_nodes.specs.declared.node.Head.TheVariants as head
 use Rattle.smith_body_nodes.specs.declared.node.Node.{Node}
@@ -40,6 +49,46 @@ dropped count s = record s { out = s.out ++ replicate count instr.Drop }
 abbrev pub values_at : Drawing → List ValType → State → State
 values_at draw [] s = s
 values_at draw (wanted ∷ more) s = values_at draw more (draw.value wanted s)
+
+-- a constant at a place below a limit or next to it, or any value if it isn't allowed
+unfoldable pub near_at : Config → Drawing → Bool → Place → ℕ → State → State
+near_at config draw wide place limit s =
+    let number = number_at place limit s.bytes in
+    let after = record s { bytes = number.1 } in
+    let constant = address_constant wide number.0 in
+    if is_permitted s.context.features config constant then written constant after else draw.value (address wide) after
+
+-- a value whose upper bits are cleared, so that it is below a limit: it takes one unit of the
+-- budget. Without a budget, or if the instructions aren't allowed, any value
+unfoldable pub masked_at : Config → Drawing → Bool → ℕ → State → State
+masked_at config draw wide limit s =
+    let mask = address_constant wide (mask_of limit) in
+    if (s.budget == 0) || not (is_permitted s.context.features config mask) || not (is_permitted s.context.features config (masking wide))
+    then draw.value (address wide) s
+    else written (masking wide) (written mask (draw.value (address wide) (record s { budget = s.budget - 1 })))
+
+abbrev pub limited_by : Config → Drawing → Bool → ℕ → OperandWay → State → State
+limited_by config draw wide limit (way.Constant place) s = near_at config draw wide place limit s
+limited_by config draw wide limit way.Masked s = masked_at config draw wide limit s
+limited_by config draw wide limit way.Unlimited s = draw.value (address wide) s
+
+-- an address, an index or a length for which there is a limit, of 64 bits or 32
+unfoldable pub limited_at : Config → Drawing → Bool → ℕ → State → State
+limited_at config draw wide limit s =
+    let way = chosen_at (way.Constant place.Start) operand_ways s.bytes in
+    limited_by config draw wide limit way.0 (record s { bytes = way.1 })
+
+-- an operand of a type, for which there may be a limit
+abbrev pub operand_at : Config → Drawing → Option ℕ → ValType → State → State
+operand_at config draw (Some limit) I32 s = limited_at config draw false limit s
+operand_at config draw (Some limit) I64 s = limited_at config draw true limit s
+operand_at config draw limit wanted s = draw.value wanted s
+
+-- the operands of these types of an instruction or a block, in order, the last on top
+abbrev pub operands_at : Config → Drawing → Head → List ValType → State → State
+operands_at config draw head [] s = s
+operands_at config draw head (wanted ∷ more) s =
+    operands_at config draw head more (operand_at config draw (limit_at s.context.tables s.context.memories head (length more)) wanted s)
 
 -- statements and then the results, or in their place an instruction after which nothing is reached:
 -- one of eight times more statements and the results follow it
@@ -75,8 +124,10 @@ head_at draw (head.If ty sides) sets s =
 head_at draw (head.Try ty clauses sides) sets s = written instr.End (enclosed_at draw sides.results sides (written (instr.TryTable ty clauses) s))
 
 -- a node takes one unit of the budget: its operands are drawn, then its other instructions
-unfoldable pub node_at : Drawing → Node → State → State
-node_at draw node s = dropped node.drops (head_at draw node.head node.sets (values_at draw node.operands (record s { budget = s.budget - 1 })))
+unfoldable pub node_at : Config → Drawing → Node → State → State
+node_at config draw node s =
+    dropped node.drops
+    (head_at draw node.head node.sets (operands_at config draw node.head node.operands (record s { budget = s.budget - 1 })))
 
 -- a value without a budget
 unfoldable pub leaf_in : Config → ValType → State → State
@@ -86,7 +137,7 @@ leaf_in config wanted s =
 
 -- the node that was chosen, or a value without a budget
 abbrev pub node_or_leaf_at : Config → Drawing → ValType → Option Node → State → State
-node_or_leaf_at config below wanted (Some node) s = node_at below node s
+node_or_leaf_at config below wanted (Some node) s = node_at config below node s
 node_or_leaf_at config below wanted None s = leaf_in config wanted s
 
 -- a value, by the draws one level deeper: without a budget, a value that needs none
@@ -98,7 +149,7 @@ value_at config below wanted s =
 -- a node if it is allowed; otherwise only one unit of the budget is taken
 abbrev pub allowed_at : Config → Drawing → Node → State → State
 allowed_at config below node s =
-    if is_node_allowed s.context.features config node then node_at below node s else record s { budget = s.budget - 1 }
+    if is_node_allowed s.context.features config node then node_at config below node s else record s { budget = s.budget - 1 }
 
 -- a statement, by the draws one level deeper
 unfoldable pub statement_at : Config → Drawing → State → State
@@ -125,7 +176,8 @@ statements_within statement (suc most) s =
 -- the node that was chosen as an ending, if one was and it is allowed
 abbrev pub ended_by : Config → Drawing → Option Node → State → Bool × State
 ended_by config below None s = (false, s)
-ended_by config below (Some node) s = if is_node_allowed s.context.features config node then (true, node_at below node s) else (false, s)
+ended_by config below (Some node) s =
+    if is_node_allowed s.context.features config node then (true, node_at config below node s) else (false, s)
 
 -- an instruction after which nothing is reached, by the draws one level deeper
 unfoldable pub ending_at : Config → Drawing → State → Bool × State

@@ -1,3 +1,5 @@
 pub mod Bodies
 pub mod DraftSteps
 pub mod Stops
+pub mod Limits
+pub mod Operands

@@ -3,11 +3,13 @@ ghost use Rattle.std.specs.Prelude.{IfErr, IfOk, IsTrue, OnOk, option_to_list};
 ghost use Rattle.smith_bytes.specs.Source.{KeepsPieces};
 ghost use Rattle.smith_syntax.specs.declared.value_type.ValType.{ValType as Val};
 ghost use Rattle.smith_syntax.specs.declared.value_type.ValType.TheVariants.{I32};
-ghost use Rattle.smith_instr.specs.Contexts.{AreBelow, AreValid, IsBlockType, IsValid};
+ghost use Rattle.smith_instr.specs.Contexts.{AreBelow, AreValid, IsBlockType, IsValid, address};
 ghost use Rattle.smith_instr.specs.InstrTypes.{IsCatch};
 ghost use Rattle.smith_instr.specs.declared.instr.Instr.TheVariants as instr;
 ghost use Rattle.smith_body.specs.Bodies.{drawing_at, enclosed_at, head_at, inside_at, interval};
-ghost use Rattle.smith_body.specs.Bodies.{node_at, results_at, statement_at, values_at, written};
+ghost use Rattle.smith_body.specs.Bodies.{limited_at, masked_at, near_at, node_at, operand_at};
+ghost use Rattle.smith_body.specs.Bodies.{operands_at, results_at, statement_at, values_at};
+ghost use Rattle.smith_body.specs.Bodies.{written};
 ghost use Rattle.smith_body.specs.DraftSteps.{IsDrawn, state_of};
 ghost use Rattle.smith_body_nodes.specs.Nodes.{AreSidesValid, HasHeadType, IsHeadAllowed};
 ghost use Rattle.smith_body_nodes.specs.Nodes.{IsHeadValid, IsNode, IsNodeAllowed, MayOpen};
@@ -18,10 +20,17 @@ ghost use Rattle.smith_body_nodes.specs.Scopes.{where_stands};
 ghost use Rattle.smith_body_nodes.specs.Traps.{IsNoStop};
 
 use crate::leaf::write_leaf;
+use crate::limits::limit_at;
+use crate::operands::{
+    OperandWay, Place, address_constant, draw_number, mask_of, masking, operand_ways,
+};
 use crate::writes::{drop_values, write_else, write_end, write_opening, write_plain};
 use smith_body_choices::{choose_allowed, choose_ending, choose_statement};
-use smith_body_nodes::{Draft, Head, Node, Opening, Scope, Sides, is_node_allowed};
+use smith_body_nodes::{
+    Draft, Head, Node, Opening, Scope, Sides, address, is_allowed, is_node_allowed,
+};
 use smith_bytes::{Error, Unstructured};
+use smith_draw_types::choose;
 use smith_instr::{BlockType, Catch, Instr};
 use smith_types::{Items, ValType};
 use std::alloc::Global;
@@ -74,7 +83,7 @@ fn draw_node(
     requires allowed { IsNodeAllowed scope.now node }
     requires paid { 0 < draft.old.budget }
     ensures exact { OnOk result
-        (node_at (drawing_at scope.now.config.now depth) node (state_of scope.now draft.old u.old)
+        (node_at scope.now.config.now (drawing_at scope.now.config.now depth) node (state_of scope.now draft.old u.old)
         ≡ state_of scope.now draft.new u.new) }
     ensures drawn { (values : List Val)
         → IsNode (where_stands scope.now draft.old) draft.old.set.items values node
@@ -91,9 +100,160 @@ fn draw_node(
         drops,
     } = node;
     draft.budget -= 1;
-    draw_values(alloc, scope, operands.as_slice(), depth, draft, u)?;
+    draw_operands(alloc, scope, &head, operands.as_slice(), depth, draft, u)?;
     draw_head(alloc, scope, head, sets, depth, draft, u)?;
     drop_values(drops, draft)
+}
+
+/// Draws the operands of `head`, in order.
+#[cycle(body)]
+fn draw_operands(
+    alloc: Global,
+    scope: &Scope<'_>,
+    head: &Head,
+    operands: &[ValType],
+    depth: u32,
+    draft: &mut Draft,
+    u: &mut Unstructured<'_>,
+) -> Result<(), Error>
+    requires scope { IsScope (bare scope.now) }
+    requires labels { AreLabels scope.now draft.old.labels.items }
+    requires valid { AreValid (bare scope.now) operands.now }
+    ensures exact { OnOk result (operands_at scope.now.config.now
+        (drawing_at scope.now.config.now depth) head.now operands.now
+        (state_of scope.now draft.old u.old) ≡ state_of scope.now draft.new u.new) }
+    ensures drawn { OnOk result
+        (IsDrawn scope.now [] operands.now (length operands.now) draft.old draft.new) }
+    ensures memory { IfErr result (λ e. e ≡ Error.Memory) }
+    ensures left { KeepsPieces u.old u.new }
+{
+    for place in 0..operands.len() {
+        let limit = limit_at(scope, head, operands.len() - 1 - place);
+        draw_operand(alloc, scope, operands[place], limit, depth, draft, u)?;
+    }
+    Ok(())
+}
+
+/// Draws an operand of the type `wanted`, mostly below `limit` if there is one.
+#[cycle(body)]
+fn draw_operand(
+    alloc: Global,
+    scope: &Scope<'_>,
+    wanted: ValType,
+    limit: Option<u64>,
+    depth: u32,
+    draft: &mut Draft,
+    u: &mut Unstructured<'_>,
+) -> Result<(), Error>
+    requires scope { IsScope (bare scope.now) }
+    requires labels { AreLabels scope.now draft.old.labels.items }
+    requires wanted { IsValid (bare scope.now) wanted }
+    ensures exact { OnOk result (operand_at scope.now.config.now
+        (drawing_at scope.now.config.now depth) limit wanted (state_of scope.now draft.old u.old)
+        ≡ state_of scope.now draft.new u.new) }
+    ensures drawn { OnOk result (IsDrawn scope.now [] (wanted ∷ []) 1 draft.old draft.new) }
+    ensures memory { IfErr result (λ e. e ≡ Error.Memory) }
+    ensures left { KeepsPieces u.old u.new }
+{
+    let Some(limit) = limit else {
+        return draw_value(alloc, scope, wanted, depth, draft, u);
+    };
+    match wanted {
+        ValType::I32 => draw_limited(alloc, scope, false, limit, depth, draft, u),
+        ValType::I64 => draw_limited(alloc, scope, true, limit, depth, draft, u),
+        _ => draw_value(alloc, scope, wanted, depth, draft, u),
+    }
+}
+
+/// Draws an address, an index or a length, mostly below `limit`: of 64 bits if `wide` is set, else
+/// of 32 bits.
+#[cycle(body)]
+fn draw_limited(
+    alloc: Global,
+    scope: &Scope<'_>,
+    wide: bool,
+    limit: u64,
+    depth: u32,
+    draft: &mut Draft,
+    u: &mut Unstructured<'_>,
+) -> Result<(), Error>
+    requires scope { IsScope (bare scope.now) }
+    requires labels { AreLabels scope.now draft.old.labels.items }
+    ensures exact { OnOk result (limited_at scope.now.config.now
+        (drawing_at scope.now.config.now depth) wide limit (state_of scope.now draft.old u.old)
+        ≡ state_of scope.now draft.new u.new) }
+    ensures drawn { OnOk result (IsDrawn scope.now [] (address wide ∷ []) 1 draft.old draft.new) }
+    ensures memory { IfErr result (λ e. e ≡ Error.Memory) }
+    ensures left { KeepsPieces u.old u.new }
+{
+    match choose(operand_ways(), u) {
+        OperandWay::Constant(place) => {
+            draw_near(alloc, scope, wide, place, limit, depth, draft, u)
+        }
+        OperandWay::Masked => draw_masked(alloc, scope, wide, limit, depth, draft, u),
+        OperandWay::Unlimited => draw_value(alloc, scope, address(wide), depth, draft, u),
+    }
+}
+
+/// Draws a constant at a `place` below `limit` or next to it, or any value if it isn't allowed.
+#[cycle(body)]
+fn draw_near(
+    alloc: Global,
+    scope: &Scope<'_>,
+    wide: bool,
+    place: Place,
+    limit: u64,
+    depth: u32,
+    draft: &mut Draft,
+    u: &mut Unstructured<'_>,
+) -> Result<(), Error>
+    requires scope { IsScope (bare scope.now) }
+    requires labels { AreLabels scope.now draft.old.labels.items }
+    ensures exact { OnOk result (near_at scope.now.config.now
+        (drawing_at scope.now.config.now depth) wide place limit
+        (state_of scope.now draft.old u.old) ≡ state_of scope.now draft.new u.new) }
+    ensures drawn { OnOk result (IsDrawn scope.now [] (address wide ∷ []) 1 draft.old draft.new) }
+    ensures memory { IfErr result (λ e. e ≡ Error.Memory) }
+    ensures left { KeepsPieces u.old u.new }
+{
+    let number = draw_number(place, limit, u);
+    let constant = address_constant(wide, number);
+    if !is_allowed(scope, &constant) {
+        return draw_value(alloc, scope, address(wide), depth, draft, u);
+    }
+    write_plain(constant, None, draft)
+}
+
+/// Draws a value and clears its upper bits, so that it is below `limit`. Takes one unit of the
+/// budget. Without a budget, or if the instructions aren't allowed, draws any value.
+#[cycle(body)]
+fn draw_masked(
+    alloc: Global,
+    scope: &Scope<'_>,
+    wide: bool,
+    limit: u64,
+    depth: u32,
+    draft: &mut Draft,
+    u: &mut Unstructured<'_>,
+) -> Result<(), Error>
+    requires scope { IsScope (bare scope.now) }
+    requires labels { AreLabels scope.now draft.old.labels.items }
+    ensures exact { OnOk result (masked_at scope.now.config.now
+        (drawing_at scope.now.config.now depth) wide limit (state_of scope.now draft.old u.old)
+        ≡ state_of scope.now draft.new u.new) }
+    ensures drawn { OnOk result (IsDrawn scope.now [] (address wide ∷ []) 1 draft.old draft.new) }
+    ensures memory { IfErr result (λ e. e ≡ Error.Memory) }
+    ensures left { KeepsPieces u.old u.new }
+{
+    let mask = address_constant(wide, mask_of(limit));
+    let both = masking(wide);
+    if draft.budget == 0 || !is_allowed(scope, &mask) || !is_allowed(scope, &both) {
+        return draw_value(alloc, scope, address(wide), depth, draft, u);
+    }
+    draft.budget = draft.budget.saturating_sub(1);
+    draw_value(alloc, scope, address(wide), depth, draft, u)?;
+    write_plain(mask, None, draft)?;
+    write_plain(both, None, draft)
 }
 
 /// Draws the instructions after operands, and marks the local `sets` as set.

@@ -5,6 +5,8 @@ mod body;
 mod draws;
 pub mod laws;
 mod leaf;
+mod limits;
+mod operands;
 mod writes;
 
 pub use body::draw_body;

@@ -62,7 +62,7 @@ fn past()
 fn bodies()
     ensures below { body_at
         (record default_config { memory_offset_choices = record { 0 = 1; 1 = 0; 2 = 0 } })
-        (function_of [] (I32 ∷ [])) 1 (0 ∷ 13 ∷ 4 ∷ 0 ∷ 1 ∷ 0 ∷ 8 ∷ narrow 3)
+        (function_of [] (I32 ∷ [])) 1 (0 ∷ 13 ∷ 4 ∷ 0 ∷ 1 ∷ 0 ∷ 8 ∷ 0 ∷ 3 ∷ [])
         ≡ (number 3 ∷ instr.Load load.I32From16U (record (aligned 0 1) { offset = 8 }) ∷ [], []) }
     ensures past { body_at
         (record default_config { memory_offset_choices = record { 0 = 0; 1 = 0; 2 = 1 } })

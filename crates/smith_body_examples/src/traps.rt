@@ -140,7 +140,7 @@ fn without_traps()
     ensures call { body_at trapless (function_of [] []) 1 (1 ∷ 5 ∷ 0 ∷ [])
         ≡ (instr.Call 0 ∷ [], []) }
     ensures stop { body_at trapless (function_of [] []) 1 (252 ∷ 7 ∷ []) ≡ ([], []) }
-    ensures growth { body_at trapless (function_of [] (I32 ∷ [])) 1 (0 ∷ 15 ∷ 1 ∷ narrow 2)
+    ensures growth { body_at trapless (function_of [] (I32 ∷ [])) 1 (0 ∷ 15 ∷ 1 ∷ 0 ∷ 2 ∷ [])
         ≡ (number 2 ∷ instr.Memory (memory.Grow 0) ∷ [], []) }
     ensures thrown { body_at trapless (function_of [] []) 1 (252 ∷ 4 ∷ 1 ∷ narrow 5)
         ≡ (number 5 ∷ instr.Throw 0 ∷ [], []) }

@@ -12,8 +12,11 @@ use Rattle.smith_body_nodes.specs.Scopes.{bare, where_stands}
 use Rattle.smith_body.proofs.ExactLemmas.{all_left, chosen_ending, chosen_statement, chosen_value, deep_statements, drops_written, enclosed_exact, forbidden_ending, forbidden_statement, head_enclosed, head_if, head_try, if_exact, inside_exact, last_statements, last_value, next_value, no_ending, no_values, node_exact, none_left, one_less, other_value, plain_exact, results_dead, results_drawn, results_ended, results_still, stopped, unpaid_value}
 use Rattle.smith_instr.specs.declared.instr.Instr.TheVariants as instr
 use Rattle.smith_body_nodes.proofs.NodeLemmas.{no_valid}
-use Rattle.smith_body.proofs.draws.+body.Goals.{draw_value-then-depth-eq0-via-then-depth-eq0, draw_value-then-depth-eq0-via-else-depth-eq0+then-draft-eq0}
+use Rattle.smith_body.proofs.draws.+body.Goals.{draw_value-then-depth-eq0-via-then-depth-eq0, draw_value-then-depth-eq0-via-else-depth-eq0+then-draft-eq0, draw_masked-then-draft-eq0-via-then-draft-eq0, draw_masked-then-draft-eq0-via-else-draft-eq0+then-not-is_allowed, draw_masked-then-draft-eq0-via-else-draft-eq0+else-not-is_allowed+then-not-is_allowed-2}
 use Rattle.smith_body.proofs.draws.+body.Goals as goal
+use Rattle.smith_body.proofs.OperandLemmas.{next_operand, by_way, constant_drawn, near_constant, near_value, written_state, masked_drawn, masked_value, masks_written, no_mask, no_masking, unpaid_masked}
+use Rattle.smith_body.specs.declared.operands.OperandWay.TheVariants as way
+use Rattle.smith_body.specs.Operands.{address_constant, mask_of, masking}
 
 pub draw_value-returns-then-depth-eq0-clause-exact : goal.draw_value-returns-then-depth-eq0-clause-exact
 draw_value-returns-then-depth-eq0-clause-exact t c = elim c.then-depth-eq0.branch [
@@ -91,7 +94,7 @@ draw_inside-returns-clause-drawn t c =
 
 pub draw_node-returns-clause-drawn : goal.draw_node-returns-clause-drawn
 draw_node-returns-clause-drawn t c = λ values fits goes_on.
-    on_ok_weaker c.drop_values.result (λ out. node_drawn fits c.requires.allowed.drops goes_on c.requires.paid (rw c.as_slice.ensures at c.in_ok-draw_values.ensures.drawn) c.in_ok-draw_head.ensures.drawn out c.drop_values.ensures.set c.drop_values.ensures.same c.drop_values.ensures.budget) c.drop_values.ensures.out
+    on_ok_weaker c.drop_values.result (λ out. node_drawn fits c.requires.allowed.drops goes_on c.requires.paid (rw c.as_slice.ensures at c.in_ok-draw_operands.ensures.drawn) c.in_ok-draw_head.ensures.drawn out c.drop_values.ensures.set c.drop_values.ensures.same c.drop_values.ensures.budget) c.drop_values.ensures.out
 
 pub draw_statement-returns-then-not-is_node_allowed-clause-drawn : goal.draw_statement-returns-then-not-is_node_allowed-clause-drawn
 draw_statement-returns-then-not-is_node_allowed-clause-drawn t c =
@@ -128,7 +131,7 @@ draw_statement-returns-clause-exact t c =
 pub draw_node-returns-clause-exact : goal.draw_node-returns-clause-exact
 draw_node-returns-clause-exact t c =
     on_ok_weaker c.drop_values.result
-    (λ out. node_exact (drawing_at c.args.scope.now.config.now c.args.depth) c.args.node (state_of c.args.scope.now c.args.draft.now c.args.u.now) _ _ (rw c.as_slice.ensures at c.in_ok-draw_values.ensures.exact) c.in_ok-draw_head.ensures.exact
+    (λ out. node_exact c.args.scope.now.config.now (drawing_at c.args.scope.now.config.now c.args.depth) c.args.node (state_of c.args.scope.now c.args.draft.now c.args.u.now) _ _ (rw c.as_slice.ensures at c.in_ok-draw_operands.ensures.exact) c.in_ok-draw_head.ensures.exact
     ∙ drops_written c.args.scope.now c.args.node.drops c.draw_head.new.draft c.drop_values.new.draft c.draw_head.new.u out c.drop_values.ensures.set c.drop_values.ensures.same c.drop_values.ensures.budget) c.drop_values.ensures.out
 
 pub draw_head-returns-in-Plain-clause-exact : goal.draw_head-returns-in-Plain-clause-exact
@@ -257,3 +260,121 @@ draw_ending-returns-clause-any t c = λ values valid ended.
     let fits = rw c.in-Some.is at (c.in_ok-chosen.ensures.offer values valid) in
     c.in_ok-draw_node.ensures.drawn values fits
     (node_goes_on (features_in c.args.scope.now.features) c.args.scope.now.config.now c.in-Some.node (sym c.is_node_allowed.ensures.exact ∙ c.if-not-is_node_allowed.false))
+
+pub draw_operands-loop-place-init : goal.draw_operands-loop-place-init
+draw_operands-loop-place-init t c = record {
+  drawn = drawn_none c.args.scope.now c.args.draft.now;
+  exact = refl;
+  labels = c.requires.labels;
+  kept = λ whole h. h;
+}
+
+pub draw_operands-loop-place-preserved : goal.draw_operands-loop-place-preserved
+draw_operands-loop-place-preserved t c = record {
+  drawn = drawn_turn c.args.operands.now c.loop-place.place _ c.requires.valid c.loop-place-test.true c.loop-place.invariant.drawn
+      c.in_ok-draw_operand.ensures.drawn;
+  exact = c.loop-place.invariant.exact ∙ next_operand c.args.scope.now.config.now (drawing_at c.args.scope.now.config.now c.args.depth)
+      c.args.head.now c.args.operands.now c.loop-place.place _ _ _ c.limit_at-limit.result _ c.loop-place-test.true
+      c.in_ok-draw_operand.ensures.exact c.limit_at-limit.ensures (omega arith);
+  labels = labels_kept c.in_ok-draw_operand.ensures.drawn c.loop-place.invariant.labels;
+  kept = λ whole h. c.draw_operand.ensures.left whole (c.loop-place.invariant.kept whole h);
+}
+
+pub draw_operands-returns-clause-drawn : goal.draw_operands-returns-clause-drawn
+draw_operands-returns-clause-drawn t c = rw (take_all c.loop-place.place c.args.operands.now (omega arith)) at
+    c.loop-place.invariant.drawn
+
+pub draw_limited-returns-in-Constant-clause-exact : goal.draw_limited-returns-in-Constant-clause-exact
+draw_limited-returns-in-Constant-clause-exact t c =
+    on_ok_weaker c.draw_near.result
+    (λ is. by_way c.args.scope.now.config.now (drawing_at c.args.scope.now.config.now c.args.depth) c.args.wide c.args.limit (state_of
+    c.args.scope.now c.args.draft.now c.args.u.now) _ c.operand_ways.result.now c.choose.result (way.Constant c.in-Constant.place)
+    c.operand_ways.ensures c.choose.ensures.exact c.in-Constant.is ∙ is)
+    c.draw_near.ensures.exact
+
+pub draw_limited-returns-in-Masked-clause-exact : goal.draw_limited-returns-in-Masked-clause-exact
+draw_limited-returns-in-Masked-clause-exact t c =
+    on_ok_weaker c.draw_masked.result
+    (λ is. by_way c.args.scope.now.config.now (drawing_at c.args.scope.now.config.now c.args.depth) c.args.wide c.args.limit (state_of
+    c.args.scope.now c.args.draft.now c.args.u.now) _ c.operand_ways.result.now c.choose.result way.Masked c.operand_ways.ensures
+    c.choose.ensures.exact c.in-Masked.is ∙ is)
+    c.draw_masked.ensures.exact
+
+pub draw_limited-returns-in-Unlimited-clause-exact : goal.draw_limited-returns-in-Unlimited-clause-exact
+draw_limited-returns-in-Unlimited-clause-exact t c =
+    on_ok_weaker c.draw_value.result
+    (λ is. by_way c.args.scope.now.config.now (drawing_at c.args.scope.now.config.now c.args.depth) c.args.wide c.args.limit (state_of
+    c.args.scope.now c.args.draft.now c.args.u.now) _ c.operand_ways.result.now c.choose.result way.Unlimited c.operand_ways.ensures
+    c.choose.ensures.exact c.in-Unlimited.is ∙ is)
+    (rw c.address.ensures at c.draw_value.ensures.exact)
+
+pub draw_near-returns-then-not-is_allowed-clause-exact : goal.draw_near-returns-then-not-is_allowed-clause-exact
+draw_near-returns-then-not-is_allowed-clause-exact t c =
+    let forbidden = rw c.address_constant-constant.ensures at (sym c.is_allowed.ensures.exact ∙ c.if-not-is_allowed.true) in
+    on_ok_weaker c.draw_value.result
+    (λ is. near_value c.args.scope.now.config.now (drawing_at c.args.scope.now.config.now c.args.depth) c.args.wide c.args.place
+    c.args.limit c.draw_number-number.result (state_of c.args.scope.now c.args.draft.now c.args.u.now) _
+    c.draw_number-number.ensures.exact forbidden ∙ is)
+    (rw c.address.ensures at c.draw_value.ensures.exact)
+
+pub draw_near-returns-clause-exact : goal.draw_near-returns-clause-exact
+draw_near-returns-clause-exact t c =
+    let allowed = rw c.address_constant-constant.ensures at (sym c.is_allowed.ensures.exact ∙ c.if-not-is_allowed.false) in
+    on_ok_weaker c.write_plain.result
+    (λ done. near_constant c.args.scope.now.config.now (drawing_at c.args.scope.now.config.now c.args.depth) c.args.wide c.args.place
+    c.args.limit c.draw_number-number.result (state_of c.args.scope.now c.args.draft.now c.args.u.now) _
+    c.draw_number-number.ensures.exact allowed
+    ∙ written_state c.args.scope.now (address_constant c.args.wide c.draw_number-number.result) c.args.draft.now c.write_plain.new.draft
+    c.draw_number-number.new.u done) (rw c.address_constant-constant.ensures at c.write_plain.ensures.written)
+
+pub draw_near-returns-clause-drawn : goal.draw_near-returns-clause-drawn
+draw_near-returns-clause-drawn t c =
+    let allowed = rw c.address_constant-constant.ensures at (c.is_allowed.ensures.allowed c.if-not-is_allowed.false) in
+    on_ok_weaker c.write_plain.result (λ done. constant_drawn c.args.wide c.draw_number-number.result allowed done) (rw
+    c.address_constant-constant.ensures at c.write_plain.ensures.written)
+
+pub draw_masked-returns-then-draft-eq0-clause-exact : goal.draw_masked-returns-then-draft-eq0-clause-exact
+draw_masked-returns-then-draft-eq0-clause-exact t c =
+    let mask = rw c.mask_of.ensures at c.address_constant-mask.ensures in
+    let drawn = rw c.address.ensures at c.draw_value.ensures.exact in
+    elim c.then-draft-eq0.branch [
+      | draw_masked-then-draft-eq0-via-then-draft-eq0 w ↦
+          on_ok_weaker c.draw_value.result
+          (λ is. unpaid_masked c.args.scope.now.config.now (drawing_at c.args.scope.now.config.now c.args.depth) c.args.wide c.args.limit
+          (state_of c.args.scope.now c.args.draft.now c.args.u.now) (omega (arith, w.if-draft-eq0.true)) ∙ is) drawn
+      | draw_masked-then-draft-eq0-via-else-draft-eq0+then-not-is_allowed w ↦
+          on_ok_weaker c.draw_value.result
+          (λ is. no_mask c.args.scope.now.config.now (drawing_at c.args.scope.now.config.now c.args.depth) c.args.wide c.args.limit
+          (state_of c.args.scope.now c.args.draft.now c.args.u.now) (omega (arith, w.if-draft-eq0.false))
+          (rw mask at (sym w.is_allowed.ensures.exact ∙ w.if-not-is_allowed.true)) ∙ is) drawn
+      | draw_masked-then-draft-eq0-via-else-draft-eq0+else-not-is_allowed+then-not-is_allowed-2 w ↦
+          on_ok_weaker c.draw_value.result
+          (λ is. no_masking c.args.scope.now.config.now (drawing_at c.args.scope.now.config.now c.args.depth) c.args.wide c.args.limit
+          (state_of c.args.scope.now c.args.draft.now c.args.u.now) (omega (arith, w.if-draft-eq0.false))
+          (rw mask at (sym w.is_allowed.ensures.exact ∙ w.if-not-is_allowed.false)) (rw c.masking-both.ensures at (sym
+          w.is_allowed-else-not-is_allowed.ensures.exact ∙ w.if-not-is_allowed-2.true)) ∙ is) drawn
+    ]
+
+pub draw_masked-returns-clause-exact : goal.draw_masked-returns-clause-exact
+draw_masked-returns-clause-exact t c =
+    let mask = rw c.mask_of.ensures at c.address_constant-mask.ensures in
+    let allowed = rw mask at (sym c.is_allowed.ensures.exact ∙ c.if-not-is_allowed.false) in
+    let allowed' = rw c.masking-both.ensures at (sym c.is_allowed-else-not-is_allowed.ensures.exact ∙ c.if-not-is_allowed-2.false) in
+    let drawn = rw (c.address-2.ensures, c.saturating_sub-draft.ensures) at c.in_ok-draw_value.ensures.exact in
+    on_ok_weaker c.write_plain-2.result
+    (λ done. masked_value c.args.scope.now.config.now (drawing_at c.args.scope.now.config.now c.args.depth) c.args.wide c.args.limit
+    (state_of c.args.scope.now c.args.draft.now c.args.u.now) _ (omega (arith, c.if-draft-eq0.false)) allowed allowed' drawn
+    ∙ masks_written c.args.scope.now (address_constant c.args.wide (mask_of c.args.limit)) (masking c.args.wide) c.draw_value-2.new.draft
+    c.write_plain.new.draft c.write_plain-2.new.draft c.draw_value-2.new.u (rw mask at c.in_ok-write_plain.ensures.written) done)
+    (rw c.masking-both.ensures at c.write_plain-2.ensures.written)
+
+pub draw_masked-returns-clause-drawn : goal.draw_masked-returns-clause-drawn
+draw_masked-returns-clause-drawn t c =
+    let mask = rw c.mask_of.ensures at c.address_constant-mask.ensures in
+    let allowed = rw mask at (c.is_allowed.ensures.allowed c.if-not-is_allowed.false) in
+    let allowed' = rw c.masking-both.ensures at (c.is_allowed-else-not-is_allowed.ensures.allowed c.if-not-is_allowed-2.false) in
+    let value = rw (c.address-2.ensures, c.saturating_sub-draft.ensures) at c.in_ok-draw_value.ensures.drawn in
+    on_ok_weaker c.write_plain-2.result
+    (λ done. masked_drawn c.args.wide (mask_of c.args.limit) allowed allowed' (omega (arith, c.if-draft-eq0.false)) value (rw mask at
+    c.in_ok-write_plain.ensures.written) done)
+    (rw c.masking-both.ensures at c.write_plain-2.ensures.written)

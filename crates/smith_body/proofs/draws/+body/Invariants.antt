@@ -1,6 +1,6 @@
 use Rattle.std.proofs.Common.{◌≡◌, ◌+◌, ◌-◌, ◌*◌, [], length, take, drop}
 use Rattle.smith_bytes.specs.Source.{KeepsPieces}
-use Rattle.smith_body.specs.Bodies.{drawing_at, statement_at, statements_within, values_at}
+use Rattle.smith_body.specs.Bodies.{drawing_at, operands_at, statement_at, statements_within, values_at}
 use Rattle.smith_body.specs.DraftSteps.{IsDrawn, state_of}
 use Rattle.smith_body_nodes.specs.Scopes.{AreLabels}
 use Rattle.smith_body.proofs.ExactLemmas.{AreLeft}
@@ -14,6 +14,21 @@ decreases-draw_statement l = 8 * l.depth
 
 abbrev pub decreases-draw_values : goal.decreases-draw_values
 decreases-draw_values l = 8 * l.depth + 1
+
+abbrev pub decreases-draw_near : goal.decreases-draw_near
+decreases-draw_near l = 8 * l.depth + 1
+
+abbrev pub decreases-draw_masked : goal.decreases-draw_masked
+decreases-draw_masked l = 8 * l.depth + 1
+
+abbrev pub decreases-draw_limited : goal.decreases-draw_limited
+decreases-draw_limited l = 8 * l.depth + 2
+
+abbrev pub decreases-draw_operand : goal.decreases-draw_operand
+decreases-draw_operand l = 8 * l.depth + 3
+
+abbrev pub decreases-draw_operands : goal.decreases-draw_operands
+decreases-draw_operands l = 8 * l.depth + 4
 
 abbrev pub decreases-draw_statements : goal.decreases-draw_statements
 decreases-draw_statements l = 8 * l.depth + 1
@@ -46,6 +61,15 @@ abbrev pub invariant-draw_values-loop-value : goal.invariant-draw_values-loop-va
 invariant-draw_values-loop-value l = record {
   drawn : IsDrawn l.scope [] (take l.value-index l.wanted) (length (take l.value-index l.wanted)) l.fn.draft l.draft;
   exact : values_at (drawing_at l.scope.config.now l.depth) l.wanted (state_of l.scope l.fn.draft l.fn.u) ≡ values_at (drawing_at l.scope.config.now l.depth) (drop l.value-index l.wanted) (state_of l.scope l.draft l.u);
+  labels : AreLabels l.scope l.draft.labels.items;
+  kept : KeepsPieces l.fn.u l.u;
+}
+
+abbrev pub invariant-draw_operands-loop-place : goal.invariant-draw_operands-loop-place
+invariant-draw_operands-loop-place l = record {
+  drawn : IsDrawn l.scope [] (take l.place l.operands) (length (take l.place l.operands)) l.fn.draft l.draft;
+  exact : operands_at l.scope.config.now (drawing_at l.scope.config.now l.depth) l.head l.operands (state_of l.scope l.fn.draft l.fn.u)
+      ≡ operands_at l.scope.config.now (drawing_at l.scope.config.now l.depth) l.head (drop l.place l.operands) (state_of l.scope l.draft l.u);
   labels : AreLabels l.scope l.draft.labels.items;
   kept : KeepsPieces l.fn.u l.u;
 }
