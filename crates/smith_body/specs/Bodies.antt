@@ -7,7 +7,7 @@ use Rattle.smith_instr.specs.Contexts.{BodyContext, labelled}
 use Rattle.smith_instr.specs.declared.instr.Instr.{Instr}
 use Rattle.smith_instr.specs.declared.instr.Instr.TheVariants as instr
 use Rattle.smith_body_choices.specs.Choices.{allowed_choice_at, ending_choice_at, statement_choice_at}
-use Rattle.smith_body_leaves.specs.Leaves.{leaf_at}
+use Rattle.smith_body_leaves.specs.DrawnLeaves.{leaf_at}
 use Rattle.smith_body_nodes.specs.Nodes.{is_node_allowed, label_of, opened}
 use Rattle.smith_body_nodes.specs.declared.node.Head.{Head}
 use Rattle.smith_body_nodes.specs.declared.node.Head.TheVariants as head
