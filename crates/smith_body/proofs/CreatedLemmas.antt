@@ -13,6 +13,7 @@ use Rattle.smith_syntax.specs.declared.composite_type.FieldType.{FieldType}
 use Rattle.smith_syntax.specs.declared.composite_type.StructType.{StructType}
 use Rattle.smith_syntax.specs.declared.composite_type.SubType.{SubType}
 use Rattle.smith_syntax.specs.declared.value_type.ValType.{ValType}
+use Rattle.smith_syntax.specs.declared.value_type.ValType.TheVariants.{I32}
 use Rattle.smith_draw_types.specs.HeldFields.{fields_of}
 use Rattle.smith_instr.specs.Contexts.{BodyContext, IsValid, AreValid, created_reference}
 use Rattle.smith_instr.specs.Sequences.{stacked}
@@ -20,6 +21,7 @@ use Rattle.smith_instr.specs.declared.aggregate.AggregateInstr.TheVariants as ag
 use Rattle.smith_instr.specs.declared.instr.Instr.{Instr}
 use Rattle.smith_instr.specs.declared.instr.Instr.TheVariants as instr
 use Rattle.smith_body.specs.DraftSteps.{IsDrawn}
+use Rattle.smith_body_leaves.specs.DrawnLeaves.{IsBrief, IsMadeBy}
 use Rattle.smith_body_leaves.specs.Leaves.{IsLeaf, created_at, created_from, created_type, fields_at, fields_in, first_leaf, first_single, have_singles, instructions_of, is_created, is_created_in, leaf_within, longest_leaf, may_create, named_type, singles, spare_leaf, widest_struct}
 use Rattle.smith_body.specs.Stops.{HaveNeededStops}
 use Rattle.smith_body_leaves.specs.declared.leaf.Leaf.{Leaf}
@@ -33,8 +35,8 @@ use Rattle.smith_body_nodes.proofs.NodeLemmas.{one_valid}
 use Rattle.smith_body_nodes.proofs.OfferLemmas.{both, tested}
 use Rattle.smith_body.proofs.DrawnLemmas.{alone, joined_valid, one_allowed, stop_drawn, value_drawn}
 use Rattle.smith_body_leaves.proofs.LawLemmas.{IsFound, IsLeafFound, none_other, single_found, within_found}
-use Rattle.smith_body_leaves.proofs.LeafChoiceLemmas.{brief_few, created_few, some_leaf}
-use Rattle.smith_body.proofs.MadeLemmas.{HasValidFields, Makes, single_leaf, single_makes, within_makes}
+use Rattle.smith_body_leaves.proofs.LeafChoiceLemmas.{brief_few, created_few, pair_few, some_leaf}
+use Rattle.smith_body.proofs.MadeLemmas.{HasValidFields, Makes, single_leaf, single_makes, taking_makes, within_makes}
 use Rattle.smith_body_leaves.proofs.SearchLemmas.{tried_each}
 use Rattle.smith_body.proofs.StopLemmas.{at_end, in_turn}
 
@@ -219,3 +221,21 @@ drawn_permitted {scope = scope} {wanted = wanted} {old = old} {new = new} instru
       short = some_leaf scope.config.now scope.types.now.types;
     } in
     ready_drawn {scope = scope} {wanted = wanted} {old = old} {new = new} (instruction ∷ []) ready longer same labels budget
+
+-- a value that is preferred to null
+pair_makes : (config : Config) (context : BodyContext) (set : List ℕ) (wanted : ValType) (value : Instr) (next last : Option Instr) → IsValid context wanted → next ≡ None → IsMadeBy context set wanted value last → IsFound config context value
+    → IfSome last (IsFound config context) → Makes config context set wanted (value ∷ (option_to_list next ++ option_to_list last))
+pair_makes config context set wanted value None None valid brief made found last_found = single_makes config context set wanted value valid made found
+pair_makes config context set wanted value None (Some last) valid brief (number, taking) found last_found =
+    taking_makes config context set I32 wanted (value ∷ []) last valid (single_makes config context set I32 value tt number found) taking last_found
+pair_makes config context set wanted value (Some next) last valid brief made found last_found = cc
+
+pub preferred_drawn : {scope : Scope} {wanted : ValType} {old new : Draft} (leaf : Leaf) → IsValid (bare scope) wanted → IsBrief (where_stands scope old) old.set.items wanted leaf → IsLeafFound scope.config.now (where_stands scope old) leaf
+    → new.out ≡ old.out ++ instructions_of leaf → new.set.items ≡ old.set.items → new.labels.items ≡ old.labels.items → new.budget ≡ old.budget → IsDrawn scope [] (wanted ∷ []) 1 old new
+preferred_drawn {scope = scope} {wanted = wanted} {old = old} {new = new} leaf valid brief found longer same labels budget =
+    let ready : IsReady scope old.labels.items old.set.items wanted (instructions_of leaf) = record {
+      makes = pair_makes scope.config.now (where_stands scope old) old.set.items wanted leaf.value leaf.next leaf.last valid brief.brief brief.made found.value found.last;
+      allowed = leaf_allowed scope old.labels.items leaf found;
+      short = pair_few scope.config.now scope.types.now.types leaf brief.brief;
+    } in
+    ready_drawn {scope = scope} {wanted = wanted} {old = old} {new = new} (instructions_of leaf) ready longer same labels budget

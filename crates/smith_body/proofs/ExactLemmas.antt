@@ -13,7 +13,7 @@ use Rattle.smith_instr.specs.declared.instr.Instr.TheVariants as instr
 use Rattle.smith_body.specs.Bodies.{Drawing, State, begun, body_at, drawing_at, dropped, enclosed_at, ended, ended_by, ending_at, head_at, inside_at, interval, leaf_in, node_at, operands_at, results_at, statement_at, statements_within, value_at, values_at, written}
 use Rattle.smith_body_choices.specs.Choices.{allowed_choice_at, ending_choice_at, statement_choice_at}
 use Rattle.smith_body.specs.DraftSteps.{IsDrawn, IsEnded, IsOpened, IsWritten, state_of}
-use Rattle.smith_body_leaves.specs.Leaves.{leaf_at}
+use Rattle.smith_body_leaves.specs.DrawnLeaves.{leaf_at}
 use Rattle.smith_body_nodes.specs.Nodes.{is_node_allowed, label_of, opened}
 use Rattle.smith_body_nodes.specs.Scopes.{context_of}
 use Rattle.smith_body_nodes.specs.declared.node.Head.{Head}

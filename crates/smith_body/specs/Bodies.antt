@@ -9,7 +9,7 @@ use Rattle.smith_instr.specs.Contexts.{BodyContext, address, labelled}
 use Rattle.smith_instr.specs.declared.instr.Instr.{Instr}
 use Rattle.smith_instr.specs.declared.instr.Instr.TheVariants as instr
 use Rattle.smith_body_choices.specs.Choices.{allowed_choice_at, ending_choice_at, statement_choice_at}
-use Rattle.smith_body_leaves.specs.Leaves.{leaf_at}
+use Rattle.smith_body_leaves.specs.DrawnLeaves.{leaf_at}
 use Rattle.smith_body.specs.Operands.{address_constant, mask_of, masking, number_at, operand_ways}
 use Rattle.smith_body.specs.declared.operands.OperandWay.{OperandWay}
 use Rattle.smith_body.specs.declared.operands.OperandWay.TheVariants as way

@@ -5,13 +5,14 @@ ghost use Rattle.smith_body.specs.Bodies.{leaf_in};
 ghost use Rattle.smith_body.specs.DraftSteps.{IsDrawn, state_of};
 ghost use Rattle.smith_body_nodes.specs.Scopes.{IsScope, bare};
 
-use smith_body_leaves::{draw_any_leaf, only, write_instructions, write_spare};
+use smith_body_leaves::{draw_any_leaf, draw_preferred, only, write_instructions, write_spare};
 use smith_body_nodes::{Draft, Scope, is_allowed};
 use smith_bytes::{Error, Unstructured};
 use smith_types::ValType;
 
 /// Writes instructions that produce a value that matches `wanted`, and take no budget. These are an
-/// instruction without operands that is drawn, or another value if it is not allowed.
+/// instruction without operands that is drawn, a value that is preferred to null, or another value if
+/// the drawn instruction is not allowed.
 pub(crate) fn write_leaf(
     scope: &Scope<'_>,
     wanted: ValType,
@@ -28,6 +29,9 @@ pub(crate) fn write_leaf(
     ensures left { KeepsPieces u.old u.new }
 {
     let leaf = draw_any_leaf(scope, wanted, draft, u);
+    if let Some(preferred) = draw_preferred(scope, wanted, &leaf, draft, u) {
+        return write_instructions(preferred, draft);
+    }
     if is_allowed(scope, &leaf) {
         return write_instructions(only(leaf), draft);
     }

@@ -83,7 +83,7 @@ fn statements()
     ensures of_no_function_type { body_at default_config (function_of [] []) 1 (1 ∷ 7 ∷ 0 ∷ 2 ∷ [])
         ≡ (instr.Block block.Empty ∷ instr.End ∷ [], []) }
     ensures parameters_and_results_are_dropped { body_at default_config
-        (function_of [] []) 1 (1 ∷ 8 ∷ 0 ∷ 4 ∷ 4 ∷ 4 ∷ [])
+        (function_of [] []) 1 (1 ∷ 8 ∷ 0 ∷ 4 ∷ 4 ∷ 15 ∷ 4 ∷ 15 ∷ [])
         ≡ (
           instr.Unreachable ∷ instr.Block (block.Func 4) ∷ instr.Drop
               ∷ instr.Reference (reference.Null (Abstract false heap.Func)) ∷ instr.End
@@ -94,7 +94,7 @@ fn statements()
 
 fn locals()
     ensures set_within { body_at default_config (function_of (some_func ∷ []) (some_func ∷ [])) 2
-        (1 ∷ 7 ∷ 0 ∷ 0 ∷ 1 ∷ 15 ∷ 4 ∷ 0 ∷ [])
+        (1 ∷ 7 ∷ 0 ∷ 0 ∷ 1 ∷ 15 ∷ 4 ∷ 15 ∷ 0 ∷ 15 ∷ [])
         ≡ (
           instr.Block (block.Func 0) ∷ instr.Unreachable ∷ instr.LocalSet 0 ∷ instr.End
               ∷ instr.Unreachable ∷ [],

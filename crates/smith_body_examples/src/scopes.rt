@@ -37,7 +37,7 @@ fn fields()
 {}
 
 fn values_without_a_budget()
-    ensures with_traps { longest_leaf default_config (with_fields 5 ∷ []) ≡ 1 }
+    ensures with_traps { longest_leaf default_config (with_fields 5 ∷ []) ≡ 2 }
     ensures no_type { longest_leaf trapless [] ≡ 3 }
     ensures no_struct { longest_leaf trapless (final_type (taking (replicate 5 I32)) ∷ []) ≡ 3 }
     ensures of_two_fields { longest_leaf trapless (with_fields 2 ∷ []) ≡ 3 }

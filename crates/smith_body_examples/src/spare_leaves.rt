@@ -1,10 +1,11 @@
-#![tactic(auto, unfolding(smith_body_leaves::specs::Constants::double_at, smith_body_leaves::specs::Constants::float_at, smith_body_leaves::specs::Constants::integer32_at, smith_body_leaves::specs::Constants::integer64_at, smith_body_leaves::specs::Constants::lanes_at, smith_body_leaves::specs::Constants::vector_at, smith_body_leaves::specs::Leaves::any_leaf_at, smith_body_leaves::specs::Leaves::created_type, smith_body_leaves::specs::Leaves::constant_instr_at, smith_body_leaves::specs::Leaves::first_leaf, smith_body_leaves::specs::Leaves::first_single, smith_body_leaves::specs::Leaves::i31_leaf, smith_body_leaves::specs::Leaves::leaf_within, smith_body_leaves::specs::Leaves::leaf_at, smith_body_leaves::specs::Leaves::leaf_choice_at, smith_body_leaves::specs::Leaves::named_at, smith_body_leaves::specs::Leaves::spare_leaf, smith_body_nodes::specs::Scopes::is_permitted, smith_instr::specs::Enabled::is_enabled, smith_draw_types::specs::Below::is_heap_below, smith_draw_types::specs::Choices::chosen_at, smith_draw_types::specs::Offered::ancestors, smith_body_nodes::specs::Offered::chunk_at, smith_body_nodes::specs::Offered::offered, smith_bytes::specs::Draws::choose_at, smith_bytes::specs::Draws::digit_count, smith_bytes::specs::Draws::range_at, smith_bytes::specs::Draws::whole_at))]
+#![tactic(auto, unfolding(smith_body_leaves::specs::Constants::double_at, smith_body_leaves::specs::Constants::float_at, smith_body_leaves::specs::Constants::integer32_at, smith_body_leaves::specs::Constants::integer64_at, smith_body_leaves::specs::Constants::lanes_at, smith_body_leaves::specs::Constants::vector_at, smith_body_leaves::specs::smith_body_leaves::specs::DrawnLeaves::leaf_at, smith_body_leaves::specs::DrawnLeaves::preferred_at, smith_body_leaves::specs::DrawnLeaves::value_for, smith_body_leaves::specs::DrawnLeaves::variable_at, smith_body_leaves::specs::Leaves::any_leaf_at, smith_body_leaves::specs::Leaves::created_type, smith_body_leaves::specs::Leaves::constant_instr_at, smith_body_leaves::specs::Leaves::first_leaf, smith_body_leaves::specs::Leaves::first_single, smith_body_leaves::specs::Leaves::i31_leaf, smith_body_leaves::specs::Leaves::leaf_within, smith_body_leaves::specs::Leaves::leaf_choice_at, smith_body_leaves::specs::Leaves::named_at, smith_body_leaves::specs::Leaves::spare_leaf, smith_body_nodes::specs::Scopes::is_permitted, smith_instr::specs::Enabled::is_enabled, smith_draw_types::specs::Below::is_heap_below, smith_draw_types::specs::Choices::chosen_at, smith_draw_types::specs::Offered::ancestors, smith_body_nodes::specs::Offered::chunk_at, smith_body_nodes::specs::Offered::offered, smith_bytes::specs::Draws::choose_at, smith_bytes::specs::Draws::digit_count, smith_bytes::specs::Draws::range_at, smith_bytes::specs::Draws::whole_at))]
 
 ghost use Rattle.std.specs.Prelude.{◌≡◌, ◌+◌, ◌^◌, true, [], ◌∷◌, pos};
 ghost use Rattle.smith_types.specs.Types.{IsOrderly};
 ghost use Rattle.smith_syntax.specs.declared.instruction_kind.InstructionKind.TheVariants.{
   Aggregate,
   NumericInt,
+  Reference,
   Variable,
 };
 ghost use Rattle.smith_syntax.specs.declared.value_type.AbstractHeapType.TheVariants as heap;
@@ -14,11 +15,12 @@ ghost use Rattle.smith_instr.specs.declared.aggregate.AggregateInstr.TheVariants
 ghost use Rattle.smith_instr.specs.declared.instr.Instr.TheVariants as instr;
 ghost use Rattle.smith_instr.specs.declared.reference.ReferenceInstr.TheVariants as reference;
 ghost use Rattle.smith_instr_examples.specs.ExampleBodies.{kinds_of, number};
+ghost use Rattle.smith_body_leaves.specs.DrawnLeaves.{leaf_at};
 ghost use Rattle.smith_body_leaves.specs.Laws.{HasNoOther};
-ghost use Rattle.smith_body_leaves.specs.Leaves.{first_leaf, i31_type, leaf_at};
-ghost use Rattle.smith_body_examples.specs.ExampleAggregates.{any, nested, paired, some};
+ghost use Rattle.smith_body_leaves.specs.Leaves.{first_leaf, i31_type};
+ghost use Rattle.smith_body_examples.specs.ExampleAggregates.{any, any_of, nested, paired, some};
 ghost use Rattle.smith_body_examples.specs.ExampleAggregates.{some_of, unnamed, untyped, wrapped};
-ghost use Rattle.smith_body_examples.specs.ExampleBytes.{trapless};
+ghost use Rattle.smith_body_examples.specs.ExampleBytes.{of_kinds, trapless};
 
 fn spare_leaves()
     ensures struct_of_default_values { first_leaf trapless unnamed [] (some 0)
@@ -111,22 +113,48 @@ fn created_structs()
 {}
 
 fn drawn_leaves()
-    ensures struct_of_default_values { leaf_at trapless unnamed [] (some 0) (4 ∷ 9 ∷ [])
+    ensures struct_of_default_values { leaf_at trapless unnamed [] (some 0) (4 ∷ 15 ∷ 9 ∷ [])
         ≡ (instr.Aggregate (aggregate.StructNewDefault 0) ∷ [], 9 ∷ []) }
-    ensures i31 { leaf_at trapless unnamed [] (some_of heap.I31) (4 ∷ 9 ∷ [])
+    ensures i31 { leaf_at trapless unnamed [] (some_of heap.I31) (4 ∷ 15 ∷ 9 ∷ [])
         ≡ (number 0 ∷ instr.Aggregate aggregate.RefI31 ∷ [], 9 ∷ []) }
     ensures i31_where_traps_are_allowed { leaf_at default_config unnamed [] (some_of heap.I31)
-        (4 ∷ 9 ∷ []) ≡ (instr.Unreachable ∷ [], 9 ∷ []) }
-    ensures struct_of_a_struct { leaf_at trapless nested [] (some 1) (4 ∷ 9 ∷ [])
+        (4 ∷ 15 ∷ 9 ∷ []) ≡ (instr.Unreachable ∷ [], 9 ∷ []) }
+    ensures struct_of_a_struct { leaf_at trapless nested [] (some 1) (4 ∷ 0 ∷ 9 ∷ [])
         ≡ (
           instr.Aggregate (aggregate.StructNewDefault 0)
               ∷ instr.Aggregate (aggregate.StructNew 1) ∷ [],
           9 ∷ [],
         ) }
     ensures struct_of_a_struct_where_traps_are_allowed { leaf_at default_config nested []
-        (some 1) (4 ∷ 9 ∷ []) ≡ (instr.Unreachable ∷ [], 9 ∷ []) }
-    ensures exception { leaf_at trapless unnamed [] (some_of heap.Exn) (4 ∷ 9 ∷ [])
+        (some 1) (4 ∷ 0 ∷ 9 ∷ []) ≡ (instr.Unreachable ∷ [], 9 ∷ []) }
+    ensures exception { leaf_at trapless unnamed [] (some_of heap.Exn) (4 ∷ 0 ∷ 9 ∷ [])
         ≡ (instr.Unreachable ∷ [], 9 ∷ []) }
+{}
+
+fn in_place_of_null()
+    ensures struct_of_default_values { leaf_at default_config unnamed [] (any 0) (4 ∷ 0 ∷ 9 ∷ [])
+        ≡ (instr.Aggregate (aggregate.StructNewDefault 0) ∷ [], 9 ∷ []) }
+    ensures array_of_default_values { leaf_at default_config unnamed [] (any 2) (4 ∷ 0 ∷ 3 ∷ 9 ∷ [])
+        ≡ (number 7 ∷ instr.Aggregate (aggregate.ArrayNewDefault 2) ∷ [], 9 ∷ []) }
+    ensures any_array { leaf_at default_config unnamed [] (any_of heap.Eq) (4 ∷ 5 ∷ 1 ∷ 0 ∷ 9 ∷ [])
+        ≡ (number 4 ∷ instr.Aggregate (aggregate.ArrayNewDefault 3) ∷ [], 9 ∷ []) }
+    ensures i31 { leaf_at default_config unnamed [] (any_of heap.Eq) (4 ∷ 10 ∷ 0 ∷ 5 ∷ 9 ∷ [])
+        ≡ (number 5 ∷ instr.Aggregate aggregate.RefI31 ∷ [], 9 ∷ []) }
+    ensures null_all_the_same { leaf_at default_config unnamed [] (any 0) (4 ∷ 15 ∷ 9 ∷ [])
+        ≡ (instr.Reference (reference.Null (Concrete 0)) ∷ [], 9 ∷ []) }
+    ensures no_default_values { leaf_at default_config unnamed [] (any 1) (4 ∷ 0 ∷ 9 ∷ [])
+        ≡ (instr.Reference (reference.Null (Concrete 1)) ∷ [], 9 ∷ []) }
+    ensures kind_that_is_not_allowed { leaf_at (of_kinds (kinds_of Reference)) unnamed [] (any 0)
+        (4 ∷ 0 ∷ 9 ∷ [])
+        ≡ (instr.Reference (reference.Null (Concrete 0)) ∷ [], 9 ∷ []) }
+    ensures local_without_null { leaf_at default_config
+        (record unnamed { locals = any 0 ∷ some 0 ∷ []; params = 2 }) [] (any 0) (4 ∷ 0 ∷ 9 ∷ [])
+        ≡ (instr.LocalGet 1 ∷ [], 9 ∷ []) }
+    ensures local_that_may_be_null { leaf_at default_config
+        (record unnamed { locals = any 1 ∷ []; params = 1 }) [] (any 1) (4 ∷ 0 ∷ 9 ∷ [])
+        ≡ (instr.LocalGet 0 ∷ [], 9 ∷ []) }
+    ensures never_of_another_type { ¬ (leaf_at default_config unnamed [] (any 2) (4 ∷ 0 ∷ 3 ∷ 9 ∷ [])
+        ≡ (instr.Aggregate (aggregate.StructNewDefault 0) ∷ [], 3 ∷ 9 ∷ [])) }
 {}
 
 fn orderly()

@@ -14,7 +14,7 @@ fn statements()
     ensures dropped_number { body_at default_config (function_of [] []) 1 (1 ∷ 1 ∷ 1 ∷ wide 5)
         ≡ (wide_number 5 ∷ instr.Drop ∷ [], []) }
     ensures dropped_local { body_at default_config (function_of (some_func ∷ []) []) 1
-        (1 ∷ 2 ∷ 4 ∷ 4 ∷ [])
+        (1 ∷ 2 ∷ 4 ∷ 4 ∷ 15 ∷ [])
         ≡ (instr.Unreachable ∷ instr.Drop ∷ [], []) }
     ensures local { body_at default_config (function_of (I32 ∷ I64 ∷ []) []) 1 (1 ∷ 15 ∷ 1 ∷ wide 5)
         ≡ (wide_number 5 ∷ instr.LocalSet 1 ∷ [], []) }

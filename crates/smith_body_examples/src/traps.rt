@@ -126,7 +126,7 @@ fn with_traps()
     ensures stop { body_at default_config (function_of [] []) 1 (252 ∷ 7 ∷ [])
         ≡ (instr.Unreachable ∷ [], []) }
     ensures constant_that_is_none { body_at default_config (function_of [] (some_func ∷ [])) 1
-        (0 ∷ 0 ∷ 4 ∷ [])
+        (0 ∷ 0 ∷ 4 ∷ 15 ∷ [])
         ≡ (instr.Unreachable ∷ [], []) }
 {}
 

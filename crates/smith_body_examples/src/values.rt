@@ -21,9 +21,11 @@ fn constants()
     ensures bits { body_at default_config (function_of [] (F32 ∷ [])) 1
         (0 ∷ 0 ∷ 4 ∷ 3 ∷ 0 ∷ 0 ∷ 192 ∷ 127 ∷ [])
         ≡ (instr.F32Const 2143289344 ∷ [], []) }
-    ensures null { body_at default_config (function_of [] (Ref funcref ∷ [])) 1 (0 ∷ 0 ∷ 4 ∷ [])
+    ensures null { body_at default_config (function_of [] (Ref funcref ∷ [])) 1
+        (0 ∷ 0 ∷ 4 ∷ 15 ∷ [])
         ≡ (instr.Reference (reference.Null (Abstract false heap.Func)) ∷ [], []) }
-    ensures none { body_at default_config (function_of [] (some_func ∷ [])) 1 (0 ∷ 0 ∷ 4 ∷ [])
+    ensures none { body_at default_config (function_of [] (some_func ∷ [])) 1
+        (0 ∷ 0 ∷ 4 ∷ 15 ∷ [])
         ≡ (instr.Unreachable ∷ [], []) }
     ensures past_the_end { body_at default_config (function_of [] (I32 ∷ [])) 5 []
         ≡ (number 0 ∷ [], []) }
@@ -74,7 +76,7 @@ fn numeric()
         (0 ∷ 6 ∷ wide 1 ++ wide 2 ++ narrow 3)
         ≡ (wide_number 1 ∷ wide_number 2 ∷ number 3 ∷ instr.Select ∷ [], []) }
     ensures select_of_a_reference { body_at default_config (function_of [] (Ref funcref ∷ [])) 1
-        (0 ∷ 17 ∷ 4 ∷ 4 ∷ narrow 3)
+        (0 ∷ 17 ∷ 4 ∷ 15 ∷ 4 ∷ 15 ∷ narrow 3)
         ≡ (
           instr.Reference (reference.Null (Abstract false heap.Func))
               ∷ instr.Reference (reference.Null (Abstract false heap.Func)) ∷ number 3
@@ -91,12 +93,12 @@ fn locals()
         (function_of (I64 ∷ I32 ∷ []) (I32 ∷ [])) 1 (0 ∷ 7 ∷ narrow 5)
         ≡ (number 5 ∷ instr.LocalTee 1 ∷ [], []) }
     ensures unset { body_at default_config (function_of (some_func ∷ []) (some_func ∷ [])) 1
-        (0 ∷ 0 ∷ 0 ∷ [])
+        (0 ∷ 0 ∷ 0 ∷ 15 ∷ [])
         ≡ (instr.Unreachable ∷ [], []) }
     ensures read_unset { ¬ (body_at default_config (function_of (some_func ∷ []) (some_func ∷ [])) 1
         (0 ∷ 0 ∷ 0 ∷ []) ≡ (instr.LocalGet 0 ∷ [], [])) }
     ensures read_once_set { body_at default_config (function_of (some_func ∷ []) (some_func ∷ [])) 1
-        (1 ∷ 15 ∷ 4 ∷ 0 ∷ [])
+        (1 ∷ 15 ∷ 4 ∷ 15 ∷ 0 ∷ [])
         ≡ (instr.Unreachable ∷ instr.LocalSet 0 ∷ instr.LocalGet 0 ∷ [], []) }
 {}
 

@@ -27,7 +27,7 @@ use Rattle.smith_instr.specs.declared.instr.Instr.{Instr}
 use Rattle.smith_instr.specs.declared.instr.Instr.TheVariants as instr
 use Rattle.smith_instr.specs.declared.reference.ReferenceInstr.TheVariants as reference
 use Rattle.smith_body_leaves.specs.Laws.{HasNoOther, HasNoSingle, HasNoValue, IsConversion, IsI31Creation, IsIndex, IsNumber, IsOther, IsOtherOver, IsOtherTaking, IsTried}
-use Rattle.smith_body_leaves.specs.Leaves.{any_leaf_at, constant_instr_at, conversion_over, conversion_to, conversion_to_type, created_at, created_from, created_type, creation_of, creation_over, default_struct, empty_array, fields_at, fields_in, first_constant, first_leaf, first_of, first_single, first_tried, have_singles, i31_by, i31_creation, i31_leaf, i31_number, i31_of, i31_type, i31_with, if_permitted, instructions_of, is_created, is_created_in, leaf_at, leaf_of, leaf_within, may_create, named_at, named_type, only, searches_on, singles, spare_leaf, created_over, unary_permitted, value_over, with_last}
+use Rattle.smith_body_leaves.specs.Leaves.{constant_instr_at, conversion_over, conversion_to, conversion_to_type, created_at, created_from, created_type, creation_of, creation_over, default_struct, empty_array, fields_at, fields_in, first_constant, first_leaf, first_of, first_single, first_tried, have_singles, i31_by, i31_creation, i31_leaf, i31_number, i31_of, i31_type, i31_with, if_permitted, instructions_of, is_created, is_created_in, leaf_of, leaf_within, may_create, named_at, named_type, only, searches_on, singles, created_over, unary_permitted, value_over, with_last}
 use Rattle.smith_body_leaves.specs.declared.leaf.Leaf.{Leaf}
 use Rattle.smith_body_leaves.specs.declared.unary.Unary.{Unary}
 use Rattle.smith_body_leaves.specs.declared.families.LeafFamily.TheVariants as leaf
@@ -76,7 +76,7 @@ pub record IsLeafFound (config : Config) (context : BodyContext) (leaf : Leaf) :
   pub next : IfSome leaf.next (IsFound config context)
   pub last : IfSome leaf.last (IsFound config context)
 
-only_found : (config : Config) (context : BodyContext) (o : Option Instr) → IfSome o (IsFound config context) → IfSome (option_map only o) (IsLeafFound config context)
+pub only_found : (config : Config) (context : BodyContext) (o : Option Instr) → IfSome o (IsFound config context) → IfSome (option_map only o) (IsLeafFound config context)
 only_found config context None found = tt
 only_found config context (Some instruction) found = record { value = found; next = tt; last = tt }
 
@@ -141,10 +141,10 @@ within_found config context set (suc more) search wanted =
     (λ ty. over_found config context below (creation_of config context wanted ty) (creation_found config context wanted ty (fields_at context.types ty)) (within_found config context set more (searches_on search (named_type wanted)))))))
 
 -- a value that is found does not begin with `unreachable`
-heads : (x y : Instr) (xs ys : List Instr) → x ∷ xs ≡ y ∷ ys → x ≡ y
+pub heads : (x y : Instr) (xs ys : List Instr) → x ∷ xs ≡ y ∷ ys → x ≡ y
 heads x y xs ys is = cc
 
-apart : (config : Config) (context : BodyContext) (o : Option Leaf) (rest : List Instr) → config.disallow_traps ≡ true → IfSome o (IsLeafFound config context) → unwrap_or (option_map instructions_of o) rest ≡ instr.Unreachable ∷ []
+pub apart : (config : Config) (context : BodyContext) (o : Option Leaf) (rest : List Instr) → config.disallow_traps ≡ true → IfSome o (IsLeafFound config context) → unwrap_or (option_map instructions_of o) rest ≡ instr.Unreachable ∷ []
     → (o ≡ None) × (rest ≡ instr.Unreachable ∷ [])
 apart config context None rest trapless all stop = (refl, stop)
 apart config context (Some leaf) rest trapless all stop =
@@ -162,7 +162,7 @@ uncreated config context set None stop = refl
 uncreated config context set (Some ty) stop = absurd (not_alone (singles config context set (field_values (fields_at context.types ty))) (instr.Aggregate (aggregate.StructNew ty)) (λ is. cc) stop)
 
 -- no value of few instructions, and no created value
-both_none : (config : Config) (context : BodyContext) (set : List ℕ) (wanted : ValType) → config.disallow_traps ≡ true → first_leaf config context set wanted ≡ instr.Unreachable ∷ [] → (leaf_within config context set 2 true wanted ≡ None) × (created_type config context set wanted ≡ None)
+pub both_none : (config : Config) (context : BodyContext) (set : List ℕ) (wanted : ValType) → config.disallow_traps ≡ true → first_leaf config context set wanted ≡ instr.Unreachable ∷ [] → (leaf_within config context set 2 true wanted ≡ None) × (created_type config context set wanted ≡ None)
 unfolding first_leaf
 both_none config context set wanted trapless stop =
     let (brief, stop') = apart config context (leaf_within config context set 2 true wanted) _ trapless (within_found config context set 2 true wanted) stop in
@@ -190,25 +190,6 @@ all_tried config context set wanted none =
     let (constant, none) = none_both (first_constant config context wanted) _ none in
     let (struct, array) = none_both (default_struct config context wanted) (empty_array config context wanted) none in
     record { local = local; global = global; function = function; constant = constant; struct = struct; array = array }
-
--- so a drawn `unreachable` is the last that is tried
-drawn_apart : (config : Config) (context : BodyContext) (instruction : Instr) (spare : List Instr) (permitted : Bool) → config.disallow_traps ≡ true → is_permitted context.features config instruction ≡ permitted → (if permitted then instruction ∷ [] else spare) ≡ instr.Unreachable ∷ []
-    → spare ≡ instr.Unreachable ∷ []
-drawn_apart config context instruction spare true trapless is stop =
-    absurd (stop_forbidden context.features config trapless (subst (λ (i : Instr). is_permitted context.features config i ≡ true) (heads instruction instr.Unreachable [] [] stop) is))
-drawn_apart config context instruction spare false trapless is stop = stop
-
-chosen_on : {A : Type 0} (on : Bool) (a b x : A) → on ≡ true → (if on then a else b) ≡ x → a ≡ x
-chosen_on true a b x is same = same
-chosen_on false a b x is same = cc
-
-spared : (config : Config) (context : BodyContext) (set : List ℕ) (wanted : ValType) (bytes : List ℕ) → config.disallow_traps ≡ true → (leaf_at config context set wanted bytes).0 ≡ instr.Unreachable ∷ []
-    → first_leaf config context set wanted ≡ instr.Unreachable ∷ []
-unfolding leaf_at spare_leaf
-spared config context set wanted bytes trapless stop =
-    let drawn = (any_leaf_at context set wanted bytes).0 in
-    let spare = drawn_apart config context drawn (spare_leaf config context set wanted) (is_permitted context.features config drawn) trapless refl stop in
-    chosen_on config.disallow_traps (first_leaf config context set wanted) (instr.Unreachable ∷ []) (instr.Unreachable ∷ []) trapless spare
 
 -- an instruction that is permitted is not left out
 forbidden : (config : Config) (context : BodyContext) (instruction : Instr) → if_permitted config context (Some instruction) ≡ None → is_permitted context.features config instruction ≡ true → ⊥
@@ -583,8 +564,3 @@ none_created config context set wanted orderly none ty operands tried (is, takin
 
 pub none_other : (config : Config) (context : BodyContext) (set : List ℕ) (wanted : ValType) → IsOrderly context.types → leaf_within config context set 2 true wanted ≡ None → created_type config context set wanted ≡ None → HasNoOther config context set wanted
 none_other config context set wanted orderly brief created = record { none = none_within config context set 2 true orderly wanted brief; none_created = none_created config context set wanted orderly created }
-
-pub no_other : (config : Config) (context : BodyContext) (set : List ℕ) (wanted : ValType) (bytes : List ℕ) → IsOrderly context.types → config.disallow_traps ≡ true → (leaf_at config context set wanted bytes).0 ≡ instr.Unreachable ∷ [] → HasNoOther config context set wanted
-no_other config context set wanted bytes orderly trapless stop =
-    let (brief, created) = both_none config context set wanted trapless (spared config context set wanted bytes trapless stop) in
-    none_other config context set wanted orderly brief created

@@ -10,7 +10,8 @@ use Rattle.smith_instr.specs.Contexts.{BodyContext}
 use Rattle.smith_instr.specs.declared.instr.Instr.{Instr}
 use Rattle.smith_instr.specs.declared.instr.Instr.TheVariants as instr
 use Rattle.smith_body_nodes.specs.Chosen.{giving}
-use Rattle.smith_body_leaves.specs.Leaves.{any_leaf_at, constant_instr_at, created_from, created_type, first_leaf, first_of, if_permitted, instructions_of, leaf_at, leaf_choice_at, leaf_families, leaf_of, leaf_within, longest_leaf, named_at, or_constant, spare_leaf, widest_struct}
+use Rattle.smith_body_leaves.specs.DrawnLeaves.{leaf_at, preferred_to}
+use Rattle.smith_body_leaves.specs.Leaves.{any_leaf_at, constant_instr_at, created_from, created_type, first_leaf, first_of, if_permitted, instructions_of, leaf_choice_at, leaf_families, leaf_of, leaf_within, longest_leaf, named_at, or_constant, spare_leaf, widest_struct}
 use Rattle.smith_body_nodes.specs.Offered.{is_reference, within_at}
 use Rattle.smith_body_nodes.specs.Scopes.{is_permitted}
 use Rattle.smith_body_nodes.specs.declared.offer.Reach.{Reach}
@@ -46,11 +47,18 @@ pub leaf_constant : (context : BodyContext) (set : List ℕ) (wanted : ValType) 
 unfolding any_leaf_at
 leaf_constant context set wanted bytes middle left instruction drawn is = ap (λ (d : Option Instr × List ℕ). or_constant wanted d.0 d.1) drawn ∙ is
 
--- the drawn instruction if it is permitted, else its replacement
-pub leaf_permitted : (config : Config) (context : BodyContext) (set : List ℕ) (wanted : ValType) (bytes left : List ℕ) (instruction : Instr) (permitted : Bool) → any_leaf_at context set wanted bytes ≡ (instruction, left) → is_permitted context.features config instruction ≡ permitted
+-- the drawn instruction if it is permitted, else its replacement, where nothing is preferred to it
+pub leaf_permitted : (config : Config) (context : BodyContext) (set : List ℕ) (wanted : ValType) (bytes middle left : List ℕ) (instruction : Instr) (permitted : Bool) → any_leaf_at context set wanted bytes ≡ (instruction, middle)
+    → preferred_to config context set wanted instruction middle ≡ (None, left) → is_permitted context.features config instruction ≡ permitted
     → leaf_at config context set wanted bytes ≡ (if permitted then instruction ∷ [] else spare_leaf config context set wanted, left)
 unfolding leaf_at
-leaf_permitted config context set wanted bytes left instruction permitted drawn is = rw (drawn, is) refl
+leaf_permitted config context set wanted bytes middle left instruction permitted drawn none is = rw (drawn, none, is) refl
+
+-- the value that is preferred to it
+pub leaf_preferred : (config : Config) (context : BodyContext) (set : List ℕ) (wanted : ValType) (bytes middle left : List ℕ) (instruction : Instr) (leaf : Leaf) → any_leaf_at context set wanted bytes ≡ (instruction, middle)
+    → preferred_to config context set wanted instruction middle ≡ (Some leaf, left) → leaf_at config context set wanted bytes ≡ (instructions_of leaf, left)
+unfolding leaf_at
+leaf_preferred config context set wanted bytes middle left instruction leaf drawn preferred = rw (drawn, preferred) refl
 
 -- what is not some value is none
 pub not_some : {A : Type 0} (o p : Option A) → ((x : A) → o ≡ Some x → ⊥) → o ≡ p → None ≡ p
@@ -83,7 +91,7 @@ unfolding widest_struct
 two_wide [] = omega arith
 two_wide (t ∷ types) = let rest = two_wide types in omega arith
 
-at_most : (on : Bool) (n w : ℕ) → on ≡ true → n ≤ 1 + w → n ≤ (if on then 1 + w else 1)
+at_most : (on : Bool) (n w : ℕ) → on ≡ true → n ≤ 1 + w → n ≤ (if on then 1 + w else 2)
 at_most true n w is few = few
 at_most false n w is few = cc
 
@@ -97,13 +105,27 @@ brief_few config types leaf trapless =
     let wide = two_wide types in
     created_few config types (length (instructions_of leaf)) trapless (omega arith)
 
-at_least_one : (on : Bool) (w : ℕ) → 1 ≤ (if on then 1 + w else 1)
-at_least_one true w = omega arith
-at_least_one false w = omega arith
+at_least_two : (on : Bool) (w : ℕ) → 2 ≤ w → 2 ≤ (if on then 1 + w else 2)
+at_least_two true w wide = omega arith
+at_least_two false w wide = omega arith
+
+two_longest : (config : Config) (types : List SubType) → 2 ≤ longest_leaf config types
+unfolding longest_leaf
+two_longest config types = at_least_two config.disallow_traps (widest_struct types) (two_wide types)
 
 pub some_leaf : (config : Config) (types : List SubType) → 1 ≤ longest_leaf config types
-unfolding longest_leaf
-some_leaf config types = at_least_one config.disallow_traps (widest_struct types)
+some_leaf config types = let two = two_longest config types in omega arith
+
+two : (value : Instr) (next last : Option Instr) → next ≡ None → length (value ∷ (option_to_list next ++ option_to_list last)) ≤ 2
+two value None None is = omega arith
+two value None (Some last) is = omega arith
+two value (Some next) last is = cc
+
+pub pair_few : (config : Config) (types : List SubType) (leaf : Leaf) → leaf.next ≡ None → length (instructions_of leaf) ≤ longest_leaf config types
+pair_few config types leaf brief =
+    let few = two leaf.value leaf.next leaf.last brief in
+    let longest = two_longest config types in
+    omega arith
 
 -- the first instruction of a family, if it is permitted
 pub first_none : (config : Config) (context : BodyContext) (set : List ℕ) (wanted : ValType) (family : LeafFamily) (bytes left : List ℕ) → bytes ≡ [] → leaf_of context set reach.Whole wanted family bytes ≡ (None, left) → None ≡ first_of config context set wanted family

@@ -8,3 +8,5 @@ pub mod LawLemmas
 pub mod ConstantLemmas
 pub mod ConversionLemmas
 pub mod SingleLemmas
+pub mod PreferredLemmas
+pub mod NoOtherLemmas

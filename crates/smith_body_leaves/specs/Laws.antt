@@ -11,7 +11,8 @@ use Rattle.smith_instr.specs.declared.instr.Instr.{Instr}
 use Rattle.smith_instr.specs.declared.instr.Instr.TheVariants as instr
 use Rattle.smith_instr.specs.declared.reference.ReferenceInstr.TheVariants as reference
 use Rattle.smith_body_nodes.specs.Scopes.{is_permitted}
-use Rattle.smith_body_leaves.specs.Leaves.{IsLeaf, IsTaking, leaf_at, named_type, searches_on}
+use Rattle.smith_body_leaves.specs.DrawnLeaves.{leaf_at}
+use Rattle.smith_body_leaves.specs.Leaves.{IsLeaf, IsTaking, named_type, searches_on}
 
 -- a constant of a number or a vector
 abbrev pub IsNumber : Instr → Type 0

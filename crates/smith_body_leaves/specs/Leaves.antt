@@ -149,10 +149,10 @@ unfoldable pub widest_struct : List SubType → ℕ
 widest_struct [] = 2
 widest_struct (t ∷ types) = max (length (fields_of t.composite_type.inner)) (widest_struct types)
 
--- the greatest number of instructions of a value: with `disallow_traps` 3, or one for each field of
--- a struct and one for its creation, if these are more
+-- the greatest number of instructions of a value: 2; with `disallow_traps` 3, or one for each field
+-- of a struct and one for its creation, if these are more
 unfoldable pub longest_leaf : Config → List SubType → ℕ
-longest_leaf config types = if config.disallow_traps then 1 + widest_struct types else 1
+longest_leaf config types = if config.disallow_traps then 1 + widest_struct types else 2
 
 -- a value, and then an instruction that takes it, if there is one
 abbrev pub value_over : (ValType → Option Leaf) → Option Unary → Option Leaf
@@ -320,12 +320,6 @@ first_leaf config context set wanted =
 -- the first permitted value
 unfoldable pub spare_leaf : Config → BodyContext → List ℕ → ValType → List Instr
 spare_leaf config context set wanted = if config.disallow_traps then first_leaf config context set wanted else instr.Unreachable ∷ []
-
--- the drawn instruction if it is permitted, else its replacement
-unfoldable pub leaf_at : Config → BodyContext → List ℕ → ValType → List ℕ → List Instr × List ℕ
-leaf_at config context set wanted bytes =
-    let leaf = any_leaf_at context set wanted bytes in
-    (if is_permitted context.features config leaf.0 then leaf.0 ∷ [] else spare_leaf config context set wanted, leaf.1)
 
 -- an instruction that produces a value that matches this type, without operands
 pub record IsLeaf (context : BodyContext) (set : List ℕ) (wanted : ValType) (instruction : Instr) : Type 0 where

@@ -1,4 +1,5 @@
 pub mod Constants
+pub mod DrawnLeaves
 pub mod FirstCreated
 pub mod Laws
 pub mod Leaves

@@ -6,15 +6,19 @@
 
 mod constant_tables;
 mod constants;
+mod created_values;
 mod creations;
+mod default_created;
 mod families;
 mod first_created;
 mod leaf;
+mod preferred;
 mod references;
 mod search;
 mod single;
 mod unary;
 
 pub use leaf::{Leaf, only, write_instructions, write_spare};
+pub use preferred::draw_preferred;
 pub use single::draw_any_leaf;
 pub use unary::Unary;

@@ -165,7 +165,7 @@ fn choose_leaf(
 
 /// Chooses an instruction of `family`, if there is one. A global or a function is one of those that
 /// `reach` covers.
-fn leaf_of(
+pub(crate) fn leaf_of(
     scope: &Scope<'_>,
     family: LeafFamily,
     reach: Reach,

@@ -1,4 +1,4 @@
-use Rattle.smith_body_leaves.proofs.LawLemmas.{no_other}
+use Rattle.smith_body_leaves.proofs.NoOtherLemmas.{no_other}
 use Rattle.smith_body.proofs.laws.traps_only_for_no_other.Goals as goal
 
 pub returns : goal.returns
