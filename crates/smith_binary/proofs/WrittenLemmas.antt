@@ -36,6 +36,12 @@ joined_written {Second = Second} {old = old} one other = record {
 pub written_as : {Spells Other : Spelling → List ℕ → Type 0} {old new : Output} → ((s : Spelling) (piece : List ℕ) → Spells s piece → Other s piece) → Writes Spells old new → Writes Other old new
 written_as {old = old} weaker one = record { piece = one.piece; spelled = weaker any one.piece one.spelled; kept = weaker (written old.least) one.piece one.kept; whole = one.whole; same = one.same }
 
+-- a piece with a property that does not name the spelling
+pub written_plain : {Spells : Spelling → List ℕ → Type 0} {Other : List ℕ → Type 0} {old new : Output} → ((piece : List ℕ) → Spells any piece → Other piece) → Writes Spells old new → Writes (λ _. Other) old new
+written_plain weaker one =
+    let plain = weaker one.piece one.spelled in
+    record { piece = one.piece; spelled = plain; kept = plain; whole = one.whole; same = one.same }
+
 -- one piece, then another if that is written
 pub then_written : {E : Type 0} {First : Spelling → List ℕ → Type 0} {old between : Output} (Second : Spelling → List ℕ → Type 0) (new : Output) (r : Result (Unit {0}) E) → Writes First old between → OnOk r (Writes Second between new)
     → OnOk r (Writes (λ s. Joined (First s) (Second s)) old new)
@@ -106,3 +112,19 @@ written_whole {Spells = Spells} none one = subst (Spells any) (sym (one.whole �
 
 pub kept_whole : {Spells : Spelling → List ℕ → Type 0} {old new : Output} → old.bytes ≡ [] → Writes Spells old new → Spells (written old.least) new.bytes
 kept_whole {Spells = Spells} {old = old} none one = subst (Spells (written old.least)) (sym (one.whole ∙ ap (λ (bytes : List ℕ). bytes ++ one.piece) none)) one.kept
+
+-- a content that was written by itself
+pub content_whole : {Content : Spelling → List ℕ → Type 0} {empty inner : Output} (least : ℕ) → empty ≡ record { bytes = []; least = least } → Writes Content empty inner → Content any inner.bytes × Content (written least) inner.bytes
+content_whole {Content = Content} {inner = inner} least is one = (
+  written_whole (ap (λ (o : Output). o.bytes) is) one,
+  subst (λ (k : ℕ). Content (written k) inner.bytes) (ap (λ (o : Output). o.least) is) (kept_whole (ap (λ (o : Output). o.bytes) is) one),
+)
+
+filled : {spelling : Spelling} {Content : List ℕ → Type 0} {bytes piece : List ℕ} → Content bytes → IsSizedIn spelling (Is bytes) piece → IsSizedIn spelling Content piece
+filled {Content = Content} content h = record { content = h.content; is_content = subst Content (sym h.is_content) content; form = h.form }
+
+-- such a content after its size
+pub content_written : {Content : Spelling → List ℕ → Type 0} {old new empty inner : Output} → empty ≡ record { bytes = []; least = old.least } → Writes Content empty inner → Writes (λ s. IsSizedIn s (Is inner.bytes)) old new → Writes (λ s. IsSizedIn s (Content s)) old new
+content_written {Content = Content} {old = old} is one sized =
+    let (content, kept) = content_whole old.least is one in
+    record { piece = sized.piece; spelled = filled {Content = Content any} content sized.spelled; kept = filled {Content = Content (written old.least)} kept sized.kept; whole = sized.whole; same = sized.same }
