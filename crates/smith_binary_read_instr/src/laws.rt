@@ -1,7 +1,8 @@
 ghost use Rattle.smith_binary_instr.specs.Control.{IsBlockType, IsBranchCast, IsCatch};
 ghost use Rattle.smith_binary_instr.specs.Memory.{IsMemArg};
 ghost use Rattle.smith_binary_read.specs.Decodes.{Decodes};
-ghost use Rattle.smith_binary_read_instr.specs.ControlReadings.{block_type_at, branch_cast_at, catch_at};
+ghost use Rattle.smith_binary_read_instr.specs.ControlReadings.{block_type_at, branch_cast_at};
+ghost use Rattle.smith_binary_read_instr.specs.ControlReadings.{catch_at};
 ghost use Rattle.smith_binary_read_instr.specs.MemoryReadings.{mem_arg_at};
 
 /// States that the type of a block, a clause of `try_table`, the immediates of a branch on a cast and

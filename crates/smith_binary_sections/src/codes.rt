@@ -2,7 +2,8 @@ ghost use Rattle.std.specs.Prelude.{◌≡◌, ◌∷◌, ℕ, List, OnOk, IfErr
 ghost use Rattle.smith_binary.specs.declared.error.EncodeError.TheVariants.{Memory};
 ghost use Rattle.smith_binary.specs.Faults.{IsFault};
 ghost use Rattle.smith_binary.specs.Pieces.{Is, Writes};
-ghost use Rattle.smith_binary_sections.specs.Codes.{index_bytes, IsBodyWrittenIn, IsLocalsWrittenIn, IsRunIn};
+ghost use Rattle.smith_binary_sections.specs.Codes.{index_bytes, IsBodyWrittenIn};
+ghost use Rattle.smith_binary_sections.specs.Codes.{IsLocalsWrittenIn, IsRunIn};
 ghost use Rattle.smith_binary_sections.specs.Codes.{check_bytes, checks_bytes, body_bytes, body_of};
 ghost use Rattle.smith_binary_sections.specs.Long.{IsNeverLong, IsLongBody, IsLongList};
 

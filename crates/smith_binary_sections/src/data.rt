@@ -2,7 +2,8 @@ ghost use Rattle.std.specs.Prelude.{◌≡◌, ◌≤◌, ◌^◌, ℕ, List, le
 ghost use Rattle.smith_binary.specs.Faults.{IsFault};
 ghost use Rattle.smith_binary.specs.Pieces.{IsByte, Writes, IsListIn};
 ghost use Rattle.smith_binary_sections.specs.Instructions.{offset_of};
-ghost use Rattle.smith_binary_sections.specs.Data.{active_data_form, data_of, IsDataFormIn, IsDataWrittenIn};
+ghost use Rattle.smith_binary_sections.specs.Data.{active_data_form, data_of, IsDataFormIn};
+ghost use Rattle.smith_binary_sections.specs.Data.{IsDataWrittenIn};
 ghost use Rattle.smith_binary_sections.specs.Data.DataMode.{active};
 ghost use Rattle.smith_binary_sections.specs.Long.{IsLongData};
 

@@ -2,7 +2,8 @@ ghost use Rattle.std.specs.Prelude.{◌≡◌, Option, Some, None, unwrap_or, Li
 ghost use Rattle.smith_binary.specs.declared.error.EncodeError.TheVariants.{Memory as OutOfMemory};
 ghost use Rattle.smith_binary.specs.Faults.{IsFault};
 ghost use Rattle.smith_binary_sections.specs.Entities.{IsTagTypeIn};
-ghost use Rattle.smith_binary_sections.specs.Definitions.{initialised_global, IsGlobalIn, IsTableWrittenIn};
+ghost use Rattle.smith_binary_sections.specs.Definitions.{initialised_global, IsGlobalIn};
+ghost use Rattle.smith_binary_sections.specs.Definitions.{IsTableWrittenIn};
 ghost use Rattle.smith_binary_sections.specs.Long.{IsNeverLong};
 
 use crate::entities::write_tag_type;

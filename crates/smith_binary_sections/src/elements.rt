@@ -2,7 +2,11 @@ ghost use Rattle.std.specs.Prelude.{◌≡◌, ◌==◌, ◌&&◌, false, ℕ, L
 ghost use Rattle.smith_binary.specs.Faults.{IsFault};
 ghost use Rattle.smith_binary.specs.Pieces.{Writes};
 ghost use Rattle.smith_binary_sections.specs.Instructions.{offset_of};
-ghost use Rattle.smith_binary_sections.specs.Elements.{active_funcs_form, active_items_form, funcs_form, items_form, is_func, is_func_ref, elem_of, elem_mode, func_ref, func_items, IsElemFormIn, IsElemWrittenIn, IsKindFuncsIn};
+ghost use Rattle.smith_binary_sections.specs.Elements.{active_funcs_form, active_items_form};
+ghost use Rattle.smith_binary_sections.specs.Elements.{funcs_form, items_form, is_func};
+ghost use Rattle.smith_binary_sections.specs.Elements.{is_func_ref, elem_of, elem_mode, func_ref};
+ghost use Rattle.smith_binary_sections.specs.Elements.{func_items, IsElemFormIn, IsElemWrittenIn};
+ghost use Rattle.smith_binary_sections.specs.Elements.{IsKindFuncsIn};
 ghost use Rattle.smith_binary_sections.specs.Elements.Mode.{active as at_table};
 ghost use Rattle.smith_binary_sections.specs.Long.{IsLongList, IsNeverLong, IsLongElem};
 

@@ -2,7 +2,10 @@ ghost use Rattle.std.specs.Prelude.{◌≡◌, Option, None, OnOk, IfErr};
 ghost use Rattle.smith_binary.specs.declared.error.EncodeError.TheVariants.{Memory as OutOfMemory};
 ghost use Rattle.smith_binary.specs.Faults.{IsFault};
 ghost use Rattle.smith_binary.specs.Pieces.{Writes};
-ghost use Rattle.smith_binary_sections.specs.Entities.{flag, global_byte, limits_byte, IsExternTypeIn, IsGlobalTypeIn, IsMemoryTypeIn, IsPageSizeIn, IsRangeIn, IsTableTypeIn, IsTagTypeIn};
+ghost use Rattle.smith_binary_sections.specs.Entities.{flag, global_byte, limits_byte};
+ghost use Rattle.smith_binary_sections.specs.Entities.{IsExternTypeIn, IsGlobalTypeIn};
+ghost use Rattle.smith_binary_sections.specs.Entities.{IsMemoryTypeIn, IsPageSizeIn, IsRangeIn};
+ghost use Rattle.smith_binary_sections.specs.Entities.{IsTableTypeIn, IsTagTypeIn};
 ghost use Rattle.smith_binary_sections.specs.Long.{IsNeverLong};
 
 use crate::lists::Encode;

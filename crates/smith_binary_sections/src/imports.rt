@@ -1,7 +1,8 @@
 ghost use Rattle.std.specs.Prelude.{ℕ, List, OnOk, IfErr};
 ghost use Rattle.smith_binary.specs.Faults.{IsFault};
 ghost use Rattle.smith_binary.specs.Pieces.{Writes, IsNameIn};
-ghost use Rattle.smith_binary_sections.specs.Imports.{IsGroupHeadIn, IsImportGroupIn, IsImportIn, IsImportItemIn};
+ghost use Rattle.smith_binary_sections.specs.Imports.{IsGroupHeadIn, IsImportGroupIn, IsImportIn};
+ghost use Rattle.smith_binary_sections.specs.Imports.{IsImportItemIn};
 ghost use Rattle.smith_binary_sections.specs.Long.{IsLongText, IsLongImport, IsLongImportItem};
 ghost use Rattle.smith_binary_sections.specs.Long.{IsLongImportGroup};
 

@@ -1,7 +1,8 @@
 ghost use Rattle.std.specs.Prelude.{◌≡◌, OnOk, IfErr};
 ghost use Rattle.smith_binary.specs.Numbers.{IsVector};
 ghost use Rattle.smith_binary.specs.Pieces.{IsByte, Joined, Writes};
-ghost use Rattle.smith_binary_sections.specs.Instructions.{IsExpressionIn, IsIndexIn, IsInstrIn, IsPrefixedIn};
+ghost use Rattle.smith_binary_sections.specs.Instructions.{IsExpressionIn, IsIndexIn, IsInstrIn};
+ghost use Rattle.smith_binary_sections.specs.Instructions.{IsPrefixedIn};
 ghost use Rattle.smith_binary_sections.specs.Instructions.{offset_of};
 ghost use Rattle.smith_binary.specs.declared.error.EncodeError.TheVariants.{Memory};
 ghost use Rattle.smith_binary.specs.Faults.{IsFault};

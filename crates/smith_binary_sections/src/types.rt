@@ -1,11 +1,18 @@
 ghost use Rattle.std.specs.Prelude.{◌≡◌, OnOk, IfErr, List, ℕ, option_to_list};
 ghost use Rattle.smith_binary.specs.Spelling.{IsUnsignedIn};
 ghost use Rattle.smith_binary.specs.Pieces.{Is, Writes, IsListIn};
-ghost use Rattle.smith_binary_sections.specs.Types.{short_ref, abstract_byte, null_byte, mutability_byte, shared_bytes, final_byte, is_alone, group_at, IsCompositeTypeIn, IsFieldTypeIn, IsFuncTypeIn, IsHeapTypeIn, IsInnerTypeIn, IsRecGroupWrittenIn, IsRefTypeIn, IsStorageTypeIn, IsSubTypeWrittenIn, IsValTypeIn};
+ghost use Rattle.smith_binary_sections.specs.Types.{short_ref, abstract_byte, null_byte};
+ghost use Rattle.smith_binary_sections.specs.Types.{mutability_byte, shared_bytes, final_byte};
+ghost use Rattle.smith_binary_sections.specs.Types.{is_alone, group_at, IsCompositeTypeIn};
+ghost use Rattle.smith_binary_sections.specs.Types.{IsFieldTypeIn, IsFuncTypeIn, IsHeapTypeIn};
+ghost use Rattle.smith_binary_sections.specs.Types.{IsInnerTypeIn, IsRecGroupWrittenIn};
+ghost use Rattle.smith_binary_sections.specs.Types.{IsRefTypeIn, IsStorageTypeIn};
+ghost use Rattle.smith_binary_sections.specs.Types.{IsSubTypeWrittenIn, IsValTypeIn};
 ghost use Rattle.smith_binary.specs.declared.error.EncodeError.TheVariants.{Memory};
 ghost use Rattle.smith_binary.specs.Faults.{IsFault};
 ghost use Rattle.smith_binary_sections.specs.Long.{IsLongComposite, IsLongFuncType, IsLongGroup};
-ghost use Rattle.smith_binary_sections.specs.Long.{IsLongInner, IsLongList, IsLongSubType, IsNeverLong};
+ghost use Rattle.smith_binary_sections.specs.Long.{IsLongInner, IsLongList, IsLongSubType};
+ghost use Rattle.smith_binary_sections.specs.Long.{IsNeverLong};
 
 use crate::lists::{Encode, EncodeItem, write_list};
 use smith_binary::{EncodeError, Sink};
