@@ -1,4 +1,5 @@
 pub mod NumberLemmas
+pub mod PaddedLemmas
 pub mod WrittenLemmas
 pub mod UnambiguousLemmas
 pub mod ShortestLemmas

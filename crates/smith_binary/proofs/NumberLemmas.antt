@@ -1,12 +1,14 @@
 -- Integers that are written byte by byte, the lowest seven bits first.
-use Rattle.std.proofs.Common.{◌≡◌, ℕ, zero, suc, ◌+◌, ◌-◌, ◌*◌, ◌/◌, ◌%◌, ◌^◌, ◌<◌, ◌≤◌, List, [], ◌∷◌, ◌++◌, length, refl, arith, ◌∙◌, ap, append_assoc, subst, sym, inl, inr, ◌≢◌, append-nil}
+use Rattle.std.proofs.Common.{◌≡◌, ℕ, zero, suc, ◌+◌, ◌-◌, ◌*◌, ◌/◌, ◌%◌, ◌^◌, ◌<◌, ◌≤◌, List, [], ◌∷◌, ◌++◌, length, refl, arith, ◌∙◌, ap, append_assoc, subst, sym, inl, inr, ◌≢◌}
 use Rattle.std.specs.Prelude.{ℤ, pos, negsuc, ◌+ℤ◌, ◌*ℤ◌}
 use Rattle.std.proofs.lemmas.Int.{ints}
 use Rattle.std.proofs.lemmas.Nat.{pow-add}
 use Rattle.std.proofs.lemmas.Bool.{cases_lt}
 use Rattle.std.proofs.Math.Nat.{pow-le-pow_right}
 use Rattle.smith_binary.specs.Numbers.{IsUnsigned, IsSigned, IsLastPositive, IsLastNegative, IsLittleEndian}
-use Rattle.smith_binary.specs.Pieces.{Shortest, Writes}
+use Rattle.smith_binary.specs.Spelling.{Shortest}
+use Rattle.smith_binary.specs.Pieces.{Output, Writes}
+use Rattle.smith_binary.proofs.WrittenLemmas.{nothing_written}
 
 -- a power of two from 2^7 on, as a multiple of 128
 pub seven_apart : (k : ℕ) → 7 ≤ k → 2 ^ k ≡ 128 * 2 ^ (k - 7)
@@ -25,8 +27,19 @@ bits_left k n low high =
     let split : 2 ^ k ≡ 128 * 2 ^ (k - 7) = seven_apart k (omega arith) in
     (more, omega arith)
 
+-- a byte, then what is written after it
+pub byte_written : {Rest : List ℕ → Type 0} {old between new : Output} (Whole : List ℕ → Type 0) (byte : ℕ) → between ≡ record old { bytes = old.bytes ++ byte ∷ [] } → (rest : Writes (λ _. Rest) between new) → Whole (byte ∷ rest.piece)
+    → Writes (λ _. Whole) old new
+byte_written {old = old} Whole byte pushed rest spelled = record {
+  piece = byte ∷ rest.piece;
+  spelled = spelled;
+  kept = spelled;
+  whole = rest.whole ∙ ap (λ (o : Output). o.bytes ++ rest.piece) pushed ∙ append_assoc old.bytes (byte ∷ []) rest.piece;
+  same = rest.same ∙ ap (λ (o : Output). o.least) pushed;
+}
+
 -- a spelling is not empty
-unsigned_has : (bits n : ℕ) (piece : List ℕ) → IsUnsigned bits n piece → 1 ≤ length piece
+pub unsigned_has : (bits n : ℕ) (piece : List ℕ) → IsUnsigned bits n piece → 1 ≤ length piece
 unfolding IsUnsigned
 unsigned_has bits n [] h = absurd h
 unsigned_has bits n (byte ∷ piece) h = omega arith
@@ -47,28 +60,13 @@ unfolding IsUnsigned
 unsigned_last bits n low fits = record { spelled = (refl, low, fits); least = unsigned_has bits n }
 
 -- a byte before others
+pub byte_before : (bits n : ℕ) (piece : List ℕ) → 7 < bits → IsUnsigned (bits - 7) (n / 128) piece → IsUnsigned bits n ((n % 128 + 128) ∷ piece)
+unfolding IsUnsigned
+byte_before bits n [] room h = absurd h
+byte_before bits n (byte ∷ piece) room h = (n / 128, h, omega arith, omega arith, omega arith, room)
+
 pub unsigned_front : (bits n : ℕ) (piece : List ℕ) → 128 ≤ n → n < 2 ^ bits → IsUnsigned (bits - 7) (n / 128) piece → IsUnsigned bits n ((n % 128 + 128) ∷ piece)
-unfolding IsUnsigned
-unsigned_front bits n [] low fits h = absurd h
-unsigned_front bits n (byte ∷ piece) low fits h = (n / 128, h, omega arith, omega arith, omega arith, (bits_left bits n low fits).0)
-
--- no shorter piece spells a number of more than one byte
-unsigned_least : (bits n : ℕ) (piece : List ℕ) → 128 ≤ n → ((other : List ℕ) → IsUnsigned (bits - 7) (n / 128) other → length piece ≤ length other) → (other : List ℕ) → IsUnsigned bits n other → suc (length piece) ≤ length other
-unfolding IsUnsigned
-unsigned_least bits n piece low least [] h = absurd h
-unsigned_least bits n piece low least (byte ∷ []) h = absurd (omega arith)
-unsigned_least bits n piece low least (byte ∷ next ∷ other) h =
-    let same : h.0 ≡ n / 128 = omega arith in
-    let shorter : length piece ≤ length (next ∷ other) = least (next ∷ other) (subst (λ (m : ℕ). IsUnsigned (bits - 7) m (next ∷ other)) same h.1) in
-    omega arith
-
--- a byte, then the rest
-pub unsigned_more : {old between new : List ℕ} (bits n : ℕ) → 128 ≤ n → n < 2 ^ bits → between ≡ old ++ (n % 128 + 128) ∷ [] → Writes (Shortest (IsUnsigned (bits - 7) (n / 128))) between new → Writes (Shortest (IsUnsigned bits n)) old new
-unsigned_more {old = old} {between = between} {new = new} bits n low fits pushed rest = record {
-  piece = (n % 128 + 128) ∷ rest.piece;
-  spelled = record { spelled = unsigned_front bits n rest.piece low fits rest.spelled.spelled; least = unsigned_least bits n rest.piece low rest.spelled.least };
-  whole = rest.whole ∙ ap (λ (bytes : List ℕ). bytes ++ rest.piece) pushed ∙ append_assoc old ((n % 128 + 128) ∷ []) rest.piece;
-}
+unsigned_front bits n piece low fits h = byte_before bits n piece (bits_left bits n low fits).0 h
 
 -- an integer that does not fit one byte
 abbrev IsLong : ℤ → Type 0
@@ -127,12 +125,10 @@ signed_least bits z m byte piece on least (digit ∷ next ∷ other) h =
     omega arith
 
 -- a byte, then the rest
-signed_more : {old between new : List ℕ} (bits : ℕ) (z m : ℤ) (byte : ℕ) → GoesOn bits z m byte → between ≡ old ++ byte ∷ [] → Writes (Shortest (IsSigned (bits - 7) m)) between new → Writes (Shortest (IsSigned bits z)) old new
-signed_more {old = old} {between = between} {new = new} bits z m byte on pushed rest = record {
-  piece = byte ∷ rest.piece;
-  spelled = record { spelled = signed_front bits z m byte rest.piece on rest.spelled.spelled; least = signed_least bits z m byte rest.piece on rest.spelled.least };
-  whole = rest.whole ∙ ap (λ (bytes : List ℕ). bytes ++ rest.piece) pushed ∙ append_assoc old (byte ∷ []) rest.piece;
-}
+signed_more : {old between new : Output} (bits : ℕ) (z m : ℤ) (byte : ℕ) → GoesOn bits z m byte → between ≡ record old { bytes = old.bytes ++ byte ∷ [] } → Writes (λ _. Shortest (IsSigned (bits - 7) m)) between new → Writes (λ _. Shortest (IsSigned bits z)) old new
+signed_more bits z m byte on pushed rest =
+    byte_written (Shortest (IsSigned bits z)) byte pushed rest
+    (record { spelled = signed_front bits z m byte rest.piece on rest.spelled.spelled; least = signed_least bits z m byte rest.piece on rest.spelled.least })
 
 -- the rest of an integer has seven bits fewer, its sign included
 pub signed_left : (bits n : ℕ) → 64 ≤ n → n < 2 ^ (bits - 1) → (7 < bits) × (n / 128 < 2 ^ ((bits - 7) - 1))
@@ -143,12 +139,12 @@ signed_left bits n low high =
     (omega arith, subst (λ (e : ℕ). n / 128 < 2 ^ e) (sym turned) (omega arith))
 
 -- the lowest byte of an integer from 0 on
-pub positive_more : {old between new : List ℕ} (bits n : ℕ) → 64 ≤ n → n < 2 ^ (bits - 1) → between ≡ old ++ (n % 128 + 128) ∷ [] → Writes (Shortest (IsSigned (bits - 7) (pos (n / 128)))) between new → Writes (Shortest (IsSigned bits (pos n))) old new
+pub positive_more : {old between new : Output} (bits n : ℕ) → 64 ≤ n → n < 2 ^ (bits - 1) → between ≡ record old { bytes = old.bytes ++ (n % 128 + 128) ∷ [] } → Writes (λ _. Shortest (IsSigned (bits - 7) (pos (n / 128)))) between new → Writes (λ _. Shortest (IsSigned bits (pos n))) old new
 positive_more bits n low fits pushed rest =
     signed_more bits (pos n) (pos (n / 128)) (n % 128 + 128) (record { value = omega (arith, ints); high = omega arith; low = omega arith; room = (signed_left bits n low fits).0; long = low }) pushed rest
 
 -- the lowest byte of an integer below 0
-pub negative_more : {old between new : List ℕ} (bits n : ℕ) → 64 ≤ n → n < 2 ^ (bits - 1) → between ≡ old ++ (255 - n % 128) ∷ [] → Writes (Shortest (IsSigned (bits - 7) (negsuc (n / 128)))) between new → Writes (Shortest (IsSigned bits (negsuc n))) old new
+pub negative_more : {old between new : Output} (bits n : ℕ) → 64 ≤ n → n < 2 ^ (bits - 1) → between ≡ record old { bytes = old.bytes ++ (255 - n % 128) ∷ [] } → Writes (λ _. Shortest (IsSigned (bits - 7) (negsuc (n / 128)))) between new → Writes (λ _. Shortest (IsSigned bits (negsuc n))) old new
 negative_more bits n low fits pushed rest =
     signed_more bits (negsuc n) (negsuc (n / 128)) (255 - n % 128) (record { value = omega (arith, ints); high = omega arith; low = omega arith; room = (signed_left bits n low fits).0; long = low }) pushed rest
 
@@ -163,19 +159,16 @@ digits_left (suc count) n some fits =
     subst (λ (k : ℕ). n / 256 < 256 ^ k) (sym same) (omega arith)
 
 -- no byte
-pub no_digits : (count n : ℕ) (old : List ℕ) → count ≡ 0 → n < 256 ^ count → Writes (IsLittleEndian count n) old old
+pub no_digits : (count n : ℕ) (old : Output) → count ≡ 0 → n < 256 ^ count → Writes (λ _. IsLittleEndian count n) old old
 unfolding IsLittleEndian
-no_digits zero n old none fits = record { piece = []; spelled = (omega arith, refl); whole = sym (append-nil old) }
+no_digits zero n old none fits = let zero_is : n ≡ 0 = omega arith in nothing_written (λ s. (zero_is, refl))
 no_digits (suc count) n old none fits = absurd (omega arith)
 
 -- the lowest byte, then the rest
-pub digit_written : {old between new : List ℕ} (count n : ℕ) → count ≢ 0 → between ≡ old ++ (n % 256) ∷ [] → Writes (IsLittleEndian (count - 1) (n / 256)) between new → Writes (IsLittleEndian count n) old new
+pub digit_written : {old between new : Output} (count n : ℕ) → count ≢ 0 → between ≡ record old { bytes = old.bytes ++ (n % 256) ∷ [] } → Writes (λ _. IsLittleEndian (count - 1) (n / 256)) between new → Writes (λ _. IsLittleEndian count n) old new
 unfolding IsLittleEndian
 digit_written zero n some pushed rest = absurd (some refl)
-digit_written {old = old} {new = new} (suc count) n some pushed rest =
+digit_written (suc count) n some pushed rest =
     let same : suc count - 1 ≡ count = omega arith in
-    record {
-      piece = (n % 256) ∷ rest.piece;
-      spelled = (n / 256, subst (λ (k : ℕ). IsLittleEndian k (n / 256) rest.piece) same rest.spelled, omega arith, omega arith);
-      whole = rest.whole ∙ ap (λ (bytes : List ℕ). bytes ++ rest.piece) pushed ∙ append_assoc old ((n % 256) ∷ []) rest.piece;
-    }
+    byte_written (IsLittleEndian (suc count) n) (n % 256) pushed rest
+    (n / 256, subst (λ (k : ℕ). IsLittleEndian k (n / 256) rest.piece) same rest.spelled, omega arith, omega arith)

@@ -3,9 +3,8 @@ use Rattle.std.proofs.Common.{◌≡◌, ℕ, zero, suc, ◌+◌, ◌-◌, ◌*�
 use Rattle.std.proofs.lemmas.Bool.{cases_lt, lt-ltb, le-ltb}
 use Rattle.std.proofs.lemmas.Nat.{pow-add}
 use Rattle.smith_binary.specs.Numbers.{IsUnsigned, shortest_bytes}
-use Rattle.smith_binary.specs.Pieces.{Is, Shortest, Writes}
+use Rattle.smith_binary.specs.Spelling.{Shortest}
 use Rattle.smith_binary.proofs.NumberLemmas.{bits_left, unsigned_last, unsigned_front}
-use Rattle.smith_binary.proofs.WrittenLemmas.{written_as}
 
 -- the bytes of an integer below 128, and of any other
 small_bytes : (most n : ℕ) → n < 128 → shortest_bytes (suc most) n ≡ n ∷ []
@@ -70,7 +69,3 @@ shortest_is most bits n piece fits room h =
       | inl same ↦ same
       | inr longer ↦ absurd (let least : length piece ≤ length (shortest_bytes (suc most) n) = h.least _ (shortest_spelled most bits n fits room) in omega arith)
     ]
-
--- the bytes of a shortest spelling are the shortest bytes
-pub shortest_written_is : {old new : List ℕ} (most bits n : ℕ) → n < 128 ^ suc most → n < 2 ^ bits → Writes (Shortest (IsUnsigned bits n)) old new → Writes (Is (shortest_bytes (suc most) n)) old new
-shortest_written_is most bits n fits room one = written_as (λ piece h. shortest_is most bits n piece fits room h) one

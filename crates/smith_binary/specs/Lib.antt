@@ -1,4 +1,5 @@
 pub mod Faults
 pub mod Numbers
 pub mod Pieces
+pub mod Spelling
 pub mod Unambiguous

@@ -1,7 +1,8 @@
 -- Pieces of bytes: the sections Binary Format, Conventions, Values and Modules, of the WebAssembly
 -- Core Specification 3.0.
-use Rattle.std.specs.Prelude.{◌≡◌, ℕ, ◌≤◌, List, [], ◌∷◌, ◌++◌, length, IsUtf8}
-use Rattle.smith_binary.specs.Numbers.{IsUnsigned}
+use Rattle.std.specs.Prelude.{◌≡◌, ℕ, List, [], ◌∷◌, ◌++◌, length, IsUtf8}
+use Rattle.smith_binary.specs.Spelling.{Spelling, IsUnsignedIn}
+use Rattle.smith_binary.specs.Spelling.Spelling.{any, written}
 
 -- these bytes and no others (Binary Format, Conventions)
 abbrev pub Is : List ℕ → List ℕ → Type 0
@@ -25,31 +26,46 @@ Each Item [] piece = piece ≡ []
 Each Item (x ∷ xs) piece = Joined (Item x) (Each Item xs) piece
 
 -- a list: the number of its items, then the items (Binary Format, Conventions, Lists)
+abbrev pub IsListIn : {A : Type 0} → Spelling → (A → List ℕ → Type 0) → List A → List ℕ → Type 0
+IsListIn spelling Item xs = Joined (IsUnsignedIn spelling 32 (length xs)) (Each Item xs)
+
 abbrev pub IsList : {A : Type 0} → (A → List ℕ → Type 0) → List A → List ℕ → Type 0
-IsList Item xs = Joined (IsUnsigned 32 (length xs)) (Each Item xs)
+IsList Item xs = IsListIn any Item xs
 
 -- a name: the list of the bytes that its text has in UTF-8 (Binary Format, Values, Names)
-pub record IsName (name piece : List ℕ) : Type 0 where
+pub record IsNameIn (spelling : Spelling) (name piece : List ℕ) : Type 0 where
   pub text : IsUtf8 name
-  pub form : IsList IsByte name piece
+  pub form : IsListIn spelling IsByte name piece
+
+abbrev pub IsName : List ℕ → List ℕ → Type 0
+IsName = IsNameIn any
 
 -- the number of the bytes of a content, then the content (Binary Format, Modules, Sections)
-pub record IsSized (Content : List ℕ → Type 0) (piece : List ℕ) : Type 0 where
+pub record IsSizedIn (spelling : Spelling) (Content : List ℕ → Type 0) (piece : List ℕ) : Type 0 where
   pub content : List ℕ
   pub is_content : Content content
-  pub form : Joined (IsUnsigned 32 (length content)) (Is content) piece
+  pub form : Joined (IsUnsignedIn spelling 32 (length content)) (Is content) piece
+
+abbrev pub IsSized : (List ℕ → Type 0) → List ℕ → Type 0
+IsSized = IsSizedIn any
 
 -- a section: its identifier, its size and its content (Binary Format, Modules, Sections)
+abbrev pub IsSectionIn : Spelling → ℕ → (List ℕ → Type 0) → List ℕ → Type 0
+IsSectionIn spelling id Content = Joined (IsByte id) (IsSizedIn spelling Content)
+
 abbrev pub IsSection : ℕ → (List ℕ → Type 0) → List ℕ → Type 0
-IsSection id Content = Joined (IsByte id) (IsSized Content)
+IsSection id Content = IsSectionIn any id Content
 
--- a shortest spelling (own rule)
-pub record Shortest (Spells : List ℕ → Type 0) (piece : List ℕ) : Type 0 where
-  pub spelled : Spells piece
-  pub least : (other : List ℕ) → Spells other → length piece ≤ length other
+-- bytes that are being written, and the number of bytes that an unsigned integer has at least (own
+-- rule)
+pub record Output : Type 0 where
+  pub bytes : List ℕ
+  pub least : ℕ
 
--- the old bytes, then a piece with this property (own rule)
-pub record Writes (Spells : List ℕ → Type 0) (old new : List ℕ) : Type 0 where
+-- the old bytes, then a piece with this property, in the written spelling too (own rule)
+pub record Writes (Spells : Spelling → List ℕ → Type 0) (old new : Output) : Type 0 where
   pub piece : List ℕ
-  pub spelled : Spells piece
-  pub whole : new ≡ old ++ piece
+  pub spelled : Spells any piece
+  pub kept : Spells (written old.least) piece
+  pub whole : new.bytes ≡ old.bytes ++ piece
+  pub same : new.least ≡ old.least

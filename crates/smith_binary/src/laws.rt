@@ -1,6 +1,6 @@
 ghost use Rattle.std.specs.Prelude.{◌≡◌, ◌<◌, ◌^◌, suc, ℕ, List};
 ghost use Rattle.smith_binary.specs.Numbers.{IsUnsigned, IsSigned, shortest_bytes};
-ghost use Rattle.smith_binary.specs.Pieces.{Shortest};
+ghost use Rattle.smith_binary.specs.Spelling.{Shortest};
 ghost use Rattle.smith_binary.specs.Unambiguous.{IsUnambiguous};
 
 /// States that bytes begin with the spelling of at most one unsigned integer of a number of bits.

@@ -1,8 +1,9 @@
-ghost use Rattle.std.specs.Prelude.{◌≡◌, ℕ, ◌<◌, ◌^◌, pos, negsuc, OnOk, IfErr};
+ghost use Rattle.std.specs.Prelude.{◌≡◌, ℕ, ◌+◌, ◌*◌, ◌<◌, ◌^◌, pos, negsuc, OnOk, IfErr};
 ghost use Rattle.smith_binary.specs.declared.error.EncodeError.TheVariants.{Memory};
-ghost use Rattle.smith_binary.specs.Numbers.{IsUnsigned, IsSigned, FitsBits, IsLittleEndian};
-ghost use Rattle.smith_binary.specs.Numbers.{IsVector};
-ghost use Rattle.smith_binary.specs.Pieces.{Writes, Shortest};
+ghost use Rattle.smith_binary.specs.Numbers.{IsSigned, FitsBits, IsLittleEndian, IsVector};
+ghost use Rattle.smith_binary.specs.Numbers.{shortest_bytes};
+ghost use Rattle.smith_binary.specs.Pieces.{Is, Writes};
+ghost use Rattle.smith_binary.specs.Spelling.{Shortest, IsPadded, IsSignedIn, IsUnsignedIn};
 
 use crate::error::EncodeError;
 use crate::sink::Sink;
@@ -10,7 +11,7 @@ use crate::sink::Sink;
 // Writes the signed integer `value`, which is not negative.
 fn write_positive(value: u64, sink: &mut Sink) -> Result<(), EncodeError>
     ensures writes { OnOk result ((bits : ℕ) → FitsBits bits (pos value)
-        → Writes (Shortest (IsSigned bits (pos value))) sink.old sink.new) }
+        → Writes (λ _. Shortest (IsSigned bits (pos value))) sink.old sink.new) }
     ensures memory { IfErr result (λ e. e ≡ Memory) }
 {
     if value < 64 {
@@ -23,7 +24,7 @@ fn write_positive(value: u64, sink: &mut Sink) -> Result<(), EncodeError>
 // Writes the signed integer `-1 - value`.
 fn write_negative(value: u64, sink: &mut Sink) -> Result<(), EncodeError>
     ensures writes { OnOk result ((bits : ℕ) → FitsBits bits (negsuc value)
-        → Writes (Shortest (IsSigned bits (negsuc value))) sink.old sink.new) }
+        → Writes (λ _. Shortest (IsSigned bits (negsuc value))) sink.old sink.new) }
     ensures memory { IfErr result (λ e. e ≡ Memory) }
 {
     if value < 64 {
@@ -36,7 +37,7 @@ fn write_negative(value: u64, sink: &mut Sink) -> Result<(), EncodeError>
 // Writes `value` in `count` bytes, least significant byte first.
 fn write_little_endian(value: u128, count: usize, sink: &mut Sink) -> Result<(), EncodeError>
     requires { value < 256 ^ count }
-    ensures writes { OnOk result (Writes (IsLittleEndian count value) sink.old sink.new) }
+    ensures writes { OnOk result (Writes (λ _. IsLittleEndian count value) sink.old sink.new) }
     ensures memory { IfErr result (λ e. e ≡ Memory) }
 {
     if count == 0 {
@@ -46,26 +47,34 @@ fn write_little_endian(value: u128, count: usize, sink: &mut Sink) -> Result<(),
     write_little_endian(value / 256, count - 1, sink)
 }
 
+// Writes the unsigned integer `value` in as few bytes as possible, but in `least` at least.
+fn write_padded(value: u64, least: u8, sink: &mut Sink) -> Result<(), EncodeError>
+    ensures writes { OnOk result ((bits : ℕ) → value < 2 ^ bits → 7 * least < bits + 7
+        → Writes (λ _. Shortest (IsPadded least bits value)) sink.old sink.new) }
+    ensures memory { IfErr result (λ e. e ≡ Memory) }
+{
+    if value < 128 && least <= 1 {
+        return sink.push(value as u8);
+    }
+    sink.push((value % 128 + 128) as u8)?;
+    write_padded(value / 128, least.saturating_sub(1), sink)
+}
+
 impl Sink {
-    /// Writes `value` in unsigned LEB128, in as few bytes as possible. The bytes spell it as an
-    /// integer of any number of bits that it fits in.
-    pub fn write_unsigned(&mut self, value: u64) -> Result<(), EncodeError>
-        ensures writes { OnOk result ((bits : ℕ) → value < 2 ^ bits
-            → Writes (Shortest (IsUnsigned bits value)) self.old self.new) }
+    /// Writes `value` in unsigned LEB128, in as few bytes as possible, whatever the least number of
+    /// the sink is.
+    pub fn write_shortest(&mut self, value: u32) -> Result<(), EncodeError>
+        ensures writes { OnOk result (Writes (λ _. Is (shortest_bytes 5 value)) self.old self.new) }
         ensures memory { IfErr result (λ e. e ≡ Memory) }
     {
-        if value < 128 {
-            return self.push(value as u8);
-        }
-        self.push((value % 128 + 128) as u8)?;
-        self.write_unsigned(value / 128)
+        write_padded(u64::from(value), 1, self)
     }
 
     /// Writes `value` in signed LEB128, in as few bytes as possible. The bytes spell it as an
     /// integer of any number of bits that it fits in.
     pub fn write_signed(&mut self, value: i64) -> Result<(), EncodeError>
         ensures writes { OnOk result ((bits : ℕ) → FitsBits bits value
-            → Writes (Shortest (IsSigned bits value)) self.old self.new) }
+            → Writes (λ _. Shortest (IsSigned bits value)) self.old self.new) }
         ensures memory { IfErr result (λ e. e ≡ Memory) }
     {
         if value >= 0 {
@@ -77,23 +86,23 @@ impl Sink {
 
     /// Writes `value` as an unsigned integer of 32 bits.
     pub fn write_u32(&mut self, value: u32) -> Result<(), EncodeError>
-        ensures writes { OnOk result (Writes (IsUnsigned 32 value) self.old self.new) }
+        ensures writes { OnOk result (Writes (λ s. IsUnsignedIn s 32 value) self.old self.new) }
         ensures memory { IfErr result (λ e. e ≡ Memory) }
     {
-        self.write_unsigned(u64::from(value))
+        write_padded(u64::from(value), self.least_length(), self)
     }
 
     /// Writes `value` as an unsigned integer of 64 bits.
     pub fn write_u64(&mut self, value: u64) -> Result<(), EncodeError>
-        ensures writes { OnOk result (Writes (IsUnsigned 64 value) self.old self.new) }
+        ensures writes { OnOk result (Writes (λ s. IsUnsignedIn s 64 value) self.old self.new) }
         ensures memory { IfErr result (λ e. e ≡ Memory) }
     {
-        self.write_unsigned(value)
+        write_padded(value, self.least_length(), self)
     }
 
     /// Writes the index `value` as a signed integer of 33 bits, the form in heap types.
     pub fn write_s33(&mut self, value: u32) -> Result<(), EncodeError>
-        ensures writes { OnOk result (Writes (IsSigned 33 (pos value)) self.old self.new) }
+        ensures writes { OnOk result (Writes (λ s. IsSignedIn s 33 (pos value)) self.old self.new) }
         ensures memory { IfErr result (λ e. e ≡ Memory) }
     {
         write_positive(u64::from(value), self)
@@ -101,7 +110,7 @@ impl Sink {
 
     /// Writes `value` as a signed integer of 32 bits.
     pub fn write_s32(&mut self, value: i32) -> Result<(), EncodeError>
-        ensures writes { OnOk result (Writes (IsSigned 32 value) self.old self.new) }
+        ensures writes { OnOk result (Writes (λ s. IsSignedIn s 32 value) self.old self.new) }
         ensures memory { IfErr result (λ e. e ≡ Memory) }
     {
         self.write_signed(i64::from(value))
@@ -109,7 +118,7 @@ impl Sink {
 
     /// Writes `value` as a signed integer of 64 bits.
     pub fn write_s64(&mut self, value: i64) -> Result<(), EncodeError>
-        ensures writes { OnOk result (Writes (IsSigned 64 value) self.old self.new) }
+        ensures writes { OnOk result (Writes (λ s. IsSignedIn s 64 value) self.old self.new) }
         ensures memory { IfErr result (λ e. e ≡ Memory) }
     {
         self.write_signed(value)
@@ -117,7 +126,7 @@ impl Sink {
 
     /// Writes the 32-bit float whose bits are `bits`.
     pub fn write_f32(&mut self, bits: u32) -> Result<(), EncodeError>
-        ensures writes { OnOk result (Writes (IsLittleEndian 4 bits) self.old self.new) }
+        ensures writes { OnOk result (Writes (λ _. IsLittleEndian 4 bits) self.old self.new) }
         ensures memory { IfErr result (λ e. e ≡ Memory) }
     {
         write_little_endian(u128::from(bits), 4, self)
@@ -125,7 +134,7 @@ impl Sink {
 
     /// Writes the 64-bit float whose bits are `bits`.
     pub fn write_f64(&mut self, bits: u64) -> Result<(), EncodeError>
-        ensures writes { OnOk result (Writes (IsLittleEndian 8 bits) self.old self.new) }
+        ensures writes { OnOk result (Writes (λ _. IsLittleEndian 8 bits) self.old self.new) }
         ensures memory { IfErr result (λ e. e ≡ Memory) }
     {
         write_little_endian(u128::from(bits), 8, self)
@@ -133,7 +142,7 @@ impl Sink {
 
     /// Writes the 128-bit vector whose bits are `bits`.
     pub fn write_vector(&mut self, bits: i128) -> Result<(), EncodeError>
-        ensures writes { OnOk result (Writes (IsVector bits) self.old self.new) }
+        ensures writes { OnOk result (Writes (λ _. IsVector bits) self.old self.new) }
         ensures memory { IfErr result (λ e. e ≡ Memory) }
     {
         if bits >= 0 {

@@ -1,7 +1,7 @@
 ghost use Rattle.std.specs.Prelude.{◌≤◌, ◌^◌, OnOk, IfErr, length};
 ghost use Rattle.smith_binary.specs.Faults.{IsFault};
-ghost use Rattle.smith_binary.specs.Numbers.{IsUnsigned};
-ghost use Rattle.smith_binary.specs.Pieces.{Is, IsName, IsSized, IsSection, Writes};
+ghost use Rattle.smith_binary.specs.Pieces.{Is, IsNameIn, IsSizedIn, IsSectionIn, Writes};
+ghost use Rattle.smith_binary.specs.Spelling.{IsUnsignedIn};
 
 use crate::error::EncodeError;
 use crate::sink::Sink;
@@ -13,13 +13,13 @@ impl Sink {
     ///
     /// Returns [`EncodeError::TooLong`] if `count` is 2^32 or more.
     pub fn write_length(&mut self, count: usize) -> Result<(), EncodeError>
-        ensures writes { OnOk result (Writes (IsUnsigned 32 count) self.old self.new) }
+        ensures writes { OnOk result (Writes (λ s. IsUnsignedIn s 32 count) self.old self.new) }
         ensures fault { IfErr result (IsFault (2 ^ 32 ≤ count)) }
     {
         if count > u32::MAX as usize {
             return Err(EncodeError::TooLong);
         }
-        self.write_unsigned(count as u64)
+        self.write_u32(count as u32)
     }
 
     /// Writes `text` as a name: the number of its bytes, then the bytes.
@@ -28,7 +28,7 @@ impl Sink {
     ///
     /// Returns [`EncodeError::TooLong`] if `text` has 2^32 bytes or more.
     pub fn write_name(&mut self, text: &str) -> Result<(), EncodeError>
-        ensures writes { OnOk result (Writes (IsName text.now) self.old self.new) }
+        ensures writes { OnOk result (Writes (λ s. IsNameIn s text.now) self.old self.new) }
         ensures fault { IfErr result (IsFault (2 ^ 32 ≤ length text.now)) }
     {
         self.write_length(text.len())?;
@@ -41,7 +41,7 @@ impl Sink {
     ///
     /// Returns [`EncodeError::TooLong`] if `content` has 2^32 bytes or more.
     pub fn write_sized(&mut self, content: &[u8]) -> Result<(), EncodeError>
-        ensures writes { OnOk result (Writes (IsSized (Is content.now)) self.old self.new) }
+        ensures writes { OnOk result (Writes (λ s. IsSizedIn s (Is content.now)) self.old self.new) }
         ensures fault { IfErr result (IsFault (2 ^ 32 ≤ length content.now)) }
     {
         self.write_length(content.len())?;
@@ -54,7 +54,7 @@ impl Sink {
     ///
     /// Returns [`EncodeError::TooLong`] if `content` has 2^32 bytes or more.
     pub fn write_section(&mut self, id: u8, content: &[u8]) -> Result<(), EncodeError>
-        ensures writes { OnOk result (Writes (IsSection id (Is content.now)) self.old self.new) }
+        ensures writes { OnOk result (Writes (λ s. IsSectionIn s id (Is content.now)) self.old self.new) }
         ensures fault { IfErr result (IsFault (2 ^ 32 ≤ length content.now)) }
     {
         self.write_byte(id)?;

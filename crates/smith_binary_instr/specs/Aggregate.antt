@@ -2,8 +2,10 @@
 -- WebAssembly Core Specification 3.0. The shared i31 is that of the shared-everything-threads
 -- proposal.
 use Rattle.std.specs.Prelude.{ℕ, ◌+◌, List}
+use Rattle.smith_binary.specs.Spelling.{Spelling}
+use Rattle.smith_binary.specs.Spelling.Spelling.{any}
 use Rattle.smith_binary.specs.Pieces.{Joined}
-use Rattle.smith_binary_sections.specs.Instructions.{IsIndex, IsPrefixed}
+use Rattle.smith_binary_sections.specs.Instructions.{IsIndexIn, IsPrefixedIn}
 use Rattle.smith_instr.specs.declared.aggregate.AggregateInstr.{AggregateInstr}
 use Rattle.smith_instr.specs.declared.aggregate.AggregateInstr.TheVariants as aggregate
 use Rattle.smith_instr.specs.declared.aggregate.Extension.{Extension}
@@ -17,34 +19,43 @@ get_number first extension.Signed = first + 1
 get_number first extension.Unsigned = first + 2
 
 -- two indices after a number and the prefix of aggregates (Aggregate Instructions)
+abbrev pub IsOnTwoIn : Spelling → ℕ → ℕ → ℕ → List ℕ → Type 0
+IsOnTwoIn spelling number first second = Joined (IsPrefixedIn spelling 0xFB number) (Joined (IsIndexIn spelling first) (IsIndexIn spelling second))
+
 abbrev pub IsOnTwo : ℕ → ℕ → ℕ → List ℕ → Type 0
-IsOnTwo number first second = Joined (IsPrefixed 0xFB number) (Joined (IsIndex first) (IsIndex second))
+IsOnTwo = IsOnTwoIn any
 
 -- one index after a number and the prefix of aggregates (Aggregate Instructions)
+abbrev pub IsOnIn : Spelling → ℕ → ℕ → List ℕ → Type 0
+IsOnIn spelling number index = Joined (IsPrefixedIn spelling 0xFB number) (IsIndexIn spelling index)
+
 abbrev pub IsOn : ℕ → ℕ → List ℕ → Type 0
-IsOn number index = Joined (IsPrefixed 0xFB number) (IsIndex index)
+IsOn = IsOnIn any
 
 -- an aggregate instruction (Aggregate Instructions)
+abbrev pub IsAggregateIn : Spelling → AggregateInstr → List ℕ → Type 0
+IsAggregateIn spelling (aggregate.StructNew ty) piece = IsOnIn spelling 0 ty piece
+IsAggregateIn spelling (aggregate.StructNewDefault ty) piece = IsOnIn spelling 1 ty piece
+IsAggregateIn spelling (aggregate.StructGet ty field extended) piece = IsOnTwoIn spelling (get_number 2 extended) ty field piece
+IsAggregateIn spelling (aggregate.StructSet ty field) piece = IsOnTwoIn spelling 5 ty field piece
+IsAggregateIn spelling (aggregate.ArrayNew ty) piece = IsOnIn spelling 6 ty piece
+IsAggregateIn spelling (aggregate.ArrayNewDefault ty) piece = IsOnIn spelling 7 ty piece
+IsAggregateIn spelling (aggregate.ArrayNewFixed ty size) piece = IsOnTwoIn spelling 8 ty size piece
+IsAggregateIn spelling (aggregate.ArrayNewData ty segment) piece = IsOnTwoIn spelling 9 ty segment piece
+IsAggregateIn spelling (aggregate.ArrayNewElem ty segment) piece = IsOnTwoIn spelling 10 ty segment piece
+IsAggregateIn spelling (aggregate.ArrayGet ty extended) piece = IsOnIn spelling (get_number 11 extended) ty piece
+IsAggregateIn spelling (aggregate.ArraySet ty) piece = IsOnIn spelling 14 ty piece
+IsAggregateIn spelling aggregate.ArrayLen piece = IsPrefixedIn spelling 0xFB 15 piece
+IsAggregateIn spelling (aggregate.ArrayFill ty) piece = IsOnIn spelling 16 ty piece
+IsAggregateIn spelling (aggregate.ArrayCopy to from) piece = IsOnTwoIn spelling 17 to from piece
+IsAggregateIn spelling (aggregate.ArrayInitData ty segment) piece = IsOnTwoIn spelling 18 ty segment piece
+IsAggregateIn spelling (aggregate.ArrayInitElem ty segment) piece = IsOnTwoIn spelling 19 ty segment piece
+IsAggregateIn spelling aggregate.AnyConvertExtern piece = IsPrefixedIn spelling 0xFB 26 piece
+IsAggregateIn spelling aggregate.ExternConvertAny piece = IsPrefixedIn spelling 0xFB 27 piece
+IsAggregateIn spelling aggregate.RefI31 piece = IsPrefixedIn spelling 0xFB 28 piece
+IsAggregateIn spelling aggregate.I31GetS piece = IsPrefixedIn spelling 0xFB 29 piece
+IsAggregateIn spelling aggregate.I31GetU piece = IsPrefixedIn spelling 0xFB 30 piece
+IsAggregateIn spelling aggregate.RefI31Shared piece = IsPrefixedIn spelling 0xFE 114 piece
+
 abbrev pub IsAggregate : AggregateInstr → List ℕ → Type 0
-IsAggregate (aggregate.StructNew ty) piece = IsOn 0 ty piece
-IsAggregate (aggregate.StructNewDefault ty) piece = IsOn 1 ty piece
-IsAggregate (aggregate.StructGet ty field extended) piece = IsOnTwo (get_number 2 extended) ty field piece
-IsAggregate (aggregate.StructSet ty field) piece = IsOnTwo 5 ty field piece
-IsAggregate (aggregate.ArrayNew ty) piece = IsOn 6 ty piece
-IsAggregate (aggregate.ArrayNewDefault ty) piece = IsOn 7 ty piece
-IsAggregate (aggregate.ArrayNewFixed ty size) piece = IsOnTwo 8 ty size piece
-IsAggregate (aggregate.ArrayNewData ty segment) piece = IsOnTwo 9 ty segment piece
-IsAggregate (aggregate.ArrayNewElem ty segment) piece = IsOnTwo 10 ty segment piece
-IsAggregate (aggregate.ArrayGet ty extended) piece = IsOn (get_number 11 extended) ty piece
-IsAggregate (aggregate.ArraySet ty) piece = IsOn 14 ty piece
-IsAggregate aggregate.ArrayLen piece = IsPrefixed 0xFB 15 piece
-IsAggregate (aggregate.ArrayFill ty) piece = IsOn 16 ty piece
-IsAggregate (aggregate.ArrayCopy to from) piece = IsOnTwo 17 to from piece
-IsAggregate (aggregate.ArrayInitData ty segment) piece = IsOnTwo 18 ty segment piece
-IsAggregate (aggregate.ArrayInitElem ty segment) piece = IsOnTwo 19 ty segment piece
-IsAggregate aggregate.AnyConvertExtern piece = IsPrefixed 0xFB 26 piece
-IsAggregate aggregate.ExternConvertAny piece = IsPrefixed 0xFB 27 piece
-IsAggregate aggregate.RefI31 piece = IsPrefixed 0xFB 28 piece
-IsAggregate aggregate.I31GetS piece = IsPrefixed 0xFB 29 piece
-IsAggregate aggregate.I31GetU piece = IsPrefixed 0xFB 30 piece
-IsAggregate aggregate.RefI31Shared piece = IsPrefixed 0xFE 114 piece
+IsAggregate = IsAggregateIn any

@@ -1,11 +1,13 @@
 -- Bodies of functions: the section Binary Format, Modules, Code Section, of the WebAssembly Core
 -- Specification 3.0.
 use Rattle.std.specs.Prelude.{ℕ, List}
-use Rattle.smith_binary.specs.Pieces.{Joined, IsSized}
+use Rattle.smith_binary.specs.Spelling.{Spelling}
+use Rattle.smith_binary.specs.Spelling.Spelling.{any}
+use Rattle.smith_binary.specs.Pieces.{Joined, IsSized, IsSizedIn}
 use Rattle.smith_syntax.specs.declared.value_type.ValType.{ValType}
-use Rattle.smith_binary_sections.specs.Codes.{IsLocals, IsLocalsWritten}
+use Rattle.smith_binary_sections.specs.Codes.{IsLocals, IsLocalsWrittenIn}
 use Rattle.smith_instr.specs.declared.instr.Instr.{Instr}
-use Rattle.smith_binary_instr.specs.Instructions.{IsExpr, IsExprWritten}
+use Rattle.smith_binary_instr.specs.Instructions.{IsExpr, IsExprWrittenIn}
 
 -- the content of a body: its locals, in runs of one type, then its expression (Code Section)
 abbrev pub IsFunc : List ValType → List Instr → List ℕ → Type 0
@@ -17,9 +19,15 @@ IsFuncBody locals instructions = IsSized (IsFunc locals instructions)
 
 -- the content of a body as it is written: each local is a run of its own, and no access names the
 -- first memory (own rule)
+abbrev pub IsFuncWrittenIn : Spelling → List ValType → List Instr → List ℕ → Type 0
+IsFuncWrittenIn spelling locals instructions = Joined (IsLocalsWrittenIn spelling locals) (IsExprWrittenIn spelling instructions)
+
 abbrev pub IsFuncWritten : List ValType → List Instr → List ℕ → Type 0
-IsFuncWritten locals instructions = Joined (IsLocalsWritten locals) (IsExprWritten instructions)
+IsFuncWritten = IsFuncWrittenIn any
 
 -- a body as it is written (own rule)
+abbrev pub IsFuncBodyWrittenIn : Spelling → List ValType → List Instr → List ℕ → Type 0
+IsFuncBodyWrittenIn spelling locals instructions = IsSizedIn spelling (IsFuncWrittenIn spelling locals instructions)
+
 abbrev pub IsFuncBodyWritten : List ValType → List Instr → List ℕ → Type 0
-IsFuncBodyWritten locals instructions = IsSized (IsFuncWritten locals instructions)
+IsFuncBodyWritten = IsFuncBodyWrittenIn any

@@ -1,9 +1,11 @@
 -- Memory instructions: the sections Binary Format, Instructions, Memory Instructions and Vector
 -- Instructions, of the WebAssembly Core Specification 3.0.
 use Rattle.std.specs.Prelude.{◌≡◌, ℕ, ◌+◌, ◌^◌, ◌<◌, List}
+use Rattle.smith_binary.specs.Spelling.{IsUnsignedIn, Spelling}
+use Rattle.smith_binary.specs.Spelling.Spelling.{any, written}
 use Rattle.smith_binary.specs.Numbers.{IsUnsigned}
 use Rattle.smith_binary.specs.Pieces.{IsByte, Joined}
-use Rattle.smith_binary_sections.specs.Instructions.{IsIndex, IsPrefixed}
+use Rattle.smith_binary_sections.specs.Instructions.{IsIndex, IsIndexIn, IsPrefixedIn}
 use Rattle.smith_instr.specs.declared.memory.MemArg.{MemArg}
 use Rattle.smith_instr.specs.declared.memory.Load.{Load}
 use Rattle.smith_instr.specs.declared.memory.Load.TheVariants as load
@@ -21,10 +23,19 @@ pub data IsMemArg (at : MemArg) (piece : List ℕ) : Type 0 where
   first_memory : at.memory ≡ 0 → at.align < 2 ^ 6 → Joined (IsUnsigned 32 at.align) (IsUnsigned 64 at.offset) piece → IsMemArg at piece
   named_memory : at.align < 2 ^ 6 → Joined (IsUnsigned 32 (at.align + 2 ^ 6)) (Joined (IsIndex at.memory) (IsUnsigned 64 at.offset)) piece → IsMemArg at piece
 
--- the place as it is written: the first memory is not named (own rule)
-pub record IsMemArgWritten (at : MemArg) (piece : List ℕ) : Type 0 where
+-- the place as it is written: the first memory is not named, and any other is (own rule)
+pub record IsMemArgWrittenIn (spelling : Spelling) (at : MemArg) (piece : List ℕ) : Type 0 where
   pub form : IsMemArg at piece
-  pub unnamed : at.memory ≡ 0 → Joined (IsUnsigned 32 at.align) (IsUnsigned 64 at.offset) piece
+  pub unnamed : at.memory ≡ 0 → Joined (IsUnsignedIn spelling 32 at.align) (IsUnsignedIn spelling 64 at.offset) piece
+  pub named : (at.memory ≡ 0 → ⊥) → Joined (IsUnsignedIn spelling 32 (at.align + 2 ^ 6)) (Joined (IsIndexIn spelling at.memory) (IsUnsignedIn spelling 64 at.offset)) piece
+
+abbrev pub IsMemArgWritten : MemArg → List ℕ → Type 0
+IsMemArgWritten = IsMemArgWrittenIn any
+
+-- a place, in the form in which it is written where it is (Memory Instructions)
+abbrev pub IsMemArgIn : Spelling → MemArg → List ℕ → Type 0
+IsMemArgIn any at = IsMemArg at
+IsMemArgIn (written least) at = IsMemArgWrittenIn (written least) at
 
 -- the opcodes of loads (Memory Instructions)
 abbrev pub load_opcode : Load → ℕ
@@ -56,13 +67,16 @@ store_opcode store.I64To16 = 0x3D
 store_opcode store.I64To32 = 0x3E
 
 -- an instruction on a whole memory or a data segment (Memory Instructions)
+abbrev pub IsMemoryIn : Spelling → MemoryInstr → List ℕ → Type 0
+IsMemoryIn spelling (memory.Size index) piece = Joined (IsByte 0x3F) (IsIndexIn spelling index) piece
+IsMemoryIn spelling (memory.Grow index) piece = Joined (IsByte 0x40) (IsIndexIn spelling index) piece
+IsMemoryIn spelling (memory.Init index segment) piece = Joined (IsPrefixedIn spelling 0xFC 8) (Joined (IsIndexIn spelling segment) (IsIndexIn spelling index)) piece
+IsMemoryIn spelling (memory.DataDrop segment) piece = Joined (IsPrefixedIn spelling 0xFC 9) (IsIndexIn spelling segment) piece
+IsMemoryIn spelling (memory.Copy to from) piece = Joined (IsPrefixedIn spelling 0xFC 10) (Joined (IsIndexIn spelling to) (IsIndexIn spelling from)) piece
+IsMemoryIn spelling (memory.Fill index) piece = Joined (IsPrefixedIn spelling 0xFC 11) (IsIndexIn spelling index) piece
+
 abbrev pub IsMemory : MemoryInstr → List ℕ → Type 0
-IsMemory (memory.Size index) piece = Joined (IsByte 0x3F) (IsIndex index) piece
-IsMemory (memory.Grow index) piece = Joined (IsByte 0x40) (IsIndex index) piece
-IsMemory (memory.Init index segment) piece = Joined (IsPrefixed 0xFC 8) (Joined (IsIndex segment) (IsIndex index)) piece
-IsMemory (memory.DataDrop segment) piece = Joined (IsPrefixed 0xFC 9) (IsIndex segment) piece
-IsMemory (memory.Copy to from) piece = Joined (IsPrefixed 0xFC 10) (Joined (IsIndex to) (IsIndex from)) piece
-IsMemory (memory.Fill index) piece = Joined (IsPrefixed 0xFC 11) (IsIndex index) piece
+IsMemory = IsMemoryIn any
 
 -- the numbers of loads of vectors, after the prefix of vectors (Vector Instructions)
 abbrev pub vector_load_number : VectorLoad → ℕ
@@ -82,9 +96,15 @@ vector_load_number vector_load.Zero64 = 93
 
 -- an access to a lane of `2 ^ log2_bytes` bytes, of which there are four sizes: the numbers follow
 -- one another from `first` on (Vector Instructions)
+abbrev pub IsLaneAccessIn : Spelling → ℕ → ℕ → MemArg → ℕ → List ℕ → Type 0
+IsLaneAccessIn spelling first log2_bytes at lane piece = (log2_bytes < 4) × Joined (IsPrefixedIn spelling 0xFD (first + log2_bytes)) (Joined (IsMemArgIn spelling at) (IsByte lane)) piece
+
 abbrev pub IsLaneAccess : ℕ → ℕ → MemArg → ℕ → List ℕ → Type 0
-IsLaneAccess first log2_bytes at lane piece = (log2_bytes < 4) × Joined (IsPrefixed 0xFD (first + log2_bytes)) (Joined (IsMemArg at) (IsByte lane)) piece
+IsLaneAccess = IsLaneAccessIn any
 
 -- an access to a lane as it is written (own rule)
+abbrev pub IsLaneAccessWrittenIn : Spelling → ℕ → ℕ → MemArg → ℕ → List ℕ → Type 0
+IsLaneAccessWrittenIn spelling first log2_bytes at lane piece = (log2_bytes < 4) × Joined (IsPrefixedIn spelling 0xFD (first + log2_bytes)) (Joined (IsMemArgWrittenIn spelling at) (IsByte lane)) piece
+
 abbrev pub IsLaneAccessWritten : ℕ → ℕ → MemArg → ℕ → List ℕ → Type 0
-IsLaneAccessWritten first log2_bytes at lane piece = (log2_bytes < 4) × Joined (IsPrefixed 0xFD (first + log2_bytes)) (Joined (IsMemArgWritten at) (IsByte lane)) piece
+IsLaneAccessWritten = IsLaneAccessWrittenIn any

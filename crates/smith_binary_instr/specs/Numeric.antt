@@ -1,8 +1,10 @@
 -- Numeric instructions: the section Binary Format, Instructions, Numeric Instructions, of the
 -- WebAssembly Core Specification 3.0. Wide arithmetic is that of the wide arithmetic proposal.
 use Rattle.std.specs.Prelude.{ℕ, ◌+◌, List}
+use Rattle.smith_binary.specs.Spelling.{Spelling}
+use Rattle.smith_binary.specs.Spelling.Spelling.{any}
 use Rattle.smith_binary.specs.Pieces.{IsByte}
-use Rattle.smith_binary_sections.specs.Instructions.{IsPrefixed}
+use Rattle.smith_binary_sections.specs.Instructions.{IsPrefixedIn}
 use Rattle.smith_instr.specs.declared.numeric.IntUnary.{IntUnary}
 use Rattle.smith_instr.specs.declared.numeric.IntUnary.TheVariants as int_unary
 use Rattle.smith_instr.specs.declared.numeric.IntBinary.{IntBinary}
@@ -148,22 +150,25 @@ wide_number wide.MulWideS = 21
 wide_number wide.MulWideU = 22
 
 -- a numeric instruction without immediates (Numeric Instructions)
+abbrev pub IsNumericIn : Spelling → NumericInstr → List ℕ → Type 0
+IsNumericIn spelling numeric.I32Eqz piece = IsByte 0x45 piece
+IsNumericIn spelling (numeric.I32Compare op) piece = IsByte (int_compare_opcode 0x46 op) piece
+IsNumericIn spelling numeric.I64Eqz piece = IsByte 0x50 piece
+IsNumericIn spelling (numeric.I64Compare op) piece = IsByte (int_compare_opcode 0x51 op) piece
+IsNumericIn spelling (numeric.F32Compare op) piece = IsByte (float_compare_opcode 0x5B op) piece
+IsNumericIn spelling (numeric.F64Compare op) piece = IsByte (float_compare_opcode 0x61 op) piece
+IsNumericIn spelling (numeric.I32Unary op) piece = IsByte (int_unary_opcode 0x67 op) piece
+IsNumericIn spelling (numeric.I32Binary op) piece = IsByte (int_binary_opcode 0x6A op) piece
+IsNumericIn spelling (numeric.I64Unary op) piece = IsByte (int_unary_opcode 0x79 op) piece
+IsNumericIn spelling (numeric.I64Binary op) piece = IsByte (int_binary_opcode 0x7C op) piece
+IsNumericIn spelling (numeric.F32Unary op) piece = IsByte (float_unary_opcode 0x8B op) piece
+IsNumericIn spelling (numeric.F32Binary op) piece = IsByte (float_binary_opcode 0x92 op) piece
+IsNumericIn spelling (numeric.F64Unary op) piece = IsByte (float_unary_opcode 0x99 op) piece
+IsNumericIn spelling (numeric.F64Binary op) piece = IsByte (float_binary_opcode 0xA0 op) piece
+IsNumericIn spelling (numeric.Convert op) piece = IsByte (conversion_opcode op) piece
+IsNumericIn spelling (numeric.Extend op) piece = IsByte (extension_opcode op) piece
+IsNumericIn spelling (numeric.Saturate op) piece = IsPrefixedIn spelling 0xFC (saturating_number op) piece
+IsNumericIn spelling (numeric.Wide op) piece = IsPrefixedIn spelling 0xFC (wide_number op) piece
+
 abbrev pub IsNumeric : NumericInstr → List ℕ → Type 0
-IsNumeric numeric.I32Eqz piece = IsByte 0x45 piece
-IsNumeric (numeric.I32Compare op) piece = IsByte (int_compare_opcode 0x46 op) piece
-IsNumeric numeric.I64Eqz piece = IsByte 0x50 piece
-IsNumeric (numeric.I64Compare op) piece = IsByte (int_compare_opcode 0x51 op) piece
-IsNumeric (numeric.F32Compare op) piece = IsByte (float_compare_opcode 0x5B op) piece
-IsNumeric (numeric.F64Compare op) piece = IsByte (float_compare_opcode 0x61 op) piece
-IsNumeric (numeric.I32Unary op) piece = IsByte (int_unary_opcode 0x67 op) piece
-IsNumeric (numeric.I32Binary op) piece = IsByte (int_binary_opcode 0x6A op) piece
-IsNumeric (numeric.I64Unary op) piece = IsByte (int_unary_opcode 0x79 op) piece
-IsNumeric (numeric.I64Binary op) piece = IsByte (int_binary_opcode 0x7C op) piece
-IsNumeric (numeric.F32Unary op) piece = IsByte (float_unary_opcode 0x8B op) piece
-IsNumeric (numeric.F32Binary op) piece = IsByte (float_binary_opcode 0x92 op) piece
-IsNumeric (numeric.F64Unary op) piece = IsByte (float_unary_opcode 0x99 op) piece
-IsNumeric (numeric.F64Binary op) piece = IsByte (float_binary_opcode 0xA0 op) piece
-IsNumeric (numeric.Convert op) piece = IsByte (conversion_opcode op) piece
-IsNumeric (numeric.Extend op) piece = IsByte (extension_opcode op) piece
-IsNumeric (numeric.Saturate op) piece = IsPrefixed 0xFC (saturating_number op) piece
-IsNumeric (numeric.Wide op) piece = IsPrefixed 0xFC (wide_number op) piece
+IsNumeric = IsNumericIn any

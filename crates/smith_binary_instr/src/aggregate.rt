@@ -1,7 +1,7 @@
 ghost use Rattle.std.specs.Prelude.{◌≡◌, ◌<◌, OnOk, IfErr};
 ghost use Rattle.smith_binary.specs.declared.error.EncodeError.TheVariants.{Memory};
 ghost use Rattle.smith_binary.specs.Pieces.{Writes};
-ghost use Rattle.smith_binary_instr.specs.Aggregate.{IsAggregate, IsOn, IsOnTwo, get_number};
+ghost use Rattle.smith_binary_instr.specs.Aggregate.{get_number, IsAggregateIn, IsOnIn, IsOnTwoIn};
 
 use crate::opcodes::{write_prefixed_index, write_prefixed_indices};
 use crate::prefix::write_prefixed;
@@ -23,7 +23,7 @@ fn get_number(first: u32, extension: Extension) -> u32
 
 // Writes the aggregate instruction with the number `number`, then the index `index`.
 fn write_on(number: u32, index: u32, sink: &mut Sink) -> Result<(), EncodeError>
-    ensures writes { OnOk result (Writes (IsOn number index) sink.old sink.new) }
+    ensures writes { OnOk result (Writes (λ s. IsOnIn s number index) sink.old sink.new) }
     ensures memory { IfErr result (λ e. e ≡ Memory) }
 {
     write_prefixed_index(0xFB, number, index, sink)
@@ -31,7 +31,7 @@ fn write_on(number: u32, index: u32, sink: &mut Sink) -> Result<(), EncodeError>
 
 // Writes the aggregate instruction with the number `number`, then the indices `first` and `second`.
 fn write_on_two(number: u32, first: u32, second: u32, sink: &mut Sink) -> Result<(), EncodeError>
-    ensures writes { OnOk result (Writes (IsOnTwo number first second) sink.old sink.new) }
+    ensures writes { OnOk result (Writes (λ s. IsOnTwoIn s number first second) sink.old sink.new) }
     ensures memory { IfErr result (λ e. e ≡ Memory) }
 {
     write_prefixed_indices(0xFB, number, first, second, sink)
@@ -42,7 +42,7 @@ pub(crate) fn write_aggregate(
     instruction: AggregateInstr,
     sink: &mut Sink,
 ) -> Result<(), EncodeError>
-    ensures writes { OnOk result (Writes (IsAggregate instruction) sink.old sink.new) }
+    ensures writes { OnOk result (Writes (λ s. IsAggregateIn s instruction) sink.old sink.new) }
     ensures memory { IfErr result (λ e. e ≡ Memory) }
 {
     match instruction {

@@ -1,9 +1,9 @@
 ghost use Rattle.std.specs.Prelude.{OnOk, IfErr};
 ghost use Rattle.smith_binary.specs.Faults.{IsFault};
 ghost use Rattle.smith_binary.specs.Pieces.{Writes};
-ghost use Rattle.smith_binary_sections.specs.Codes.{IsLocals, IsLocalsWritten, IsRun};
+ghost use Rattle.smith_binary_sections.specs.Codes.{IsLocals, IsLocalsWrittenIn, IsRunIn};
 ghost use Rattle.smith_binary_sections.specs.Long.{IsLongList, IsNeverLong};
-ghost use Rattle.smith_binary_instr.specs.Bodies.{IsFuncBody, IsFuncBodyWritten};
+ghost use Rattle.smith_binary_instr.specs.Bodies.{IsFuncBody, IsFuncBodyWrittenIn};
 ghost use Rattle.smith_binary_instr.specs.Long.{IsLongFunc};
 
 use crate::instructions::encode_expr;
@@ -17,7 +17,7 @@ use smith_types::ValType;
 struct Runs;
 
 impl EncodeItem<ValType> for Runs {
-    ghost spells = { λ _ local. IsRun (1, local) };
+    ghost spells = { λ s _ local. IsRunIn s (1, local) };
 
     ghost is_long = { λ _. IsNeverLong };
 
@@ -33,8 +33,8 @@ impl EncodeItem<ValType> for Runs {
 ///
 /// Returns `TooLong` if there are 2^32 locals or more.
 pub fn encode_locals(sink: &mut Sink, locals: &[ValType]) -> Result<(), EncodeError>
-    ensures writes { OnOk result (Writes (IsLocals locals.now) sink.old sink.new) }
-    ensures written { OnOk result (Writes (IsLocalsWritten locals.now) sink.old sink.new) }
+    ensures writes { OnOk result (Writes (λ _. IsLocals locals.now) sink.old sink.new) }
+    ensures written { OnOk result (Writes (λ s. IsLocalsWrittenIn s locals.now) sink.old sink.new) }
     ensures fault { IfErr result (IsFault (IsLongList IsNeverLong locals.now)) }
 {
     let list = Listed {
@@ -58,9 +58,9 @@ pub fn encode_body(
     instructions: &[Instr],
 ) -> Result<(), EncodeError>
     ensures writes { OnOk result
-        (Writes (IsFuncBody locals.now instructions.now) sink.old sink.new) }
+        (Writes (λ _. IsFuncBody locals.now instructions.now) sink.old sink.new) }
     ensures written { OnOk result
-        (Writes (IsFuncBodyWritten locals.now instructions.now) sink.old sink.new) }
+        (Writes (λ s. IsFuncBodyWrittenIn s locals.now instructions.now) sink.old sink.new) }
     ensures fault { IfErr result (IsFault (IsLongFunc locals.now instructions.now)) }
 {
     let mut content = sink.fresh();

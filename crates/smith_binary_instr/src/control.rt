@@ -1,11 +1,12 @@
 ghost use Rattle.std.specs.Prelude.{◌≡◌, ℕ, List, OnOk, IfErr};
 ghost use Rattle.smith_binary.specs.declared.error.EncodeError.TheVariants.{Memory};
 ghost use Rattle.smith_binary.specs.Faults.{IsFault};
-ghost use Rattle.smith_binary.specs.Pieces.{IsByte, IsList, Joined, Writes};
-ghost use Rattle.smith_binary_sections.specs.Instructions.{IsIndex, IsPrefixed};
+ghost use Rattle.smith_binary.specs.Pieces.{IsByte, Joined, Writes, IsListIn};
+ghost use Rattle.smith_binary_sections.specs.Instructions.{IsIndexIn, IsPrefixedIn};
 ghost use Rattle.smith_binary_sections.specs.Long.{IsLongList, IsNeverLong};
-ghost use Rattle.smith_binary_sections.specs.Types.{IsValType};
-ghost use Rattle.smith_binary_instr.specs.Control.{IsBlockType, IsBranchCast, IsCatch, cast_byte};
+ghost use Rattle.smith_binary_sections.specs.Types.{IsValTypeIn};
+ghost use Rattle.smith_binary_instr.specs.Control.{cast_byte, IsBlockTypeIn, IsBranchCastIn};
+ghost use Rattle.smith_binary_instr.specs.Control.{IsCatchIn};
 
 use crate::opcodes::{write_indexed, write_two_indices};
 use crate::prefix::write_prefixed;
@@ -16,7 +17,7 @@ use smith_types::ValType;
 
 // Writes the type of a block.
 fn write_block_type(ty: BlockType, sink: &mut Sink) -> Result<(), EncodeError>
-    ensures writes { OnOk result (Writes (IsBlockType ty) sink.old sink.new) }
+    ensures writes { OnOk result (Writes (λ s. IsBlockTypeIn s ty) sink.old sink.new) }
     ensures memory { IfErr result (λ e. e ≡ Memory) }
 {
     match ty {
@@ -29,7 +30,7 @@ fn write_block_type(ty: BlockType, sink: &mut Sink) -> Result<(), EncodeError>
 // Writes the opcode `opcode`, then the type of a block.
 pub(crate) fn write_block(opcode: u8, ty: BlockType, sink: &mut Sink) -> Result<(), EncodeError>
     ensures writes { OnOk result
-        (Writes (Joined (IsByte opcode) (IsBlockType ty)) sink.old sink.new) }
+        (Writes (λ s. Joined (IsByte opcode) (IsBlockTypeIn s ty)) sink.old sink.new) }
     ensures memory { IfErr result (λ e. e ≡ Memory) }
 {
     sink.write_byte(opcode)?;
@@ -41,7 +42,7 @@ pub(crate) fn write_block(opcode: u8, ty: BlockType, sink: &mut Sink) -> Result<
 struct Catches;
 
 impl EncodeItem<Catch> for Catches {
-    ghost spells = { λ _ clause. IsCatch clause };
+    ghost spells = { λ s _ clause. IsCatchIn s clause };
 
     ghost is_long = { λ _. IsNeverLong };
 
@@ -62,7 +63,7 @@ pub(crate) fn write_try_table(
     sink: &mut Sink,
 ) -> Result<(), EncodeError>
     ensures writes { OnOk result
-        (Writes (Joined (IsByte 0x1F) (Joined (IsBlockType ty) (IsList IsCatch clauses.now)))
+        (Writes (λ s. Joined (IsByte 0x1F) (Joined (IsBlockTypeIn s ty) (IsListIn s (IsCatchIn s) clauses.now)))
         sink.old sink.new) }
     ensures fault { IfErr result (IsFault (IsLongList IsNeverLong clauses.now)) }
 {
@@ -82,7 +83,7 @@ pub(crate) fn write_branch_table(
     sink: &mut Sink,
 ) -> Result<(), EncodeError>
     ensures writes { OnOk result
-        (Writes (Joined (IsByte 0x0E) (Joined (IsList IsIndex labels.now) (IsIndex last)))
+        (Writes (λ s. Joined (IsByte 0x0E) (Joined (IsListIn s (IsIndexIn s) labels.now) (IsIndexIn s last)))
         sink.old sink.new) }
     ensures fault { IfErr result (IsFault (IsLongList IsNeverLong labels.now)) }
 {
@@ -114,7 +115,7 @@ pub(crate) fn write_branch_cast(
     sink: &mut Sink,
 ) -> Result<(), EncodeError>
     ensures writes { OnOk result
-        (Writes (Joined (IsPrefixed 0xFB number) (IsBranchCast cast)) sink.old sink.new) }
+        (Writes (λ s. Joined (IsPrefixedIn s 0xFB number) (IsBranchCastIn s cast)) sink.old sink.new) }
     ensures memory { IfErr result (λ e. e ≡ Memory) }
 {
     write_prefixed(0xFB, number, sink)?;
@@ -127,7 +128,7 @@ pub(crate) fn write_branch_cast(
 // Writes `select` with the types `values`.
 pub(crate) fn write_typed_select(values: &[ValType], sink: &mut Sink) -> Result<(), EncodeError>
     ensures writes { OnOk result
-        (Writes (Joined (IsByte 0x1C) (IsList IsValType values.now)) sink.old sink.new) }
+        (Writes (λ s. Joined (IsByte 0x1C) (IsListIn s (IsValTypeIn s) values.now)) sink.old sink.new) }
     ensures fault { IfErr result (IsFault (IsLongList IsNeverLong values.now)) }
 {
     sink.write_byte(0x1C)?;

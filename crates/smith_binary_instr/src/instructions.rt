@@ -1,11 +1,13 @@
 ghost use Rattle.std.specs.Prelude.{◌≡◌, OnOk, IfErr, Any};
+ghost use Rattle.smith_binary.specs.Spelling.{IsSignedIn};
 ghost use Rattle.smith_binary.specs.declared.error.EncodeError.TheVariants.{Memory};
 ghost use Rattle.smith_binary.specs.Faults.{IsFault};
-ghost use Rattle.smith_binary.specs.Numbers.{IsLittleEndian, IsSigned};
+ghost use Rattle.smith_binary.specs.Numbers.{IsLittleEndian};
 ghost use Rattle.smith_binary.specs.Pieces.{IsByte, Joined, Writes};
-ghost use Rattle.smith_binary_sections.specs.Instructions.{IsPrefixed};
-ghost use Rattle.smith_binary_instr.specs.Instructions.{IsExpr, IsExprWritten, IsInstr};
-ghost use Rattle.smith_binary_instr.specs.Instructions.{IsInstrWritten, IsInstrs, IsInstrsWritten};
+ghost use Rattle.smith_binary_sections.specs.Instructions.{IsPrefixedIn};
+ghost use Rattle.smith_binary_instr.specs.Instructions.{IsExprIn, IsExprWrittenIn, IsInstrIn};
+ghost use Rattle.smith_binary_instr.specs.Instructions.{IsInstrWrittenIn, IsInstrsIn};
+ghost use Rattle.smith_binary_instr.specs.Instructions.{IsInstrsWrittenIn};
 ghost use Rattle.smith_binary_instr.specs.Long.{IsLongInstr};
 
 use crate::aggregate::write_aggregate;
@@ -28,7 +30,7 @@ use smith_instr::Instr;
 // Writes `i32.const`.
 fn write_i32_const(value: i32, sink: &mut Sink) -> Result<(), EncodeError>
     ensures writes { OnOk result
-        (Writes (Joined (IsByte 0x41) (IsSigned 32 value)) sink.old sink.new) }
+        (Writes (λ s. Joined (IsByte 0x41) (IsSignedIn s 32 value)) sink.old sink.new) }
     ensures memory { IfErr result (λ e. e ≡ Memory) }
 {
     sink.write_byte(0x41)?;
@@ -38,7 +40,7 @@ fn write_i32_const(value: i32, sink: &mut Sink) -> Result<(), EncodeError>
 // Writes `i64.const`.
 fn write_i64_const(value: i64, sink: &mut Sink) -> Result<(), EncodeError>
     ensures writes { OnOk result
-        (Writes (Joined (IsByte 0x42) (IsSigned 64 value)) sink.old sink.new) }
+        (Writes (λ s. Joined (IsByte 0x42) (IsSignedIn s 64 value)) sink.old sink.new) }
     ensures memory { IfErr result (λ e. e ≡ Memory) }
 {
     sink.write_byte(0x42)?;
@@ -48,7 +50,7 @@ fn write_i64_const(value: i64, sink: &mut Sink) -> Result<(), EncodeError>
 // Writes `f32.const`.
 fn write_f32_const(bits: u32, sink: &mut Sink) -> Result<(), EncodeError>
     ensures writes { OnOk result
-        (Writes (Joined (IsByte 0x43) (IsLittleEndian 4 bits)) sink.old sink.new) }
+        (Writes (λ _. Joined (IsByte 0x43) (IsLittleEndian 4 bits)) sink.old sink.new) }
     ensures memory { IfErr result (λ e. e ≡ Memory) }
 {
     sink.write_byte(0x43)?;
@@ -58,7 +60,7 @@ fn write_f32_const(bits: u32, sink: &mut Sink) -> Result<(), EncodeError>
 // Writes `f64.const`.
 fn write_f64_const(bits: u64, sink: &mut Sink) -> Result<(), EncodeError>
     ensures writes { OnOk result
-        (Writes (Joined (IsByte 0x44) (IsLittleEndian 8 bits)) sink.old sink.new) }
+        (Writes (λ _. Joined (IsByte 0x44) (IsLittleEndian 8 bits)) sink.old sink.new) }
     ensures memory { IfErr result (λ e. e ≡ Memory) }
 {
     sink.write_byte(0x44)?;
@@ -68,7 +70,7 @@ fn write_f64_const(bits: u64, sink: &mut Sink) -> Result<(), EncodeError>
 // Writes `atomic.fence`.
 fn write_fence(sink: &mut Sink) -> Result<(), EncodeError>
     ensures writes { OnOk result
-        (Writes (Joined (IsPrefixed 0xFE 3) (IsByte 0x00)) sink.old sink.new) }
+        (Writes (λ s. Joined (IsPrefixedIn s 0xFE 3) (IsByte 0x00)) sink.old sink.new) }
     ensures memory { IfErr result (λ e. e ≡ Memory) }
 {
     write_prefixed(0xFE, 3, sink)?;
@@ -77,7 +79,7 @@ fn write_fence(sink: &mut Sink) -> Result<(), EncodeError>
 
 // Writes `instruction`.
 fn write_instr(instruction: &Instr, sink: &mut Sink) -> Result<(), EncodeError>
-    ensures writes { OnOk result (Writes (IsInstrWritten instruction.now) sink.old sink.new) }
+    ensures writes { OnOk result (Writes (λ s. IsInstrWrittenIn s instruction.now) sink.old sink.new) }
     ensures fault { IfErr result (IsFault (IsLongInstr instruction.now)) }
 {
     match instruction {
@@ -157,8 +159,8 @@ fn write_instr(instruction: &Instr, sink: &mut Sink) -> Result<(), EncodeError>
 /// than the six bits of the format, or if it accesses a lane of more than eight bytes. Of these
 /// instructions, only those with long lists can be valid.
 pub fn encode_instr(sink: &mut Sink, instruction: &Instr) -> Result<(), EncodeError>
-    ensures writes { OnOk result (Writes (IsInstr instruction.now) sink.old sink.new) }
-    ensures written { OnOk result (Writes (IsInstrWritten instruction.now) sink.old sink.new) }
+    ensures writes { OnOk result (Writes (λ s. IsInstrIn s instruction.now) sink.old sink.new) }
+    ensures written { OnOk result (Writes (λ s. IsInstrWrittenIn s instruction.now) sink.old sink.new) }
     ensures fault { IfErr result (IsFault (IsLongInstr instruction.now)) }
 {
     write_instr(instruction, sink)
@@ -170,8 +172,8 @@ pub fn encode_instr(sink: &mut Sink, instruction: &Instr) -> Result<(), EncodeEr
 ///
 /// Returns `TooLong` as [`encode_instr`] does.
 pub fn encode_instrs(sink: &mut Sink, instructions: &[Instr]) -> Result<(), EncodeError>
-    ensures writes { OnOk result (Writes (IsInstrs instructions.now) sink.old sink.new) }
-    ensures written { OnOk result (Writes (IsInstrsWritten instructions.now) sink.old sink.new) }
+    ensures writes { OnOk result (Writes (λ s. IsInstrsIn s instructions.now) sink.old sink.new) }
+    ensures written { OnOk result (Writes (λ s. IsInstrsWrittenIn s instructions.now) sink.old sink.new) }
     ensures fault { IfErr result (IsFault (Any IsLongInstr instructions.now)) }
 {
     for instruction in instructions {
@@ -186,8 +188,8 @@ pub fn encode_instrs(sink: &mut Sink, instructions: &[Instr]) -> Result<(), Enco
 ///
 /// Returns `TooLong` as [`encode_instr`] does.
 pub fn encode_expr(sink: &mut Sink, instructions: &[Instr]) -> Result<(), EncodeError>
-    ensures writes { OnOk result (Writes (IsExpr instructions.now) sink.old sink.new) }
-    ensures written { OnOk result (Writes (IsExprWritten instructions.now) sink.old sink.new) }
+    ensures writes { OnOk result (Writes (λ s. IsExprIn s instructions.now) sink.old sink.new) }
+    ensures written { OnOk result (Writes (λ s. IsExprWrittenIn s instructions.now) sink.old sink.new) }
     ensures fault { IfErr result (IsFault (Any IsLongInstr instructions.now)) }
 {
     encode_instrs(sink, instructions)?;

@@ -2,15 +2,10 @@ ghost use Rattle.std.specs.Prelude.{◌≡◌, ◌≤◌, ◌<◌, ◌^◌, ◌�
 ghost use Rattle.smith_binary.specs.declared.error.EncodeError.TheVariants.{Memory as OutOfMemory};
 ghost use Rattle.smith_binary.specs.Faults.{IsFault};
 ghost use Rattle.smith_binary.specs.Pieces.{IsByte, Joined, Writes};
-ghost use Rattle.smith_binary_sections.specs.Instructions.{IsPrefixed};
-ghost use Rattle.smith_binary_instr.specs.Memory.{
-  IsLaneAccessWritten,
-  IsMemArgWritten,
-  IsMemory,
-  load_opcode,
-  store_opcode,
-  vector_load_number,
-};
+ghost use Rattle.smith_binary_sections.specs.Instructions.{IsPrefixedIn};
+ghost use Rattle.smith_binary_instr.specs.Memory.{load_opcode, store_opcode, vector_load_number};
+ghost use Rattle.smith_binary_instr.specs.Memory.{IsLaneAccessWrittenIn, IsMemArgWrittenIn};
+ghost use Rattle.smith_binary_instr.specs.Memory.{IsMemoryIn};
 
 use crate::opcodes::{write_indexed, write_prefixed_index, write_prefixed_indices};
 use crate::prefix::write_prefixed;
@@ -19,7 +14,7 @@ use smith_instr::{Load, MemArg, MemoryInstr, Store, VectorLoad};
 
 // Writes `at`. Names the memory unless it is the first.
 fn write_mem_arg(at: MemArg, sink: &mut Sink) -> Result<(), EncodeError>
-    ensures writes { OnOk result (Writes (IsMemArgWritten at) sink.old sink.new) }
+    ensures writes { OnOk result (Writes (λ s. IsMemArgWrittenIn s at) sink.old sink.new) }
     ensures fault { IfErr result (IsFault (2 ^ 6 ≤ at.align)) }
 {
     if at.align >= 64 {
@@ -37,7 +32,7 @@ fn write_mem_arg(at: MemArg, sink: &mut Sink) -> Result<(), EncodeError>
 // Writes the access to memory with the opcode `opcode`.
 pub(crate) fn write_access(opcode: u8, at: MemArg, sink: &mut Sink) -> Result<(), EncodeError>
     ensures writes { OnOk result
-        (Writes (Joined (IsByte opcode) (IsMemArgWritten at)) sink.old sink.new) }
+        (Writes (λ s. Joined (IsByte opcode) (IsMemArgWrittenIn s at)) sink.old sink.new) }
     ensures fault { IfErr result (IsFault (2 ^ 6 ≤ at.align)) }
 {
     sink.write_byte(opcode)?;
@@ -52,7 +47,7 @@ pub(crate) fn write_prefixed_access(
     sink: &mut Sink,
 ) -> Result<(), EncodeError>
     ensures writes { OnOk result
-        (Writes (Joined (IsPrefixed prefix number) (IsMemArgWritten at)) sink.old sink.new) }
+        (Writes (λ s. Joined (IsPrefixedIn s prefix number) (IsMemArgWrittenIn s at)) sink.old sink.new) }
     ensures fault { IfErr result (IsFault (2 ^ 6 ≤ at.align)) }
 {
     write_prefixed(prefix, number, sink)?;
@@ -70,7 +65,7 @@ pub(crate) fn write_lane_access(
 ) -> Result<(), EncodeError>
     requires { first < 200 }
     ensures writes { OnOk result
-        (Writes (IsLaneAccessWritten first log2_bytes at lane) sink.old sink.new) }
+        (Writes (λ s. IsLaneAccessWrittenIn s first log2_bytes at lane) sink.old sink.new) }
     ensures fault { IfErr result (IsFault ((4 ≤ log2_bytes) ⊎ (2 ^ 6 ≤ at.align))) }
 {
     if log2_bytes >= 4 {
@@ -143,7 +138,7 @@ pub(crate) fn vector_load_number(op: VectorLoad) -> u32
 
 // Writes the instruction `instruction` on a whole memory or a data segment.
 pub(crate) fn write_memory(instruction: MemoryInstr, sink: &mut Sink) -> Result<(), EncodeError>
-    ensures writes { OnOk result (Writes (IsMemory instruction) sink.old sink.new) }
+    ensures writes { OnOk result (Writes (λ s. IsMemoryIn s instruction) sink.old sink.new) }
     ensures memory { IfErr result (λ e. e ≡ OutOfMemory) }
 {
     match instruction {

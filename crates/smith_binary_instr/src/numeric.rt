@@ -1,19 +1,11 @@
 ghost use Rattle.std.specs.Prelude.{◌≡◌, ◌<◌, OnOk, IfErr};
 ghost use Rattle.smith_binary.specs.declared.error.EncodeError.TheVariants.{Memory};
 ghost use Rattle.smith_binary.specs.Pieces.{Writes};
-ghost use Rattle.smith_binary_instr.specs.Numeric.{
-  int_unary_opcode,
-  int_binary_opcode,
-  int_compare_opcode,
-  float_unary_opcode,
-  float_binary_opcode,
-  float_compare_opcode,
-  conversion_opcode,
-  extension_opcode,
-  saturating_number,
-  wide_number,
-  IsNumeric,
-};
+ghost use Rattle.smith_binary_instr.specs.Numeric.{int_unary_opcode, int_binary_opcode};
+ghost use Rattle.smith_binary_instr.specs.Numeric.{int_compare_opcode, float_unary_opcode};
+ghost use Rattle.smith_binary_instr.specs.Numeric.{float_binary_opcode, float_compare_opcode};
+ghost use Rattle.smith_binary_instr.specs.Numeric.{conversion_opcode, extension_opcode};
+ghost use Rattle.smith_binary_instr.specs.Numeric.{saturating_number, wide_number, IsNumericIn};
 
 use crate::prefix::write_prefixed;
 use smith_binary::{EncodeError, Sink};
@@ -203,7 +195,7 @@ fn wide_number(op: WideArithmetic) -> u32
 /// Writes the numeric instruction `instruction` at the end of `sink`: the standard's section Binary
 /// Format, Instructions, Numeric Instructions.
 pub fn write_numeric(instruction: NumericInstr, sink: &mut Sink) -> Result<(), EncodeError>
-    ensures writes { OnOk result (Writes (IsNumeric instruction) sink.old sink.new) }
+    ensures writes { OnOk result (Writes (λ s. IsNumericIn s instruction) sink.old sink.new) }
     ensures memory { IfErr result (λ e. e ≡ Memory) }
 {
     match instruction {

@@ -1,7 +1,7 @@
 ghost use Rattle.std.specs.Prelude.{◌≡◌, OnOk, IfErr};
 ghost use Rattle.smith_binary.specs.declared.error.EncodeError.TheVariants.{Memory};
 ghost use Rattle.smith_binary.specs.Pieces.{IsByte, Joined, Writes};
-ghost use Rattle.smith_binary_sections.specs.Instructions.{IsIndex, IsPrefixed};
+ghost use Rattle.smith_binary_sections.specs.Instructions.{IsIndexIn, IsPrefixedIn};
 
 use crate::prefix::write_prefixed;
 use smith_binary::{EncodeError, Sink};
@@ -9,7 +9,7 @@ use smith_binary::{EncodeError, Sink};
 // Writes the opcode `opcode`, then the index `index`.
 pub(crate) fn write_indexed(opcode: u8, index: u32, sink: &mut Sink) -> Result<(), EncodeError>
     ensures writes { OnOk result
-        (Writes (Joined (IsByte opcode) (IsIndex index)) sink.old sink.new) }
+        (Writes (λ s. Joined (IsByte opcode) (IsIndexIn s index)) sink.old sink.new) }
     ensures memory { IfErr result (λ e. e ≡ Memory) }
 {
     sink.write_byte(opcode)?;
@@ -24,7 +24,7 @@ pub(crate) fn write_two_indices(
     sink: &mut Sink,
 ) -> Result<(), EncodeError>
     ensures writes { OnOk result (Writes
-        (Joined (IsByte opcode) (Joined (IsIndex first) (IsIndex second))) sink.old sink.new) }
+        (λ s. Joined (IsByte opcode) (Joined (IsIndexIn s first) (IsIndexIn s second))) sink.old sink.new) }
     ensures memory { IfErr result (λ e. e ≡ Memory) }
 {
     sink.write_byte(opcode)?;
@@ -40,7 +40,7 @@ pub(crate) fn write_prefixed_index(
     sink: &mut Sink,
 ) -> Result<(), EncodeError>
     ensures writes { OnOk result
-        (Writes (Joined (IsPrefixed prefix number) (IsIndex index)) sink.old sink.new) }
+        (Writes (λ s. Joined (IsPrefixedIn s prefix number) (IsIndexIn s index)) sink.old sink.new) }
     ensures memory { IfErr result (λ e. e ≡ Memory) }
 {
     write_prefixed(prefix, number, sink)?;
@@ -57,7 +57,7 @@ pub(crate) fn write_prefixed_indices(
     sink: &mut Sink,
 ) -> Result<(), EncodeError>
     ensures writes { OnOk result
-        (Writes (Joined (IsPrefixed prefix number) (Joined (IsIndex first) (IsIndex second)))
+        (Writes (λ s. Joined (IsPrefixedIn s prefix number) (Joined (IsIndexIn s first) (IsIndexIn s second)))
         sink.old sink.new) }
     ensures memory { IfErr result (λ e. e ≡ Memory) }
 {

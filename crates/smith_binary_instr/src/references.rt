@@ -1,7 +1,8 @@
 ghost use Rattle.std.specs.Prelude.{◌≡◌, ◌<◌, OnOk, IfErr};
 ghost use Rattle.smith_binary.specs.declared.error.EncodeError.TheVariants.{Memory};
 ghost use Rattle.smith_binary.specs.Pieces.{Writes};
-ghost use Rattle.smith_binary_instr.specs.References.{IsCast, IsReference, IsTable, cast_number};
+ghost use Rattle.smith_binary_instr.specs.References.{cast_number, IsCastIn, IsReferenceIn};
+ghost use Rattle.smith_binary_instr.specs.References.{IsTableIn};
 
 use crate::opcodes::{write_indexed, write_prefixed_index, write_prefixed_indices};
 use crate::prefix::write_prefixed;
@@ -22,7 +23,7 @@ fn cast_number(first: u32, nullable: bool) -> u32
 // Writes a test or a cast to `ty`.
 fn write_cast(first: u32, ty: RefType, sink: &mut Sink) -> Result<(), EncodeError>
     requires { first < 200 }
-    ensures writes { OnOk result (Writes (IsCast first ty) sink.old sink.new) }
+    ensures writes { OnOk result (Writes (λ s. IsCastIn s first ty) sink.old sink.new) }
     ensures memory { IfErr result (λ e. e ≡ Memory) }
 {
     write_prefixed(0xFB, cast_number(first, ty.nullable), sink)?;
@@ -34,7 +35,7 @@ pub(crate) fn write_reference(
     instruction: ReferenceInstr,
     sink: &mut Sink,
 ) -> Result<(), EncodeError>
-    ensures writes { OnOk result (Writes (IsReference instruction) sink.old sink.new) }
+    ensures writes { OnOk result (Writes (λ s. IsReferenceIn s instruction) sink.old sink.new) }
     ensures memory { IfErr result (λ e. e ≡ Memory) }
 {
     match instruction {
@@ -53,7 +54,7 @@ pub(crate) fn write_reference(
 
 // Writes the table instruction `instruction`.
 pub(crate) fn write_table(instruction: TableInstr, sink: &mut Sink) -> Result<(), EncodeError>
-    ensures writes { OnOk result (Writes (IsTable instruction) sink.old sink.new) }
+    ensures writes { OnOk result (Writes (λ s. IsTableIn s instruction) sink.old sink.new) }
     ensures memory { IfErr result (λ e. e ≡ Memory) }
 {
     match instruction {

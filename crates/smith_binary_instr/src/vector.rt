@@ -2,7 +2,7 @@ ghost use Rattle.std.specs.Prelude.{◌≡◌, OnOk, IfErr, length};
 ghost use Rattle.smith_binary.specs.declared.error.EncodeError.TheVariants.{Memory};
 ghost use Rattle.smith_binary.specs.Numbers.{IsVector};
 ghost use Rattle.smith_binary.specs.Pieces.{IsByte, Joined, Writes};
-ghost use Rattle.smith_binary_instr.specs.Vector.{IsLanes, IsNumbered, IsVectorInstr};
+ghost use Rattle.smith_binary_instr.specs.Vector.{IsLanes, IsNumberedIn, IsVectorInstrIn};
 
 use crate::prefix::write_prefixed;
 use crate::vector_numbers::{
@@ -16,7 +16,7 @@ use smith_instr::VectorInstr;
 
 // Writes the vector instruction with the number `number`.
 fn write_numbered(number: u32, sink: &mut Sink) -> Result<(), EncodeError>
-    ensures writes { OnOk result (Writes (IsNumbered number) sink.old sink.new) }
+    ensures writes { OnOk result (Writes (λ s. IsNumberedIn s number) sink.old sink.new) }
     ensures memory { IfErr result (λ e. e ≡ Memory) }
 {
     write_prefixed(0xFD, number, sink)
@@ -25,7 +25,7 @@ fn write_numbered(number: u32, sink: &mut Sink) -> Result<(), EncodeError>
 // Writes the vector instruction with the number `number`, then the lane `lane`.
 fn write_on_lane(number: u32, lane: u8, sink: &mut Sink) -> Result<(), EncodeError>
     ensures writes { OnOk result
-        (Writes (Joined (IsNumbered number) (IsByte lane)) sink.old sink.new) }
+        (Writes (λ s. Joined (IsNumberedIn s number) (IsByte lane)) sink.old sink.new) }
     ensures memory { IfErr result (λ e. e ≡ Memory) }
 {
     write_numbered(number, sink)?;
@@ -35,7 +35,7 @@ fn write_on_lane(number: u32, lane: u8, sink: &mut Sink) -> Result<(), EncodeErr
 // Writes the shuffle of `lanes`.
 fn write_shuffle(lanes: [u8; 16], sink: &mut Sink) -> Result<(), EncodeError>
     ensures writes { OnOk result
-        (Writes (Joined (IsNumbered 13) (IsLanes lanes)) sink.old sink.new) }
+        (Writes (λ s. Joined (IsNumberedIn s 13) (IsLanes lanes)) sink.old sink.new) }
     ensures memory { IfErr result (λ e. e ≡ Memory) }
 {
     write_numbered(13, sink)?;
@@ -45,7 +45,7 @@ fn write_shuffle(lanes: [u8; 16], sink: &mut Sink) -> Result<(), EncodeError>
 // Writes the constant `value`.
 pub(crate) fn write_vector_const(value: i128, sink: &mut Sink) -> Result<(), EncodeError>
     ensures writes { OnOk result
-        (Writes (Joined (IsNumbered 12) (IsVector value)) sink.old sink.new) }
+        (Writes (λ s. Joined (IsNumberedIn s 12) (IsVector value)) sink.old sink.new) }
     ensures memory { IfErr result (λ e. e ≡ Memory) }
 {
     write_numbered(12, sink)?;
@@ -54,7 +54,7 @@ pub(crate) fn write_vector_const(value: i128, sink: &mut Sink) -> Result<(), Enc
 
 // Writes the vector instruction `instruction`.
 pub(crate) fn write_vector(instruction: VectorInstr, sink: &mut Sink) -> Result<(), EncodeError>
-    ensures writes { OnOk result (Writes (IsVectorInstr instruction) sink.old sink.new) }
+    ensures writes { OnOk result (Writes (λ s. IsVectorInstrIn s instruction) sink.old sink.new) }
     ensures memory { IfErr result (λ e. e ≡ Memory) }
 {
     match instruction {

@@ -1,6 +1,7 @@
 -- Bytes that spell the parts of examples, and the parts of instructions.
 use Rattle.std.proofs.Common.{◌≡◌, ℕ, ◌^◌, ◌<◌, Bool, true, false, Some, None, List, [], ◌∷◌, ◌++◌, pos, refl, sym, arith}
 use Rattle.smith_binary.specs.Numbers.{IsUnsigned}
+use Rattle.smith_binary.specs.Spelling.Spelling.{any}
 use Rattle.smith_binary.specs.Pieces.{Each, IsByte, IsList, Joined}
 use Rattle.smith_binary.proofs.NumberLemmas.{unsigned_last, positive_last}
 use Rattle.smith_binary.proofs.UnambiguousLemmas.{unsigned_is_unambiguous}
@@ -68,10 +69,10 @@ other_number n m Second piece low differ h =
 pub loaded_as_written : (align offset : ℕ) → align < 64 → offset < 128 → IsInstrWritten (load_word align offset 0) (0x28 ∷ align ∷ offset ∷ [])
 loaded_as_written align offset narrow low =
     let place : Joined (IsUnsigned 32 align) (IsUnsigned 64 offset) (align ∷ offset ∷ []) = both (align ∷ []) (offset ∷ []) (index align (omega arith)) (small 64 offset low (omega arith)) in
-    both (0x28 ∷ []) (align ∷ offset ∷ []) refl (record { form = IsMemArg.first_memory refl narrow place; unnamed = λ first. place })
+    both (0x28 ∷ []) (align ∷ offset ∷ []) refl (record { form = IsMemArg.first_memory refl narrow place; unnamed = λ first. place; named = λ other. absurd (other refl) })
 
 pub loaded : (align offset : ℕ) → align < 64 → offset < 128 → IsInstr (load_word align offset 0) (0x28 ∷ align ∷ offset ∷ [])
-loaded align offset narrow low = instr_is (load_word align offset 0) (0x28 ∷ align ∷ offset ∷ []) (loaded_as_written align offset narrow low)
+loaded align offset narrow low = instr_is any (load_word align offset 0) (0x28 ∷ align ∷ offset ∷ []) (loaded_as_written align offset narrow low)
 
 -- the alignment of a load, and the table of an indirect call
 abbrev pub align_of : Instr → ℕ

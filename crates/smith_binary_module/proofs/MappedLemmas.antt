@@ -3,34 +3,27 @@ use Rattle.std.proofs.Common.{◌≡◌, ℕ, ◌<◌, ◌≤◌, ◌^◌, ◌�
 use Rattle.std.specs.Prelude.{map, Any, IfErr, IsErrAnd}
 use Rattle.std.proofs.lemmas.List.{length-map, get_or-map}
 use Rattle.smith_binary.specs.declared.error.EncodeError.{EncodeError}
-use Rattle.smith_binary.specs.declared.error.EncodeError.TheVariants.{Memory, TooLong}
 use Rattle.smith_binary.specs.Faults.{IsFault}
 use Rattle.smith_binary.specs.Numbers.{IsUnsigned}
-use Rattle.smith_binary.specs.Pieces.{IsList}
-use Rattle.smith_binary_sections.specs.Sections.{IsSectionIf}
+use Rattle.smith_binary.specs.Spelling.{Spelling}
+use Rattle.smith_binary.specs.Pieces.{IsList, IsListIn}
+use Rattle.smith_binary_sections.specs.Sections.{IsSectionIfIn}
 use Rattle.smith_binary_sections.specs.Long.{IsLongList, IsLongContent, IsLongSection, IsNeverLong}
-use Rattle.smith_binary_sections.proofs.ListLemmas.{list_as, list_mapped}
+use Rattle.smith_binary_sections.proofs.FaultLemmas.{fault_as}
+use Rattle.smith_binary_sections.proofs.ListLemmas.{list_as, list_mapped, list_mapped_in}
 use Rattle.smith_binary_sections.proofs.SizeLemmas.{not_long, number_within}
 
 -- a section of a list, by the meaning of its items
-pub section_mapped : {A B : Type 0} (is_written : Bool) (id : ℕ) (P : B → List ℕ → Type 0) (f : A → B) (xs : List A) (piece : List ℕ) → IsSectionIf is_written id (IsList (λ (x : A). P (f x)) xs) piece → IsSectionIf is_written id (IsList P (map f xs)) piece
-section_mapped true id P f xs piece h = record {
+pub section_mapped : {A B : Type 0} (is_written : Bool) (id : ℕ) (P : Spelling → B → List ℕ → Type 0) (f : A → B) (xs : List A) (s : Spelling) (piece : List ℕ) → IsSectionIfIn s is_written id (IsListIn s (λ (x : A). P s (f x)) xs) piece
+    → IsSectionIfIn s is_written id (IsListIn s (P s) (map f xs)) piece
+section_mapped true id P f xs s piece h = record {
   first = h.first;
   second = h.second;
   is_first = h.is_first;
-  is_second = record { content = h.is_second.content; is_content = list_mapped P f xs h.is_second.content h.is_second.is_content; form = h.is_second.form };
+  is_second = record { content = h.is_second.content; is_content = list_mapped_in s (P s) f xs h.is_second.content h.is_second.is_content; form = h.is_second.form };
   whole = h.whole;
 }
-section_mapped false id P f xs piece h = h
-
--- a fault for another reason
-pub fault_as : {P Q : Type 0} (e : EncodeError) → (P → Q) → IsFault P e → IsFault Q e
-fault_as Memory weaker h = tt
-fault_as TooLong weaker h = weaker h
-
-pub fault_weaker : {A P Q : Type 0} (r : Result A EncodeError) → (P → Q) → IfErr r (IsFault P) → IfErr r (IsFault Q)
-fault_weaker (Ok u) weaker h = tt
-fault_weaker (Err e) weaker h = fault_as e weaker h
+section_mapped false id P f xs s piece h = h
 
 -- the fault of a `?`, for another reason
 pub handed_on : {A P Q : Type 0} (r : Result A EncodeError) (e : EncodeError) → IsErrAnd r (λ y. y ≡ e) → (P → Q) → IsFault P e → IfErr r (IsFault Q)

@@ -1,12 +1,14 @@
-ghost use Rattle.std.specs.Prelude.{◌⊎◌, IfOk, IfErr, OnOk};
+ghost use Rattle.std.specs.Prelude.{◌≡◌, ◌⊎◌, [], IfOk, IfErr, OnOk};
 ghost use Rattle.smith_binary.specs.Faults.{IsFault};
 ghost use Rattle.smith_binary.specs.Pieces.{Writes};
+ghost use Rattle.smith_binary.specs.Spelling.Spelling.{any, written};
 ghost use Rattle.smith_binary_sections.specs.Long.{IsLongContent};
 ghost use Rattle.smith_binary_sections.specs.Modules.{IsModule, IsModuleAround};
 ghost use Rattle.smith_binary_sections.specs.Sections.{IsSectionIf};
 ghost use Rattle.smith_binary_module.specs.Contents.{contents_of};
 ghost use Rattle.smith_binary_module.specs.Layout.{is_filled, section_ids, HasSections};
-ghost use Rattle.smith_binary_module.specs.Written.{IsFront, IsMiddle, IsBack, IsWritten, AreOwnBodies};
+ghost use Rattle.smith_binary_module.specs.Written.{IsFrontIn, IsMiddleIn, IsBackIn, IsWritten};
+ghost use Rattle.smith_binary_module.specs.Written.{IsWrittenIn, AreOwnBodies, AreOwnBodiesIn};
 ghost use Rattle.smith_binary_module.specs.TooLong.{IsTooLong};
 
 use crate::sections::{
@@ -19,9 +21,16 @@ use smith_binary_sections::{Bodies, Encode, Listed, write_preamble};
 use std::alloc::Global;
 use wasm_smith::Module;
 
+// Returns an empty sink for the bytes of `module`.
+fn empty_sink(alloc: Global, module: &Module) -> Sink
+    ensures { result ≡ record { bytes = []; least = «module».now.config.min_uleb_size } }
+{
+    Sink::new(alloc, module.config().min_uleb_size)
+}
+
 // Writes the sections up to the table section.
 fn write_front(module: &Module, sink: &mut Sink) -> Result<(), EncodeError>
-    ensures writes { OnOk result (Writes (IsFront «module».now) sink.old sink.new) }
+    ensures writes { OnOk result (Writes (λ s. IsFrontIn s «module».now) sink.old sink.new) }
     ensures fault { IfErr result (IsFault (IsTooLong «module».now)) }
 {
     write_types(module, sink)?;
@@ -32,7 +41,7 @@ fn write_front(module: &Module, sink: &mut Sink) -> Result<(), EncodeError>
 
 // Writes the sections from the memory section to the export section.
 fn write_middle(module: &Module, sink: &mut Sink) -> Result<(), EncodeError>
-    ensures writes { OnOk result (Writes (IsMiddle «module».now) sink.old sink.new) }
+    ensures writes { OnOk result (Writes (λ s. IsMiddleIn s «module».now) sink.old sink.new) }
     ensures fault { IfErr result (IsFault (IsTooLong «module».now)) }
 {
     write_memories(module, sink)?;
@@ -44,9 +53,9 @@ fn write_middle(module: &Module, sink: &mut Sink) -> Result<(), EncodeError>
 // Writes the sections from the start section on, with `bodies` in the code section.
 fn write_back<B: Encode>(module: &Module, bodies: &B, sink: &mut Sink) -> Result<(), EncodeError>
     ensures writes { OnOk result
-        (Writes (IsBack «module».now (B.spells bodies.now)) sink.old sink.new) }
+        (Writes (λ s. IsBackIn s «module».now (B.spells s bodies.now)) sink.old sink.new) }
     ensures fault { IfErr result (IsFault
-        (IsTooLong «module».now ⊎ (B.is_long bodies.now ⊎ IsLongContent (B.spells bodies.now)))) }
+        (IsTooLong «module».now ⊎ (B.is_long bodies.now ⊎ IsLongContent (B.spells any bodies.now)))) }
 {
     write_start(module, sink)?;
     write_elems(module, sink)?;
@@ -68,6 +77,10 @@ fn write_back<B: Encode>(module: &Module, bodies: &B, sink: &mut Sink) -> Result
 /// possible. A body that is not raw begins with the check of each counter of fuel, the last one
 /// first.
 ///
+/// Integers have as few bytes as possible, but unsigned ones at least as many as `min_uleb_size` of
+/// the configuration, five at most; the indices in the checks are as short as possible. A nullable
+/// reference to an abstract heap type that is not shared is that heap type alone.
+///
 /// # Errors
 ///
 /// Returns `TooLong` if a list has 2^32 items or more, or a section or a body 2^32 bytes or more,
@@ -77,6 +90,8 @@ pub fn encode(alloc: Global, module: &Module) -> Result<Vec<u8>, EncodeError>
     ensures sections { IfOk result (λ bytes. HasSections (section_ids «module».now) bytes.items) }
     ensures written { IfOk result (λ bytes.
         IsWritten «module».now (AreOwnBodies «module».now) bytes.items) }
+    ensures spelling { IfOk result (λ bytes. let spelling = written «module».now.config.min_uleb_size
+        in IsWrittenIn spelling «module».now (AreOwnBodiesIn spelling «module».now) bytes.items) }
     ensures fault { IfErr result (IsFault (IsTooLong «module».now)) }
 {
     let bodies = Listed {
@@ -101,14 +116,16 @@ pub fn encode_with_bodies<B: Encode>(
     bodies: &B,
 ) -> Result<Vec<u8>, EncodeError>
     ensures spelled { IfOk result (λ bytes. IsModuleAround (contents_of «module».now)
-        (IsSectionIf (is_filled «module».now.code) 10 (B.spells bodies.now)) bytes.items) }
+        (IsSectionIf (is_filled «module».now.code) 10 (B.spells any bodies.now)) bytes.items) }
     ensures sections { IfOk result (λ bytes. HasSections (section_ids «module».now) bytes.items) }
     ensures written { IfOk result (λ bytes.
-        IsWritten «module».now (B.spells bodies.now) bytes.items) }
+        IsWritten «module».now (B.spells any bodies.now) bytes.items) }
+    ensures spelling { IfOk result (λ bytes. let spelling = written «module».now.config.min_uleb_size
+        in IsWrittenIn spelling «module».now (B.spells spelling bodies.now) bytes.items) }
     ensures fault { IfErr result (IsFault
-        (IsTooLong «module».now ⊎ (B.is_long bodies.now ⊎ IsLongContent (B.spells bodies.now)))) }
+        (IsTooLong «module».now ⊎ (B.is_long bodies.now ⊎ IsLongContent (B.spells any bodies.now)))) }
 {
-    let mut sink = Sink::new(alloc);
+    let mut sink = empty_sink(alloc, module);
     write_preamble(&mut sink)?;
     write_front(module, &mut sink)?;
     write_middle(module, &mut sink)?;

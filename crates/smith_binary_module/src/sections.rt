@@ -1,19 +1,20 @@
 ghost use Rattle.std.specs.Prelude.{◌≡◌, ◌⊎◌, length, OnOk, IfErr};
 ghost use Rattle.std.specs.List.{zip};
+ghost use Rattle.smith_binary.specs.Spelling.{IsUnsignedIn};
+ghost use Rattle.smith_binary.specs.Spelling.Spelling.{any};
 ghost use Rattle.smith_binary.specs.Faults.{IsFault};
-ghost use Rattle.smith_binary.specs.Numbers.{IsUnsigned};
-ghost use Rattle.smith_binary.specs.Pieces.{IsList, Writes};
-ghost use Rattle.smith_binary_sections.specs.Types.{IsRecGroupWritten};
-ghost use Rattle.smith_binary_sections.specs.Instructions.{IsIndex};
-ghost use Rattle.smith_binary_sections.specs.Entities.{IsMemoryType, IsTagType};
-ghost use Rattle.smith_binary_sections.specs.Imports.{IsImportGroup};
-ghost use Rattle.smith_binary_sections.specs.Definitions.{IsTableWritten, IsGlobal};
-ghost use Rattle.smith_binary_sections.specs.Exports.{IsExport};
-ghost use Rattle.smith_binary_sections.specs.Elements.{IsElemWritten};
-ghost use Rattle.smith_binary_sections.specs.Data.{IsDataWritten};
+ghost use Rattle.smith_binary.specs.Pieces.{Writes, IsListIn};
+ghost use Rattle.smith_binary_sections.specs.Types.{IsRecGroupWrittenIn};
+ghost use Rattle.smith_binary_sections.specs.Instructions.{IsIndexIn};
+ghost use Rattle.smith_binary_sections.specs.Entities.{IsTagTypeIn, IsMemoryTypeIn};
+ghost use Rattle.smith_binary_sections.specs.Imports.{IsImportGroupIn};
+ghost use Rattle.smith_binary_sections.specs.Definitions.{IsGlobalIn, IsTableWrittenIn};
+ghost use Rattle.smith_binary_sections.specs.Exports.{IsExportIn};
+ghost use Rattle.smith_binary_sections.specs.Elements.{IsElemWrittenIn};
+ghost use Rattle.smith_binary_sections.specs.Data.{IsDataWrittenIn};
 ghost use Rattle.smith_binary_sections.specs.Long.{IsLongContent};
-ghost use Rattle.smith_binary_sections.specs.Sections.{IsSectionIf};
-ghost use Rattle.smith_binary_sections.specs.Modules.{IsStartSection};
+ghost use Rattle.smith_binary_sections.specs.Sections.{IsSectionIfIn};
+ghost use Rattle.smith_binary_sections.specs.Modules.{IsStartSectionIn};
 ghost use Rattle.smith_binary_module.specs.Contents.{defined, contents_of};
 ghost use Rattle.smith_binary_module.specs.Layout.{is_filled, writes_types, writes_imports};
 ghost use Rattle.smith_binary_module.specs.Layout.{writes_data_count};
@@ -63,8 +64,8 @@ fn writes_data_count(module: &Module) -> bool
 
 /// Writes the type section.
 pub(crate) fn write_types(module: &Module, sink: &mut Sink) -> Result<(), EncodeError>
-    ensures writes { OnOk result (Writes (IsSectionIf (writes_types «module».now) 1
-        (IsList IsRecGroupWritten (contents_of «module».now).types)) sink.old sink.new) }
+    ensures writes { OnOk result (Writes (λ s. IsSectionIfIn s (writes_types «module».now) 1
+        (IsListIn s (IsRecGroupWrittenIn s) (contents_of «module».now).types)) sink.old sink.new) }
     ensures fault { IfErr result (IsFault (IsTooLong «module».now)) }
 {
     let groups = Listed {
@@ -78,8 +79,8 @@ pub(crate) fn write_types(module: &Module, sink: &mut Sink) -> Result<(), Encode
 
 /// Writes the import section.
 pub(crate) fn write_imports(module: &Module, sink: &mut Sink) -> Result<(), EncodeError>
-    ensures writes { OnOk result (Writes (IsSectionIf (writes_imports «module».now) 2
-        (IsList IsImportGroup «module».now.imports)) sink.old sink.new) }
+    ensures writes { OnOk result (Writes (λ s. IsSectionIfIn s (writes_imports «module».now) 2
+        (IsListIn s (IsImportGroupIn s) «module».now.imports)) sink.old sink.new) }
     ensures fault { IfErr result (IsFault (IsTooLong «module».now)) }
 {
     let imports = Listed {
@@ -92,8 +93,8 @@ pub(crate) fn write_imports(module: &Module, sink: &mut Sink) -> Result<(), Enco
 /// Writes the function section.
 pub(crate) fn write_functions(module: &Module, sink: &mut Sink) -> Result<(), EncodeError>
     ensures writes { OnOk result
-        (Writes (IsSectionIf (is_filled (defined «module».now.num_defined_funcs «module».now.funcs))
-        3 (IsList IsIndex (contents_of «module».now).functions)) sink.old sink.new) }
+        (Writes (λ s. IsSectionIfIn s (is_filled (defined «module».now.num_defined_funcs «module».now.funcs))
+        3 (IsListIn s (IsIndexIn s) (contents_of «module».now).functions)) sink.old sink.new) }
     ensures fault { IfErr result (IsFault (IsTooLong «module».now)) }
 {
     let functions = Listed {
@@ -106,7 +107,7 @@ pub(crate) fn write_functions(module: &Module, sink: &mut Sink) -> Result<(), En
 /// Writes the table section.
 pub(crate) fn write_tables(module: &Module, sink: &mut Sink) -> Result<(), EncodeError>
     ensures writes { OnOk result (Writes
-        (IsSectionIf (is_filled «module».now.defined_tables) 4 (IsList IsTableWritten (zip (defined
+        (λ s. IsSectionIfIn s (is_filled «module».now.defined_tables) 4 (IsListIn s (IsTableWrittenIn s) (zip (defined
         (length «module».now.defined_tables) «module».now.tables) «module».now.defined_tables)))
         sink.old sink.new) }
     ensures fault { IfErr result (IsFault (IsTooLong «module».now)) }
@@ -123,8 +124,8 @@ pub(crate) fn write_tables(module: &Module, sink: &mut Sink) -> Result<(), Encod
 /// Writes the memory section.
 pub(crate) fn write_memories(module: &Module, sink: &mut Sink) -> Result<(), EncodeError>
     ensures writes { OnOk result (Writes
-        (IsSectionIf (is_filled (defined «module».now.num_defined_memories «module».now.memories)) 5
-        (IsList IsMemoryType (contents_of «module».now).memories)) sink.old sink.new) }
+        (λ s. IsSectionIfIn s (is_filled (defined «module».now.num_defined_memories «module».now.memories)) 5
+        (IsListIn s (IsMemoryTypeIn s) (contents_of «module».now).memories)) sink.old sink.new) }
     ensures fault { IfErr result (IsFault (IsTooLong «module».now)) }
 {
     let memories = Listed {
@@ -137,8 +138,8 @@ pub(crate) fn write_memories(module: &Module, sink: &mut Sink) -> Result<(), Enc
 /// Writes the tag section.
 pub(crate) fn write_tags(module: &Module, sink: &mut Sink) -> Result<(), EncodeError>
     ensures writes { OnOk result
-        (Writes (IsSectionIf (is_filled (defined «module».now.num_defined_tags «module».now.tags))
-        13 (IsList IsTagType (contents_of «module».now).tags)) sink.old sink.new) }
+        (Writes (λ s. IsSectionIfIn s (is_filled (defined «module».now.num_defined_tags «module».now.tags))
+        13 (IsListIn s (IsTagTypeIn s) (contents_of «module».now).tags)) sink.old sink.new) }
     ensures fault { IfErr result (IsFault (IsTooLong «module».now)) }
 {
     let tags = Listed {
@@ -150,8 +151,8 @@ pub(crate) fn write_tags(module: &Module, sink: &mut Sink) -> Result<(), EncodeE
 
 /// Writes the global section.
 pub(crate) fn write_globals(module: &Module, sink: &mut Sink) -> Result<(), EncodeError>
-    ensures writes { OnOk result (Writes (IsSectionIf (is_filled «module».now.defined_globals) 6
-        (IsList IsGlobal (contents_of «module».now).globals)) sink.old sink.new) }
+    ensures writes { OnOk result (Writes (λ s. IsSectionIfIn s (is_filled «module».now.defined_globals) 6
+        (IsListIn s (IsGlobalIn s) (contents_of «module».now).globals)) sink.old sink.new) }
     ensures fault { IfErr result (IsFault (IsTooLong «module».now)) }
 {
     let definitions = module.defined_globals();
@@ -165,8 +166,8 @@ pub(crate) fn write_globals(module: &Module, sink: &mut Sink) -> Result<(), Enco
 
 /// Writes the export section.
 pub(crate) fn write_exports(module: &Module, sink: &mut Sink) -> Result<(), EncodeError>
-    ensures writes { OnOk result (Writes (IsSectionIf (is_filled «module».now.exports) 7
-        (IsList IsExport «module».now.exports)) sink.old sink.new) }
+    ensures writes { OnOk result (Writes (λ s. IsSectionIfIn s (is_filled «module».now.exports) 7
+        (IsListIn s (IsExportIn s) «module».now.exports)) sink.old sink.new) }
     ensures fault { IfErr result (IsFault (IsTooLong «module».now)) }
 {
     let exports = Listed {
@@ -178,7 +179,7 @@ pub(crate) fn write_exports(module: &Module, sink: &mut Sink) -> Result<(), Enco
 
 /// Writes the start section.
 pub(crate) fn write_start(module: &Module, sink: &mut Sink) -> Result<(), EncodeError>
-    ensures writes { OnOk result (Writes (IsStartSection «module».now.start) sink.old sink.new) }
+    ensures writes { OnOk result (Writes (λ s. IsStartSectionIn s «module».now.start) sink.old sink.new) }
     ensures fault { IfErr result (IsFault (IsTooLong «module».now)) }
 {
     match module.start() {
@@ -189,8 +190,8 @@ pub(crate) fn write_start(module: &Module, sink: &mut Sink) -> Result<(), Encode
 
 /// Writes the element section.
 pub(crate) fn write_elems(module: &Module, sink: &mut Sink) -> Result<(), EncodeError>
-    ensures writes { OnOk result (Writes (IsSectionIf (is_filled «module».now.elems) 9
-        (IsList IsElemWritten «module».now.elems)) sink.old sink.new) }
+    ensures writes { OnOk result (Writes (λ s. IsSectionIfIn s (is_filled «module».now.elems) 9
+        (IsListIn s (IsElemWrittenIn s) «module».now.elems)) sink.old sink.new) }
     ensures fault { IfErr result (IsFault (IsTooLong «module».now)) }
 {
     let elems = Listed {
@@ -202,8 +203,8 @@ pub(crate) fn write_elems(module: &Module, sink: &mut Sink) -> Result<(), Encode
 
 /// Writes the data count section.
 pub(crate) fn write_data_count(module: &Module, sink: &mut Sink) -> Result<(), EncodeError>
-    ensures writes { OnOk result (Writes (IsSectionIf (writes_data_count «module».now) 12
-        (IsUnsigned 32 (length «module».now.datas))) sink.old sink.new) }
+    ensures writes { OnOk result (Writes (λ s. IsSectionIfIn s (writes_data_count «module».now) 12
+        (IsUnsignedIn s 32 (length «module».now.datas))) sink.old sink.new) }
     ensures fault { IfErr result (IsFault (IsTooLong «module».now)) }
 {
     let count = Count(module.data().len());
@@ -217,17 +218,17 @@ pub(crate) fn write_bodies<B: Encode>(
     sink: &mut Sink,
 ) -> Result<(), EncodeError>
     ensures writes { OnOk result (Writes
-        (IsSectionIf (is_filled «module».now.code) 10 (B.spells bodies.now)) sink.old sink.new) }
+        (λ s. IsSectionIfIn s (is_filled «module».now.code) 10 (B.spells s bodies.now)) sink.old sink.new) }
     ensures fault { IfErr result
-        (IsFault (B.is_long bodies.now ⊎ IsLongContent (B.spells bodies.now))) }
+        (IsFault (B.is_long bodies.now ⊎ IsLongContent (B.spells any bodies.now))) }
 {
     write_section_if(is_filled(module.code()), 10, bodies, sink)
 }
 
 /// Writes the data section.
 pub(crate) fn write_datas(module: &Module, sink: &mut Sink) -> Result<(), EncodeError>
-    ensures writes { OnOk result (Writes (IsSectionIf (is_filled «module».now.datas) 11
-        (IsList IsDataWritten «module».now.datas)) sink.old sink.new) }
+    ensures writes { OnOk result (Writes (λ s. IsSectionIfIn s (is_filled «module».now.datas) 11
+        (IsListIn s (IsDataWrittenIn s) «module».now.datas)) sink.old sink.new) }
     ensures fault { IfErr result (IsFault (IsTooLong «module».now)) }
 {
     let datas = Listed {

@@ -5,15 +5,16 @@ use Rattle.std.specs.List.{flat_map, AllByRecursion}
 use Rattle.std.proofs.Math.ListN.{drop_of_length-le}
 use Rattle.std.proofs.lemmas.List.{nil_from_length}
 use Rattle.std.proofs.lemmas.List.Elements.{All-from_recursion}
+use Rattle.smith_binary.specs.Spelling.{Spelling}
 use Rattle.smith_binary.specs.declared.error.EncodeError.{EncodeError}
 use Rattle.smith_binary.specs.declared.error.EncodeError.TheVariants.{Memory, TooLong}
 use Rattle.smith_binary.specs.Faults.{IsFault}
-use Rattle.smith_binary.specs.Pieces.{Joined, Each, Writes}
+use Rattle.smith_binary.specs.Pieces.{Joined, Each, Writes, Output}
 use Rattle.smith_binary.proofs.WrittenLemmas.{Leads, joined_written, nothing_written, written_as}
 use Rattle.smith_instr.specs.declared.control.BlockType.{BlockType}
 use Rattle.smith_instr.specs.declared.instr.Instr.{Instr}
 use Rattle.smith_instr.specs.declared.instr.Instr.TheVariants as instr
-use Rattle.smith_binary_instr.specs.Instructions.{IsInstrWritten, IsInstrsWritten}
+use Rattle.smith_binary_instr.specs.Instructions.{IsInstrWrittenIn, IsInstrsWrittenIn}
 use Rattle.smith_binary_instr.specs.Long.{IsLongInstr}
 use Rattle.smith_program.specs.Counted.{check_of, checked_after, checks_of}
 
@@ -35,11 +36,11 @@ unfolding Each
 each_one Item x piece h = record { first = piece; second = []; is_first = h; is_second = refl; whole = sym (append-nil piece) }
 
 -- instructions, then others
-pub instrs_written : {old between new : List ℕ} (xs ys : List Instr) → Writes (IsInstrsWritten xs) old between → Writes (IsInstrsWritten ys) between new → Writes (IsInstrsWritten (xs ++ ys)) old new
-instrs_written xs ys one other = written_as (each_joined IsInstrWritten xs ys) (joined_written one other)
+pub instrs_written : {old between new : Output} (xs ys : List Instr) → Writes (λ s. IsInstrsWrittenIn s xs) old between → Writes (λ s. IsInstrsWrittenIn s ys) between new → Writes (λ s. IsInstrsWrittenIn s (xs ++ ys)) old new
+instrs_written xs ys one other = written_as (λ s. each_joined (IsInstrWrittenIn s) xs ys) (joined_written one other)
 
-pub one_instr : {old new : List ℕ} (x : Instr) → Writes (IsInstrWritten x) old new → Writes (IsInstrsWritten (x ∷ [])) old new
-one_instr x one = written_as (each_one IsInstrWritten x) one
+pub one_instr : {old new : Output} (x : Instr) → Writes (λ s. IsInstrWrittenIn s x) old new → Writes (λ s. IsInstrsWrittenIn s (x ∷ [])) old new
+one_instr x one = written_as (λ s. each_one (IsInstrWrittenIn s) x) one
 
 -- no instruction of a check is too long
 none_long : (xs : List Instr) → AllByRecursion (λ (x : Instr). IsLongInstr x → ⊥) xs → Any IsLongInstr xs → ⊥
@@ -67,16 +68,16 @@ checks_last (counter ∷ counters) last =
     sym (append_assoc (check_of last) (checks_of counters) (check_of counter)) ∙ ap (λ (xs : List Instr). xs ++ check_of counter) (checks_last counters last)
 
 -- one more check
-pub checks_step : {Whole : List ℕ → Type 0} {start now later : List ℕ} (counters before : List ℕ) (last : ℕ) → counters ≡ before ++ last ∷ [] → Leads (IsInstrsWritten (checks_of counters)) Whole start now
-    → Writes (IsInstrsWritten (check_of last)) now later → Leads (IsInstrsWritten (checks_of before)) Whole start later
+pub checks_step : {Whole : Spelling → List ℕ → Type 0} {start now later : Output} (counters before : List ℕ) (last : ℕ) → counters ≡ before ++ last ∷ [] → Leads (λ s. IsInstrsWrittenIn s (checks_of counters)) Whole start now
+    → Writes (λ s. IsInstrsWrittenIn s (check_of last)) now later → Leads (λ s. IsInstrsWrittenIn s (checks_of before)) Whole start later
 checks_step {now = now} counters before last split so_far one =
     let all : check_of last ++ checks_of before ≡ checks_of counters = checks_last before last ∙ ap (λ (cs : List ℕ). checks_of cs) (sym split) in
-    record { to = λ final more. so_far.to final (subst (λ (xs : List Instr). Writes (IsInstrsWritten xs) now final) all (instrs_written (check_of last) (checks_of before) one more)) }
+    record { to = λ final more. so_far.to final (subst (λ (xs : List Instr). Writes (λ s. IsInstrsWrittenIn s xs) now final) all (instrs_written (check_of last) (checks_of before) one more)) }
 
 -- no check is left
-pub checks_end : {Whole : List ℕ → Type 0} {start now : List ℕ} (counters : List ℕ) → length counters ≡ 0 → Leads (IsInstrsWritten (checks_of counters)) Whole start now → Writes Whole start now
+pub checks_end : {Whole : Spelling → List ℕ → Type 0} {start now : Output} (counters : List ℕ) → length counters ≡ 0 → Leads (λ s. IsInstrsWrittenIn s (checks_of counters)) Whole start now → Writes Whole start now
 unfolding Each
-checks_end counters none so_far = so_far.to _ (rw (nil_from_length counters none) (nothing_written refl))
+checks_end {now = now} counters none so_far = so_far.to now (nothing_written (λ s. rw (nil_from_length counters none) refl))
 
 -- an instruction that starts no loop
 pub no_loop : (counters : List ℕ) (instruction : Instr) → ((ty : BlockType) → instruction ≡ instr.Loop ty → ⊥) → checked_after counters instruction ≡ instruction ∷ []
@@ -84,17 +85,17 @@ no_loop counters (instr.Loop ty) none = absurd (none ty refl)
 no_loop counters _ none = refl
 
 -- one more instruction, with its checks
-pub checked_step : {Whole : List ℕ → Type 0} {start now later : List ℕ} (counters : List ℕ) (i : ℕ) (xs : List Instr) (x d : Instr) → i < length xs → x ≡ get_or xs i d
-    → Leads (IsInstrsWritten (flat_map (checked_after counters) (drop i xs))) Whole start now → Writes (IsInstrsWritten (checked_after counters x)) now later
-    → Leads (IsInstrsWritten (flat_map (checked_after counters) (drop (i + 1) xs))) Whole start later
+pub checked_step : {Whole : Spelling → List ℕ → Type 0} {start now later : Output} (counters : List ℕ) (i : ℕ) (xs : List Instr) (x d : Instr) → i < length xs → x ≡ get_or xs i d
+    → Leads (λ s. IsInstrsWrittenIn s (flat_map (checked_after counters) (drop i xs))) Whole start now → Writes (λ s. IsInstrsWrittenIn s (checked_after counters x)) now later
+    → Leads (λ s. IsInstrsWrittenIn s (flat_map (checked_after counters) (drop (i + 1) xs))) Whole start later
 checked_step counters i xs x d inside read so_far one =
     let f = checked_after counters in
     let next : drop i xs ≡ x ∷ drop (i + 1) xs = rw (read, add-one) (drop-cons xs i d inside) in
     record { to = λ final more. so_far.to final (rw next (instrs_written (f x) (flat_map f (drop (i + 1) xs)) one more)) }
 
 -- no instruction is left
-pub checked_end : {Whole : List ℕ → Type 0} {start now : List ℕ} (counters : List ℕ) (i : ℕ) (xs : List Instr) → length xs ≤ i → Leads (IsInstrsWritten (flat_map (checked_after counters) (drop i xs))) Whole start now → Writes Whole start now
+pub checked_end : {Whole : Spelling → List ℕ → Type 0} {start now : Output} (counters : List ℕ) (i : ℕ) (xs : List Instr) → length xs ≤ i → Leads (λ s. IsInstrsWrittenIn s (flat_map (checked_after counters) (drop i xs))) Whole start now → Writes Whole start now
 unfolding Each
-checked_end counters i xs past so_far =
+checked_end {now = now} counters i xs past so_far =
     let none : drop i xs ≡ [] = drop_of_length-le xs past in
-    so_far.to _ (rw none (nothing_written refl))
+    so_far.to now (nothing_written (λ s. rw none refl))

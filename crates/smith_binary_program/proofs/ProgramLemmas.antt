@@ -2,6 +2,7 @@
 use Rattle.std.proofs.Common.{◌≡◌, ℕ, suc, Bool, true, false, List, [], ◌∷◌, length, refl, sym, subst, ap, ◌∙◌, arith}
 use Rattle.std.specs.List.{zip}
 use Rattle.smith_binary.specs.Numbers.{IsUnsigned}
+use Rattle.smith_binary.specs.Spelling.Spelling.{any}
 use Rattle.smith_binary.specs.Pieces.{Joined, Each}
 use Rattle.smith_syntax.specs.declared.code.Code.{Code}
 use Rattle.smith_module_rules.specs.Module.{ModuleParts}
@@ -32,7 +33,7 @@ none_expressed counters bodies = record { bytes = []; each = tt; many = refl }
 
 -- an expression as it is written is one of the grammar
 expression_is : (counters : List ℕ) (code : Code) (given : Body) (piece : List ℕ) → IsExpressionWritten counters code given piece → IsExpressionOf counters code given piece
-expression_is counters code (body.Drawn instructions) piece h = expr_is (counted counters instructions) piece h
+expression_is counters code (body.Drawn instructions) piece h = expr_is any (counted counters instructions) piece h
 expression_is counters code body.Raw piece h = h
 
 -- bodies of which the expressions are these

@@ -2,10 +2,12 @@
 -- WebAssembly Core Specification 3.0.
 use Rattle.std.specs.Prelude.{ℕ, List}
 use Rattle.std.specs.List.{zip}
-use Rattle.smith_binary.specs.Pieces.{Is, Joined, IsList, IsSized}
+use Rattle.smith_binary.specs.Spelling.{Spelling}
+use Rattle.smith_binary.specs.Spelling.Spelling.{any}
+use Rattle.smith_binary.specs.Pieces.{Is, Joined, IsListIn, IsSizedIn}
 use Rattle.smith_syntax.specs.declared.code.Code.{Code}
-use Rattle.smith_binary_sections.specs.Codes.{IsLocalsWritten, body_bytes}
-use Rattle.smith_binary_instr.specs.Instructions.{IsExpr, IsExprWritten}
+use Rattle.smith_binary_sections.specs.Codes.{body_bytes, IsLocalsWrittenIn}
+use Rattle.smith_binary_instr.specs.Instructions.{IsExpr, IsExprWrittenIn}
 use Rattle.smith_program.specs.Counted.{counted}
 use Rattle.smith_program.specs.declared.program.Body.{Body}
 use Rattle.smith_program.specs.declared.program.Body.TheVariants as body
@@ -17,15 +19,24 @@ IsExpressionOf counters code (body.Drawn instructions) piece = IsExpr (counted c
 IsExpressionOf counters code body.Raw piece = Is (body_bytes counters code.instructions) piece
 
 -- that expression as it is written, where no access names the first memory (own rule)
+abbrev pub IsExpressionWrittenIn : Spelling → List ℕ → Code → Body → List ℕ → Type 0
+IsExpressionWrittenIn spelling counters code (body.Drawn instructions) piece = IsExprWrittenIn spelling (counted counters instructions) piece
+IsExpressionWrittenIn spelling counters code body.Raw piece = Is (body_bytes counters code.instructions) piece
+
 abbrev pub IsExpressionWritten : List ℕ → Code → Body → List ℕ → Type 0
-IsExpressionWritten counters code (body.Drawn instructions) piece = IsExprWritten (counted counters instructions) piece
-IsExpressionWritten counters code body.Raw piece = Is (body_bytes counters code.instructions) piece
+IsExpressionWritten = IsExpressionWrittenIn any
 
 -- a body as it is written (Code Section): the number of its bytes, then its locals, each as a run
 -- of its own (own rule), and its expression
+abbrev pub IsBodyOfIn : Spelling → List ℕ → Code × Body → List ℕ → Type 0
+IsBodyOfIn spelling counters given = IsSizedIn spelling (Joined (IsLocalsWrittenIn spelling given.0.locals) (IsExpressionWrittenIn spelling counters given.0 given.1))
+
 abbrev pub IsBodyOf : List ℕ → Code × Body → List ℕ → Type 0
-IsBodyOf counters given = IsSized (Joined (IsLocalsWritten given.0.locals) (IsExpressionWritten counters given.0 given.1))
+IsBodyOf = IsBodyOfIn any
 
 -- the list of the bodies as they are written (Code Section)
+abbrev pub AreBodiesOfIn : Spelling → List ℕ → List Code → List Body → List ℕ → Type 0
+AreBodiesOfIn spelling counters codes bodies = IsListIn spelling (IsBodyOfIn spelling counters) (zip codes bodies)
+
 abbrev pub AreBodiesOf : List ℕ → List Code → List Body → List ℕ → Type 0
-AreBodiesOf counters codes bodies = IsList (IsBodyOf counters) (zip codes bodies)
+AreBodiesOf = AreBodiesOfIn any

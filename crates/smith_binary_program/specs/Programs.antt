@@ -2,15 +2,17 @@
 -- Specification 3.0.
 use Rattle.std.specs.Prelude.{ℕ, List, map}
 use Rattle.std.specs.List.{AllZip, zip}
+use Rattle.smith_binary.specs.Spelling.{Spelling}
+use Rattle.smith_binary.specs.Spelling.Spelling.{written}
 use Rattle.smith_syntax.specs.declared.code.Code.{Code}
 use Rattle.smith_syntax.specs.declared.value_type.ValType.{ValType}
 use Rattle.smith_module_rules.specs.Module.{ModuleParts}
 use Rattle.smith_binary_sections.specs.Modules.{Contents, IsModule}
 use Rattle.smith_binary_module.specs.Contents.{contents_of}
 use Rattle.smith_binary_module.specs.Layout.{section_ids, HasSections}
-use Rattle.smith_binary_module.specs.Written.{IsWritten}
+use Rattle.smith_binary_module.specs.Written.{IsWritten, IsWrittenIn}
 use Rattle.smith_program.specs.declared.program.Body.{Body}
-use Rattle.smith_binary_program.specs.Bodies.{AreBodiesOf, IsExpressionOf}
+use Rattle.smith_binary_program.specs.Bodies.{AreBodiesOf, AreBodiesOfIn, IsExpressionOf}
 
 -- an expression for each function with its body
 abbrev pub AreExpressionsOf : List ℕ → List (Code × Body) → List (List ℕ) → Type 0
@@ -31,9 +33,14 @@ pub record IsProgramBinary (m : ModuleParts) (bodies : List Body) (bytes : List 
   pub each : AreExpressionsOf m.fuel_globals (zip m.code bodies) expressions
   pub spelled : IsModule (program_contents m expressions) bytes
 
+-- the written spelling, with the least number of bytes of the configuration (own rule)
+abbrev pub as_configured : ModuleParts → Spelling
+as_configured m = written m.config.min_uleb_size
+
 -- the bytes that are written for a module and its bodies (own rule): they are these in the binary
 -- format, with the sections that the module needs, each in the form in which it is written
 pub record IsEncoded (m : ModuleParts) (bodies : List Body) (bytes : List ℕ) : Type 0 where
   pub spelled : IsProgramBinary m bodies bytes
   pub sections : HasSections (section_ids m) bytes
   pub written : IsWritten m (AreBodiesOf m.fuel_globals m.code bodies) bytes
+  pub spelling : IsWrittenIn (as_configured m) m (AreBodiesOfIn (as_configured m) m.fuel_globals m.code bodies) bytes

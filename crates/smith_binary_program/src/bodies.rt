@@ -2,9 +2,9 @@ ghost use Rattle.std.specs.Prelude.{Any, OnOk, IfErr};
 ghost use Rattle.std.specs.List.{zip};
 ghost use Rattle.smith_binary.specs.Faults.{IsFault};
 ghost use Rattle.smith_binary.specs.Pieces.{Each, Writes};
-ghost use Rattle.smith_binary_instr.specs.Bodies.{IsFuncBodyWritten};
+ghost use Rattle.smith_binary_instr.specs.Bodies.{IsFuncBodyWrittenIn};
 ghost use Rattle.smith_program.specs.Counted.{counted};
-ghost use Rattle.smith_binary_program.specs.Bodies.{IsBodyOf};
+ghost use Rattle.smith_binary_program.specs.Bodies.{AreBodiesOfIn, IsBodyOfIn};
 ghost use Rattle.smith_binary_program.specs.Long.{IsLongBodyOf, IsLongDrawn};
 
 use crate::fuel_checks::write_expression;
@@ -27,10 +27,9 @@ pub(crate) struct Bodies<'a> {
 }
 
 impl<'a> Encode for Bodies<'a> {
-    ghost use Rattle.smith_binary_program.specs.Bodies.{AreBodiesOf};
     ghost use Rattle.smith_binary_program.specs.Long.{AreLongBodies};
 
-    ghost spells = { λ b. AreBodiesOf b.counters.now b.codes.now b.bodies.now };
+    ghost spells = { λ s b. AreBodiesOfIn s b.counters.now b.codes.now b.bodies.now };
 
     ghost is_long = { λ b. AreLongBodies b.counters.now b.codes.now b.bodies.now };
 
@@ -48,7 +47,7 @@ fn write_each(
     sink: &mut Sink,
 ) -> Result<(), EncodeError>
     ensures writes { OnOk result
-        (Writes (Each (IsBodyOf counters.now) (zip codes.now bodies.now)) sink.old sink.new) }
+        (Writes (λ s. Each (IsBodyOfIn s counters.now) (zip codes.now bodies.now)) sink.old sink.new) }
     ensures fault { IfErr result
         (IsFault (Any (IsLongBodyOf counters.now) (zip codes.now bodies.now))) }
 {
@@ -66,7 +65,7 @@ fn write_body(
     sink: &mut Sink,
 ) -> Result<(), EncodeError>
     ensures writes { OnOk result
-        (Writes (IsBodyOf counters.now (code.now, body.now)) sink.old sink.new) }
+        (Writes (λ s. IsBodyOfIn s counters.now (code.now, body.now)) sink.old sink.new) }
     ensures fault { IfErr result (IsFault (IsLongBodyOf counters.now (code.now, body.now))) }
 {
     match body {
@@ -88,7 +87,7 @@ fn write_drawn(
     sink: &mut Sink,
 ) -> Result<(), EncodeError>
     ensures writes { OnOk result
-        (Writes (IsFuncBodyWritten locals.now (counted counters.now instructions.now))
+        (Writes (λ s. IsFuncBodyWrittenIn s locals.now (counted counters.now instructions.now))
         sink.old sink.new) }
     ensures fault { IfErr result (IsFault (IsLongDrawn counters.now locals.now instructions.now)) }
 {

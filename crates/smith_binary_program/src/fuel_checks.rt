@@ -3,7 +3,7 @@ ghost use Rattle.std.specs.List.{flat_map};
 ghost use Rattle.smith_binary.specs.declared.error.EncodeError.TheVariants.{Memory};
 ghost use Rattle.smith_binary.specs.Faults.{IsFault};
 ghost use Rattle.smith_binary.specs.Pieces.{Writes};
-ghost use Rattle.smith_binary_instr.specs.Instructions.{IsExprWritten, IsInstrsWritten};
+ghost use Rattle.smith_binary_instr.specs.Instructions.{IsExprWrittenIn, IsInstrsWrittenIn};
 ghost use Rattle.smith_binary_instr.specs.Long.{IsLongInstr};
 ghost use Rattle.smith_program.specs.Counted.{check_of, checked_after, checks_of, counted};
 
@@ -13,7 +13,7 @@ use smith_instr::{BlockType, Instr, IntBinary, NumericInstr};
 
 // Writes the check of the counter of fuel `counter`: it traps at 0, else subtracts 1.
 fn write_check(counter: u32, sink: &mut Sink) -> Result<(), EncodeError>
-    ensures writes { OnOk result (Writes (IsInstrsWritten (check_of counter)) sink.old sink.new) }
+    ensures writes { OnOk result (Writes (λ s. IsInstrsWrittenIn s (check_of counter)) sink.old sink.new) }
     ensures memory { IfErr result (λ e. e ≡ Memory) }
 {
     let check = [
@@ -32,7 +32,7 @@ fn write_check(counter: u32, sink: &mut Sink) -> Result<(), EncodeError>
 
 // Writes the checks of `counters`, the last one first.
 fn write_checks(counters: &[u32], sink: &mut Sink) -> Result<(), EncodeError>
-    ensures writes { OnOk result (Writes (IsInstrsWritten (checks_of counters.now)) sink.old sink.new) }
+    ensures writes { OnOk result (Writes (λ s. IsInstrsWrittenIn s (checks_of counters.now)) sink.old sink.new) }
     ensures memory { IfErr result (λ e. e ≡ Memory) }
 {
     let mut rest = counters;
@@ -46,7 +46,7 @@ fn write_checks(counters: &[u32], sink: &mut Sink) -> Result<(), EncodeError>
 // Writes `instruction`, then the checks of `counters` if it starts a loop.
 fn write_checked(counters: &[u32], instruction: &Instr, sink: &mut Sink) -> Result<(), EncodeError>
     ensures writes { OnOk result
-        (Writes (IsInstrsWritten (checked_after counters.now instruction.now)) sink.old sink.new) }
+        (Writes (λ s. IsInstrsWrittenIn s (checked_after counters.now instruction.now)) sink.old sink.new) }
     ensures fault { IfErr result (IsFault (IsLongInstr instruction.now)) }
 {
     encode_instr(sink, instruction)?;
@@ -59,7 +59,7 @@ fn write_checked(counters: &[u32], instruction: &Instr, sink: &mut Sink) -> Resu
 // Writes `instructions` in order, with the checks of `counters` after the start of each loop.
 fn write_each(counters: &[u32], instructions: &[Instr], sink: &mut Sink) -> Result<(), EncodeError>
     ensures writes { OnOk result (Writes
-        (IsInstrsWritten (flat_map (checked_after counters.now) instructions.now)) sink.old sink.new) }
+        (λ s. IsInstrsWrittenIn s (flat_map (checked_after counters.now) instructions.now)) sink.old sink.new) }
     ensures fault { IfErr result (IsFault (Any IsLongInstr instructions.now)) }
 {
     for instruction in instructions {
@@ -76,7 +76,7 @@ fn write_counted(
     sink: &mut Sink,
 ) -> Result<(), EncodeError>
     ensures writes { OnOk result
-        (Writes (IsInstrsWritten (counted counters.now instructions.now)) sink.old sink.new) }
+        (Writes (λ s. IsInstrsWrittenIn s (counted counters.now instructions.now)) sink.old sink.new) }
     ensures fault { IfErr result (IsFault (Any IsLongInstr instructions.now)) }
 {
     write_checks(counters, sink)?;
@@ -91,7 +91,7 @@ pub(crate) fn write_expression(
     sink: &mut Sink,
 ) -> Result<(), EncodeError>
     ensures writes { OnOk result
-        (Writes (IsExprWritten (counted counters.now instructions.now)) sink.old sink.new) }
+        (Writes (λ s. IsExprWrittenIn s (counted counters.now instructions.now)) sink.old sink.new) }
     ensures fault { IfErr result (IsFault (Any IsLongInstr instructions.now)) }
 {
     write_counted(counters, instructions, sink)?;

@@ -1,8 +1,9 @@
 ghost use Rattle.std.specs.Prelude.{IfOk, IfErr};
 ghost use Rattle.smith_binary.specs.Faults.{IsFault};
+ghost use Rattle.smith_binary.specs.Spelling.Spelling.{written};
 ghost use Rattle.smith_binary_module.specs.Layout.{section_ids, HasSections};
-ghost use Rattle.smith_binary_module.specs.Written.{IsWritten};
-ghost use Rattle.smith_binary_program.specs.Bodies.{AreBodiesOf};
+ghost use Rattle.smith_binary_module.specs.Written.{IsWritten, IsWrittenIn};
+ghost use Rattle.smith_binary_program.specs.Bodies.{AreBodiesOf, AreBodiesOfIn};
 ghost use Rattle.smith_binary_program.specs.Long.{IsLongProgram};
 ghost use Rattle.smith_binary_program.specs.Programs.{IsProgramBinary};
 
@@ -31,6 +32,11 @@ pub fn encode(alloc: Global, program: &Program) -> Result<Vec<u8>, EncodeError>
         HasSections (section_ids program.now.«module») bytes.items) }
     ensures written { IfOk result (λ bytes. IsWritten program.now.«module»
         (AreBodiesOf program.now.«module».fuel_globals program.now.«module».code program.now.bodies)
+        bytes.items) }
+    ensures spelling { IfOk result (λ bytes.
+        let spelling = written program.now.«module».config.min_uleb_size
+        in IsWrittenIn spelling program.now.«module» (AreBodiesOfIn spelling
+        program.now.«module».fuel_globals program.now.«module».code program.now.bodies)
         bytes.items) }
     ensures fault { IfErr result (IsFault (IsLongProgram program.now.«module» program.now.bodies)) }
 {

@@ -3,29 +3,30 @@ use Rattle.std.proofs.Common.{◌≡◌, ℕ, ◌⊎◌, inl, inr, List, [], ◌
 use Rattle.std.specs.Prelude.{map}
 use Rattle.std.specs.List.{zip}
 use Rattle.std.proofs.lemmas.List.{length-map}
-use Rattle.smith_binary.specs.Numbers.{IsUnsigned}
-use Rattle.smith_binary.specs.Pieces.{Each, IsList, Writes}
+use Rattle.smith_binary.specs.Spelling.{Spelling, IsUnsignedIn}
+use Rattle.smith_binary.specs.Spelling.Spelling.{any}
+use Rattle.smith_binary.specs.Pieces.{Each, IsList, IsListIn, Output, Writes}
 use Rattle.smith_binary.proofs.NumberLemmas.{unsigned_below}
 use Rattle.smith_binary.proofs.WrittenLemmas.{Leads, joined_written, nothing_written, written_as}
 use Rattle.smith_syntax.specs.declared.value_type.ValType.{ValType}
 use Rattle.smith_binary_sections.specs.Codes.{IsRun, locals_of, IsLocals, IsLocalsWritten, IsBody, IsBodyWritten}
 
 -- one more pair
-pub pair_step : {A B : Type 0} (Item : A × B → List ℕ → Type 0) {Whole : List ℕ → Type 0} {start now later : List ℕ} (xs more : List A) (ys others : List B) (x : A) (y : B) → xs ≡ x ∷ more → ys ≡ y ∷ others
-    → Leads (Each Item (zip xs ys)) Whole start now → Writes (Item (x, y)) now later → Leads (Each Item (zip more others)) Whole start later
+pub pair_step : {A B : Type 0} (Item : Spelling → A × B → List ℕ → Type 0) {Whole : Spelling → List ℕ → Type 0} {start now later : Output} (xs more : List A) (ys others : List B) (x : A) (y : B) → xs ≡ x ∷ more → ys ≡ y ∷ others
+    → Leads (λ s. Each (Item s) (zip xs ys)) Whole start now → Writes (λ s. Item s (x, y)) now later → Leads (λ s. Each (Item s) (zip more others)) Whole start later
 unfolding Each
 pair_step Item xs more ys others x y first second so_far item =
-    record { to = λ final rest. so_far.to final (written_as (λ piece h. rw (first, second) h) (joined_written item rest)) }
+    record { to = λ final rest. so_far.to final (written_as (λ s piece h. rw (first, second) h) (joined_written item rest)) }
 
 none_zipped : {A B : Type 0} (xs : List A) → zip {X = B} xs [] ≡ []
 none_zipped [] = refl
 none_zipped (x ∷ xs) = refl
 
 -- no pair is left
-pub pair_end : {A B : Type 0} (Item : A × B → List ℕ → Type 0) {Whole : List ℕ → Type 0} {start now : List ℕ} (xs : List A) (ys : List B) → (xs ≡ []) ⊎ (ys ≡ []) → Leads (Each Item (zip xs ys)) Whole start now → Writes Whole start now
+pub pair_end : {A B : Type 0} (Item : Spelling → A × B → List ℕ → Type 0) {Whole : Spelling → List ℕ → Type 0} {start now : Output} (xs : List A) (ys : List B) → (xs ≡ []) ⊎ (ys ≡ []) → Leads (λ s. Each (Item s) (zip xs ys)) Whole start now → Writes Whole start now
 unfolding Each
-pair_end Item xs ys (inl none) so_far = so_far.to _ (rw none (nothing_written refl))
-pair_end Item xs ys (inr none) so_far = so_far.to _ (rw (none, none_zipped xs) (nothing_written refl))
+pair_end Item {now = now} xs ys (inl none) so_far = so_far.to now (nothing_written (λ s. rw none refl))
+pair_end Item {now = now} xs ys (inr none) so_far = so_far.to now (nothing_written (λ s. rw (none, none_zipped xs) refl))
 
 -- items, by their meaning
 each_mapped : {A B : Type 0} (P : B → List ℕ → Type 0) (f : A → B) (xs : List A) (piece : List ℕ) → Each (λ (x : A). P (f x)) xs piece → Each P (map f xs) piece
@@ -33,14 +34,17 @@ unfolding Each
 each_mapped P f [] piece h = h
 each_mapped P f (x ∷ xs) piece h = record { first = h.first; second = h.second; is_first = h.is_first; is_second = each_mapped P f xs h.second h.is_second; whole = h.whole }
 
-pub list_mapped : {A B : Type 0} (P : B → List ℕ → Type 0) (f : A → B) (xs : List A) (piece : List ℕ) → IsList (λ (x : A). P (f x)) xs piece → IsList P (map f xs) piece
-list_mapped P f xs piece h = record {
+pub list_mapped_in : {A B : Type 0} (s : Spelling) (P : B → List ℕ → Type 0) (f : A → B) (xs : List A) (piece : List ℕ) → IsListIn s (λ (x : A). P (f x)) xs piece → IsListIn s P (map f xs) piece
+list_mapped_in s P f xs piece h = record {
   first = h.first;
   second = h.second;
-  is_first = subst (λ (n : ℕ). IsUnsigned 32 n h.first) (sym (length-map xs f)) h.is_first;
+  is_first = subst (λ (n : ℕ). IsUnsignedIn s 32 n h.first) (sym (length-map xs f)) h.is_first;
   is_second = each_mapped P f xs h.second h.is_second;
   whole = h.whole;
 }
+
+pub list_mapped : {A B : Type 0} (P : B → List ℕ → Type 0) (f : A → B) (xs : List A) (piece : List ℕ) → IsList (λ (x : A). P (f x)) xs piece → IsList P (map f xs) piece
+list_mapped P f xs piece h = list_mapped_in any P f xs piece h
 
 -- items with a spelling that implies another
 each_as : {A : Type 0} (P Q : A → List ℕ → Type 0) → ((x : A) (piece : List ℕ) → P x piece → Q x piece) → (xs : List A) (piece : List ℕ) → Each P xs piece → Each Q xs piece

@@ -1,18 +1,30 @@
 -- Sections that are written or left out.
 use Rattle.std.proofs.Common.{◌≡◌, ℕ, Bool, true, List, [], sym, subst}
-use Rattle.smith_binary.specs.Pieces.{Is, IsSection, Writes}
-use Rattle.smith_binary.proofs.WrittenLemmas.{written_as, written_whole}
-use Rattle.smith_binary_sections.specs.Sections.{IsSectionIf}
+use Rattle.smith_binary.specs.Spelling.{Spelling}
+use Rattle.smith_binary.specs.Spelling.Spelling.{any, written}
+use Rattle.smith_binary.specs.Pieces.{Is, IsSectionIn, Output, Writes}
+use Rattle.smith_binary.proofs.WrittenLemmas.{content_whole}
+use Rattle.smith_binary_sections.specs.Sections.{IsSectionIfIn}
+
+filled : {spelling : Spelling} {id : ℕ} {Content : List ℕ → Type 0} {bytes piece : List ℕ} → Content bytes → IsSectionIn spelling id (Is bytes) piece → IsSectionIn spelling id Content piece
+filled {Content = Content} content h = record {
+  first = h.first;
+  second = h.second;
+  is_first = h.is_first;
+  is_second = record { content = h.is_second.content; is_content = subst Content (sym h.is_second.is_content) content; form = h.is_second.form };
+  whole = h.whole;
+}
 
 -- a section of a content that was written by itself
-pub section_written : {old new : List ℕ} (is_written : Bool) (id : ℕ) (Content : List ℕ → Type 0) (content : List ℕ) → is_written ≡ true → Writes Content [] content → Writes (IsSection id (Is content)) old new
-    → Writes (IsSectionIf is_written id Content) old new
-section_written {old = old} {new = new} is_written id Content content says inner outer =
-    subst (λ (b : Bool). Writes (IsSectionIf b id Content) old new) (sym says)
-    (written_as (λ piece h. record {
-      first = h.first;
-      second = h.second;
-      is_first = h.is_first;
-      is_second = record { content = h.is_second.content; is_content = subst Content (sym h.is_second.is_content) (written_whole inner); form = h.is_second.form };
-      whole = h.whole;
-    }) outer)
+pub section_written : {old new empty inner : Output} (is_written : Bool) (id : ℕ) (Content : Spelling → List ℕ → Type 0) → is_written ≡ true → empty ≡ record { bytes = []; least = old.least } → Writes Content empty inner
+    → Writes (λ s. IsSectionIn s id (Is inner.bytes)) old new → Writes (λ s. IsSectionIfIn s is_written id (Content s)) old new
+section_written {old = old} {new = new} is_written id Content says is one outer =
+    let (content, kept) = content_whole old.least is one in
+    let inside : Writes (λ s. IsSectionIn s id (Content s)) old new = record {
+      piece = outer.piece;
+      spelled = filled {Content = Content any} content outer.spelled;
+      kept = filled {Content = Content (written old.least)} kept outer.kept;
+      whole = outer.whole;
+      same = outer.same;
+    } in
+    subst (λ (b : Bool). Writes (λ s. IsSectionIfIn s b id (Content s)) old new) (sym says) inside

@@ -2,17 +2,22 @@
 -- 3.0.
 use Rattle.std.specs.Prelude.{◌≡◌, ℕ, ◌^◌, ◌<◌, List, [], ◌∷◌, ◌++◌, length, replicate}
 use Rattle.std.specs.List.{flat_map}
-use Rattle.smith_binary.specs.Numbers.{IsUnsigned, shortest_bytes}
-use Rattle.smith_binary.specs.Pieces.{Is, Joined, IsList, IsSized}
+use Rattle.smith_binary.specs.Spelling.{IsUnsignedIn, Spelling}
+use Rattle.smith_binary.specs.Spelling.Spelling.{any}
+use Rattle.smith_binary.specs.Numbers.{shortest_bytes}
+use Rattle.smith_binary.specs.Pieces.{Is, Joined, IsList, IsSized, IsListIn, IsSizedIn}
 use Rattle.smith_syntax.specs.declared.value_type.ValType.{ValType}
 use Rattle.smith_syntax.specs.declared.code.Code.{Code}
 use Rattle.smith_syntax.specs.declared.code.Instructions.{Instructions}
 use Rattle.smith_syntax.specs.declared.code.Instructions.TheVariants.{Unreachable, Arbitrary}
-use Rattle.smith_binary_sections.specs.Types.{IsValType}
+use Rattle.smith_binary_sections.specs.Types.{IsValTypeIn}
 
 -- a run of locals of one type: their number, then the type (Code Section)
+abbrev pub IsRunIn : Spelling → ℕ × ValType → List ℕ → Type 0
+IsRunIn spelling run = Joined (IsUnsignedIn spelling 32 run.0) (IsValTypeIn spelling run.1)
+
 abbrev pub IsRun : ℕ × ValType → List ℕ → Type 0
-IsRun run = Joined (IsUnsigned 32 run.0) (IsValType run.1)
+IsRun = IsRunIn any
 
 -- the locals of runs (Code Section)
 abbrev pub locals_of : List (ℕ × ValType) → List ValType
@@ -26,8 +31,11 @@ pub record IsLocals (locals : List ValType) (piece : List ℕ) : Type 0 where
   pub form : IsList IsRun runs piece
 
 -- locals as they are written (Code Section): each as a run of its own (own rule)
+abbrev pub IsLocalsWrittenIn : Spelling → List ValType → List ℕ → Type 0
+IsLocalsWrittenIn spelling locals = IsListIn spelling (λ (local : ValType). IsRunIn spelling (1, local)) locals
+
 abbrev pub IsLocalsWritten : List ValType → List ℕ → Type 0
-IsLocalsWritten locals = IsList (λ (local : ValType). IsRun (1, local)) locals
+IsLocalsWritten = IsLocalsWrittenIn any
 
 -- a body after its size: its locals, then the bytes of its expression (Code Section)
 abbrev pub IsBody : List ValType × List ℕ → List ℕ → Type 0
@@ -35,8 +43,11 @@ IsBody body = IsSized (Joined (IsLocals body.0) (Is body.1))
 
 -- a body as it is written, after its size (Code Section): its locals, each as a run of its own (own
 -- rule), then the bytes of its expression
+abbrev pub IsBodyWrittenIn : Spelling → List ValType × List ℕ → List ℕ → Type 0
+IsBodyWrittenIn spelling body = IsSizedIn spelling (Joined (IsLocalsWrittenIn spelling body.0) (Is body.1))
+
 abbrev pub IsBodyWritten : List ValType × List ℕ → List ℕ → Type 0
-IsBodyWritten body = IsSized (Joined (IsLocalsWritten body.0) (Is body.1))
+IsBodyWritten = IsBodyWrittenIn any
 
 -- the shortest spelling of an index, of at most five bytes (own rule)
 abbrev pub index_bytes : ℕ → List ℕ

@@ -1,13 +1,14 @@
 -- Data segments: the section Binary Format, Modules, Data Section, of the WebAssembly Core
 -- Specification 3.0.
 use Rattle.std.specs.Prelude.{◌≡◌, ◌==◌, ℕ, List, if◌then◌else◌}
-use Rattle.smith_binary.specs.Numbers.{IsUnsigned}
-use Rattle.smith_binary.specs.Pieces.{IsByte, Joined, IsList}
+use Rattle.smith_binary.specs.Spelling.{IsUnsignedIn, Spelling}
+use Rattle.smith_binary.specs.Spelling.Spelling.{any}
+use Rattle.smith_binary.specs.Pieces.{IsByte, Joined, IsListIn}
 use Rattle.smith_syntax.specs.declared.const_instr.ConstInstr.{ConstInstr}
 use Rattle.smith_syntax.specs.declared.segments.DataSegment.{DataSegment}
 use Rattle.smith_syntax.specs.declared.segments.DataSegmentKind.{DataSegmentKind}
 use Rattle.smith_syntax.specs.declared.segments.DataSegmentKind.TheVariants.{Passive, Active}
-use Rattle.smith_binary_sections.specs.Instructions.{IsIndex, IsExpression, offset_of}
+use Rattle.smith_binary_sections.specs.Instructions.{offset_of, IsExpressionIn, IsIndexIn}
 
 -- the mode of a segment (Structure, Data Segments)
 pub data DataMode : Type 0 where
@@ -31,17 +32,23 @@ data_number no_memory = 1
 data_number named_memory = 2
 
 -- a segment in a form, after the number of the form (Data Section)
-abbrev pub IsInDataForm : DataForm → Data → List ℕ → Type 0
-IsInDataForm first_memory d piece =
-    (offset : List ConstInstr) × (d.mode ≡ active 0 offset) × Joined (IsExpression offset) (IsList IsByte d.bytes) piece
-IsInDataForm no_memory d piece = (d.mode ≡ passive) × IsList IsByte d.bytes piece
-IsInDataForm named_memory d piece =
+abbrev pub IsInDataFormIn : Spelling → DataForm → Data → List ℕ → Type 0
+IsInDataFormIn spelling first_memory d piece =
+    (offset : List ConstInstr) × (d.mode ≡ active 0 offset) × Joined (IsExpressionIn spelling offset) (IsListIn spelling IsByte d.bytes) piece
+IsInDataFormIn spelling no_memory d piece = (d.mode ≡ passive) × IsListIn spelling IsByte d.bytes piece
+IsInDataFormIn spelling named_memory d piece =
     (memory : ℕ) × (offset : List ConstInstr) × (d.mode ≡ active memory offset)
-    × Joined (IsIndex memory) (Joined (IsExpression offset) (IsList IsByte d.bytes)) piece
+    × Joined (IsIndexIn spelling memory) (Joined (IsExpressionIn spelling offset) (IsListIn spelling IsByte d.bytes)) piece
+
+abbrev pub IsInDataForm : DataForm → Data → List ℕ → Type 0
+IsInDataForm = IsInDataFormIn any
 
 -- the number of a form, then a segment in it (Data Section)
+abbrev pub IsDataFormIn : Spelling → DataForm → Data → List ℕ → Type 0
+IsDataFormIn spelling form d = Joined (IsUnsignedIn spelling 32 (data_number form)) (IsInDataFormIn spelling form d)
+
 abbrev pub IsDataIn : DataForm → Data → List ℕ → Type 0
-IsDataIn form d = Joined (IsUnsigned 32 (data_number form)) (IsInDataForm form d)
+IsDataIn = IsDataFormIn any
 
 -- a data segment: the number of a form, then the segment in it (Data Section)
 pub record IsData (d : Data) (piece : List ℕ) : Type 0 where
@@ -66,5 +73,8 @@ data_form Passive = no_memory
 data_form (Active memory offset) = active_data_form memory
 
 -- a data segment as it is written (own rule)
+abbrev pub IsDataWrittenIn : Spelling → DataSegment → List ℕ → Type 0
+IsDataWrittenIn spelling segment = IsDataFormIn spelling (data_form segment.kind) (data_of segment)
+
 abbrev pub IsDataWritten : DataSegment → List ℕ → Type 0
-IsDataWritten segment = IsDataIn (data_form segment.kind) (data_of segment)
+IsDataWritten = IsDataWrittenIn any

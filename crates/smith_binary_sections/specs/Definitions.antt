@@ -1,22 +1,27 @@
 -- Definitions of tables, globals and tags: the section Binary Format, Modules, Table Section,
 -- Global Section and Tag Section, of the WebAssembly Core Specification 3.0.
 use Rattle.std.specs.Prelude.{◌≡◌, ℕ, Option, Some, None, List, [], ◌∷◌, unwrap_or}
+use Rattle.smith_binary.specs.Spelling.{Spelling}
+use Rattle.smith_binary.specs.Spelling.Spelling.{any}
 use Rattle.smith_binary.specs.Pieces.{Is, Joined}
 use Rattle.smith_syntax.specs.declared.value_type.RefType.{RefType}
 use Rattle.smith_syntax.specs.declared.const_instr.ConstInstr.{ConstInstr}
 use Rattle.smith_syntax.specs.declared.const_instr.ConstInstr.TheVariants.{RefNull}
 use Rattle.smith_syntax.specs.declared.entity_type.GlobalType.{GlobalType}
 use Rattle.smith_syntax.specs.declared.entity_type.TableType.{TableType}
-use Rattle.smith_binary_sections.specs.Instructions.{IsExpression}
-use Rattle.smith_binary_sections.specs.Entities.{IsGlobalType, IsTableType}
+use Rattle.smith_binary_sections.specs.Instructions.{IsExpressionIn}
+use Rattle.smith_binary_sections.specs.Entities.{IsTableType, IsGlobalTypeIn, IsTableTypeIn}
 
 -- the expression of the null reference of a type (Table Section)
 abbrev pub null_of : RefType → List ConstInstr
 null_of reference = RefNull reference.heap_type ∷ []
 
 -- two bytes, the type of a table and the expression of its elements (Table Section)
+abbrev pub IsInitialisedTableIn : Spelling → TableType → List ConstInstr → List ℕ → Type 0
+IsInitialisedTableIn spelling ty initial = Joined (Is (0x40 ∷ 0x00 ∷ [])) (Joined (IsTableTypeIn spelling ty) (IsExpressionIn spelling initial))
+
 abbrev pub IsInitialisedTable : TableType → List ConstInstr → List ℕ → Type 0
-IsInitialisedTable ty initial = Joined (Is (0x40 ∷ 0x00 ∷ [])) (Joined (IsTableType ty) (IsExpression initial))
+IsInitialisedTable = IsInitialisedTableIn any
 
 -- a table: with the expression of its elements; or its type alone, if they are null (Table Section)
 pub data IsTable (table : TableType × List ConstInstr) (piece : List ℕ) : Type 0 where
@@ -24,8 +29,11 @@ pub data IsTable (table : TableType × List ConstInstr) (piece : List ℕ) : Typ
   null : table.1 ≡ null_of table.0.element_type → IsTableType table.0 piece → IsTable table piece
 
 -- a global: its type, then the expression of its first value (Global Section)
+abbrev pub IsGlobalIn : Spelling → GlobalType × List ConstInstr → List ℕ → Type 0
+IsGlobalIn spelling global = Joined (IsGlobalTypeIn spelling global.0) (IsExpressionIn spelling global.1)
+
 abbrev pub IsGlobal : GlobalType × List ConstInstr → List ℕ → Type 0
-IsGlobal global = Joined (IsGlobalType global.0) (IsExpression global.1)
+IsGlobal = IsGlobalIn any
 
 -- a table of a type with an initialiser, or with null references if it has none (own rule)
 abbrev pub initialised_table : TableType × Option (List ConstInstr) → TableType × List ConstInstr
@@ -36,9 +44,15 @@ abbrev pub initialised_global : GlobalType × (ℕ × List ConstInstr) → Globa
 initialised_global global = (global.0, global.1.1)
 
 -- a table as it is written: its type alone if it has no initialiser (own rule)
+abbrev pub IsTableAsIn : Spelling → TableType → Option (List ConstInstr) → List ℕ → Type 0
+IsTableAsIn spelling ty None = IsTableTypeIn spelling ty
+IsTableAsIn spelling ty (Some initial) = IsInitialisedTableIn spelling ty initial
+
 abbrev pub IsTableAs : TableType → Option (List ConstInstr) → List ℕ → Type 0
-IsTableAs ty None = IsTableType ty
-IsTableAs ty (Some initial) = IsInitialisedTable ty initial
+IsTableAs = IsTableAsIn any
+
+abbrev pub IsTableWrittenIn : Spelling → TableType × Option (List ConstInstr) → List ℕ → Type 0
+IsTableWrittenIn spelling table = IsTableAsIn spelling table.0 table.1
 
 abbrev pub IsTableWritten : TableType × Option (List ConstInstr) → List ℕ → Type 0
-IsTableWritten table = IsTableAs table.0 table.1
+IsTableWritten = IsTableWrittenIn any

@@ -1,8 +1,9 @@
 -- Element segments: the section Binary Format, Modules, Element Section, of the WebAssembly Core
 -- Specification 3.0.
 use Rattle.std.specs.Prelude.{◌≡◌, ◌==◌, ℕ, Bool, true, false, not, ◌&&◌, List, [], ◌∷◌, map, unwrap_or, if◌then◌else◌}
-use Rattle.smith_binary.specs.Numbers.{IsUnsigned}
-use Rattle.smith_binary.specs.Pieces.{IsByte, Joined, IsList}
+use Rattle.smith_binary.specs.Spelling.{IsUnsignedIn, Spelling}
+use Rattle.smith_binary.specs.Spelling.Spelling.{any}
+use Rattle.smith_binary.specs.Pieces.{IsByte, Joined, IsListIn}
 use Rattle.smith_syntax.specs.declared.value_type.AbstractHeapType.TheVariants as abstract
 use Rattle.smith_syntax.specs.declared.value_type.HeapType.{HeapType}
 use Rattle.smith_syntax.specs.declared.value_type.HeapType.TheVariants.{Abstract}
@@ -14,8 +15,8 @@ use Rattle.smith_syntax.specs.declared.segments.ElementKind.{ElementKind}
 use Rattle.smith_syntax.specs.declared.segments.ElementKind.TheVariants.{Passive, Declared, Active}
 use Rattle.smith_syntax.specs.declared.segments.Elements.{Elements}
 use Rattle.smith_syntax.specs.declared.segments.Elements.TheVariants.{Functions, Expressions}
-use Rattle.smith_binary_sections.specs.Types.{IsRefType}
-use Rattle.smith_binary_sections.specs.Instructions.{IsIndex, IsExpression, offset_of}
+use Rattle.smith_binary_sections.specs.Types.{IsRefTypeIn}
+use Rattle.smith_binary_sections.specs.Instructions.{offset_of, IsExpressionIn, IsIndexIn}
 
 -- the mode of a segment (Structure, Element Segments)
 pub data Mode : Type 0 where
@@ -60,30 +61,45 @@ form_number table_items = 6
 form_number declared_items = 7
 
 -- lists of functions, and of expressions (Element Section)
+abbrev pub IsFuncsIn : Spelling → List ℕ → List ℕ → Type 0
+IsFuncsIn spelling = IsListIn spelling (IsIndexIn spelling)
+
 abbrev pub IsFuncs : List ℕ → List ℕ → Type 0
-IsFuncs = IsList IsIndex
+IsFuncs = IsFuncsIn any
+
+abbrev pub IsItemsIn : Spelling → List (List ConstInstr) → List ℕ → Type 0
+IsItemsIn spelling = IsListIn spelling (IsExpressionIn spelling)
 
 abbrev pub IsItems : List (List ConstInstr) → List ℕ → Type 0
-IsItems = IsList IsExpression
+IsItems = IsItemsIn any
 
 -- functions after the byte of their kind (Element Section)
+abbrev pub IsKindFuncsIn : Spelling → List ℕ → List ℕ → Type 0
+IsKindFuncsIn spelling funcs = Joined (IsByte 0x00) (IsFuncsIn spelling funcs)
+
 abbrev pub IsKindFuncs : List ℕ → List ℕ → Type 0
-IsKindFuncs funcs = Joined (IsByte 0x00) (IsFuncs funcs)
+IsKindFuncs = IsKindFuncsIn any
 
 -- a segment in a form, after the number of the form (Element Section)
+abbrev pub IsInFormIn : Spelling → Form → Elem → List ℕ → Type 0
+IsInFormIn spelling first_funcs e piece = (offset : List ConstInstr) × (funcs : List ℕ) × (e ≡ record { ty = func_ref false; items = func_items funcs; mode = active 0 offset }) × Joined (IsExpressionIn spelling offset) (IsFuncsIn spelling funcs) piece
+IsInFormIn spelling passive_funcs e piece = (funcs : List ℕ) × (e ≡ record { ty = func_ref false; items = func_items funcs; mode = passive }) × IsKindFuncsIn spelling funcs piece
+IsInFormIn spelling table_funcs e piece = (table : ℕ) × (offset : List ConstInstr) × (funcs : List ℕ) × (e ≡ record { ty = func_ref false; items = func_items funcs; mode = active table offset }) × Joined (IsIndexIn spelling table) (Joined (IsExpressionIn spelling offset) (IsKindFuncsIn spelling funcs)) piece
+IsInFormIn spelling declared_funcs e piece = (funcs : List ℕ) × (e ≡ record { ty = func_ref false; items = func_items funcs; mode = declared }) × IsKindFuncsIn spelling funcs piece
+IsInFormIn spelling first_items e piece = (offset : List ConstInstr) × (items : List (List ConstInstr)) × (e ≡ record { ty = func_ref true; items = items; mode = active 0 offset }) × Joined (IsExpressionIn spelling offset) (IsItemsIn spelling items) piece
+IsInFormIn spelling passive_items e piece = (ty : RefType) × (items : List (List ConstInstr)) × (e ≡ record { ty = ty; items = items; mode = passive }) × Joined (IsRefTypeIn spelling ty) (IsItemsIn spelling items) piece
+IsInFormIn spelling table_items e piece = (table : ℕ) × (offset : List ConstInstr) × (ty : RefType) × (items : List (List ConstInstr)) × (e ≡ record { ty = ty; items = items; mode = active table offset }) × Joined (IsIndexIn spelling table) (Joined (IsExpressionIn spelling offset) (Joined (IsRefTypeIn spelling ty) (IsItemsIn spelling items))) piece
+IsInFormIn spelling declared_items e piece = (ty : RefType) × (items : List (List ConstInstr)) × (e ≡ record { ty = ty; items = items; mode = declared }) × Joined (IsRefTypeIn spelling ty) (IsItemsIn spelling items) piece
+
 abbrev pub IsInForm : Form → Elem → List ℕ → Type 0
-IsInForm first_funcs e piece = (offset : List ConstInstr) × (funcs : List ℕ) × (e ≡ record { ty = func_ref false; items = func_items funcs; mode = active 0 offset }) × Joined (IsExpression offset) (IsFuncs funcs) piece
-IsInForm passive_funcs e piece = (funcs : List ℕ) × (e ≡ record { ty = func_ref false; items = func_items funcs; mode = passive }) × IsKindFuncs funcs piece
-IsInForm table_funcs e piece = (table : ℕ) × (offset : List ConstInstr) × (funcs : List ℕ) × (e ≡ record { ty = func_ref false; items = func_items funcs; mode = active table offset }) × Joined (IsIndex table) (Joined (IsExpression offset) (IsKindFuncs funcs)) piece
-IsInForm declared_funcs e piece = (funcs : List ℕ) × (e ≡ record { ty = func_ref false; items = func_items funcs; mode = declared }) × IsKindFuncs funcs piece
-IsInForm first_items e piece = (offset : List ConstInstr) × (items : List (List ConstInstr)) × (e ≡ record { ty = func_ref true; items = items; mode = active 0 offset }) × Joined (IsExpression offset) (IsItems items) piece
-IsInForm passive_items e piece = (ty : RefType) × (items : List (List ConstInstr)) × (e ≡ record { ty = ty; items = items; mode = passive }) × Joined (IsRefType ty) (IsItems items) piece
-IsInForm table_items e piece = (table : ℕ) × (offset : List ConstInstr) × (ty : RefType) × (items : List (List ConstInstr)) × (e ≡ record { ty = ty; items = items; mode = active table offset }) × Joined (IsIndex table) (Joined (IsExpression offset) (Joined (IsRefType ty) (IsItems items))) piece
-IsInForm declared_items e piece = (ty : RefType) × (items : List (List ConstInstr)) × (e ≡ record { ty = ty; items = items; mode = declared }) × Joined (IsRefType ty) (IsItems items) piece
+IsInForm = IsInFormIn any
 
 -- the number of a form, then a segment in it (Element Section)
+abbrev pub IsElemFormIn : Spelling → Form → Elem → List ℕ → Type 0
+IsElemFormIn spelling form e = Joined (IsUnsignedIn spelling 32 (form_number form)) (IsInFormIn spelling form e)
+
 abbrev pub IsElemIn : Form → Elem → List ℕ → Type 0
-IsElemIn form e = Joined (IsUnsigned 32 (form_number form)) (IsInForm form e)
+IsElemIn = IsElemFormIn any
 
 -- an element segment: the number of a form, then the segment in it (Element Section)
 pub record IsElem (e : Elem) (piece : List ℕ) : Type 0 where
@@ -145,5 +161,8 @@ elem_form (Functions funcs) ty kind = funcs_form kind
 elem_form (Expressions items) ty kind = items_form ty kind
 
 -- an element segment as it is written (own rule)
+abbrev pub IsElemWrittenIn : Spelling → ElementSegment → List ℕ → Type 0
+IsElemWrittenIn spelling segment = IsElemFormIn spelling (elem_form segment.items segment.ty segment.kind) (elem_of segment)
+
 abbrev pub IsElemWritten : ElementSegment → List ℕ → Type 0
-IsElemWritten segment = IsElemIn (elem_form segment.items segment.ty segment.kind) (elem_of segment)
+IsElemWritten = IsElemWrittenIn any

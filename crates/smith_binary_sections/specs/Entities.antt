@@ -2,15 +2,16 @@
 -- Shared entities are those of the threads and shared-everything-threads proposals, page sizes
 -- those of the custom page sizes proposal.
 use Rattle.std.specs.Prelude.{ℕ, ◌+◌, Bool, true, false, Option, Some, None, List, []}
-use Rattle.smith_binary.specs.Numbers.{IsUnsigned}
+use Rattle.smith_binary.specs.Spelling.{IsUnsignedIn, Spelling}
+use Rattle.smith_binary.specs.Spelling.Spelling.{any}
 use Rattle.smith_binary.specs.Pieces.{Is, IsByte, Joined}
 use Rattle.smith_syntax.specs.declared.entity_type.GlobalType.{GlobalType}
 use Rattle.smith_syntax.specs.declared.entity_type.TableType.{TableType}
 use Rattle.smith_syntax.specs.declared.entity_type.MemoryType.{MemoryType}
 use Rattle.smith_syntax.specs.declared.entity_type.EntityType.{EntityType}
 use Rattle.smith_syntax.specs.declared.entity_type.EntityType.TheVariants as entity
-use Rattle.smith_binary_sections.specs.Types.{IsRefType, IsValType}
-use Rattle.smith_binary_sections.specs.Instructions.{IsIndex}
+use Rattle.smith_binary_sections.specs.Types.{IsRefTypeIn, IsValTypeIn}
+use Rattle.smith_binary_sections.specs.Instructions.{IsIndexIn}
 
 -- a flag that is set, and one that is not (Limits)
 abbrev pub flag : Bool → ℕ → ℕ
@@ -24,21 +25,30 @@ is_there None = false
 
 -- an integer of 64 bits (Limits), or of 32 bits (custom page sizes proposal); no byte if there is
 -- none
+abbrev pub IsMaximumIn : Spelling → Option ℕ → List ℕ → Type 0
+IsMaximumIn spelling (Some n) piece = IsUnsignedIn spelling 64 n piece
+IsMaximumIn spelling None piece = Is [] piece
+
 abbrev pub IsMaximum : Option ℕ → List ℕ → Type 0
-IsMaximum (Some n) piece = IsUnsigned 64 n piece
-IsMaximum None piece = Is [] piece
+IsMaximum = IsMaximumIn any
+
+abbrev pub IsPageSizeIn : Spelling → Option ℕ → List ℕ → Type 0
+IsPageSizeIn spelling (Some log2) piece = IsUnsignedIn spelling 32 log2 piece
+IsPageSizeIn spelling None piece = Is [] piece
 
 abbrev pub IsPageSize : Option ℕ → List ℕ → Type 0
-IsPageSize (Some log2) piece = IsUnsigned 32 log2 piece
-IsPageSize None piece = Is [] piece
+IsPageSize = IsPageSizeIn any
 
 -- whether a global is mutable, and whether it is shared, a flag of the proposal (Global Types)
 abbrev pub global_byte : Bool → Bool → ℕ
 global_byte mutable shared = flag mutable 0x01 + flag shared 0x02
 
 -- a global type: its value type, then its flags (Global Types)
+abbrev pub IsGlobalTypeIn : Spelling → GlobalType → List ℕ → Type 0
+IsGlobalTypeIn spelling global = Joined (IsValTypeIn spelling global.val_type) (IsByte (global_byte global.mutable global.shared))
+
 abbrev pub IsGlobalType : GlobalType → List ℕ → Type 0
-IsGlobalType global = Joined (IsValType global.val_type) (IsByte (global_byte global.mutable global.shared))
+IsGlobalType = IsGlobalTypeIn any
 
 -- the flags of limits: whether there is a maximum, whether an entity is shared, whether its
 -- addresses have 64 bits, and whether a page size is stated (Limits; the second and the last are
@@ -47,29 +57,44 @@ abbrev pub limits_byte : Option ℕ → Bool → Bool → Option ℕ → ℕ
 limits_byte maximum shared wide page = flag (is_there maximum) 0x01 + flag shared 0x02 + flag wide 0x04 + flag (is_there page) 0x08
 
 -- limits after their flags: a minimum, and a maximum if there is one (Limits)
+abbrev pub IsRangeIn : Spelling → ℕ → Option ℕ → List ℕ → Type 0
+IsRangeIn spelling minimum maximum = Joined (IsUnsignedIn spelling 64 minimum) (IsMaximumIn spelling maximum)
+
 abbrev pub IsRange : ℕ → Option ℕ → List ℕ → Type 0
-IsRange minimum maximum = Joined (IsUnsigned 64 minimum) (IsMaximum maximum)
+IsRange = IsRangeIn any
 
 -- a memory type: its flags and its limits (Memory Types), then the logarithm of its page size if it
 -- states one (of the proposal)
-abbrev pub IsMemoryType : MemoryType → List ℕ → Type 0
-IsMemoryType memory =
+abbrev pub IsMemoryTypeIn : Spelling → MemoryType → List ℕ → Type 0
+IsMemoryTypeIn spelling memory =
     Joined (IsByte (limits_byte memory.maximum memory.shared memory.memory64 memory.page_size_log2))
-    (Joined (IsRange memory.minimum memory.maximum) (IsPageSize memory.page_size_log2))
+    (Joined (IsRangeIn spelling memory.minimum memory.maximum) (IsPageSizeIn spelling memory.page_size_log2))
+
+abbrev pub IsMemoryType : MemoryType → List ℕ → Type 0
+IsMemoryType = IsMemoryTypeIn any
 
 -- a table type: its reference type, then its flags and its limits (Table Types)
+abbrev pub IsTableTypeIn : Spelling → TableType → List ℕ → Type 0
+IsTableTypeIn spelling table =
+    Joined (IsRefTypeIn spelling table.element_type) (Joined (IsByte (limits_byte table.maximum table.shared table.table64 None)) (IsRangeIn spelling table.minimum table.maximum))
+
 abbrev pub IsTableType : TableType → List ℕ → Type 0
-IsTableType table =
-    Joined (IsRefType table.element_type) (Joined (IsByte (limits_byte table.maximum table.shared table.table64 None)) (IsRange table.minimum table.maximum))
+IsTableType = IsTableTypeIn any
 
 -- a tag type: a byte for exceptions, then the index of a function type (Tag Types)
+abbrev pub IsTagTypeIn : Spelling → ℕ → List ℕ → Type 0
+IsTagTypeIn spelling index = Joined (IsByte 0x00) (IsIndexIn spelling index)
+
 abbrev pub IsTagType : ℕ → List ℕ → Type 0
-IsTagType index = Joined (IsByte 0x00) (IsIndex index)
+IsTagType = IsTagTypeIn any
 
 -- an external type (External Types)
+abbrev pub IsExternTypeIn : Spelling → EntityType → List ℕ → Type 0
+IsExternTypeIn spelling (entity.Func index) piece = Joined (IsByte 0x00) (IsIndexIn spelling index) piece
+IsExternTypeIn spelling (entity.Table table) piece = Joined (IsByte 0x01) (IsTableTypeIn spelling table) piece
+IsExternTypeIn spelling (entity.Memory memory) piece = Joined (IsByte 0x02) (IsMemoryTypeIn spelling memory) piece
+IsExternTypeIn spelling (entity.Global global) piece = Joined (IsByte 0x03) (IsGlobalTypeIn spelling global) piece
+IsExternTypeIn spelling (entity.Tag index) piece = Joined (IsByte 0x04) (IsTagTypeIn spelling index) piece
+
 abbrev pub IsExternType : EntityType → List ℕ → Type 0
-IsExternType (entity.Func index) piece = Joined (IsByte 0x00) (IsIndex index) piece
-IsExternType (entity.Table table) piece = Joined (IsByte 0x01) (IsTableType table) piece
-IsExternType (entity.Memory memory) piece = Joined (IsByte 0x02) (IsMemoryType memory) piece
-IsExternType (entity.Global global) piece = Joined (IsByte 0x03) (IsGlobalType global) piece
-IsExternType (entity.Tag index) piece = Joined (IsByte 0x04) (IsTagType index) piece
+IsExternType = IsExternTypeIn any

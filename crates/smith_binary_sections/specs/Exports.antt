@@ -1,8 +1,9 @@
 -- Exports: the section Binary Format, Modules, Export Section, of the WebAssembly Core
 -- Specification 3.0.
 use Rattle.std.specs.Prelude.{ℕ, List}
-use Rattle.smith_binary.specs.Numbers.{IsUnsigned}
-use Rattle.smith_binary.specs.Pieces.{IsByte, Joined, IsName}
+use Rattle.smith_binary.specs.Spelling.{IsUnsignedIn, Spelling}
+use Rattle.smith_binary.specs.Spelling.Spelling.{any}
+use Rattle.smith_binary.specs.Pieces.{IsByte, Joined, IsNameIn}
 use Rattle.smith_syntax.specs.declared.entity_type.ExportKind.{ExportKind}
 use Rattle.smith_syntax.specs.declared.entity_type.ExportKind.TheVariants.{Func, Table, Memory, Global, Tag}
 
@@ -15,5 +16,8 @@ kind_byte Global = 0x03
 kind_byte Tag = 0x04
 
 -- an export: its name, then the index space and the index of its item (Export Section)
+abbrev pub IsExportIn : Spelling → List ℕ × ExportKind × ℕ → List ℕ → Type 0
+IsExportIn spelling item = Joined (IsNameIn spelling item.0) (Joined (IsByte (kind_byte item.1)) (IsUnsignedIn spelling 32 item.2))
+
 abbrev pub IsExport : List ℕ × ExportKind × ℕ → List ℕ → Type 0
-IsExport item = Joined (IsName item.0) (Joined (IsByte (kind_byte item.1)) (IsUnsigned 32 item.2))
+IsExport = IsExportIn any

@@ -1,8 +1,10 @@
 -- Modules: the section Binary Format, Modules, of the WebAssembly Core Specification 3.0. Custom
 -- sections are left out.
 use Rattle.std.specs.Prelude.{◌≡◌, ℕ, Option, Some, None, List, [], ◌∷◌, length}
+use Rattle.smith_binary.specs.Spelling.{Spelling}
+use Rattle.smith_binary.specs.Spelling.Spelling.{any}
 use Rattle.smith_binary.specs.Numbers.{IsUnsigned}
-use Rattle.smith_binary.specs.Pieces.{Is, Joined, IsSection}
+use Rattle.smith_binary.specs.Pieces.{Is, Joined, IsSectionIn}
 use Rattle.smith_syntax.specs.declared.value_type.ValType.{ValType}
 use Rattle.smith_syntax.specs.declared.composite_type.SubType.{SubType}
 use Rattle.smith_syntax.specs.declared.entity_type.ExportKind.{ExportKind}
@@ -12,7 +14,7 @@ use Rattle.smith_syntax.specs.declared.entity_type.MemoryType.{MemoryType}
 use Rattle.smith_syntax.specs.declared.imports.Import.{Import}
 use Rattle.smith_syntax.specs.declared.const_instr.ConstInstr.{ConstInstr}
 use Rattle.smith_binary_sections.specs.Types.{IsRecGroup}
-use Rattle.smith_binary_sections.specs.Instructions.{IsIndex}
+use Rattle.smith_binary_sections.specs.Instructions.{IsIndex, IsIndexIn}
 use Rattle.smith_binary_sections.specs.Entities.{IsMemoryType, IsTagType}
 use Rattle.smith_binary_sections.specs.Imports.{IsImports}
 use Rattle.smith_binary_sections.specs.Definitions.{IsTable, IsGlobal}
@@ -44,9 +46,12 @@ abbrev pub IsPreamble : List ℕ → Type 0
 IsPreamble = Is (0x00 ∷ 0x61 ∷ 0x73 ∷ 0x6D ∷ 0x01 ∷ 0x00 ∷ 0x00 ∷ 0x00 ∷ [])
 
 -- the section of a start function (Start Section)
+abbrev pub IsStartSectionIn : Spelling → Option ℕ → List ℕ → Type 0
+IsStartSectionIn spelling (Some index) piece = IsSectionIn spelling 8 (IsIndexIn spelling index) piece
+IsStartSectionIn spelling None piece = piece ≡ []
+
 abbrev pub IsStartSection : Option ℕ → List ℕ → Type 0
-IsStartSection (Some index) piece = IsSection 8 (IsIndex index) piece
-IsStartSection None piece = piece ≡ []
+IsStartSection = IsStartSectionIn any
 
 -- the number of data segments, which may be stated before the bodies (Data Count Section); the
 -- standard requires it if a body names a data segment, which this relation, over bytes of bodies,

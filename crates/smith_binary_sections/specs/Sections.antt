@@ -1,7 +1,9 @@
 -- Sections: the section Binary Format, Modules, Sections, of the WebAssembly Core Specification
 -- 3.0.
 use Rattle.std.specs.Prelude.{◌≡◌, ℕ, Bool, true, false, List, []}
-use Rattle.smith_binary.specs.Pieces.{Is, IsList, IsSection}
+use Rattle.smith_binary.specs.Spelling.{Spelling}
+use Rattle.smith_binary.specs.Spelling.Spelling.{any}
+use Rattle.smith_binary.specs.Pieces.{Is, IsList, IsSection, IsSectionIn}
 
 -- a section, which may be left out if it is empty (Sections)
 pub data IsOptionalSection (id : ℕ) (SaysNothing : Type 0) (Content : List ℕ → Type 0) (piece : List ℕ) : Type 0 where
@@ -13,6 +15,9 @@ abbrev pub IsListSection : {A : Type 0} → ℕ → (A → List ℕ → Type 0) 
 IsListSection id Item xs = IsOptionalSection id (xs ≡ []) (IsList Item xs)
 
 -- a section if it is to be written, else no byte (Sections)
+abbrev pub IsSectionIfIn : Spelling → Bool → ℕ → (List ℕ → Type 0) → List ℕ → Type 0
+IsSectionIfIn spelling true id Content = IsSectionIn spelling id Content
+IsSectionIfIn spelling false id Content = Is []
+
 abbrev pub IsSectionIf : Bool → ℕ → (List ℕ → Type 0) → List ℕ → Type 0
-IsSectionIf true id Content = IsSection id Content
-IsSectionIf false id Content = Is []
+IsSectionIf = IsSectionIfIn any

@@ -3,8 +3,10 @@
 -- proposal.
 use Rattle.std.specs.Prelude.{◌≡◌, ℕ, Bool, true, false, List, [], ◌∷◌, Option, None, Some, pos, option_to_list, take, drop}
 use Rattle.std.specs.declared.ops.Range.{Range}
-use Rattle.smith_binary.specs.Numbers.{IsUnsigned, IsSigned}
-use Rattle.smith_binary.specs.Pieces.{Is, IsByte, Joined, IsList}
+use Rattle.smith_binary.specs.Spelling.{IsSignedIn, IsUnsignedIn, Spelling}
+use Rattle.smith_binary.specs.Spelling.Spelling.{any, written}
+use Rattle.smith_binary.specs.Numbers.{IsUnsigned}
+use Rattle.smith_binary.specs.Pieces.{Is, IsByte, Joined, IsList, IsListIn}
 use Rattle.smith_syntax.specs.declared.value_type.AbstractHeapType.{AbstractHeapType}
 use Rattle.smith_syntax.specs.declared.value_type.AbstractHeapType.TheVariants as abstract
 use Rattle.smith_syntax.specs.declared.value_type.HeapType.{HeapType}
@@ -38,11 +40,14 @@ abstract_byte abstract.NoExn = 0x74
 
 -- a heap type (Heap Types): a byte, or the index of a type, as a signed integer that is not
 -- negative; if it is shared or exact, after a byte of the proposal
+abbrev pub IsHeapTypeIn : Spelling → HeapType → List ℕ → Type 0
+IsHeapTypeIn spelling (Abstract false ty) piece = IsByte (abstract_byte ty) piece
+IsHeapTypeIn spelling (Abstract true ty) piece = Joined (IsByte 0x65) (IsByte (abstract_byte ty)) piece
+IsHeapTypeIn spelling (Concrete index) piece = IsSignedIn spelling 33 (pos index) piece
+IsHeapTypeIn spelling (Exact index) piece = Joined (IsByte 0x62) (IsUnsignedIn spelling 32 index) piece
+
 abbrev pub IsHeapType : HeapType → List ℕ → Type 0
-IsHeapType (Abstract false ty) piece = IsByte (abstract_byte ty) piece
-IsHeapType (Abstract true ty) piece = Joined (IsByte 0x65) (IsByte (abstract_byte ty)) piece
-IsHeapType (Concrete index) piece = IsSigned 33 (pos index) piece
-IsHeapType (Exact index) piece = Joined (IsByte 0x62) (IsUnsigned 32 index) piece
+IsHeapType = IsHeapTypeIn any
 
 -- an abstract heap type alone (Reference Types)
 abbrev pub IsAbstractAlone : HeapType → List ℕ → Type 0
@@ -60,20 +65,42 @@ pub data IsRefType (reference : RefType) (piece : List ℕ) : Type 0 where
   full : Joined (IsByte (null_byte reference.nullable)) (IsHeapType reference.heap_type) piece → IsRefType reference piece
   short : reference.nullable ≡ true → IsAbstractAlone reference.heap_type piece → IsRefType reference piece
 
+-- the abstract heap type that a reference type is written as, if it is nullable and that type is not
+-- shared (own rule)
+abbrev pub short_ref : Bool → HeapType → Option AbstractHeapType
+short_ref true (Abstract false ty) = Some ty
+short_ref nullable heap = None
+
+abbrev pub IsRefTypeAs : Spelling → RefType → Option AbstractHeapType → List ℕ → Type 0
+IsRefTypeAs spelling reference (Some ty) piece = IsByte (abstract_byte ty) piece
+IsRefTypeAs spelling reference None piece = Joined (IsByte (null_byte reference.nullable)) (IsHeapTypeIn spelling reference.heap_type) piece
+
+-- a reference type (Reference Types): where it is written, as its abstract heap type alone if it can be
+-- (own rule)
+abbrev pub IsRefTypeIn : Spelling → RefType → List ℕ → Type 0
+IsRefTypeIn any reference = IsRefType reference
+IsRefTypeIn (written least) reference = IsRefTypeAs (written least) reference (short_ref reference.nullable reference.heap_type)
+
 -- a value type (Number Types, Vector Types, Value Types)
+abbrev pub IsValTypeIn : Spelling → ValType → List ℕ → Type 0
+IsValTypeIn spelling I32 piece = IsByte 0x7F piece
+IsValTypeIn spelling I64 piece = IsByte 0x7E piece
+IsValTypeIn spelling F32 piece = IsByte 0x7D piece
+IsValTypeIn spelling F64 piece = IsByte 0x7C piece
+IsValTypeIn spelling V128 piece = IsByte 0x7B piece
+IsValTypeIn spelling (Ref reference) piece = IsRefTypeIn spelling reference piece
+
 abbrev pub IsValType : ValType → List ℕ → Type 0
-IsValType I32 piece = IsByte 0x7F piece
-IsValType I64 piece = IsByte 0x7E piece
-IsValType F32 piece = IsByte 0x7D piece
-IsValType F64 piece = IsByte 0x7C piece
-IsValType V128 piece = IsByte 0x7B piece
-IsValType (Ref reference) piece = IsRefType reference piece
+IsValType = IsValTypeIn any
 
 -- a storage type (Composite Types)
+abbrev pub IsStorageTypeIn : Spelling → StorageType → List ℕ → Type 0
+IsStorageTypeIn spelling storage.I8 piece = IsByte 0x78 piece
+IsStorageTypeIn spelling storage.I16 piece = IsByte 0x77 piece
+IsStorageTypeIn spelling (storage.Val value) piece = IsValTypeIn spelling value piece
+
 abbrev pub IsStorageType : StorageType → List ℕ → Type 0
-IsStorageType storage.I8 piece = IsByte 0x78 piece
-IsStorageType storage.I16 piece = IsByte 0x77 piece
-IsStorageType (storage.Val value) piece = IsValType value piece
+IsStorageType = IsStorageTypeIn any
 
 -- the byte of a field, by whether it is mutable (Composite Types)
 abbrev pub mutability_byte : Bool → ℕ
@@ -81,18 +108,27 @@ mutability_byte false = 0x00
 mutability_byte true = 0x01
 
 -- a field: its storage type, and whether it is mutable (Composite Types)
+abbrev pub IsFieldTypeIn : Spelling → FieldType → List ℕ → Type 0
+IsFieldTypeIn spelling field = Joined (IsStorageTypeIn spelling field.element_type) (IsByte (mutability_byte field.mutable))
+
 abbrev pub IsFieldType : FieldType → List ℕ → Type 0
-IsFieldType field = Joined (IsStorageType field.element_type) (IsByte (mutability_byte field.mutable))
+IsFieldType = IsFieldTypeIn any
 
 -- the lists of a function type (Composite Types)
+abbrev pub IsFuncTypeIn : Spelling → FuncType → List ℕ → Type 0
+IsFuncTypeIn spelling function = Joined (IsListIn spelling (IsValTypeIn spelling) function.params) (IsListIn spelling (IsValTypeIn spelling) function.results)
+
 abbrev pub IsFuncType : FuncType → List ℕ → Type 0
-IsFuncType function = Joined (IsList IsValType function.params) (IsList IsValType function.results)
+IsFuncType = IsFuncTypeIn any
 
 -- an array, a struct or a function type (Composite Types)
+abbrev pub IsInnerTypeIn : Spelling → CompositeInnerType → List ℕ → Type 0
+IsInnerTypeIn spelling (inner.Array array) piece = Joined (IsByte 0x5E) (IsFieldTypeIn spelling array.0) piece
+IsInnerTypeIn spelling (inner.Struct structure) piece = Joined (IsByte 0x5F) (IsListIn spelling (IsFieldTypeIn spelling) structure.fields) piece
+IsInnerTypeIn spelling (inner.Func function) piece = Joined (IsByte 0x60) (IsFuncTypeIn spelling function) piece
+
 abbrev pub IsInnerType : CompositeInnerType → List ℕ → Type 0
-IsInnerType (inner.Array array) piece = Joined (IsByte 0x5E) (IsFieldType array.0) piece
-IsInnerType (inner.Struct structure) piece = Joined (IsByte 0x5F) (IsList IsFieldType structure.fields) piece
-IsInnerType (inner.Func function) piece = Joined (IsByte 0x60) (IsFuncType function) piece
+IsInnerType = IsInnerTypeIn any
 
 -- the byte of a shared type, of the proposal; no byte if a type is not shared
 abbrev pub shared_bytes : Bool → List ℕ
@@ -100,8 +136,11 @@ shared_bytes true = 0x65 ∷ []
 shared_bytes false = []
 
 -- a composite type, after the byte of a shared one (Composite Types)
+abbrev pub IsCompositeTypeIn : Spelling → CompositeType → List ℕ → Type 0
+IsCompositeTypeIn spelling composite = Joined (Is (shared_bytes composite.shared)) (IsInnerTypeIn spelling composite.inner)
+
 abbrev pub IsCompositeType : CompositeType → List ℕ → Type 0
-IsCompositeType composite = Joined (Is (shared_bytes composite.shared)) (IsInnerType composite.inner)
+IsCompositeType = IsCompositeTypeIn any
 
 -- the byte of a sub type, by whether it is final (Recursive Types)
 abbrev pub final_byte : Bool → ℕ
@@ -124,21 +163,30 @@ abbrev pub is_alone : Option ℕ → Bool → Bool
 is_alone None is_final = is_final
 is_alone (Some index) is_final = false
 
-abbrev pub IsSubTypeAs : Bool → SubType → List ℕ → Type 0
-IsSubTypeAs true t = IsCompositeType t.composite_type
-IsSubTypeAs false t =
+abbrev pub IsSubTypeAsIn : Spelling → Bool → SubType → List ℕ → Type 0
+IsSubTypeAsIn spelling true t = IsCompositeTypeIn spelling t.composite_type
+IsSubTypeAsIn spelling false t =
     Joined (IsByte (final_byte t.is_final))
-    (Joined (IsList (IsUnsigned 32) (option_to_list t.supertype)) (IsCompositeType t.composite_type))
+    (Joined (IsListIn spelling (IsUnsignedIn spelling 32) (option_to_list t.supertype)) (IsCompositeTypeIn spelling t.composite_type))
+
+abbrev pub IsSubTypeAs : Bool → SubType → List ℕ → Type 0
+IsSubTypeAs = IsSubTypeAsIn any
 
 -- a sub type as it is written: its composite type alone, if it is final and has no supertype (own
 -- rule)
+abbrev pub IsSubTypeWrittenIn : Spelling → SubType → List ℕ → Type 0
+IsSubTypeWrittenIn spelling t = IsSubTypeAsIn spelling (is_alone t.supertype t.is_final) t
+
 abbrev pub IsSubTypeWritten : SubType → List ℕ → Type 0
-IsSubTypeWritten t = IsSubTypeAs (is_alone t.supertype t.is_final) t
+IsSubTypeWritten = IsSubTypeWrittenIn any
 
 -- a recursive group as it is written: its sub type alone, if it has one (own rule)
+abbrev pub IsRecGroupWrittenIn : Spelling → List SubType → List ℕ → Type 0
+IsRecGroupWrittenIn spelling (t ∷ []) = IsSubTypeWrittenIn spelling t
+IsRecGroupWrittenIn spelling group = Joined (IsByte 0x4E) (IsListIn spelling (IsSubTypeWrittenIn spelling) group)
+
 abbrev pub IsRecGroupWritten : List SubType → List ℕ → Type 0
-IsRecGroupWritten (t ∷ []) = IsSubTypeWritten t
-IsRecGroupWritten group = Joined (IsByte 0x4E) (IsList IsSubTypeWritten group)
+IsRecGroupWritten = IsRecGroupWrittenIn any
 
 -- the types of a range of indices (Structure, Recursive Types)
 abbrev pub group_at : List SubType → Range ℕ → List SubType

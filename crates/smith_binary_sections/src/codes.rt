@@ -2,7 +2,8 @@ ghost use Rattle.std.specs.Prelude.{◌≡◌, ◌∷◌, ℕ, List, OnOk, IfErr
 ghost use Rattle.smith_binary.specs.declared.error.EncodeError.TheVariants.{Memory};
 ghost use Rattle.smith_binary.specs.Faults.{IsFault};
 ghost use Rattle.smith_binary.specs.Pieces.{Is, Writes};
-ghost use Rattle.smith_binary_sections.specs.Codes.{IsRun, IsLocalsWritten, IsBodyWritten, index_bytes};
+ghost use Rattle.smith_binary_sections.specs.Codes.{index_bytes, IsBodyWrittenIn};
+ghost use Rattle.smith_binary_sections.specs.Codes.{IsLocalsWrittenIn, IsRunIn};
 ghost use Rattle.smith_binary_sections.specs.Codes.{check_bytes, checks_bytes, body_bytes, body_of};
 ghost use Rattle.smith_binary_sections.specs.Long.{IsNeverLong, IsLongBody, IsLongList};
 
@@ -15,7 +16,7 @@ use smith_types::{Code, Instructions, ValType};
 struct Runs;
 
 impl EncodeItem<ValType> for Runs {
-    ghost spells = { λ _ local. IsRun (1, local) };
+    ghost spells = { λ s _ local. IsRunIn s (1, local) };
 
     ghost is_long = { λ _. IsNeverLong };
 
@@ -27,25 +28,25 @@ impl EncodeItem<ValType> for Runs {
 
 // Writes the list of `locals`, each as a run of its own.
 fn write_locals(locals: &[ValType], sink: &mut Sink) -> Result<(), EncodeError>
-    ensures writes { OnOk result (Writes (IsLocalsWritten locals.now) sink.old sink.new) }
+    ensures writes { OnOk result (Writes (λ s. IsLocalsWrittenIn s locals.now) sink.old sink.new) }
     ensures fault { IfErr result (IsFault (IsLongList IsNeverLong locals.now)) }
 {
     sink.write_length(locals.len())?;
     write_each(&Runs, locals, sink)
 }
 
-// Writes an index after the byte of an instruction.
+// Writes an index after the byte of an instruction, in as few bytes as possible.
 fn write_indexed(byte: u8, index: u32, sink: &mut Sink) -> Result<(), EncodeError>
-    ensures writes { OnOk result (Writes (Is (byte ∷ index_bytes index)) sink.old sink.new) }
+    ensures writes { OnOk result (Writes (λ _. Is (byte ∷ index_bytes index)) sink.old sink.new) }
     ensures memory { IfErr result (λ e. e ≡ Memory) }
 {
     sink.write_byte(byte)?;
-    sink.write_unsigned(u64::from(index))
+    sink.write_shortest(index)
 }
 
 // Writes the check of the counter of fuel `counter`: it traps at 0, else subtracts 1.
 fn write_check(counter: u32, sink: &mut Sink) -> Result<(), EncodeError>
-    ensures writes { OnOk result (Writes (Is (check_bytes counter)) sink.old sink.new) }
+    ensures writes { OnOk result (Writes (λ _. Is (check_bytes counter)) sink.old sink.new) }
     ensures memory { IfErr result (λ e. e ≡ Memory) }
 {
     write_indexed(0x23, counter, sink)?;
@@ -57,7 +58,7 @@ fn write_check(counter: u32, sink: &mut Sink) -> Result<(), EncodeError>
 
 // Writes the checks of `counters`, the last one first.
 fn write_checks(counters: &[u32], sink: &mut Sink) -> Result<(), EncodeError>
-    ensures writes { OnOk result (Writes (Is (checks_bytes counters.now)) sink.old sink.new) }
+    ensures writes { OnOk result (Writes (λ _. Is (checks_bytes counters.now)) sink.old sink.new) }
     ensures memory { IfErr result (λ e. e ≡ Memory) }
 {
     let mut rest = counters;
@@ -75,7 +76,7 @@ fn write_instructions(
     sink: &mut Sink,
 ) -> Result<(), EncodeError>
     ensures writes { OnOk result
-        (Writes (Is (body_bytes counters.now instructions.now)) sink.old sink.new) }
+        (Writes (λ _. Is (body_bytes counters.now instructions.now)) sink.old sink.new) }
     ensures memory { IfErr result (λ e. e ≡ Memory) }
 {
     match instructions {
@@ -96,7 +97,7 @@ pub struct Bodies<'a> {
 }
 
 impl<'a> EncodeItem<Code> for Bodies<'a> {
-    ghost spells = { λ bodies code. IsBodyWritten (body_of bodies.counters.now code) };
+    ghost spells = { λ s bodies code. IsBodyWrittenIn s (body_of bodies.counters.now code) };
 
     ghost is_long = { λ bodies code. IsLongBody (body_of bodies.counters.now code) };
 

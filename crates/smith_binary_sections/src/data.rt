@@ -1,8 +1,9 @@
 ghost use Rattle.std.specs.Prelude.{◌≡◌, ◌≤◌, ◌^◌, ℕ, List, length, OnOk, IfErr};
 ghost use Rattle.smith_binary.specs.Faults.{IsFault};
-ghost use Rattle.smith_binary.specs.Pieces.{IsByte, IsList, Writes};
+ghost use Rattle.smith_binary.specs.Pieces.{IsByte, Writes, IsListIn};
 ghost use Rattle.smith_binary_sections.specs.Instructions.{offset_of};
-ghost use Rattle.smith_binary_sections.specs.Data.{IsDataIn, IsDataWritten, active_data_form, data_of};
+ghost use Rattle.smith_binary_sections.specs.Data.{active_data_form, data_of, IsDataFormIn};
+ghost use Rattle.smith_binary_sections.specs.Data.{IsDataWrittenIn};
 ghost use Rattle.smith_binary_sections.specs.Data.DataMode.{active};
 ghost use Rattle.smith_binary_sections.specs.Long.{IsLongData};
 
@@ -12,7 +13,7 @@ use smith_types::{DataSegment, DataSegmentKind, Offset};
 
 // Writes the number of `bytes`, then the bytes.
 fn write_byte_list(bytes: &[u8], sink: &mut Sink) -> Result<(), EncodeError>
-    ensures writes { OnOk result (Writes (IsList IsByte bytes.now) sink.old sink.new) }
+    ensures writes { OnOk result (Writes (λ s. IsListIn s IsByte bytes.now) sink.old sink.new) }
     ensures fault { IfErr result (IsFault (2 ^ 32 ≤ length bytes.now)) }
 {
     sink.write_length(bytes.len())?;
@@ -26,7 +27,7 @@ fn write_active_data(
     bytes: &[u8],
     sink: &mut Sink,
 ) -> Result<(), EncodeError>
-    ensures writes { OnOk result (Writes (IsDataIn (active_data_form memory)
+    ensures writes { OnOk result (Writes (λ s. IsDataFormIn s (active_data_form memory)
         (record { bytes = bytes.now; mode = active memory (offset_of offset) }))
         sink.old sink.new) }
     ensures fault { IfErr result (IsFault (2 ^ 32 ≤ length bytes.now)) }
@@ -43,7 +44,7 @@ fn write_active_data(
 }
 
 impl Encode for DataSegment {
-    ghost spells = { IsDataWritten };
+    ghost spells = { IsDataWrittenIn };
 
     ghost is_long = { λ segment. IsLongData (data_of segment) };
 

@@ -1,8 +1,9 @@
 ghost use Rattle.std.specs.Prelude.{◌≡◌, Option, Some, None, unwrap_or, List, IfErr};
 ghost use Rattle.smith_binary.specs.declared.error.EncodeError.TheVariants.{Memory as OutOfMemory};
 ghost use Rattle.smith_binary.specs.Faults.{IsFault};
-ghost use Rattle.smith_binary_sections.specs.Entities.{IsTagType};
-ghost use Rattle.smith_binary_sections.specs.Definitions.{IsTableWritten, IsGlobal, initialised_global};
+ghost use Rattle.smith_binary_sections.specs.Entities.{IsTagTypeIn};
+ghost use Rattle.smith_binary_sections.specs.Definitions.{initialised_global, IsGlobalIn};
+ghost use Rattle.smith_binary_sections.specs.Definitions.{IsTableWrittenIn};
 ghost use Rattle.smith_binary_sections.specs.Long.{IsNeverLong};
 
 use crate::entities::write_tag_type;
@@ -16,7 +17,7 @@ use smith_types::{ConstInstr, GlobalType, Items, TableType};
 pub struct Tables;
 
 impl EncodePair<TableType, Option<Items<ConstInstr>>> for Tables {
-    ghost spells = { λ _ table. IsTableWritten table };
+    ghost spells = { λ s _ table. IsTableWrittenIn s table };
 
     fn encode_pair(
         &self,
@@ -40,7 +41,7 @@ impl EncodePair<TableType, Option<Items<ConstInstr>>> for Tables {
 pub struct Globals;
 
 impl EncodePair<GlobalType, (u32, Items<ConstInstr>)> for Globals {
-    ghost spells = { λ _ global. IsGlobal (initialised_global global) };
+    ghost spells = { λ s _ global. IsGlobalIn s (initialised_global global) };
 
     fn encode_pair(
         &self,
@@ -58,7 +59,7 @@ impl EncodePair<GlobalType, (u32, Items<ConstInstr>)> for Globals {
 pub struct Tags;
 
 impl EncodeItem<u32> for Tags {
-    ghost spells = { λ _ index. IsTagType index };
+    ghost spells = { λ s _ index. IsTagTypeIn s index };
 
     ghost is_long = { λ _. IsNeverLong };
 

@@ -2,21 +2,11 @@ ghost use Rattle.std.specs.Prelude.{◌≡◌, ◌==◌, ◌&&◌, false, ℕ, L
 ghost use Rattle.smith_binary.specs.Faults.{IsFault};
 ghost use Rattle.smith_binary.specs.Pieces.{Writes};
 ghost use Rattle.smith_binary_sections.specs.Instructions.{offset_of};
-ghost use Rattle.smith_binary_sections.specs.Elements.{
-  IsElemIn,
-  IsElemWritten,
-  IsKindFuncs,
-  active_funcs_form,
-  active_items_form,
-  funcs_form,
-  items_form,
-  is_func,
-  is_func_ref,
-  elem_of,
-  elem_mode,
-  func_ref,
-  func_items,
-};
+ghost use Rattle.smith_binary_sections.specs.Elements.{active_funcs_form, active_items_form};
+ghost use Rattle.smith_binary_sections.specs.Elements.{funcs_form, items_form, is_func};
+ghost use Rattle.smith_binary_sections.specs.Elements.{is_func_ref, elem_of, elem_mode, func_ref};
+ghost use Rattle.smith_binary_sections.specs.Elements.{func_items, IsElemFormIn, IsElemWrittenIn};
+ghost use Rattle.smith_binary_sections.specs.Elements.{IsKindFuncsIn};
 ghost use Rattle.smith_binary_sections.specs.Elements.Mode.{active as at_table};
 ghost use Rattle.smith_binary_sections.specs.Long.{IsLongList, IsNeverLong, IsLongElem};
 
@@ -29,7 +19,7 @@ use smith_types::{
 
 // Writes the functions `funcs` after the byte of their kind.
 fn write_kind_funcs(funcs: &[u32], sink: &mut Sink) -> Result<(), EncodeError>
-    ensures writes { OnOk result (Writes (IsKindFuncs funcs.now) sink.old sink.new) }
+    ensures writes { OnOk result (Writes (λ s. IsKindFuncsIn s funcs.now) sink.old sink.new) }
     ensures fault { IfErr result (IsFault (IsLongList IsNeverLong funcs.now)) }
 {
     sink.write_byte(0x00)?;
@@ -44,7 +34,7 @@ fn write_active_funcs(
     funcs: &[u32],
     sink: &mut Sink,
 ) -> Result<(), EncodeError>
-    ensures writes { OnOk result (Writes (IsElemIn (active_funcs_form table) (record {
+    ensures writes { OnOk result (Writes (λ s. IsElemFormIn s (active_funcs_form table) (record {
       ty = func_ref false;
       items = func_items funcs.now;
       mode = at_table table (offset_of offset);
@@ -64,7 +54,7 @@ fn write_active_funcs(
 
 // Writes a segment of the functions `funcs`.
 fn write_funcs(kind: ElementKind, funcs: &[u32], sink: &mut Sink) -> Result<(), EncodeError>
-    ensures writes { OnOk result (Writes (IsElemIn (funcs_form kind)
+    ensures writes { OnOk result (Writes (λ s. IsElemFormIn s (funcs_form kind)
         (record { ty = func_ref false; items = func_items funcs.now; mode = elem_mode kind }))
         sink.old sink.new) }
     ensures fault { IfErr result (IsFault (IsLongList IsNeverLong funcs.now)) }
@@ -114,7 +104,7 @@ fn write_active_items(
     items: &[Items<ConstInstr>],
     sink: &mut Sink,
 ) -> Result<(), EncodeError>
-    ensures writes { OnOk result (Writes (IsElemIn (active_items_form table ty)
+    ensures writes { OnOk result (Writes (λ s. IsElemFormIn s (active_items_form table ty)
         (record { ty = ty; items = items.now; mode = at_table table (offset_of offset) }))
         sink.old sink.new) }
     ensures fault { IfErr result (IsFault (IsLongList IsNeverLong items.now)) }
@@ -138,7 +128,7 @@ fn write_items(
     items: &[Items<ConstInstr>],
     sink: &mut Sink,
 ) -> Result<(), EncodeError>
-    ensures writes { OnOk result (Writes (IsElemIn (items_form ty kind)
+    ensures writes { OnOk result (Writes (λ s. IsElemFormIn s (items_form ty kind)
         (record { ty = ty; items = items.now; mode = elem_mode kind })) sink.old sink.new) }
     ensures fault { IfErr result (IsFault (IsLongList IsNeverLong items.now)) }
 {
@@ -160,7 +150,7 @@ fn write_items(
 }
 
 impl Encode for ElementSegment {
-    ghost spells = { IsElemWritten };
+    ghost spells = { IsElemWrittenIn };
 
     ghost is_long = { λ segment. IsLongElem (elem_of segment) };
 

@@ -2,9 +2,10 @@ ghost use Rattle.std.specs.Prelude.{◌≡◌, Option, None, OnOk, IfErr};
 ghost use Rattle.smith_binary.specs.declared.error.EncodeError.TheVariants.{Memory as OutOfMemory};
 ghost use Rattle.smith_binary.specs.Faults.{IsFault};
 ghost use Rattle.smith_binary.specs.Pieces.{Writes};
-ghost use Rattle.smith_binary_sections.specs.Entities.{flag, global_byte, limits_byte, IsRange};
-ghost use Rattle.smith_binary_sections.specs.Entities.{IsPageSize, IsGlobalType, IsMemoryType};
-ghost use Rattle.smith_binary_sections.specs.Entities.{IsTableType, IsTagType, IsExternType};
+ghost use Rattle.smith_binary_sections.specs.Entities.{flag, global_byte, limits_byte};
+ghost use Rattle.smith_binary_sections.specs.Entities.{IsExternTypeIn, IsGlobalTypeIn};
+ghost use Rattle.smith_binary_sections.specs.Entities.{IsMemoryTypeIn, IsPageSizeIn, IsRangeIn};
+ghost use Rattle.smith_binary_sections.specs.Entities.{IsTableTypeIn, IsTagTypeIn};
 ghost use Rattle.smith_binary_sections.specs.Long.{IsNeverLong};
 
 use crate::lists::Encode;
@@ -19,7 +20,7 @@ fn flag(is_set: bool, bit: u8) -> u8
 }
 
 impl Encode for GlobalType {
-    ghost spells = { IsGlobalType };
+    ghost spells = { IsGlobalTypeIn };
 
     ghost is_long = { IsNeverLong };
 
@@ -41,7 +42,7 @@ fn limits_byte(maximum: Option<u64>, shared: bool, wide: bool, page: Option<u32>
 
 // Writes the numbers of limits.
 fn write_range(minimum: u64, maximum: Option<u64>, sink: &mut Sink) -> Result<(), EncodeError>
-    ensures writes { OnOk result (Writes (IsRange minimum maximum) sink.old sink.new) }
+    ensures writes { OnOk result (Writes (λ s. IsRangeIn s minimum maximum) sink.old sink.new) }
     ensures memory { IfErr result (λ e. e ≡ OutOfMemory) }
 {
     sink.write_u64(minimum)?;
@@ -53,7 +54,7 @@ fn write_range(minimum: u64, maximum: Option<u64>, sink: &mut Sink) -> Result<()
 
 // Writes the logarithm of a page size, if one is stated.
 fn write_page_size(log2: Option<u32>, sink: &mut Sink) -> Result<(), EncodeError>
-    ensures writes { OnOk result (Writes (IsPageSize log2) sink.old sink.new) }
+    ensures writes { OnOk result (Writes (λ s. IsPageSizeIn s log2) sink.old sink.new) }
     ensures memory { IfErr result (λ e. e ≡ OutOfMemory) }
 {
     match log2 {
@@ -63,7 +64,7 @@ fn write_page_size(log2: Option<u32>, sink: &mut Sink) -> Result<(), EncodeError
 }
 
 impl Encode for MemoryType {
-    ghost spells = { IsMemoryType };
+    ghost spells = { IsMemoryTypeIn };
 
     ghost is_long = { IsNeverLong };
 
@@ -81,7 +82,7 @@ impl Encode for MemoryType {
 }
 
 impl Encode for TableType {
-    ghost spells = { IsTableType };
+    ghost spells = { IsTableTypeIn };
 
     ghost is_long = { IsNeverLong };
 
@@ -94,7 +95,7 @@ impl Encode for TableType {
 
 /// Writes the type of a tag for exceptions, by the index of a function type.
 pub(crate) fn write_tag_type(index: u32, sink: &mut Sink) -> Result<(), EncodeError>
-    ensures writes { OnOk result (Writes (IsTagType index) sink.old sink.new) }
+    ensures writes { OnOk result (Writes (λ s. IsTagTypeIn s index) sink.old sink.new) }
     ensures memory { IfErr result (λ e. e ≡ OutOfMemory) }
 {
     sink.write_byte(0x00)?;
@@ -102,7 +103,7 @@ pub(crate) fn write_tag_type(index: u32, sink: &mut Sink) -> Result<(), EncodeEr
 }
 
 impl Encode for EntityType {
-    ghost spells = { IsExternType };
+    ghost spells = { IsExternTypeIn };
 
     ghost is_long = { IsNeverLong };
 

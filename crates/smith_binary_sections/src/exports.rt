@@ -1,5 +1,5 @@
 ghost use Rattle.std.specs.Prelude.{◌≡◌};
-ghost use Rattle.smith_binary_sections.specs.Exports.{kind_byte, IsExport};
+ghost use Rattle.smith_binary_sections.specs.Exports.{kind_byte, IsExportIn};
 ghost use Rattle.smith_binary.specs.declared.error.EncodeError.TheVariants.{Memory};
 ghost use Rattle.smith_binary.specs.Faults.{IsFault};
 ghost use Rattle.smith_binary_sections.specs.Long.{IsLongExport};
@@ -22,7 +22,7 @@ fn kind_byte(kind: ExportKind) -> u8
 }
 
 impl Encode for (Name, ExportKind, u32) {
-    ghost spells = { IsExport };
+    ghost spells = { IsExportIn };
 
     ghost is_long = { IsLongExport };
 

@@ -1,7 +1,8 @@
 ghost use Rattle.std.specs.Prelude.{ℕ, List, OnOk, IfErr};
 ghost use Rattle.smith_binary.specs.Faults.{IsFault};
-ghost use Rattle.smith_binary.specs.Pieces.{IsName, Writes};
-ghost use Rattle.smith_binary_sections.specs.Imports.{IsImport, IsImportItem, IsGroupHead, IsImportGroup};
+ghost use Rattle.smith_binary.specs.Pieces.{Writes, IsNameIn};
+ghost use Rattle.smith_binary_sections.specs.Imports.{IsGroupHeadIn, IsImportGroupIn, IsImportIn};
+ghost use Rattle.smith_binary_sections.specs.Imports.{IsImportItemIn};
 ghost use Rattle.smith_binary_sections.specs.Long.{IsLongText, IsLongImport, IsLongImportItem};
 ghost use Rattle.smith_binary_sections.specs.Long.{IsLongImportGroup};
 
@@ -10,7 +11,7 @@ use smith_binary::{EncodeError, Sink};
 use smith_types::{Import, ImportItem, Imports, Name};
 
 impl Encode for Name {
-    ghost spells = { IsName };
+    ghost spells = { IsNameIn };
 
     ghost is_long = { IsLongText };
 
@@ -20,7 +21,7 @@ impl Encode for Name {
 }
 
 impl Encode for Import {
-    ghost spells = { IsImport };
+    ghost spells = { IsImportIn };
 
     ghost is_long = { IsLongImport };
 
@@ -32,7 +33,7 @@ impl Encode for Import {
 }
 
 impl Encode for ImportItem {
-    ghost spells = { IsImportItem };
+    ghost spells = { IsImportItemIn };
 
     ghost is_long = { IsLongImportItem };
 
@@ -44,7 +45,7 @@ impl Encode for ImportItem {
 
 // Writes the head of a group of imports from the module `from`, with the byte of its form.
 fn write_group_head(from: &Name, byte: u8, sink: &mut Sink) -> Result<(), EncodeError>
-    ensures writes { OnOk result (Writes (IsGroupHead from.now byte) sink.old sink.new) }
+    ensures writes { OnOk result (Writes (λ s. IsGroupHeadIn s from.now byte) sink.old sink.new) }
     ensures fault { IfErr result (IsFault (IsLongText from.now)) }
 {
     from.encode(sink)?;
@@ -53,7 +54,7 @@ fn write_group_head(from: &Name, byte: u8, sink: &mut Sink) -> Result<(), Encode
 }
 
 impl Encode for Imports {
-    ghost spells = { IsImportGroup };
+    ghost spells = { IsImportGroupIn };
 
     ghost is_long = { IsLongImportGroup };
 

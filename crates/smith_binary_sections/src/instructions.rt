@@ -1,7 +1,8 @@
 ghost use Rattle.std.specs.Prelude.{◌≡◌, OnOk, IfErr};
 ghost use Rattle.smith_binary.specs.Numbers.{IsVector};
 ghost use Rattle.smith_binary.specs.Pieces.{IsByte, Joined, Writes};
-ghost use Rattle.smith_binary_sections.specs.Instructions.{IsPrefixed, IsIndex, IsInstr, IsExpression};
+ghost use Rattle.smith_binary_sections.specs.Instructions.{IsExpressionIn, IsIndexIn, IsInstrIn};
+ghost use Rattle.smith_binary_sections.specs.Instructions.{IsPrefixedIn};
 ghost use Rattle.smith_binary_sections.specs.Instructions.{offset_of};
 ghost use Rattle.smith_binary.specs.declared.error.EncodeError.TheVariants.{Memory};
 ghost use Rattle.smith_binary.specs.Faults.{IsFault};
@@ -13,7 +14,7 @@ use smith_types::{ConstInstr, Items, Offset};
 
 // Writes the instruction with the prefix `prefix` and the number `number`.
 fn write_prefixed(prefix: u8, number: u32, sink: &mut Sink) -> Result<(), EncodeError>
-    ensures writes { OnOk result (Writes (IsPrefixed prefix number) sink.old sink.new) }
+    ensures writes { OnOk result (Writes (λ s. IsPrefixedIn s prefix number) sink.old sink.new) }
     ensures memory { IfErr result (λ e. e ≡ Memory) }
 {
     sink.write_byte(prefix)?;
@@ -28,7 +29,7 @@ fn write_prefixed_index(
     sink: &mut Sink,
 ) -> Result<(), EncodeError>
     ensures writes { OnOk result
-        (Writes (Joined (IsPrefixed prefix number) (IsIndex index)) sink.old sink.new) }
+        (Writes (λ s. Joined (IsPrefixedIn s prefix number) (IsIndexIn s index)) sink.old sink.new) }
     ensures memory { IfErr result (λ e. e ≡ Memory) }
 {
     write_prefixed(prefix, number, sink)?;
@@ -38,7 +39,7 @@ fn write_prefixed_index(
 // Writes the constant `value`.
 fn write_vector_const(value: i128, sink: &mut Sink) -> Result<(), EncodeError>
     ensures writes { OnOk result
-        (Writes (Joined (IsPrefixed 0xFD 12) (IsVector value)) sink.old sink.new) }
+        (Writes (λ s. Joined (IsPrefixedIn s 0xFD 12) (IsVector value)) sink.old sink.new) }
     ensures memory { IfErr result (λ e. e ≡ Memory) }
 {
     write_prefixed(0xFD, 12, sink)?;
@@ -47,7 +48,7 @@ fn write_vector_const(value: i128, sink: &mut Sink) -> Result<(), EncodeError>
 
 // Writes the instruction with the byte `byte`, then the index `index`.
 fn write_indexed(byte: u8, index: u32, sink: &mut Sink) -> Result<(), EncodeError>
-    ensures writes { OnOk result (Writes (Joined (IsByte byte) (IsIndex index)) sink.old sink.new) }
+    ensures writes { OnOk result (Writes (λ s. Joined (IsByte byte) (IsIndexIn s index)) sink.old sink.new) }
     ensures memory { IfErr result (λ e. e ≡ Memory) }
 {
     sink.write_byte(byte)?;
@@ -55,7 +56,7 @@ fn write_indexed(byte: u8, index: u32, sink: &mut Sink) -> Result<(), EncodeErro
 }
 
 impl Encode for ConstInstr {
-    ghost spells = { IsInstr };
+    ghost spells = { IsInstrIn };
 
     ghost is_long = { IsNeverLong };
 
@@ -115,7 +116,7 @@ pub(crate) fn write_expression(
     instructions: &[ConstInstr],
     sink: &mut Sink,
 ) -> Result<(), EncodeError>
-    ensures writes { OnOk result (Writes (IsExpression instructions.now) sink.old sink.new) }
+    ensures writes { OnOk result (Writes (λ s. IsExpressionIn s instructions.now) sink.old sink.new) }
     ensures memory { IfErr result (λ e. e ≡ Memory) }
 {
     write_each(&Plain, instructions, sink)?;
@@ -123,7 +124,7 @@ pub(crate) fn write_expression(
 }
 
 impl Encode for Items<ConstInstr> {
-    ghost spells = { IsExpression };
+    ghost spells = { IsExpressionIn };
 
     ghost is_long = { IsNeverLong };
 
@@ -133,7 +134,7 @@ impl Encode for Items<ConstInstr> {
 }
 
 impl Encode for Offset {
-    ghost spells = { λ offset. IsExpression (offset_of offset) };
+    ghost spells = { λ s offset. IsExpressionIn s (offset_of offset) };
 
     ghost is_long = { IsNeverLong };
 
@@ -149,7 +150,7 @@ impl Encode for Offset {
 
 /// An index.
 impl Encode for u32 {
-    ghost spells = { IsIndex };
+    ghost spells = { IsIndexIn };
 
     ghost is_long = { IsNeverLong };
 

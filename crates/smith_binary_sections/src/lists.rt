@@ -1,8 +1,9 @@
 ghost use Rattle.std.specs.Prelude.{◌≡◌, ℕ, List, OnOk, IfErr, Any, length, ◌^◌, ◌≤◌};
 ghost use Rattle.std.specs.List.{zip};
+ghost use Rattle.smith_binary.specs.Spelling.{Spelling};
 ghost use Rattle.smith_binary.specs.declared.error.EncodeError.TheVariants.{Memory};
 ghost use Rattle.smith_binary.specs.Faults.{IsFault};
-ghost use Rattle.smith_binary.specs.Pieces.{Each, IsList, Writes};
+ghost use Rattle.smith_binary.specs.Pieces.{Each, Writes, IsListIn};
 ghost use Rattle.smith_binary_sections.specs.Long.{IsLongList};
 
 use smith_binary::{EncodeError, Sink};
@@ -10,7 +11,7 @@ use smith_binary::{EncodeError, Sink};
 /// A value that has a spelling in the binary format.
 pub trait Encode {
     /// The bytes that spell a value.
-    ghost spells: { Self → List ℕ → Type 0 };
+    ghost spells: { Spelling → Self → List ℕ → Type 0 };
 
     /// The values with a list of too many items.
     ghost is_long: { Self → Type 0 };
@@ -21,14 +22,14 @@ pub trait Encode {
     ///
     /// Returns [`EncodeError::TooLong`] if a list has 2^32 items, or a content 2^32 bytes, or more.
     fn encode(&self, sink: &mut Sink) -> Result<(), EncodeError>
-        ensures writes { OnOk result (Writes (Self.spells self.now) sink.old sink.new) }
+        ensures writes { OnOk result (Writes (λ s. Self.spells s self.now) sink.old sink.new) }
         ensures fault { IfErr result (IsFault (Self.is_long self.now)) };
 }
 
 /// A writer of items, by their meaning in a module.
 pub trait EncodeItem<T> {
     /// The bytes that spell an item.
-    ghost spells: { Self → T → List ℕ → Type 0 };
+    ghost spells: { Spelling → Self → T → List ℕ → Type 0 };
 
     /// The items with a list of too many items.
     ghost is_long: { Self → T → Type 0 };
@@ -39,19 +40,19 @@ pub trait EncodeItem<T> {
     ///
     /// Returns [`EncodeError::TooLong`] as [`Encode::encode`] does.
     fn encode_item(&self, item: &T, sink: &mut Sink) -> Result<(), EncodeError>
-        ensures writes { OnOk result (Writes (Self.spells self.now item.now) sink.old sink.new) }
+        ensures writes { OnOk result (Writes (λ s. Self.spells s self.now item.now) sink.old sink.new) }
         ensures fault { IfErr result (IsFault (Self.is_long self.now item.now)) };
 }
 
 /// A writer of items in two lists, each of which has a part of each item.
 pub trait EncodePair<A, B> {
     /// The bytes that spell an item.
-    ghost spells: { Self → A × B → List ℕ → Type 0 };
+    ghost spells: { Spelling → Self → A × B → List ℕ → Type 0 };
 
     /// Appends the item with the parts `first` and `second` to `sink`.
     fn encode_pair(&self, first: &A, second: &B, sink: &mut Sink) -> Result<(), EncodeError>
         ensures writes { OnOk result
-            (Writes (Self.spells self.now (first.now, second.now)) sink.old sink.new) }
+            (Writes (λ s. Self.spells s self.now (first.now, second.now)) sink.old sink.new) }
         ensures memory { IfErr result (λ e. e ≡ Memory) };
 }
 
@@ -60,7 +61,7 @@ pub trait EncodePair<A, B> {
 pub struct Plain;
 
 impl<T: Encode> EncodeItem<T> for Plain {
-    ghost spells = { λ _ item. T.spells item };
+    ghost spells = { λ s _ item. T.spells s item };
 
     ghost is_long = { λ _ item. T.is_long item };
 
@@ -75,7 +76,7 @@ pub(crate) fn write_each<T, W: EncodeItem<T>>(
     items: &[T],
     sink: &mut Sink,
 ) -> Result<(), EncodeError>
-    ensures writes { OnOk result (Writes (Each (W.spells writer.now) items.now) sink.old sink.new) }
+    ensures writes { OnOk result (Writes (λ s. Each (W.spells s writer.now) items.now) sink.old sink.new) }
     ensures fault { IfErr result (IsFault (Any (W.is_long writer.now) items.now)) }
 {
     for item in items {
@@ -94,7 +95,7 @@ pub struct Listed<'a, T, W> {
 }
 
 impl<'a, T, W: EncodeItem<T>> Encode for Listed<'a, T, W> {
-    ghost spells = { λ list. IsList (W.spells list.writer) list.items.now };
+    ghost spells = { λ s list. IsListIn s (W.spells s list.writer) list.items.now };
 
     ghost is_long = { λ list. IsLongList (W.is_long list.writer) list.items.now };
 
@@ -106,7 +107,7 @@ impl<'a, T, W: EncodeItem<T>> Encode for Listed<'a, T, W> {
 
 /// Writes the number of `items`, then the items.
 pub(crate) fn write_list<T: Encode>(items: &[T], sink: &mut Sink) -> Result<(), EncodeError>
-    ensures writes { OnOk result (Writes (IsList T.spells items.now) sink.old sink.new) }
+    ensures writes { OnOk result (Writes (λ s. IsListIn s (T.spells s) items.now) sink.old sink.new) }
     ensures fault { IfErr result (IsFault (IsLongList T.is_long items.now)) }
 {
     sink.write_length(items.len())?;
@@ -133,7 +134,7 @@ fn write_each_pair<A, B, W: EncodePair<A, B>>(
     sink: &mut Sink,
 ) -> Result<(), EncodeError>
     ensures writes { OnOk result
-        (Writes (Each (W.spells writer.now) (zip firsts.now seconds.now)) sink.old sink.new) }
+        (Writes (λ s. Each (W.spells s writer.now) (zip firsts.now seconds.now)) sink.old sink.new) }
     ensures memory { IfErr result (λ e. e ≡ Memory) }
 {
     for (first, second) in firsts.iter().zip(seconds) {
@@ -143,7 +144,7 @@ fn write_each_pair<A, B, W: EncodePair<A, B>>(
 }
 
 impl<'a, A, B, W: EncodePair<A, B>> Encode for Zipped<'a, A, B, W> {
-    ghost spells = { λ list. IsList (W.spells list.writer) (zip list.firsts.now list.seconds.now) };
+    ghost spells = { λ s list. IsListIn s (W.spells s list.writer) (zip list.firsts.now list.seconds.now) };
 
     ghost is_long = { λ list. 2 ^ 32 ≤ length (zip list.firsts.now list.seconds.now) };
 

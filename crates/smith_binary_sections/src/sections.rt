@@ -1,9 +1,10 @@
 ghost use Rattle.std.specs.Prelude.{◌≡◌, ◌≤◌, ◌^◌, ◌⊎◌, true, ℕ, List, OnOk, IfErr};
+ghost use Rattle.smith_binary.specs.Spelling.{IsUnsignedIn};
+ghost use Rattle.smith_binary.specs.Spelling.Spelling.{any};
 ghost use Rattle.smith_binary.specs.declared.error.EncodeError.TheVariants.{Memory};
 ghost use Rattle.smith_binary.specs.Faults.{IsFault};
-ghost use Rattle.smith_binary.specs.Numbers.{IsUnsigned};
 ghost use Rattle.smith_binary.specs.Pieces.{Writes};
-ghost use Rattle.smith_binary_sections.specs.Sections.{IsSectionIf};
+ghost use Rattle.smith_binary_sections.specs.Sections.{IsSectionIfIn};
 ghost use Rattle.smith_binary_sections.specs.Modules.{IsPreamble};
 ghost use Rattle.smith_binary_sections.specs.Long.{IsLongContent};
 
@@ -12,7 +13,7 @@ use smith_binary::{EncodeError, Sink};
 
 /// Writes the magic number and the version.
 pub fn write_preamble(sink: &mut Sink) -> Result<(), EncodeError>
-    ensures writes { OnOk result (Writes IsPreamble sink.old sink.new) }
+    ensures writes { OnOk result (Writes (λ _. IsPreamble) sink.old sink.new) }
     ensures memory { IfErr result (λ e. e ≡ Memory) }
 {
     sink.write_bytes(&[0x00, 0x61, 0x73, 0x6D, 0x01, 0x00, 0x00, 0x00])
@@ -30,9 +31,9 @@ pub fn write_section_if<C: Encode>(
     sink: &mut Sink,
 ) -> Result<(), EncodeError>
     ensures writes { OnOk result
-        (Writes (IsSectionIf is_written id (C.spells content.now)) sink.old sink.new) }
+        (Writes (λ s. IsSectionIfIn s is_written id (C.spells s content.now)) sink.old sink.new) }
     ensures fault { IfErr result (IsFault
-        ((is_written ≡ true) × (C.is_long content.now ⊎ IsLongContent (C.spells content.now)))) }
+        ((is_written ≡ true) × (C.is_long content.now ⊎ IsLongContent (C.spells any content.now)))) }
 {
     if !is_written {
         return Ok(());
@@ -47,7 +48,7 @@ pub fn write_section_if<C: Encode>(
 pub struct Count(pub usize);
 
 impl Encode for Count {
-    ghost spells = { λ count. IsUnsigned 32 count.0 };
+    ghost spells = { λ s count. IsUnsignedIn s 32 count.0 };
 
     ghost is_long = { λ count. 2 ^ 32 ≤ count.0 };
 

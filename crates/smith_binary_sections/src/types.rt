@@ -1,29 +1,18 @@
 ghost use Rattle.std.specs.Prelude.{◌≡◌, OnOk, IfErr, List, ℕ, option_to_list};
-ghost use Rattle.smith_binary.specs.Numbers.{IsUnsigned};
-ghost use Rattle.smith_binary.specs.Pieces.{Is, IsList, Writes};
-ghost use Rattle.smith_binary_sections.specs.Types.{
-  abstract_byte,
-  null_byte,
-  mutability_byte,
-  shared_bytes,
-  final_byte,
-  IsHeapType,
-  IsRefType,
-  IsValType,
-  IsStorageType,
-  IsFieldType,
-  IsFuncType,
-  IsInnerType,
-  IsCompositeType,
-  is_alone,
-  IsSubTypeWritten,
-  IsRecGroupWritten,
-  group_at,
-};
+ghost use Rattle.smith_binary.specs.Spelling.{IsUnsignedIn};
+ghost use Rattle.smith_binary.specs.Pieces.{Is, Writes, IsListIn};
+ghost use Rattle.smith_binary_sections.specs.Types.{short_ref, abstract_byte, null_byte};
+ghost use Rattle.smith_binary_sections.specs.Types.{mutability_byte, shared_bytes, final_byte};
+ghost use Rattle.smith_binary_sections.specs.Types.{is_alone, group_at, IsCompositeTypeIn};
+ghost use Rattle.smith_binary_sections.specs.Types.{IsFieldTypeIn, IsFuncTypeIn, IsHeapTypeIn};
+ghost use Rattle.smith_binary_sections.specs.Types.{IsInnerTypeIn, IsRecGroupWrittenIn};
+ghost use Rattle.smith_binary_sections.specs.Types.{IsRefTypeIn, IsStorageTypeIn};
+ghost use Rattle.smith_binary_sections.specs.Types.{IsSubTypeWrittenIn, IsValTypeIn};
 ghost use Rattle.smith_binary.specs.declared.error.EncodeError.TheVariants.{Memory};
 ghost use Rattle.smith_binary.specs.Faults.{IsFault};
 ghost use Rattle.smith_binary_sections.specs.Long.{IsLongComposite, IsLongFuncType, IsLongGroup};
-ghost use Rattle.smith_binary_sections.specs.Long.{IsLongInner, IsLongList, IsLongSubType, IsNeverLong};
+ghost use Rattle.smith_binary_sections.specs.Long.{IsLongInner, IsLongList, IsLongSubType};
+ghost use Rattle.smith_binary_sections.specs.Long.{IsNeverLong};
 
 use crate::lists::{Encode, EncodeItem, write_list};
 use smith_binary::{EncodeError, Sink};
@@ -54,7 +43,7 @@ fn abstract_byte(ty: AbstractHeapType) -> u8
 }
 
 impl Encode for HeapType {
-    ghost spells = { IsHeapType };
+    ghost spells = { IsHeapTypeIn };
 
     ghost is_long = { IsNeverLong };
 
@@ -81,22 +70,34 @@ fn null_byte(nullable: bool) -> u8
     if nullable { 0x63 } else { 0x64 }
 }
 
+// Returns the abstract heap type that a reference type is written as, if it can be.
+fn short_ref(nullable: bool, heap_type: HeapType) -> Option<AbstractHeapType>
+    ensures { result ≡ short_ref nullable heap_type }
+{
+    match heap_type {
+        HeapType::Abstract { shared: false, ty } if nullable => Some(ty),
+        _ => None,
+    }
+}
+
 impl Encode for RefType {
-    ghost spells = { IsRefType };
+    ghost spells = { IsRefTypeIn };
 
     ghost is_long = { IsNeverLong };
 
     fn encode(&self, sink: &mut Sink) -> Result<(), EncodeError> {
-        if let (true, HeapType::Abstract { shared: false, ty }) = (self.nullable, self.heap_type) {
-            return sink.write_byte(abstract_byte(ty));
+        match short_ref(self.nullable, self.heap_type) {
+            Some(ty) => sink.write_byte(abstract_byte(ty)),
+            None => {
+                sink.write_byte(null_byte(self.nullable))?;
+                self.heap_type.encode(sink)
+            }
         }
-        sink.write_byte(null_byte(self.nullable))?;
-        self.heap_type.encode(sink)
     }
 }
 
 impl Encode for ValType {
-    ghost spells = { IsValType };
+    ghost spells = { IsValTypeIn };
 
     ghost is_long = { IsNeverLong };
 
@@ -113,7 +114,7 @@ impl Encode for ValType {
 }
 
 impl Encode for StorageType {
-    ghost spells = { IsStorageType };
+    ghost spells = { IsStorageTypeIn };
 
     ghost is_long = { IsNeverLong };
 
@@ -134,7 +135,7 @@ fn mutability_byte(mutable: bool) -> u8
 }
 
 impl Encode for FieldType {
-    ghost spells = { IsFieldType };
+    ghost spells = { IsFieldTypeIn };
 
     ghost is_long = { IsNeverLong };
 
@@ -145,7 +146,7 @@ impl Encode for FieldType {
 }
 
 impl Encode for FuncType {
-    ghost spells = { IsFuncType };
+    ghost spells = { IsFuncTypeIn };
 
     ghost is_long = { IsLongFuncType };
 
@@ -156,7 +157,7 @@ impl Encode for FuncType {
 }
 
 impl Encode for CompositeInnerType {
-    ghost spells = { IsInnerType };
+    ghost spells = { IsInnerTypeIn };
 
     ghost is_long = { IsLongInner };
 
@@ -180,7 +181,7 @@ impl Encode for CompositeInnerType {
 
 // Writes the byte of a shared type, if it is shared.
 fn write_shared(shared: bool, sink: &mut Sink) -> Result<(), EncodeError>
-    ensures writes { OnOk result (Writes (Is (shared_bytes shared)) sink.old sink.new) }
+    ensures writes { OnOk result (Writes (λ _. Is (shared_bytes shared)) sink.old sink.new) }
     ensures memory { IfErr result (λ e. e ≡ Memory) }
 {
     if shared {
@@ -190,7 +191,7 @@ fn write_shared(shared: bool, sink: &mut Sink) -> Result<(), EncodeError>
 }
 
 impl Encode for CompositeType {
-    ghost spells = { IsCompositeType };
+    ghost spells = { IsCompositeTypeIn };
 
     ghost is_long = { IsLongComposite };
 
@@ -203,7 +204,7 @@ impl Encode for CompositeType {
 // Writes the list of the supertypes of a type.
 fn write_supertype(supertype: Option<u32>, sink: &mut Sink) -> Result<(), EncodeError>
     ensures writes { OnOk result
-        (Writes (IsList (IsUnsigned 32) (option_to_list supertype)) sink.old sink.new) }
+        (Writes (λ s. IsListIn s (IsUnsignedIn s 32) (option_to_list supertype)) sink.old sink.new) }
     ensures memory { IfErr result (λ e. e ≡ Memory) }
 {
     match supertype {
@@ -233,7 +234,7 @@ fn is_alone(supertype: Option<u32>, is_final: bool) -> bool
 }
 
 impl Encode for SubType {
-    ghost spells = { IsSubTypeWritten };
+    ghost spells = { IsSubTypeWrittenIn };
 
     ghost is_long = { IsLongSubType };
 
@@ -249,7 +250,7 @@ impl Encode for SubType {
 
 // Writes the recursive group `group`.
 fn write_group(group: &[SubType], sink: &mut Sink) -> Result<(), EncodeError>
-    ensures writes { OnOk result (Writes (IsRecGroupWritten group.now) sink.old sink.new) }
+    ensures writes { OnOk result (Writes (λ s. IsRecGroupWrittenIn s group.now) sink.old sink.new) }
     ensures fault { IfErr result (IsFault (IsLongGroup group.now)) }
 {
     if group.len() == 1 {
@@ -276,7 +277,7 @@ pub struct Groups<'a> {
 }
 
 impl<'a> EncodeItem<Range<usize>> for Groups<'a> {
-    ghost spells = { λ groups range. IsRecGroupWritten (group_at groups.types.now range) };
+    ghost spells = { λ s groups range. IsRecGroupWrittenIn s (group_at groups.types.now range) };
 
     ghost is_long = { λ groups range. IsLongGroup (group_at groups.types.now range) };
 

@@ -68,7 +68,7 @@ fn has_bytes(sink: &Sink, wanted: &[u8]) -> Result<(), Fail> {
 
 #[test]
 fn bodies_are_those_of_another_encoder(rt: HostRuntime) -> Result<(), Fail> {
-    let mut sink = Sink::new(rt.alloc());
+    let mut sink = Sink::new(rt.alloc(), 1);
     let labels = Items::from_slice(rt.alloc(), &[0, 0])?;
     let chosen = Items::from_slice(rt.alloc(), &[ValType::I32])?;
     encode(&mut sink, labels, chosen)?;
@@ -77,7 +77,7 @@ fn bodies_are_those_of_another_encoder(rt: HostRuntime) -> Result<(), Fail> {
 
 #[test]
 fn expressions_have_their_end(rt: HostRuntime) -> Result<(), Fail> {
-    let mut sink = Sink::new(rt.alloc());
+    let mut sink = Sink::new(rt.alloc(), 1);
     encode_expr(&mut sink, &[Instr::Nop])?;
     has_bytes(&sink, &[0x01, 0x0B])
 }
@@ -88,7 +88,7 @@ fn lanes_of_a_shuffle_are_bytes(rt: HostRuntime) -> Result<(), Fail> {
     let bytes = [
         0xFD, 0x0D, 0, 1, 2, 3, 4, 5, 6, 7, 8, 9, 10, 11, 12, 13, 14, 31,
     ];
-    let mut sink = Sink::new(rt.alloc());
+    let mut sink = Sink::new(rt.alloc(), 1);
     encode_instr(&mut sink, &Instr::Vector(VectorInstr::Shuffle(lanes)))?;
     has_bytes(&sink, &bytes)
 }
@@ -100,7 +100,7 @@ fn alignments_of_seven_bits_are_refused(rt: HostRuntime) -> Result<(), Fail> {
         offset: 0,
         memory: 0,
     };
-    let mut sink = Sink::new(rt.alloc());
+    let mut sink = Sink::new(rt.alloc(), 1);
     match encode_instr(&mut sink, &Instr::Load(Load::I32, at)) {
         Err(EncodeError::TooLong) => Ok(()),
         _ => Err(Fail::new("the alignment is not refused")),

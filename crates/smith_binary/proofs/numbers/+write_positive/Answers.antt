@@ -1,11 +1,11 @@
 use Rattle.std.proofs.Common.{◌-◌}
 use Rattle.std.proofs.lemmas.Result.{on_ok_weaker}
-use Rattle.smith_binary.proofs.WrittenLemmas.{written}
+use Rattle.smith_binary.proofs.WrittenLemmas.{piece_written}
 use Rattle.smith_binary.proofs.NumberLemmas.{signed_left, positive_last, positive_more}
 use Rattle.smith_binary.proofs.numbers.+write_positive.Goals as goal
 
 pub returns-then-value-lt64-clause-writes : goal.returns-then-value-lt64-clause-writes
-returns-then-value-lt64-clause-writes t c = on_ok_weaker c.push.result (λ pushed bits fits. written _ (positive_last bits c.args.value c.if-value-lt64.true fits) pushed) c.push.ensures.ok
+returns-then-value-lt64-clause-writes t c = on_ok_weaker c.push.result (λ pushed bits fits. piece_written _ (λ s. positive_last bits c.args.value c.if-value-lt64.true fits) pushed) c.push.ensures.ok
 
 pub returns-clause-writes : goal.returns-clause-writes
 returns-clause-writes t c =

@@ -13,7 +13,8 @@ use Rattle.smith_binary_module.specs.Layout.{is_filled}
 use Rattle.smith_binary_module.specs.TooLong.{IsTooLong}
 use Rattle.smith_binary_module.specs.Written.{AreOwnBodies}
 use Rattle.smith_binary_module.proofs.LayoutLemmas.{around_as, code_section, functions_counted}
-use Rattle.smith_binary_module.proofs.MappedLemmas.{fault_weaker, long_mapped}
+use Rattle.smith_binary_sections.proofs.FaultLemmas.{fault_weaker}
+use Rattle.smith_binary_module.proofs.MappedLemmas.{long_mapped}
 use Rattle.smith_binary_module.proofs.modules.encode.Goals as goal
 
 -- the bodies of a module are too long, or other parts are
@@ -38,6 +39,9 @@ returns-clause-spelled c =
 
 pub returns-clause-written : goal.returns-clause-written
 returns-clause-written c = rw (c.fuel_globals.ensures, c.code.ensures.items) at c.encode_with_bodies.ensures.written
+
+pub returns-clause-spelling : goal.returns-clause-spelling
+returns-clause-spelling c = rw (c.fuel_globals.ensures, c.code.ensures.items) at c.encode_with_bodies.ensures.spelling
 
 pub returns-clause-fault : goal.returns-clause-fault
 returns-clause-fault c = fault_weaker c.encode_with_bodies.result (too_long c.args.module.now) (rw (c.fuel_globals.ensures, c.code.ensures.items) at c.encode_with_bodies.ensures.fault)

@@ -1,7 +1,8 @@
 use Rattle.std.proofs.Common.{inl}
 use Rattle.std.proofs.lemmas.Result.{on_ok_weaker}
 use Rattle.smith_binary.proofs.WrittenLemmas.{joined_written}
-use Rattle.smith_binary_module.proofs.MappedLemmas.{fault_weaker, handed_on}
+use Rattle.smith_binary_sections.proofs.FaultLemmas.{fault_weaker}
+use Rattle.smith_binary_module.proofs.MappedLemmas.{handed_on}
 use Rattle.smith_binary_module.proofs.modules.write_back.Goals as goal
 
 pub returns-clause-writes : goal.returns-clause-writes

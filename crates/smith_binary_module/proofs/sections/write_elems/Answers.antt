@@ -2,7 +2,8 @@ use Rattle.smith_binary_sections.specs.Elements.{IsElem, elem_of}
 use Rattle.smith_binary_sections.specs.Long.{IsLongElem}
 use Rattle.smith_binary_sections.proofs.SpelledFormLemmas.{elem_spelled}
 use Rattle.smith_binary_module.specs.TooLong.{IsTooLong}
-use Rattle.smith_binary_module.proofs.MappedLemmas.{fault_weaker, long_mapped, long_as}
+use Rattle.smith_binary_sections.proofs.FaultLemmas.{fault_weaker}
+use Rattle.smith_binary_module.proofs.MappedLemmas.{long_mapped, long_as}
 use Rattle.smith_binary_module.proofs.sections.write_elems.Goals as goal
 
 pub returns-clause-writes : goal.returns-clause-writes

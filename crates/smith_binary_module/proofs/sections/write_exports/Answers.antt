@@ -1,5 +1,5 @@
 use Rattle.smith_binary_module.specs.TooLong.{IsTooLong}
-use Rattle.smith_binary_module.proofs.MappedLemmas.{fault_weaker}
+use Rattle.smith_binary_sections.proofs.FaultLemmas.{fault_weaker}
 use Rattle.smith_binary_module.proofs.sections.write_exports.Goals as goal
 
 pub returns-clause-writes : goal.returns-clause-writes

@@ -4,7 +4,8 @@ use Rattle.smith_binary_sections.specs.Definitions.{IsTable, initialised_table}
 use Rattle.smith_binary_sections.proofs.SpelledFormLemmas.{table_spelled}
 use Rattle.smith_binary_module.specs.Contents.{defined}
 use Rattle.smith_binary_module.specs.TooLong.{IsTooLong}
-use Rattle.smith_binary_module.proofs.MappedLemmas.{fault_weaker, pairs_mapped, long_as}
+use Rattle.smith_binary_sections.proofs.FaultLemmas.{fault_weaker}
+use Rattle.smith_binary_module.proofs.MappedLemmas.{pairs_mapped, long_as}
 use Rattle.smith_binary_module.proofs.sections.write_tables.Goals as goal
 
 pub returns-clause-writes : goal.returns-clause-writes

@@ -4,7 +4,7 @@ use Rattle.std.specs.List.{zip}
 use Rattle.std.proofs.lemmas.Slice.Zip.{length-zip}
 use Rattle.smith_binary.proofs.WrittenLemmas.{leads_each, each_written}
 use Rattle.smith_binary_module.proofs.MappedLemmas.{handed_on}
-use Rattle.smith_binary_program.specs.Bodies.{IsBodyOf}
+use Rattle.smith_binary_program.specs.Bodies.{IsBodyOfIn}
 use Rattle.smith_binary_program.specs.Long.{IsLongBodyOf}
 use Rattle.smith_binary_program.proofs.BodyLemmas.{inside, pair_at, long_at}
 use Rattle.smith_binary_program.proofs.bodies.write_each.Goals as goal
@@ -19,11 +19,11 @@ returns-in_err-write_body-clause-fault c =
 pub loop-place-preserved : goal.loop-place-preserved
 loop-place-preserved c =
     let within : c.loop-place.place < min (length c.args.codes.now) (length c.args.bodies.now) = omega (arith, c.min-place-end.ensures) in
-    leads_each (IsBodyOf c.args.counters.now) c.loop-place.place (zip c.args.codes.now c.args.bodies.now) (c.index-codes-place.result, c.index-bodies-place.result) (c.index-codes-place.result, c.index-bodies-place.result)
+    leads_each (λ s. IsBodyOfIn s c.args.counters.now) c.loop-place.place (zip c.args.codes.now c.args.bodies.now) (c.index-codes-place.result, c.index-bodies-place.result) (c.index-codes-place.result, c.index-bodies-place.result)
     (inside c.args.codes.now c.args.bodies.now c.loop-place.place within)
     (pair_at c.args.codes.now c.args.bodies.now c.loop-place.place c.index-codes-place.result c.index-bodies-place.result within c.index-codes-place.is c.index-bodies-place.is)
     c.loop-place.invariant c.in_ok-write_body.ensures.writes
 
 pub returns-clause-writes : goal.returns-clause-writes
 returns-clause-writes c =
-    each_written (IsBodyOf c.args.counters.now) c.loop-place.place (zip c.args.codes.now c.args.bodies.now) (omega (arith, c.min-place-end.ensures, length-zip c.args.codes.now c.args.bodies.now)) c.loop-place.invariant
+    each_written (λ s. IsBodyOfIn s c.args.counters.now) c.loop-place.place (zip c.args.codes.now c.args.bodies.now) (omega (arith, c.min-place-end.ensures, length-zip c.args.codes.now c.args.bodies.now)) c.loop-place.invariant

@@ -2,9 +2,9 @@ use Rattle.std.proofs.Common.{drop}
 use Rattle.std.specs.List.{zip}
 use Rattle.smith_binary.specs.Pieces.{Each}
 use Rattle.smith_binary.proofs.WrittenLemmas.{Leads}
-use Rattle.smith_binary_program.specs.Bodies.{IsBodyOf}
+use Rattle.smith_binary_program.specs.Bodies.{IsBodyOfIn}
 use Rattle.smith_binary_program.proofs.bodies.write_each.Given as goal
 
 abbrev pub invariant-loop-place : goal.invariant-loop-place
 invariant-loop-place l =
-    Leads (Each (IsBodyOf l.counters) (drop l.place (zip l.codes l.bodies))) (Each (IsBodyOf l.counters) (zip l.codes l.bodies)) l.fn.sink l.sink
+    Leads (λ s. Each (IsBodyOfIn s l.counters) (drop l.place (zip l.codes l.bodies))) (λ s. Each (IsBodyOfIn s l.counters) (zip l.codes l.bodies)) l.fn.sink l.sink

@@ -24,6 +24,11 @@ returns-clause-fault c =
     rw (c.fuel_globals.ensures, c.code.ensures.items, c.bodies.ensures.items, c.module-module.ensures)
     at c.encode_with_bodies.ensures.fault
 
+pub returns-clause-spelling : goal.returns-clause-spelling
+returns-clause-spelling c =
+    rw (c.fuel_globals.ensures, c.code.ensures.items, c.bodies.ensures.items, c.module-module.ensures)
+    at c.encode_with_bodies.ensures.spelling
+
 pub returns-clause-written : goal.returns-clause-written
 returns-clause-written c =
     rw (c.fuel_globals.ensures, c.code.ensures.items, c.bodies.ensures.items, c.module-module.ensures)

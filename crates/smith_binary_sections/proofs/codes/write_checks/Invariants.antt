@@ -5,7 +5,7 @@ use Rattle.smith_binary_sections.specs.Codes.{checks_bytes}
 use Rattle.smith_binary_sections.proofs.codes.write_checks.Given as goal
 
 abbrev pub invariant-loop-last : goal.invariant-loop-last
-invariant-loop-last l = Leads (Is (checks_bytes l.rest)) (Is (checks_bytes l.counters)) l.fn.sink l.sink
+invariant-loop-last l = Leads (λ _. Is (checks_bytes l.rest)) (λ _. Is (checks_bytes l.counters)) l.fn.sink l.sink
 
 abbrev pub decreases-loop-last : goal.decreases-loop-last
 decreases-loop-last l = length l.rest

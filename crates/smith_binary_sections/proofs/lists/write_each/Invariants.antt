@@ -1,9 +1,10 @@
 use Rattle.std.proofs.Common.{drop}
+use Rattle.smith_binary.specs.Spelling.{Spelling}
 use Rattle.smith_binary.specs.Pieces.{Each}
 use Rattle.smith_binary.proofs.WrittenLemmas.{Leads}
 use Rattle.smith_binary_sections.proofs.lists.write_each.Given as goal
 
 abbrev pub invariant-loop-item : goal.invariant-loop-item
 invariant-loop-item g l =
-    let Item = g.W.EncodeItem.spells l.writer in
-    Leads (Each Item (drop l.item-index l.items)) (Each Item l.items) l.fn.sink l.sink
+    let Item = λ (s : Spelling). g.W.EncodeItem.spells s l.writer in
+    Leads (λ s. Each (Item s) (drop l.item-index l.items)) (λ s. Each (Item s) l.items) l.fn.sink l.sink

@@ -9,10 +9,11 @@ use Rattle.smith_binary_law.specs.ExampleInstructions.{load_word}
 use Rattle.smith_binary_law.proofs.SpelledExamples.{small, index, loaded, loaded_as_written, other_number, align_of}
 use Rattle.smith_binary_law.proofs.examples.instructions.accesses.Goals as goal
 
+place : (memory : ℕ) → memory < 128 → Joined (IsUnsigned 32 0x42) (Joined (IsUnsigned 32 memory) (IsUnsigned 64 5)) (0x42 ∷ memory ∷ 0x05 ∷ [])
+place memory low = both (0x42 ∷ []) (memory ∷ 0x05 ∷ []) (index 0x42 (omega arith)) (both (memory ∷ []) (0x05 ∷ []) (index memory low) (small 64 5 (omega arith) (omega arith)))
+
 named : (memory : ℕ) → memory < 128 → IsMemArg (record { align = 2; offset = 5; memory = memory }) (0x42 ∷ memory ∷ 0x05 ∷ [])
-named memory low =
-    IsMemArg.named_memory (omega arith)
-    (both (0x42 ∷ []) (memory ∷ 0x05 ∷ []) (index 0x42 (omega arith)) (both (memory ∷ []) (0x05 ∷ []) (index memory low) (small 64 5 (omega arith) (omega arith))))
+named memory low = IsMemArg.named_memory (omega arith) (place memory low)
 
 too_wide : (at : MemArg) (piece : List ℕ) → at.align ≡ 64 → IsMemArg at piece → ⊥
 too_wide at piece wide (IsMemArg.first_memory m a h) = omega (arith, a, wide)
@@ -35,7 +36,7 @@ pub returns-clause-first_memory_as_written : goal.returns-clause-first_memory_as
 returns-clause-first_memory_as_written c = loaded_as_written 2 5 (omega arith) (omega arith)
 
 pub returns-clause-second_memory_as_written : goal.returns-clause-second_memory_as_written
-returns-clause-second_memory_as_written c = both (0x28 ∷ []) (0x42 ∷ 0x01 ∷ 0x05 ∷ []) refl (record { form = named 1 (omega arith); unnamed = λ first. absurd (omega (arith, first)) })
+returns-clause-second_memory_as_written c = both (0x28 ∷ []) (0x42 ∷ 0x01 ∷ 0x05 ∷ []) refl (record { form = named 1 (omega arith); unnamed = λ first. absurd (omega (arith, first)); named = λ other. place 1 (omega arith) })
 
 pub returns-clause-first_memory_is_not_named : goal.returns-clause-first_memory_is_not_named
 returns-clause-first_memory_is_not_named c =

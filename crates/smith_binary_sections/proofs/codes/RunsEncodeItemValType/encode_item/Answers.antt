@@ -1,0 +1,6 @@
+use Rattle.std.proofs.lemmas.Result.{on_ok_weaker}
+use Rattle.smith_binary.proofs.WrittenLemmas.{joined_written}
+use Rattle.smith_binary_sections.proofs.codes.RunsEncodeItemValType.encode_item.Goals as goal
+
+pub returns-clause-writes : goal.returns-clause-writes
+returns-clause-writes c = on_ok_weaker c.encode.result (joined_written c.in_ok-write_u32.ensures.writes) c.encode.ensures.writes
