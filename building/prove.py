@@ -16,11 +16,8 @@ def crate_folder(project: pathlib.Path, name: str) -> pathlib.Path:
 
 
 def copy_crate(name: str, project: pathlib.Path) -> None:
-    """Copies what a proof of a crate reads to a project."""
-    for part in PARTS:
-        origin = crate_folder(ROOT, name) / part
-        if origin.is_dir():
-            shutil.copytree(origin, crate_folder(project, name) / part)
+    """Copies a crate to a project: what a proof of it reads, and what its program is run on, without its edits."""
+    shutil.copytree(crate_folder(ROOT, name), crate_folder(project, name), ignore=shutil.ignore_patterns("must-fail", "out"))
 
 
 def copy_project(names: list, project: pathlib.Path) -> None:
