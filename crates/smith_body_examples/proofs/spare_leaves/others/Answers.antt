@@ -20,12 +20,13 @@ use Rattle.smith_instr.specs.declared.aggregate.AggregateInstr.TheVariants as ag
 use Rattle.smith_instr.specs.declared.instr.Instr.TheVariants as instr
 use Rattle.smith_instr_examples.specs.ExampleBodies.{kinds_of, some_func}
 use Rattle.smith_body_leaves.specs.Laws.{HasNoSingle}
-use Rattle.smith_body_leaves.specs.Leaves.{IsTaking, any_leaf_at, constant_instr_at, created_type, first_leaf, first_single, i31_leaf, leaf_at, leaf_choice_at, leaf_within, named_at, spare_leaf}
+use Rattle.smith_body_leaves.specs.DrawnLeaves.{leaf_at}
+use Rattle.smith_body_leaves.specs.Leaves.{IsTaking, any_leaf_at, constant_instr_at, created_type, first_leaf, first_single, i31_leaf, leaf_choice_at, leaf_within, named_at, spare_leaf}
 use Rattle.smith_body_nodes.specs.IndexedTypes.{is_created_below}
 use Rattle.smith_body_nodes.specs.Offered.{chunk_at, offered}
 use Rattle.smith_body_nodes.specs.Scopes.{is_permitted}
 use Rattle.smith_body_nodes.proofs.OfferLemmas.{tested}
-use Rattle.smith_body_leaves.proofs.LawLemmas.{no_other}
+use Rattle.smith_body_leaves.proofs.NoOtherLemmas.{no_other}
 use Rattle.smith_body_leaves.proofs.LeafLemmas.{i31_over, outside_over, reference_leaf, struct_leaf}
 use Rattle.smith_body_examples.specs.ExampleAggregates.{nested, paired, some, some_of, unnamed, untyped, wrapped}
 use Rattle.smith_body_examples.specs.ExampleBytes.{trapless}

@@ -10,10 +10,11 @@ use Rattle.smith_config.specs.Config.{default_config}
 use Rattle.smith_instr.specs.Enabled.{is_enabled}
 use Rattle.smith_instr.specs.declared.aggregate.AggregateInstr.TheVariants as aggregate
 use Rattle.smith_instr.specs.declared.instr.Instr.TheVariants as instr
-use Rattle.smith_body_leaves.specs.Leaves.{any_leaf_at, constant_instr_at, created_type, first_leaf, first_single, i31_leaf, leaf_at, leaf_choice_at, leaf_within, named_at, spare_leaf}
+use Rattle.smith_body_leaves.specs.DrawnLeaves.{leaf_at}
+use Rattle.smith_body_leaves.specs.Leaves.{any_leaf_at, constant_instr_at, created_type, first_leaf, first_single, i31_leaf, leaf_choice_at, leaf_within, named_at, spare_leaf}
 use Rattle.smith_body_nodes.specs.Offered.{chunk_at, offered}
 use Rattle.smith_body_nodes.specs.Scopes.{is_permitted}
-use Rattle.smith_body_leaves.proofs.LawLemmas.{no_other}
+use Rattle.smith_body_leaves.proofs.NoOtherLemmas.{no_other}
 use Rattle.smith_body_leaves.proofs.LeafLemmas.{i31_over, struct_leaf}
 use Rattle.smith_body_examples.specs.ExampleAggregates.{some, some_of, unnamed}
 use Rattle.smith_body_examples.specs.ExampleBytes.{trapless}
