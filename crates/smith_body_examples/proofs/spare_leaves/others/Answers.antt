@@ -20,7 +20,7 @@ use Rattle.smith_instr.specs.declared.aggregate.AggregateInstr.TheVariants as ag
 use Rattle.smith_instr.specs.declared.instr.Instr.TheVariants as instr
 use Rattle.smith_instr_examples.specs.ExampleBodies.{kinds_of, some_func}
 use Rattle.smith_body_leaves.specs.Laws.{HasNoSingle}
-use Rattle.smith_body_leaves.specs.DrawnLeaves.{leaf_at}
+use Rattle.smith_body_leaves.specs.DrawnLeaves.{leaf_at, preferred_at, value_for, variable_at}
 use Rattle.smith_body_leaves.specs.Leaves.{IsTaking, any_leaf_at, constant_instr_at, created_type, first_leaf, first_single, i31_leaf, leaf_choice_at, leaf_within, named_at, spare_leaf}
 use Rattle.smith_body_nodes.specs.IndexedTypes.{is_created_below}
 use Rattle.smith_body_nodes.specs.Offered.{chunk_at, offered}
@@ -33,7 +33,7 @@ use Rattle.smith_body_examples.specs.ExampleBytes.{trapless}
 use Rattle.smith_body_examples.proofs.spare_leaves.others.Goals as goal
 
 pub returns-clause-exception : goal.returns-clause-exception
-unfolding any_leaf_at constant_instr_at created_type first_leaf first_single i31_leaf leaf_at leaf_choice_at leaf_within named_at spare_leaf is_permitted is_enabled is_heap_below chosen_at ancestors chunk_at offered choose_at digit_count range_at
+unfolding any_leaf_at constant_instr_at created_type first_leaf first_single i31_leaf leaf_at preferred_at value_for variable_at leaf_choice_at leaf_within named_at spare_leaf is_permitted is_enabled is_heap_below chosen_at ancestors chunk_at offered choose_at digit_count range_at
 returns-clause-exception c = no_other trapless unnamed [] (some_of heap.Exn) (4 ∷ []) c.orderly.ensures.some refl refl
 
 pub returns-clause-struct_of_default_values : goal.returns-clause-struct_of_default_values
@@ -47,7 +47,7 @@ returns-clause-i31 c = λ none.
     (instr.I32Const (pos 0)) tt (refl, record { value = I32; typed = (refl, refl); below = tt; sets_none = refl })
 
 pub returns-clause-i31_of_no_allowed_constant : goal.returns-clause-i31_of_no_allowed_constant
-unfolding any_leaf_at constant_instr_at created_type first_leaf first_single i31_leaf leaf_at leaf_choice_at leaf_within named_at spare_leaf is_permitted is_enabled is_heap_below chosen_at ancestors chunk_at offered choose_at digit_count range_at
+unfolding any_leaf_at constant_instr_at created_type first_leaf first_single i31_leaf leaf_at preferred_at value_for variable_at leaf_choice_at leaf_within named_at spare_leaf is_permitted is_enabled is_heap_below chosen_at ancestors chunk_at offered choose_at digit_count range_at
 returns-clause-i31_of_no_allowed_constant c = no_other (record trapless { allowed_instructions = kinds_of kind.Aggregate }) untyped [] (some_of heap.I31) (4 ∷ []) c.orderly.ensures.none refl refl
 
 -- the creation of a struct of one field
@@ -71,7 +71,7 @@ returns-clause-two_levels c = λ none.
     first.no_struct 0 (omega arith) (refl, struct_leaf nested [] (some 0) 0 orderly refl)
 
 pub returns-clause-pair_of_pairs : goal.returns-clause-pair_of_pairs
-unfolding any_leaf_at constant_instr_at created_type first_leaf first_single i31_leaf leaf_at leaf_choice_at leaf_within named_at spare_leaf is_permitted is_enabled is_heap_below chosen_at ancestors chunk_at offered choose_at digit_count range_at
+unfolding any_leaf_at constant_instr_at created_type first_leaf first_single i31_leaf leaf_at preferred_at value_for variable_at leaf_choice_at leaf_within named_at spare_leaf is_permitted is_enabled is_heap_below chosen_at ancestors chunk_at offered choose_at digit_count range_at
 returns-clause-pair_of_pairs c = no_other trapless paired [] (some 2) (4 ∷ []) c.orderly.ensures.pairs refl refl
 
 pub returns-clause-any_struct : goal.returns-clause-any_struct
@@ -105,5 +105,5 @@ returns-clause-external_without_types c = λ none.
     (instr.I32Const (pos 0)) tt (refl, record { value = I32; typed = (refl, refl); below = tt; sets_none = refl })
 
 pub returns-clause-external_of_no_allowed_constant : goal.returns-clause-external_of_no_allowed_constant
-unfolding any_leaf_at constant_instr_at created_type first_leaf first_single i31_leaf leaf_at leaf_choice_at leaf_within named_at spare_leaf is_permitted is_enabled is_heap_below chosen_at ancestors chunk_at offered choose_at digit_count range_at
+unfolding any_leaf_at constant_instr_at created_type first_leaf first_single i31_leaf leaf_at preferred_at value_for variable_at leaf_choice_at leaf_within named_at spare_leaf is_permitted is_enabled is_heap_below chosen_at ancestors chunk_at offered choose_at digit_count range_at
 returns-clause-external_of_no_allowed_constant c = no_other (record trapless { allowed_instructions = kinds_of kind.Aggregate }) untyped [] (some_of heap.Extern) (4 ∷ []) c.orderly.ensures.none refl refl

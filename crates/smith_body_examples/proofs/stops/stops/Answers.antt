@@ -10,7 +10,7 @@ use Rattle.smith_config.specs.Config.{default_config}
 use Rattle.smith_instr.specs.Enabled.{is_enabled}
 use Rattle.smith_instr.specs.declared.aggregate.AggregateInstr.TheVariants as aggregate
 use Rattle.smith_instr.specs.declared.instr.Instr.TheVariants as instr
-use Rattle.smith_body_leaves.specs.DrawnLeaves.{leaf_at}
+use Rattle.smith_body_leaves.specs.DrawnLeaves.{leaf_at, preferred_at, value_for, variable_at}
 use Rattle.smith_body_leaves.specs.Leaves.{any_leaf_at, constant_instr_at, created_type, first_leaf, first_single, i31_leaf, leaf_choice_at, leaf_within, named_at, spare_leaf}
 use Rattle.smith_body_nodes.specs.Offered.{chunk_at, offered}
 use Rattle.smith_body_nodes.specs.Scopes.{is_permitted}
@@ -22,7 +22,7 @@ use Rattle.smith_body_examples.proofs.StopExamples.{in_place, nothing_needed, re
 use Rattle.smith_body_examples.proofs.stops.stops.Goals as goal
 
 pub returns-clause-exception : goal.returns-clause-exception
-unfolding any_leaf_at constant_instr_at created_type first_leaf first_single i31_leaf leaf_at leaf_choice_at leaf_within named_at spare_leaf is_permitted is_enabled is_heap_below chosen_at ancestors chunk_at offered choose_at digit_count range_at
+unfolding any_leaf_at constant_instr_at created_type first_leaf first_single i31_leaf leaf_at preferred_at value_for variable_at leaf_choice_at leaf_within named_at spare_leaf is_permitted is_enabled is_heap_below chosen_at ancestors chunk_at offered choose_at digit_count range_at
 returns-clause-exception c = in_place trapless unnamed (some_of heap.Exn) (search) (λ disallowed. no_other trapless (within unnamed (some_of heap.Exn)) [] (some_of heap.Exn) (4 ∷ []) c.orderly.ensures refl refl)
 
 pub returns-clause-struct_of_default_values : goal.returns-clause-struct_of_default_values
