@@ -1,5 +1,5 @@
--- Typed bodies access memories of their module.
-use Rattle.std.proofs.Common.{◌≡◌, ℕ, ◌<◌, ◌⊎◌, inl, inr, Bool, List, ◌∷◌, ◌++◌, length, refl, arith}
+-- Typed bodies access memories of their module, and state value types in forms that are enabled.
+use Rattle.std.proofs.Common.{◌≡◌, ℕ, ◌<◌, ◌⊎◌, inl, inr, Bool, List, [], ◌∷◌, ◌++◌, length, refl, arith}
 use Rattle.std.specs.Prelude.{All}
 use Rattle.std.proofs.lemmas.List.Elements.{All-append, All-cons, All-nil, All-same, All-weaker}
 use Rattle.std.proofs.lemmas.Option.{slice_get_within}
@@ -16,16 +16,22 @@ use Rattle.smith_instr.specs.declared.instr.Instr.{Instr}
 use Rattle.smith_instr.specs.declared.instr.Instr.TheVariants as instr
 use Rattle.smith_instr.specs.declared.memory.MemArg.{MemArg}
 use Rattle.smith_module_rules.specs.Module.{ModuleParts, IsValid, module_features}
-use Rattle.smith_program.specs.Bodies.{AreBodiesOf, IsBodyAt, IsOfBody}
+use Rattle.smith_program.specs.Bodies.{AreBodiesBy, AreBodiesOf, IsBodyAt, IsOfBody}
 use Rattle.smith_program.specs.declared.program.Body.{Body}
 use Rattle.smith_program.specs.declared.program.Body.TheVariants as of_body
-use Rattle.smith_binary_program.specs.Forms.{accessed, AreFormsEnabled, IsAccessEnabled}
+use Rattle.smith_binary_program.specs.Forms.{accessed, AreFormsEnabled, IsAccessEnabled, IsStatedEnabled, IsValFormEnabled, values_in}
+use Rattle.smith_binary_program.proofs.ReferenceFormLemmas.{block_enabled, globals_enabled, held_enabled, instr_enabled}
+use Rattle.smith_binary_program.proofs.ReferenceFormLemmas.{locals_enabled, tables_enabled, types_enabled}
 use Rattle.smith_binary_program.proofs.SegmentFormLemmas.{datas_enabled, elems_enabled}
 use Rattle.smith_binary_program.proofs.TypeFormLemmas.{groups_enabled}
 
 -- an instruction accesses the first memory, or one that is there
 abbrev IsHeld : List MemoryType → Instr → Type 0
 IsHeld memories x = (accessed x ≡ 0) ⊎ (accessed x < length memories)
+
+-- so does an instruction of a typed body, and the value types that it states are in enabled forms
+abbrev Keeps : BodyContext → Instr → Type 0
+Keeps context x = IsHeld context.memories x × IsStatedEnabled context.features x
 
 there : {wide : Bool} (memories : List MemoryType) (at : MemArg) → IsAccess memories at wide
     → (at.memory ≡ 0) ⊎ (at.memory < length memories)
@@ -52,56 +58,87 @@ instr_held context set (instr.VectorStoreLane log2_bytes at lane) operands resul
 instr_held context set (instr.Atomic op at) operands results h = atomic_held context op at operands results h
 instr_held context set _ operands results h = inl refl
 
--- a block, then other instructions
-enclosed : (memories : List MemoryType) (first : Instr) (all body more : List Instr) → all ≡ first ∷ (body ++ instr.End ∷ more)
-    → IsHeld memories first → All (IsHeld memories) body → All (IsHeld memories) more → All (IsHeld memories) all
-enclosed memories first all body more is starts inside after =
-    All-same (IsHeld memories) all (first ∷ (body ++ instr.End ∷ more)) is
-    (All-cons (IsHeld memories) first (body ++ instr.End ∷ more) starts
-    (All-append (IsHeld memories) body (instr.End ∷ more) inside (All-cons (IsHeld memories) instr.End more (inl refl) after)))
+-- an instruction without a memory and value types, as `end`
+keeps_none : (context : BodyContext) (x : Instr) → accessed x ≡ 0 → values_in x ≡ [] → Keeps context x
+keeps_none context x first none =
+    let IsEnabled = IsValFormEnabled context.features in
+    (inl first, All-same IsEnabled (values_in x) [] none (All-nil IsEnabled))
 
-typed_held : {context : BodyContext} {xs : List Instr} {before after : Stacked} → AreTyped context xs before after
-    → All (IsHeld context.memories) xs
-typed_held {context = context} (nothing counts same) = All-nil (IsHeld context.memories)
-typed_held {context = context} {before = before} (step {instruction = x} {more = more} s rest) =
-    All-cons (IsHeld context.memories) x more (instr_held context before.set x s.operands s.results s.typed) (typed_held rest)
-typed_held {context = context} (block {ty = ty} {all = all} {body = body} {more = more} is fits inner framed last) =
-    enclosed context.memories (instr.Block ty) all body more is (inl refl) (typed_held inner) (typed_held last)
-typed_held {context = context} (loop {ty = ty} {all = all} {body = body} {more = more} is fits inner framed last) =
-    enclosed context.memories (instr.Loop ty) all body more is (inl refl) (typed_held inner) (typed_held last)
-typed_held {context = context} (if_alone {ty = ty} {all = all} {body = body} {more = more} is fits inner same framed last) =
-    enclosed context.memories (instr.If ty) all body more is (inl refl) (typed_held inner) (typed_held last)
-typed_held {context = context} (if_else {ty = ty} {all = all} {body = body} {other = other} {more = more} is _ inner otherwise _ last) =
-    let second : All (IsHeld context.memories) (other ++ instr.End ∷ more) =
-    All-append (IsHeld context.memories) other (instr.End ∷ more) (typed_held otherwise)
-    (All-cons (IsHeld context.memories) instr.End more (inl refl) (typed_held last)) in
-    All-same (IsHeld context.memories) all (instr.If ty ∷ (body ++ instr.Else ∷ (other ++ instr.End ∷ more))) is
-    (All-cons (IsHeld context.memories) (instr.If ty) (body ++ instr.Else ∷ (other ++ instr.End ∷ more)) (inl refl)
-    (All-append (IsHeld context.memories) body (instr.Else ∷ (other ++ instr.End ∷ more)) (typed_held inner)
-    (All-cons (IsHeld context.memories) instr.Else (other ++ instr.End ∷ more) (inl refl) second)))
-typed_held {context = context} (try_table {ty = ty} {clauses = clauses} {all = all} {body = body} {more = more} is _ _ inner _ last) =
-    enclosed context.memories (instr.TryTable ty clauses) all body more is (inl refl) (typed_held inner) (typed_held last)
+-- a block, then other instructions
+enclosed : (context : BodyContext) (first : Instr) (all body more : List Instr) → all ≡ first ∷ (body ++ instr.End ∷ more)
+    → Keeps context first → All (Keeps context) body → All (Keeps context) more → All (Keeps context) all
+enclosed context first all body more is starts inside after =
+    All-same (Keeps context) all (first ∷ (body ++ instr.End ∷ more)) is
+    (All-cons (Keeps context) first (body ++ instr.End ∷ more) starts
+    (All-append (Keeps context) body (instr.End ∷ more) inside
+    (All-cons (Keeps context) instr.End more (keeps_none context instr.End refl refl) after)))
+
+typed_keep : {context : BodyContext} {xs : List Instr} {before after : Stacked} → AreTyped context xs before after
+    → All (Keeps context) xs
+typed_keep {context} (nothing counts same) = All-nil (Keeps context)
+typed_keep {context} {before} (step {instruction = x} {more} s rest) =
+    let one : Keeps context x = (
+      instr_held context before.set x s.operands s.results s.typed,
+      instr_enabled context before.set x s.operands s.results s.typed,
+    ) in
+    All-cons (Keeps context) x more one (typed_keep rest)
+typed_keep {context} (block {ty} {all} {body} {more} {params} {results} is fits inner _ last) =
+    enclosed context (instr.Block ty) all body more is (inl refl, block_enabled context ty params results fits)
+    (typed_keep inner) (typed_keep last)
+typed_keep {context} (loop {ty} {all} {body} {more} {params} {results} is fits inner _ last) =
+    enclosed context (instr.Loop ty) all body more is (inl refl, block_enabled context ty params results fits)
+    (typed_keep inner) (typed_keep last)
+typed_keep {context} (if_alone {ty} {all} {body} {more} {params} {results} is fits inner _ _ last) =
+    enclosed context (instr.If ty) all body more is (inl refl, block_enabled context ty params results fits)
+    (typed_keep inner) (typed_keep last)
+typed_keep {context} (if_else {ty} {all} {body} {other} {more} {params} {results} is fits inner otherwise _ last) =
+    let second : All (Keeps context) (other ++ instr.End ∷ more) =
+    All-append (Keeps context) other (instr.End ∷ more) (typed_keep otherwise)
+    (All-cons (Keeps context) instr.End more (keeps_none context instr.End refl refl) (typed_keep last)) in
+    let after : All (Keeps context) (instr.Else ∷ (other ++ instr.End ∷ more)) =
+    All-cons (Keeps context) instr.Else (other ++ instr.End ∷ more) (keeps_none context instr.Else refl refl) second in
+    All-same (Keeps context) all (instr.If ty ∷ (body ++ instr.Else ∷ (other ++ instr.End ∷ more))) is
+    (All-cons (Keeps context) (instr.If ty) (body ++ instr.Else ∷ (other ++ instr.End ∷ more))
+    (inl refl, block_enabled context ty params results fits)
+    (All-append (Keeps context) body (instr.Else ∷ (other ++ instr.End ∷ more)) (typed_keep inner) after))
+typed_keep {context} (try_table {ty} {clauses} {all} {body} {more} {params} {results} is fits _ inner _ last) =
+    enclosed context (instr.TryTable ty clauses) all body more is (inl refl, block_enabled context ty params results fits)
+    (typed_keep inner) (typed_keep last)
 
 -- a memory that is there and isn't the first requires several memories
-held_enabled : (m : ModuleParts) → IsValid m → (x : Instr) → IsHeld m.memories x → IsAccessEnabled (module_features m) x
-held_enabled m valid x (inl first) = λ named. absurd (named first)
-held_enabled m valid x (inr inside) = λ named. valid.counts.several_memories (omega (arith, inside, named))
+access_enabled : (m : ModuleParts) → IsValid m → (x : Instr) → IsHeld m.memories x → IsAccessEnabled (module_features m) x
+access_enabled m valid x (inl first) = λ named. absurd (named first)
+access_enabled m valid x (inr inside) = λ named. valid.counts.several_memories (omega (arith, inside, named))
 
-body_enabled : (m : ModuleParts) → IsValid m → (place : ℕ) (code : Code) (given : Body) → IsOfBody (IsBodyAt m place code) code given
-    → IsOfBody (All (IsAccessEnabled (module_features m))) code given
-body_enabled m valid place code of_body.Raw h = h
-body_enabled m valid place code (of_body.Drawn instructions) h = (
-  h.0,
-  All-weaker (IsHeld m.memories) (IsAccessEnabled (module_features m)) (held_enabled m valid) instructions (typed_held h.1.typed.typed),
-)
+-- what each instruction of a module's bodies keeps
+abbrev KeepsOf : ModuleParts → Instr → Type 0
+KeepsOf m x = IsHeld m.memories x × IsStatedEnabled (module_features m) x
+
+body_keeps : (m : ModuleParts) (P : Instr → Type 0) → ((x : Instr) → KeepsOf m x → P x) → (place : ℕ) (code : Code) (given : Body)
+    → IsOfBody (IsBodyAt m place code) code given → IsOfBody (All P) code given
+body_keeps m P follows place code of_body.Raw h = h
+body_keeps m P follows place code (of_body.Drawn instructions) h =
+    (h.0, All-weaker (KeepsOf m) P follows instructions (typed_keep h.1.typed.typed))
+
+bodies_keep : (m : ModuleParts) (bodies : List Body) (P : Instr → Type 0) → ((x : Instr) → KeepsOf m x → P x) → AreBodiesOf m bodies
+    → AreBodiesBy (λ (place : ℕ) (code : Code). All P) m bodies
+bodies_keep m bodies P follows are = record {
+  each = are.each;
+  in_place = λ place code given at there. body_keeps m P follows place code given (are.in_place place code given at there);
+}
 
 pub forms_enabled : (m : ModuleParts) (bodies : List Body) → IsValid m → AreBodiesOf m bodies → AreFormsEnabled m bodies
 forms_enabled m bodies valid are = record {
   groups = groups_enabled m valid;
+  references = record {
+    types = types_enabled m valid;
+    tables = tables_enabled m valid;
+    globals = globals_enabled m valid;
+    elems = held_enabled m valid;
+    locals = locals_enabled m valid;
+    instructions = bodies_keep m bodies (IsStatedEnabled (module_features m)) (λ x h. h.1) are;
+  };
   elems = elems_enabled m valid;
   datas = datas_enabled m valid;
-  accesses = record {
-    each = are.each;
-    in_place = λ place code given at there. body_enabled m valid place code given (are.in_place place code given at there);
-  };
+  accesses = bodies_keep m bodies (IsAccessEnabled (module_features m)) (λ x h. access_enabled m valid x h.0) are;
 }

@@ -5,4 +5,5 @@ pub mod SameLemmas
 pub mod ValidLemmas
 pub mod SegmentFormLemmas
 pub mod TypeFormLemmas
+pub mod ReferenceFormLemmas
 pub mod AccessLemmas

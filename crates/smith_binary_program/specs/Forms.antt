@@ -1,16 +1,24 @@
 -- The forms of what is written that require a feature: the chapter Binary Format of the WebAssembly
 -- Core Specification 3.0. The requirements are rules of this project.
-use Rattle.std.specs.Prelude.{◌≡◌, ℕ, false, IsTrue, List, [], ◌∷◌, All}
+use Rattle.std.specs.Prelude.{◌≡◌, ℕ, ◌⊎◌, false, IsTrue, None, List, [], ◌∷◌, All}
 use Rattle.std.specs.declared.ops.Range.{Range}
 use Rattle.smith_syntax.specs.Features.{Features}
 use Rattle.smith_syntax.specs.declared.code.Code.{Code}
 use Rattle.smith_syntax.specs.declared.composite_type.SubType.{SubType}
+use Rattle.smith_syntax.specs.declared.entity_type.GlobalType.{GlobalType}
+use Rattle.smith_syntax.specs.declared.entity_type.TableType.{TableType}
 use Rattle.smith_syntax.specs.declared.segments.DataSegment.{DataSegment}
 use Rattle.smith_syntax.specs.declared.segments.ElementSegment.{ElementSegment}
+use Rattle.smith_syntax.specs.declared.value_type.RefType.{RefType}
+use Rattle.smith_syntax.specs.declared.value_type.ValType.{ValType}
+use Rattle.smith_syntax.specs.declared.value_type.ValType.TheVariants.{Ref}
+use Rattle.smith_types.specs.ValidTypes.{values_of}
+use Rattle.smith_instr.specs.declared.control.BlockType.{BlockType}
+use Rattle.smith_instr.specs.declared.control.BlockType.TheVariants as block
 use Rattle.smith_instr.specs.declared.instr.Instr.{Instr}
 use Rattle.smith_instr.specs.declared.instr.Instr.TheVariants as instr
 use Rattle.smith_module_rules.specs.Module.{ModuleParts, module_features}
-use Rattle.smith_binary_sections.specs.Types.{group_at, is_alone}
+use Rattle.smith_binary_sections.specs.Types.{group_at, is_alone, short_ref}
 use Rattle.smith_binary_sections.specs.Elements.{Form, elem_form}
 use Rattle.smith_binary_sections.specs.Elements.Form.{first_funcs, passive_funcs, table_funcs, declared_funcs}
 use Rattle.smith_binary_sections.specs.Elements.Form.{first_items, passive_items, table_items, declared_items}
@@ -62,10 +70,58 @@ accessed _ = 0
 abbrev pub IsAccessEnabled : Features → Instr → Type 0
 IsAccessEnabled features instruction = (accessed instruction ≡ 0 → ⊥) → IsTrue features.multi_memory
 
--- the groups of types, the segments and the accesses of a module and its bodies are in forms that its
--- features enable, as they are written
+-- the features with reference types that are written with the byte 0x63 or 0x64: garbage collection,
+-- and those that a module only has with it
+abbrev pub HasLongReferences : Features → Type 0
+HasLongReferences features =
+    IsTrue features.gc ⊎ (IsTrue features.function_references
+    ⊎ (IsTrue features.custom_descriptors ⊎ IsTrue features.shared_everything_threads))
+
+-- the form of a reference type: with such a byte, unless it is an abstract heap type alone (Reference
+-- Types)
+abbrev pub IsRefFormEnabled : Features → RefType → Type 0
+IsRefFormEnabled features reference = short_ref reference.nullable reference.heap_type ≡ None → HasLongReferences features
+
+-- a value type, and value types: the forms of the reference types among them (Value Types)
+abbrev pub IsValFormEnabled : Features → ValType → Type 0
+IsValFormEnabled features (Ref reference) = IsRefFormEnabled features reference
+IsValFormEnabled features _ = Unit {0}
+
+abbrev pub AreValFormsEnabled : Features → List ValType → Type 0
+AreValFormsEnabled features values = All (IsValFormEnabled features) values
+
+-- the value types that an instruction states: the type of a block, and those of a select (Control
+-- Instructions; Parametric Instructions)
+abbrev pub values_of_block : BlockType → List ValType
+values_of_block (block.Value value) = value ∷ []
+values_of_block _ = []
+
+abbrev pub values_in : Instr → List ValType
+values_in (instr.Block ty) = values_of_block ty
+values_in (instr.Loop ty) = values_of_block ty
+values_in (instr.If ty) = values_of_block ty
+values_in (instr.TryTable ty clauses) = values_of_block ty
+values_in (instr.SelectTyped values) = values
+values_in _ = []
+
+abbrev pub IsStatedEnabled : Features → Instr → Type 0
+IsStatedEnabled features instruction = AreValFormsEnabled features (values_in instruction)
+
+-- the reference types of a module and its bodies: in its types, its tables and globals, imported ones
+-- among them, its element segments, its locals, and its instructions
+pub record AreReferencesEnabled (m : ModuleParts) (bodies : List Body) : Type 0 where
+  pub types : All (λ (t : SubType). AreValFormsEnabled (module_features m) (values_of t.composite_type.inner)) m.types
+  pub tables : All (λ (table : TableType). IsRefFormEnabled (module_features m) table.element_type) m.tables
+  pub globals : All (λ (global : GlobalType). IsValFormEnabled (module_features m) global.val_type) m.globals
+  pub elems : All (λ (e : ElementSegment). IsRefFormEnabled (module_features m) e.ty) m.elems
+  pub locals : All (λ (code : Code). AreValFormsEnabled (module_features m) code.locals) m.code
+  pub instructions : AreBodiesBy (λ (place : ℕ) (code : Code). All (IsStatedEnabled (module_features m))) m bodies
+
+-- the groups of types, the reference types, the segments and the accesses of a module and its bodies
+-- are in forms that its features enable, as they are written
 pub record AreFormsEnabled (m : ModuleParts) (bodies : List Body) : Type 0 where
   pub groups : All (λ (group : Range ℕ). IsGroupFormEnabled (module_features m) (group_at m.types group)) m.groups
+  pub references : AreReferencesEnabled m bodies
   pub elems : All (λ (e : ElementSegment). IsElemFormEnabled (module_features m) (elem_form e.items e.ty e.kind)) m.elems
   pub datas : All (λ (d : DataSegment). IsDataFormEnabled (module_features m) (data_form d.kind)) m.datas
   pub accesses : AreBodiesBy (λ (place : ℕ) (code : Code). All (IsAccessEnabled (module_features m))) m bodies

@@ -1,8 +1,10 @@
-ghost use Rattle.std.specs.Prelude.{List};
-ghost use Rattle.smith_module_rules.specs.Module.{IsValid, ModuleParts};
+ghost use Rattle.std.specs.Prelude.{IsTrue, List};
+ghost use Rattle.smith_config.specs.declared.config.Config.{Config};
+ghost use Rattle.smith_config.specs.Features.{features_of};
+ghost use Rattle.smith_module_rules.specs.Module.{IsValid, ModuleParts, shown_config};
 ghost use Rattle.smith_program.specs.Bodies.{AreBodiesOf};
 ghost use Rattle.smith_program.specs.declared.program.Body.{Body};
-ghost use Rattle.smith_binary_program.specs.Forms.{AreFormsEnabled};
+ghost use Rattle.smith_binary_program.specs.Forms.{AreFormsEnabled, HasLongReferences};
 ghost use Rattle.smith_binary_program.specs.Valid.{ProgramsAreUnambiguous};
 ghost use Rattle.smith_binary_program.specs.Valid.{EncodedProgramsAreValid};
 
@@ -21,8 +23,11 @@ pub fn encoded_programs_are_valid()
 {}
 
 /// States that a valid module and its typed bodies are written without the forms of features that are
-/// off.
+/// off, and that among the features of a module those that reference types need for their long form
+/// are off without garbage collection.
 pub fn forms_are_enabled()
-    ensures { (m : ModuleParts) (bodies : List Body) → IsValid m → AreBodiesOf m bodies
+    ensures enabled { (m : ModuleParts) (bodies : List Body) → IsValid m → AreBodiesOf m bodies
         → AreFormsEnabled m bodies }
+    ensures long_references { (config : Config) → HasLongReferences
+        (features_of (shown_config config)) → IsTrue (features_of (shown_config config)).gc }
 {}
