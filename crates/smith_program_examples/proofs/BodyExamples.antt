@@ -16,7 +16,7 @@ use Rattle.smith_instr.proofs.SequenceLemmas.{one, finished}
 use Rattle.smith_instr_examples.specs.ExampleBodies.{number}
 use Rattle.smith_instr_examples.proofs.ManagedExamples.{func_alone}
 use Rattle.smith_instr_examples.proofs.SequenceExamples.{is_plain, step_of, end_height, valid_one}
-use Rattle.smith_program.specs.Bodies.{HasDefinedType, IsBodyAt, IsOfBody, AreBodiesOf, function_context}
+use Rattle.smith_program.specs.Bodies.{HasDefinedType, IsBodyAt, IsOfBody, AreBodiesBy, AreBodiesOf, function_context}
 use Rattle.smith_program.specs.declared.program.Body.{Body}
 use Rattle.smith_program_examples.specs.ExamplePrograms.{after_an_import, narrow_function, gives_number, with_local}
 
@@ -100,5 +100,10 @@ each_at Is (first ∷ codes) (top ∷ bodies) each zero code given at there =
     subst (Is 0 code) (same_Some top given there) (subst (λ (c : Code). Is 0 c top) (same_Some first code at) each.0)
 each_at Is (first ∷ codes) (top ∷ bodies) each (suc place) code given at there = each_at (λ n. Is (suc n)) codes bodies each.1 place code given at there
 
-pub all_bodies : (m : ModuleParts) (bodies : List Body) → length bodies ≡ length m.code → Each (λ place code. IsOfBody (IsBodyAt m place code) code) m.code bodies → AreBodiesOf m bodies
-all_bodies m bodies same each = record { each = same; in_place = each_at (λ place code. IsOfBody (IsBodyAt m place code) code) m.code bodies each }
+pub bodies_by : (Is : ℕ → Code → List Instr → Type 0) (m : ModuleParts) (bodies : List Body) → length bodies ≡ length m.code
+    → Each (λ place code. IsOfBody (Is place code) code) m.code bodies → AreBodiesBy Is m bodies
+bodies_by Is m bodies same each = record { each = same; in_place = each_at (λ place code. IsOfBody (Is place code) code) m.code bodies each }
+
+pub all_bodies : (m : ModuleParts) (bodies : List Body) → length bodies ≡ length m.code
+    → Each (λ place code. IsOfBody (IsBodyAt m place code) code) m.code bodies → AreBodiesOf m bodies
+all_bodies m bodies same each = bodies_by (IsBodyAt m) m bodies same each

@@ -1,2 +1,4 @@
 pub mod BodyExamples
+pub mod ReferenceExamples
+pub mod SpellingExamples
 pub mod ValidExamples

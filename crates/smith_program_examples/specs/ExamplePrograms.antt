@@ -1,18 +1,24 @@
 -- Modules and bodies of the examples, and the bytes that produce such bodies.
 use Rattle.std.specs.Prelude.{ℕ, true, None, List, [], ◌∷◌}
-use Rattle.smith_types.specs.ExampleTypes.{final_type, giving, plain_func}
+use Rattle.smith_types.specs.ExampleTypes.{final_type, giving, nullable, plain_func}
 use Rattle.smith_syntax.specs.declared.code.Code.{Code}
 use Rattle.smith_syntax.specs.declared.code.Instructions.TheVariants.{Arbitrary}
 use Rattle.smith_syntax.specs.declared.composite_type.CompositeInnerType.{CompositeInnerType}
 use Rattle.smith_syntax.specs.declared.composite_type.FuncType.{FuncType}
 use Rattle.smith_syntax.specs.declared.entity_type.EntityType.TheVariants as entity
 use Rattle.smith_syntax.specs.declared.imports.Imports.TheVariants.{Single}
-use Rattle.smith_syntax.specs.declared.value_type.ValType.TheVariants.{I32}
+use Rattle.smith_syntax.specs.declared.segments.ElementSegment.{ElementSegment}
+use Rattle.smith_syntax.specs.declared.segments.Elements.TheVariants.{Functions}
+use Rattle.smith_syntax.specs.declared.value_type.HeapType.TheVariants.{Concrete}
+use Rattle.smith_syntax.specs.declared.value_type.RefType.{RefType}
+use Rattle.smith_syntax.specs.declared.value_type.ValType.TheVariants.{I32, Ref}
 use Rattle.smith_config.specs.declared.config.Config.{Config}
 use Rattle.smith_config.specs.Config.{default_config}
 use Rattle.smith_module_rules.specs.Module.{ModuleParts}
 use Rattle.smith_module_rules_examples.specs.ExampleModules.{empty_module, group_of}
-use Rattle.smith_module_rules_examples.specs.ExampleParts.{import_named, memory, trapping}
+use Rattle.smith_module_rules_examples.specs.ExampleParts.{import_named, memory, passive_elements, trapping}
+use Rattle.smith_instr.specs.declared.control.BlockType.TheVariants as block
+use Rattle.smith_instr.specs.declared.instr.Instr.TheVariants as instr
 use Rattle.smith_instr_examples.specs.ExampleBodies.{number}
 use Rattle.smith_body_examples.specs.ExampleBytes.{narrow}
 use Rattle.smith_program.specs.declared.program.Body.{Body}
@@ -94,3 +100,17 @@ constant n = body.Drawn (number n ∷ [])
 
 abbrev pub constant_bytes : ℕ → List ℕ
 constant_bytes n = 0 ∷ 0 ∷ narrow n
+
+-- a nullable reference to values of the first type; a passive segment and a local of this type, and a
+-- block of a type
+abbrev pub indexed : RefType
+indexed = nullable (Concrete 0)
+
+abbrev pub indexed_elements : ElementSegment
+indexed_elements = record (passive_elements (Functions [])) { ty = indexed }
+
+abbrev pub with_indexed_local : Code
+with_indexed_local = record trapping { locals = Ref indexed ∷ [] }
+
+abbrev pub block_of : RefType → Body
+block_of ty = body.Drawn (instr.Block (block.Value (Ref ty)) ∷ instr.End ∷ [])

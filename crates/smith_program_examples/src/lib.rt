@@ -7,5 +7,7 @@ mod contexts;
 mod forms;
 mod fuel_checks;
 mod kept_forms;
+mod references;
+mod spellings;
 mod types;
 mod valid;
