@@ -18,8 +18,11 @@ use Rattle.smith_syntax.specs.declared.composite_type.SubType.{SubType}
 use Rattle.smith_types.proofs.GrowthLemmas.{IsValBelow-grown}
 use Rattle.smith_types.proofs.WalkLemmas.{Reaches, here, up, by_cases_from_below, below_from_by_cases}
 use Rattle.smith_draw_types.specs.Grounding.{any_from, function_grounds, over}
-use Rattle.smith_draw_types.specs.KeptGrounds.{IsRecordOver, IsEarlyRecord, AreEarlyGrounds}
+use Rattle.smith_draw_types.specs.FunctionFamilies.{AreFunctionFamilies}
+use Rattle.smith_draw_types.specs.KeptGrounds.{IsRecordOver, IsEarlyRecord, AreEarlyFamilies, AreEarlyGrounds}
 use Rattle.smith_draw_types.specs.declared.early_grounds.EarlyGrounds.{EarlyGrounds}
+use Rattle.smith_draw_types.specs.declared.function_families.FunctionFamilies.{FunctionFamilies}
+use Rattle.smith_draw_types.proofs.FunctionListLemmas.{families_grown}
 use Rattle.smith_draw_types.proofs.GroundingLemmas.{by_kept, reference_within}
 use Rattle.smith_draw_types.proofs.StandingLemmas.{val_stands}
 
@@ -122,8 +125,33 @@ record_grown context types grounds grown early =
       named = early.named;
     }
 
+-- the lists begin with their record, and stay right with it
+pub families_begun : (context : Context) (grounds : FuncGrounds) (families : FunctionFamilies)
+    → ((function index : ℕ) → slice_get context.funcs function ≡ Some index → index < length context.types)
+    → AreFuncGrounds context grounds → AreFunctionFamilies context.types grounds (length context.types) families
+    → AreEarlyFamilies context families
+families_begun context grounds families named right listed = record {
+  grounds = grounds;
+  early = record_begun context grounds right named;
+  listed = listed;
+}
+
+early_families_grown : (context : Context) (types : List SubType) (families : FunctionFamilies) → Extends context.types types
+    → AreEarlyFamilies context families → AreEarlyFamilies (over context types) families
+early_families_grown context types families grown h =
+    let early = h.early in
+    let first = length-take-le early.count context.types early.within in
+    record {
+      grounds = h.grounds;
+      early = record_grown context types h.grounds grown early;
+      listed = families_grown context.types types h.grounds families (omega (arith, first, early.right.long, early.within)) grown h.listed;
+    }
+
 pub early_grown : (context : Context) (old new : List SubType) (grounds : EarlyGrounds) → Extends old new → AreEarlyGrounds (over context old) grounds → AreEarlyGrounds (over context new) grounds
-early_grown context old new grounds grown early = IfSome_then grounds.kept early (λ kept. record_grown (over context old) new kept grown)
+early_grown context old new grounds grown early = record {
+  kept = IfSome_then grounds.kept early.kept (λ kept. record_grown (over context old) new kept grown);
+  families = IfSome_then grounds.families early.families (λ families. early_families_grown (over context old) new families grown);
+}
 
 -- lists that grow at their ends
 pub extends_self : {A : Type 0} (xs : List A) → Extends xs xs

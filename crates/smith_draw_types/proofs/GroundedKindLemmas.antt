@@ -1,5 +1,5 @@
 -- The grounded types of a kind, by what is recorded of them.
-use Rattle.std.proofs.Common.{rules, ◌≡◌, ◌↔◌, ◌⊎◌, inl, inr, ℕ, zero, suc, ◌+◌, ◌^◌, ◌<◌, ◌≤◌, Bool, true, false, ◌&&◌, List, [], ◌∷◌, ◌++◌, map, Option, Some, None, length, drop, refl, sym, subst, ◌∙◌, ap, arith, IsTrue}
+use Rattle.std.proofs.Common.{rules, ◌≡◌, ◌↔◌, ◌⊎◌, inl, inr, ℕ, zero, suc, ◌+◌, ◌^◌, ◌<◌, ◌≤◌, Bool, true, false, ◌&&◌, List, [], ◌∷◌, ◌++◌, map, Some, length, drop, refl, sym, subst, ◌∙◌, ap, arith, IsTrue}
 use Rattle.std.specs.Prelude.{slice_get, filter, if◌then◌else◌}
 use Rattle.std.proofs.lemmas.List.{append-nil, length-append, length-map}
 use Rattle.std.proofs.lemmas.List.Concat.{flat_map-cons}
@@ -23,9 +23,11 @@ use Rattle.smith_types.proofs.WalkLemmas.{alike_along, by_cases_from_below}
 use Rattle.smith_types.proofs.GroundedLemmas.{below_created}
 use Rattle.smith_types.proofs.MarkedLemmas.{shared_read, stands}
 use Rattle.smith_config.specs.declared.config.Config.{Config}
+use Rattle.smith_draw_types.specs.FunctionFamilies.{is_kind_at}
 use Rattle.smith_draw_types.specs.Grounding.{is_grounded}
 use Rattle.smith_draw_types.specs.Offered.{abstract_subtypes, kinds_below, is_of_kind, is_kind, picked_from, of_kinds, gc_subtypes}
 use Rattle.smith_draw_types.proofs.OfferedLemmas.{shared_as, of_kind}
+use Rattle.smith_draw_types.proofs.FunctionListLemmas.{kind_read}
 use Rattle.smith_draw_types.proofs.GroundingLemmas.{grounded_if, grounded_decides, by_structs}
 
 pub both : (a b : Bool) → (a && b) ≡ true → (a ≡ true) × (b ≡ true)
@@ -72,7 +74,7 @@ none_where first (suc count) = none_where (first + 1) count
 first_kind : (types : List SubType) (s : Bool) (a : AbstractHeapType) (kinds : List AbstractHeapType) → of_kinds types s (a ∷ kinds) ≡ picked_from (is_kind s a) 0 types ++ of_kinds types s kinds
 first_kind types s a kinds = flat_map-cons (λ kind. picked_from (is_kind s kind) 0 types) a kinds
 
-one_kind_passing : (g : HeapType → Bool) (types : List SubType) (s : Bool) (a : AbstractHeapType) (passing : List HeapType) → filter g (picked_from (is_kind s a) 0 types) ≡ passing → filter g (of_kinds types s (a ∷ [])) ≡ passing
+pub one_kind_passing : (g : HeapType → Bool) (types : List SubType) (s : Bool) (a : AbstractHeapType) (passing : List HeapType) → filter g (picked_from (is_kind s a) 0 types) ≡ passing → filter g (of_kinds types s (a ∷ [])) ≡ passing
 one_kind_passing g types s a passing same = ap (filter g) (first_kind types s a [] ∙ append-nil _) ∙ same
 
 -- a type of a kind is below that kind
@@ -83,7 +85,7 @@ kind_is_above types s a j t at on =
     (subst (λ (k : AbstractHeapType). IsBelow types (Concrete j) (Abstract (shared t) k)) (of_kind a t.composite_type.inner of) (below_kind types j t at))
 
 -- the supertypes of a grounded heap type are grounded
-structs_above : (types : List SubType) (descriptors : Bool) (a b : HeapType) → IsBelow types a b → IsGroundedByStructs types descriptors a → IsGroundedByStructs types descriptors b
+pub structs_above : (types : List SubType) (descriptors : Bool) (a b : HeapType) → IsBelow types a b → IsGroundedByStructs types descriptors a → IsGroundedByStructs types descriptors b
 structs_above types descriptors a b below (i, by) = (i, record { fields = by.fields; struct = by.struct; defaults = by.defaults; below = IsBelow-trans types by.below below })
 
 pub functions_above : (context : Context) (a b : HeapType) → IsBelow context.types a b → IsGroundedByFuncs context a → IsGroundedByFuncs context b
@@ -113,24 +115,13 @@ kinds_after_none context s a kinds rest none same =
     let alone : filter g (picked_from (is_kind s a) 0 context.types) ≡ [] = sym (one_kind_passing g context.types s a _ refl) ∙ none in
     ap (filter g) (first_kind context.types s a kinds) ∙ filter-append g (picked_from (is_kind s a) 0 context.types) (of_kinds context.types s kinds) ∙ ap (λ (l : List HeapType). l ++ filter g (of_kinds context.types s kinds)) alone ∙ same
 
--- whether a type, or that at an index, has a kind and sharedness
-abbrev is_kind_in : Bool → AbstractHeapType → Option SubType → Bool
-is_kind_in s a None = false
-is_kind_in s a (Some t) = is_kind s a t
-
-abbrev is_kind_at : List SubType → Bool → AbstractHeapType → ℕ → Bool
-is_kind_at types s a j = is_kind_in s a (slice_get types j)
-
-kind_read : (types : List SubType) (s : Bool) (a : AbstractHeapType) (j : ℕ) (t : SubType) → slice_get types j ≡ Some t → is_kind_at types s a j ≡ is_kind s a t
-kind_read types s a j t at = ap (λ (o : Option SubType). is_kind_in s a o) at
-
 struct_kind : (inner : CompositeInnerType) → kind_of inner ≡ heap.Struct → is_of_kind heap.Struct inner ≡ true
 struct_kind (Struct structure) e = refl
 struct_kind (Array element) e = cc
 struct_kind (Func function) e = cc
 
 -- a type that a struct type grounds is a struct type
-grounded_struct : (types : List SubType) (descriptors : Bool) (j : ℕ) (t : SubType) → IsOrderly types → slice_get types j ≡ Some t → IsGroundedByStructs types descriptors (Concrete j) → is_of_kind heap.Struct t.composite_type.inner ≡ true
+pub grounded_struct : (types : List SubType) (descriptors : Bool) (j : ℕ) (t : SubType) → IsOrderly types → slice_get types j ≡ Some t → IsGroundedByStructs types descriptors (Concrete j) → is_of_kind heap.Struct t.composite_type.inner ≡ true
 grounded_struct types descriptors j t orderly at (i, by) =
     let (u, at_u, is) = by.struct in
     let below = below_created types descriptors i j orderly by.below in

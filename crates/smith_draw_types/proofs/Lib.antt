@@ -48,3 +48,5 @@ pub mod BelowLemmas
 pub mod GroundingLemmas
 pub mod KeptGroundLemmas
 pub mod EarlyGroundLemmas
+pub mod FunctionListLemmas
+pub mod FunctionFamilyLemmas

@@ -3,8 +3,10 @@ use Rattle.std.specs.Prelude.{◌≡◌, ℕ, ◌<◌, ◌≤◌, List, Some, sl
 use Rattle.smith_types.specs.Expressions.{Context}
 use Rattle.smith_types.specs.FuncGrounds.{AreFuncGrounds}
 use Rattle.smith_types.specs.declared.func_grounds.FuncGrounds.{FuncGrounds}
+use Rattle.smith_draw_types.specs.FunctionFamilies.{AreFunctionFamilies}
 use Rattle.smith_draw_types.specs.Grounding.{over}
 use Rattle.smith_draw_types.specs.declared.early_grounds.EarlyGrounds.{EarlyGrounds}
+use Rattle.smith_draw_types.specs.declared.function_families.FunctionFamilies.{FunctionFamilies}
 use Rattle.smith_draw_types.specs.declared.kept_grounds.KeptGrounds.{KeptGrounds}
 
 -- the record, if there is one, is correct for the functions of a context
@@ -40,6 +42,13 @@ pub record IsEarlyRecord (context : Context) (grounds : FuncGrounds) : Type 0 wh
   pub right : AreFuncGrounds (over context (take count context.types)) grounds
   pub named : HaveTypes context.funcs count
 
--- the record that was made before types were added, if there is one, is as above
-abbrev pub AreEarlyGrounds : Context → EarlyGrounds → Type 0
-AreEarlyGrounds context grounds = IfSome grounds.kept (IsEarlyRecord context)
+-- the lists have the types that functions ground by such a record
+pub record AreEarlyFamilies (context : Context) (families : FunctionFamilies) : Type 0 where
+  pub grounds : FuncGrounds
+  pub early : IsEarlyRecord context grounds
+  pub listed : AreFunctionFamilies context.types grounds (length context.types) families
+
+-- the record that was made before types were added, and its lists, if there are any, are as above
+pub record AreEarlyGrounds (context : Context) (grounds : EarlyGrounds) : Type 0 where
+  pub kept : IfSome grounds.kept (IsEarlyRecord context)
+  pub families : IfSome grounds.families (AreEarlyFamilies context)

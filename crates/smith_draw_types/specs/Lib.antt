@@ -4,6 +4,7 @@ pub mod Choices
 pub mod HeldFields
 pub mod GroundedTails
 pub mod Grounding
+pub mod FunctionFamilies
 pub mod KeptGrounds
 pub mod ValueTypes
 pub mod FieldTypes

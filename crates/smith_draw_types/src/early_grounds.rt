@@ -1,7 +1,12 @@
-ghost use Rattle.std.specs.Prelude.{◌≡◌, ◌↔◌, ◌<◌, length, IsTrue, IsSome, IfOk, IfErr};
+ghost use Rattle.std.specs.Prelude.{◌≡◌, ◌↔◌, ◌<◌, length, IsTrue, IsSome, IfSome, IfOk, IfErr};
+ghost use Rattle.smith_types.specs.Expressions.{Context};
+ghost use Rattle.smith_types.specs.FuncGrounds.{AreFuncGrounds};
+ghost use Rattle.smith_types.specs.declared.func_grounds.FuncGrounds.{FuncGrounds as Noted};
+ghost use Rattle.smith_draw_types.specs.FunctionFamilies.{AreFunctionFamilies};
 ghost use Rattle.smith_draw_types.specs.Grounding.{functions_in, functions_of, over};
 ghost use Rattle.smith_draw_types.specs.KeptGrounds.{AreEarlyGrounds, HaveTypes};
 
+use crate::function_families::FunctionFamilies;
 use crate::kept_grounds::record_functions;
 use crate::spaces::{Entities, Spaces};
 use smith_bytes::Error;
@@ -20,10 +25,13 @@ pub(crate) struct EarlyGrounds<'a> {
     pub imported_funcs: usize,
     /// The record, if there is one.
     pub kept: Option<FuncGrounds>,
+    /// The types that the functions ground by the record, if there is one.
+    pub families: Option<FunctionFamilies>,
 }
 
 impl<'a> EarlyGrounds<'a> {
-    /// Records the heap types that the functions of `entities` ground. Reads each function once.
+    /// Records the heap types that the functions of `entities` ground. Reads each function and each
+    /// type once.
     ///
     /// Nothing is recorded or allocated if the configuration disables non-nullable references, if
     /// there are no functions, or if the type of a function is not one of `types`, so that it may
@@ -49,6 +57,7 @@ impl<'a> EarlyGrounds<'a> {
                 funcs,
                 imported_funcs,
                 kept: None,
+                families: None,
             });
         }
         let spaces = Spaces {
@@ -56,11 +65,32 @@ impl<'a> EarlyGrounds<'a> {
             entities: *entities,
         };
         let kept = record_functions(alloc, config, &spaces)?;
+        let families = list_families(alloc, types, &kept)?;
         Ok(EarlyGrounds {
             funcs,
             imported_funcs,
             kept,
+            families,
         })
+    }
+}
+
+/// Lists the types of `types` that functions ground by the record `kept`, if there is one.
+fn list_families(
+    alloc: Global,
+    types: &TypeSpace,
+    kept: &Option<FuncGrounds>,
+) -> Result<Option<FunctionFamilies>, Error>
+    ensures listed { (context : Context) → context.types ≡ types.now.types
+        → IfSome kept.now (AreFuncGrounds context)
+        → IfOk result (λ listed. IfSome listed (λ families. (grounds : Noted)
+        × AreFuncGrounds context grounds
+        × AreFunctionFamilies types.now.types grounds (length types.now.types) families)) }
+    ensures memory { IfErr result (λ e. e ≡ Error.Memory) }
+{
+    match kept {
+        Some(grounds) => Ok(Some(FunctionFamilies::of(alloc, types, grounds)?)),
+        None => Ok(None),
     }
 }
 

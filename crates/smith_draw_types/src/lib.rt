@@ -13,6 +13,7 @@ mod enabled;
 mod entity_type;
 mod examples;
 mod field_type;
+mod function_families;
 mod global_type;
 mod kept_grounds;
 mod limits;

@@ -1,5 +1,5 @@
 ghost use Rattle.std.specs.Prelude.{◌≡◌, ◌<◌, [], ◌∷◌, length, map, filter, IsTrue, IfSome, ◌↔◌};
-ghost use Rattle.smith_syntax.specs.declared.value_type.AbstractHeapType.TheVariants.{Array, Struct};
+ghost use Rattle.smith_syntax.specs.declared.value_type.AbstractHeapType.TheVariants.{Array, Func, Struct};
 ghost use Rattle.smith_syntax.specs.declared.value_type.HeapType.TheVariants.{Concrete};
 ghost use Rattle.smith_types.specs.Types.{IsOrderly};
 ghost use Rattle.smith_types.specs.Subtyping.{IsInRange};
@@ -12,6 +12,7 @@ ghost use Rattle.smith_draw_types.specs.Offered.{kinds_below, of_kinds};
 ghost use Rattle.smith_draw_types.specs.KeptGrounds.{AreEarlyGrounds, IsRecordOver};
 
 use crate::early_grounds::EarlyGrounds;
+use crate::function_families::FunctionFamilies;
 use crate::spaces::Spaces;
 use smith_config::Config;
 use smith_types::{AbstractHeapType, FuncGrounds, HeapType, SubType, TypeSpace};
@@ -27,6 +28,8 @@ pub struct ReferenceScope<'a> {
     // A record of the heap types that the functions ground, if there is one. It may have been made
     // when there were fewer types.
     kept: &'a Option<FuncGrounds>,
+    // The types that the functions ground, if they are listed.
+    families: Option<&'a FunctionFamilies>,
 }
 
 impl<'a> Model for ReferenceScope<'a> {
@@ -35,7 +38,7 @@ impl<'a> Model for ReferenceScope<'a> {
     ghost use Rattle.smith_types.specs.FuncGrounds.{AreFuncGrounds};
     ghost use Rattle.smith_config.specs.Features.{features_of};
     ghost use Rattle.smith_draw_types.specs.Grounding.{function_context};
-    ghost use Rattle.smith_draw_types.specs.KeptGrounds.{IsRecordOver};
+    ghost use Rattle.smith_draw_types.specs.KeptGrounds.{IsRecordOver, AreEarlyFamilies};
 
     ghost Value = { Context };
 
@@ -43,7 +46,10 @@ impl<'a> Model for ReferenceScope<'a> {
         function_context (features_of a.config.now) a.types.now.types a.funcs.now a.imported_funcs };
 
     ghost invariant = { λ a. IfSome a.kept.now (IsRecordOver
-        (function_context (features_of a.config.now) a.types.now.types a.funcs.now a.imported_funcs)) };
+        (function_context (features_of a.config.now) a.types.now.types a.funcs.now a.imported_funcs))
+        × IfSome a.families (λ families. AreEarlyFamilies
+        (function_context (features_of a.config.now) a.types.now.types a.funcs.now a.imported_funcs)
+        families.now) };
 }
 
 impl<'a> ReferenceScope<'a> {
@@ -65,6 +71,7 @@ impl<'a> ReferenceScope<'a> {
             funcs: grounds.funcs,
             imported_funcs: grounds.imported_funcs,
             kept: &grounds.kept,
+            families: grounds.families.as_ref(),
         }
     }
 
@@ -84,6 +91,7 @@ impl<'a> ReferenceScope<'a> {
             funcs: spaces.entities.funcs,
             imported_funcs: spaces.entities.imported_funcs,
             kept: grounds,
+            families: None,
         }
     }
 
@@ -128,7 +136,7 @@ impl<'a> ReferenceScope<'a> {
             Eq => self.grounded_aggregates(shared),
             Struct => self.grounded_structs(shared),
             Array => self.none_grounded(shared, Array),
-            Func => self.none_grounded(shared, Func),
+            Func => self.grounded_functions(shared),
             _ => Some(&[]),
         }
     }
@@ -162,6 +170,19 @@ impl<'a> ReferenceScope<'a> {
         self.types.grounded_by_structs(shared)
     }
 
+    /// Returns the indices of the grounded function types with the sharedness `shared`, in order.
+    /// Returns `None` if they are not recorded.
+    fn grounded_functions(&self, shared: bool) -> Option<&'a [u32]>
+        ensures { IfSome result (λ indices. filter (is_grounded self.now)
+            (of_kinds self.now.types shared (Func ∷ [])) ≡ map Concrete indices.now) }
+    {
+        self.orderly();
+        match self.families {
+            Some(families) => Some(families.function_types(shared)),
+            None => self.none_grounded(shared, AbstractHeapType::Func),
+        }
+    }
+
     /// Returns the indices of the grounded direct subtypes of the type `index`, in order. Returns
     /// `None` if they are not recorded.
     pub(crate) fn grounded_direct(&self, index: u32) -> Option<&'a [u32]>
@@ -173,9 +194,27 @@ impl<'a> ReferenceScope<'a> {
             return None;
         }
         if self.is_grounded_by_functions(above) {
-            return None;
+            return self.direct_by_functions(index);
         }
         self.types.grounded_direct_subtypes(index)
+    }
+
+    /// Returns the same as [`ReferenceScope::grounded_direct`], from the lists of the types that
+    /// functions ground. Returns `None` if a struct type grounds the type `index`.
+    fn direct_by_functions(&self, index: u32) -> Option<&'a [u32]>
+        requires { index < length self.now.types }
+        ensures { IfSome result (λ indices. IsGroundedFamily self.now index indices.now) }
+    {
+        self.orderly();
+        let Some(families) = self.families else {
+            return None;
+        };
+        let descriptors = self.config.custom_descriptors_enabled;
+        let above = HeapType::Concrete(index);
+        if self.types.is_grounded_by_structs(above, descriptors) {
+            return None;
+        }
+        Some(families.direct_subtypes(index))
     }
 
     /// Returns no indices if no type of the kind `kind` with the sharedness `shared` is grounded.

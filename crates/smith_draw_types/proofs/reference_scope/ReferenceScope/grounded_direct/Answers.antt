@@ -6,6 +6,11 @@ use Rattle.smith_draw_types.proofs.GroundedFamilyLemmas.{family_listed}
 use Rattle.smith_draw_types.proofs.GroundingLemmas.{no_functions}
 use Rattle.smith_draw_types.proofs.reference_scope.ReferenceScope.grounded_direct.Goals as goal
 
+pub direct_by_functions-requires : goal.direct_by_functions-requires
+direct_by_functions-requires c =
+    let same = ap (λ (context : Context). context.types) c.self.view_is in
+    rw (c.types.ensures.value, same) at (c.is_in_range.ensures.0 c.if-not-is_in_range.false)
+
 pub returns : goal.returns
 returns c =
     let same = ap (λ (context : Context). context.types) c.self.view_is in

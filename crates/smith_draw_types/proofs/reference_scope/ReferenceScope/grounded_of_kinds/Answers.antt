@@ -16,4 +16,4 @@ pub returns-in-Array : goal.returns-in-Array
 returns-in-Array c = rw c.in-Array.is (IfSome_then c.none_grounded.result c.none_grounded.ensures (λ indices none. none.1 ∙ ap (map Concrete) (sym none.0)))
 
 pub returns-in-Func : goal.returns-in-Func
-returns-in-Func c = rw c.in-Func.is (IfSome_then c.none_grounded-in-Func.result c.none_grounded-in-Func.ensures (λ indices none. none.1 ∙ ap (map Concrete) (sym none.0)))
+returns-in-Func c = rw c.in-Func.is c.grounded_functions.ensures

@@ -1,0 +1,9 @@
+use Rattle.std.proofs.Common.{◌≡◌}
+use Rattle.smith_types.specs.Expressions.{Context}
+use Rattle.smith_types.specs.FuncGrounds.{AreFuncGrounds}
+use Rattle.smith_draw_types.specs.FunctionFamilies.{AreFunctionFamilies}
+use Rattle.smith_draw_types.proofs.function_families.FunctionFamilies.of.Given as goal
+
+abbrev pub invariant-loop-index : goal.invariant-loop-index
+invariant-loop-index l = (context : Context) → context.types ≡ l.types → AreFuncGrounds context l.grounds
+    → AreFunctionFamilies l.types l.grounds l.index l.families
