@@ -29,25 +29,31 @@ fn numbers()
 {}
 
 fn tests()
-    ensures from_a_type_above { cast_choice_at (aggregates references) I32 (3 ∷ 0 ∷ 1 ∷ []) ≡ (
+    ensures from_a_type_above { cast_choice_at (aggregates references) I32 (3 ∷ 0 ∷ 0 ∷ 1 ∷ []) ≡ (
       Some (node_of (any_of heap.Struct ∷ [])
           (instr.Reference (reference.Test (not_null (Concrete 0)))) 0),
       [],
     ) }
-    ensures from_another_hierarchy { ¬ (cast_choice_at (aggregates references) I32 (3 ∷ 0 ∷ 2 ∷ [])
+    ensures from_the_top { cast_choice_at (aggregates references) I32 (3 ∷ 0 ∷ 1 ∷ 9 ∷ []) ≡ (
+      Some (node_of (any_of heap.Any ∷ [])
+          (instr.Reference (reference.Test (not_null (Concrete 0)))) 0),
+      9 ∷ [],
+    ) }
+    ensures from_another_hierarchy { ¬ (cast_choice_at (aggregates references) I32
+        (3 ∷ 0 ∷ 0 ∷ 2 ∷ [])
         ≡ (
           Some (node_of (any_of heap.Extern ∷ [])
               (instr.Reference (reference.Test (not_null (Concrete 0)))) 0),
           [],
         )) }
-    ensures from_the_type_itself { cast_choice_at (aggregates references) I32 (3 ∷ 2 ∷ 9 ∷ []) ≡ (
+    ensures from_the_type_itself { cast_choice_at (aggregates references) I32 (3 ∷ 2 ∷ 0 ∷ 9 ∷ []) ≡ (
       Some (node_of (any_of heap.Extern ∷ [])
           (instr.Reference (reference.Test (nullable (plain heap.Extern)))) 0),
       9 ∷ [],
     ) }
     ensures without_a_reference { cast_choice_at (aggregates (I64 ∷ [])) I32 (3 ∷ 9 ∷ [])
         ≡ (None, 9 ∷ []) }
-    ensures without_null { cast_choice_at (aggregates references) I32 (4 ∷ 2 ∷ 9 ∷ []) ≡ (
+    ensures without_null { cast_choice_at (aggregates references) I32 (4 ∷ 2 ∷ 0 ∷ 9 ∷ []) ≡ (
       Some (node_of (any_of heap.Extern ∷ [])
           (instr.Reference (reference.Test (not_null (plain heap.Extern)))) 0),
       9 ∷ [],
@@ -74,51 +80,104 @@ fn conversions()
 {}
 
 fn casts()
-    ensures from_a_local { cast_choice_at (aggregates references) (some 1) (2 ∷ 9 ∷ []) ≡ (
+    ensures from_a_local { cast_choice_at (aggregates references) (some 1) (2 ∷ 0 ∷ 9 ∷ []) ≡ (
       Some (node_of (any_of heap.Struct ∷ [])
           (instr.Reference (reference.Cast (not_null (Concrete 1)))) 0),
       9 ∷ [],
     ) }
-    ensures from_another_hierarchy { ¬ (cast_choice_at (aggregates references) (some 1) (2 ∷ 9 ∷ [])
-        ≡ (
+    ensures from_another_hierarchy { ¬ (cast_choice_at (aggregates references) (some 1)
+        (2 ∷ 0 ∷ 9 ∷ []) ≡ (
           Some (node_of (any_of heap.Extern ∷ [])
               (instr.Reference (reference.Cast (not_null (Concrete 1)))) 0),
           9 ∷ [],
         )) }
-    ensures without_a_local { cast_choice_at (aggregates []) (some 0) (2 ∷ 9 ∷ []) ≡ (
-      Some (node_of (any 0 ∷ []) (instr.Reference (reference.Cast (not_null (Concrete 0)))) 0),
+    ensures without_a_local { cast_choice_at (aggregates []) (some 0) (2 ∷ 0 ∷ 9 ∷ []) ≡ (
+      Some (node_of (any_of heap.Any ∷ [])
+          (instr.Reference (reference.Cast (not_null (Concrete 0)))) 0),
       9 ∷ [],
     ) }
-    ensures without_null { cast_choice_at (aggregates []) (any 0) (3 ∷ 9 ∷ []) ≡ (
-      Some (node_of (any 0 ∷ []) (instr.Reference (reference.Cast (not_null (Concrete 0)))) 0),
+    ensures from_the_top { cast_choice_at (aggregates references) (some 0) (2 ∷ 1 ∷ 9 ∷ []) ≡ (
+      Some (node_of (any_of heap.Any ∷ [])
+          (instr.Reference (reference.Cast (not_null (Concrete 0)))) 0),
+      9 ∷ [],
+    ) }
+    ensures from_the_top_of_external_values { cast_choice_at (aggregates [])
+        (some_of heap.NoExtern) (2 ∷ 1 ∷ 9 ∷ [])
+        ≡ (
+          Some (node_of (any_of heap.Extern ∷ [])
+              (instr.Reference (reference.Cast (not_null (plain heap.NoExtern)))) 0),
+          9 ∷ [],
+        ) }
+    ensures of_an_exception { cast_choice_at (aggregates []) (some_of heap.NoExn) (2 ∷ 1 ∷ 9 ∷ [])
+        ≡ (
+          Some (node_of (any_of heap.NoExn ∷ [])
+              (instr.Reference (reference.Cast (not_null (plain heap.NoExn)))) 0),
+          9 ∷ [],
+        ) }
+    ensures without_null { cast_choice_at (aggregates []) (any 0) (3 ∷ 0 ∷ 9 ∷ []) ≡ (
+      Some (node_of (any_of heap.Any ∷ [])
+          (instr.Reference (reference.Cast (not_null (Concrete 0)))) 0),
       9 ∷ [],
     ) }
 {}
 
 fn branches()
-    ensures on_a_cast { cast_branch_at (branching (any_of heap.Struct ∷ [])) (1 ∷ 9 ∷ []) ≡ (
+    ensures on_a_cast { cast_branch_at (branching (any_of heap.Struct ∷ [])) (1 ∷ 0 ∷ 0 ∷ 9 ∷ []) ≡ (
       Some (node_of (I32 ∷ any_of heap.Struct ∷ []) (instr.BrOnCast
           (record { label = 0; from = nullable (plain heap.Struct); to = nullable (Concrete 0) }))
           2),
       9 ∷ [],
     ) }
-    ensures on_its_failure { cast_branch_at (branching (I64 ∷ some 0 ∷ [])) (0 ∷ 9 ∷ []) ≡ (
+    ensures on_its_failure { cast_branch_at (branching (I64 ∷ some 0 ∷ [])) (0 ∷ 0 ∷ 0 ∷ 9 ∷ []) ≡ (
       Some (node_of (I32 ∷ any 0 ∷ []) (instr.BrOnCastFail
           (record { label = 0; from = nullable (Concrete 0); to = not_null (Concrete 0) })) 2),
       9 ∷ [],
     ) }
-    ensures without_a_local { cast_branch_at (branching []) (0 ∷ 9 ∷ []) ≡ (
+    ensures without_a_local { cast_branch_at (branching []) (0 ∷ 0 ∷ 0 ∷ 9 ∷ []) ≡ (
       Some (node_of (I32 ∷ any 0 ∷ []) (instr.BrOnCastFail
           (record { label = 0; from = nullable (Concrete 0); to = nullable (Concrete 0) })) 2),
       9 ∷ [],
     ) }
-    ensures number_is_kept { ¬ (cast_branch_at (branching []) (0 ∷ 9 ∷ []) ≡ (
+    ensures number_is_kept { ¬ (cast_branch_at (branching []) (0 ∷ 0 ∷ 0 ∷ 9 ∷ []) ≡ (
       Some (node_of (I32 ∷ any 0 ∷ []) (instr.BrOnCastFail
           (record { label = 0; from = nullable (Concrete 0); to = nullable (Concrete 0) })) 1),
       9 ∷ [],
     )) }
     ensures no_label_of_a_reference { cast_branch_at (labelled_by ((any 0 ∷ I64 ∷ []) ∷ []))
         (1 ∷ 9 ∷ []) ≡ (None, 1 ∷ 9 ∷ []) }
+{}
+
+fn branches_between_types()
+    ensures to_a_type_below { cast_branch_at (labelled_by ((any_of heap.Struct ∷ []) ∷ []))
+        (1 ∷ 1 ∷ 1 ∷ 1 ∷ 9 ∷ [])
+        ≡ (
+          Some (node_of (any_of heap.Any ∷ []) (instr.BrOnCast
+              (record { label = 0; from = nullable (plain heap.Any); to = nullable (Concrete 1) }))
+              1),
+          9 ∷ [],
+        ) }
+    ensures from_a_type_below { cast_branch_at (labelled_by ((any_of heap.Struct ∷ []) ∷ []))
+        (0 ∷ 1 ∷ 0 ∷ 0 ∷ 9 ∷ [])
+        ≡ (
+          Some (node_of (any 0 ∷ []) (instr.BrOnCastFail
+              (record { label = 0; from = nullable (Concrete 0); to = nullable (Concrete 0) })) 1),
+          9 ∷ [],
+        ) }
+    ensures failed_to_a_type_below { cast_branch_at (labelled_by ((some_of heap.Array ∷ []) ∷ []))
+        (0 ∷ 0 ∷ 1 ∷ 2 ∷ 9 ∷ [])
+        ≡ (
+          Some (node_of (some_of heap.Array ∷ []) (instr.BrOnCastFail
+              (record { label = 0; from = not_null (plain heap.Array); to = not_null (Concrete 4) }))
+              1),
+          9 ∷ [],
+        ) }
+    ensures no_type_below { cast_branch_at (labelled_by ((any 0 ∷ []) ∷ [])) (1 ∷ 1 ∷ 1 ∷ 9 ∷ [])
+        ≡ (
+          Some (node_of (any_of heap.Any ∷ []) (instr.BrOnCast
+              (record { label = 0; from = nullable (plain heap.Any); to = nullable (Concrete 0) }))
+              1),
+          9 ∷ [],
+        ) }
 {}
 
 fn kept_casts()

@@ -1,21 +1,24 @@
 -- Types that a reference type matches.
-use Rattle.std.proofs.Common.{◌≡◌, ℕ, ◌<◌, true, List, Option, Some, None, length, get_or, refl, subst, ap, ◌∙◌}
+use Rattle.std.proofs.Common.{◌≡◌, ℕ, ◌<◌, true, false, List, Option, Some, None, length, get_or, refl, subst, ap, ◌∙◌}
 use Rattle.std.specs.Prelude.{unwrap_or}
 use Rattle.std.proofs.lemmas.Option.{slice_get-get_or}
-use Rattle.smith_bytes.specs.Draws.{choose_at}
+use Rattle.smith_bytes.specs.Draws.{bool_at, choose_at}
 use Rattle.smith_types.specs.Subtyping.{IsRefBelow, itself}
 use Rattle.smith_types.specs.Types.{IsOrderly}
 use Rattle.smith_syntax.specs.declared.composite_type.SubType.{SubType}
+use Rattle.smith_syntax.specs.declared.value_type.AbstractHeapType.{AbstractHeapType}
+use Rattle.smith_syntax.specs.declared.value_type.AbstractHeapType.TheVariants as abstract
+use Rattle.smith_syntax.specs.declared.value_type.HeapType.TheVariants.{Abstract}
 use Rattle.smith_syntax.specs.declared.value_type.RefType.{RefType}
 use Rattle.smith_syntax.specs.declared.value_type.ValType.{ValType}
 use Rattle.smith_syntax.specs.declared.value_type.ValType.TheVariants.{I32, I64, F32, F64, V128, Ref}
 use Rattle.smith_draw_types.specs.Below.{is_val_below}
 use Rattle.smith_instr.specs.Contexts.{BodyContext, IsValid}
-use Rattle.smith_body_nodes.specs.Above.{above_at, above_in, is_above, is_above_at, reference_in, with_null}
+use Rattle.smith_body_nodes.specs.Above.{above_at, above_in, is_above, is_above_at, is_internal, is_under, local_above_at, nullable_type, reference_in, top_above, with_null}
 use Rattle.smith_body_nodes.specs.Offered.{offered}
 use Rattle.smith_body_nodes.specs.Scopes.{indexed}
-use Rattle.smith_body_nodes.proofs.OfferLemmas.{tested}
-use Rattle.smith_body_nodes.proofs.ReferenceChoiceLemmas.{nullable_valid}
+use Rattle.smith_body_nodes.proofs.OfferLemmas.{both, tested}
+use Rattle.smith_body_nodes.proofs.ReferenceChoiceLemmas.{extern_valid, func_valid, nullable_valid}
 
 -- a reference type matches its nullable form
 pub null_above : (types : List SubType) (to : RefType) → IsRefBelow types to (with_null to)
@@ -23,6 +26,34 @@ null_above types to = record { heap = itself; nullable = λ h. refl }
 
 pub null_valid : (context : BodyContext) (to : RefType) → IsValid context (Ref to) → IsValid context (Ref (with_null to))
 null_valid context to valid = nullable_valid context to.heap_type valid.0 valid.1.heap_type
+
+-- the top of the hierarchy of a reference type
+pub any_ref_valid : (context : BodyContext) (to : RefType) → IsValid context (Ref to) → is_internal context to ≡ true → IsValid context (Ref (nullable_type abstract.Any))
+any_ref_valid context to valid is = nullable_valid context (Abstract false abstract.Any) valid.0 ((both context.features.gc (is_under context to abstract.Any) is).0, λ h. cc)
+
+pub any_above : (context : BodyContext) (to : RefType) → IsOrderly context.types → is_internal context to ≡ true → IsRefBelow context.types to (nullable_type abstract.Any)
+any_above context to orderly is = tested context.types orderly (Ref to) (Ref (nullable_type abstract.Any)) (both context.features.gc (is_under context to abstract.Any) is).1
+
+pub func_ref_valid : (context : BodyContext) (to : RefType) → IsValid context (Ref to) → IsValid context (Ref (nullable_type abstract.Func))
+func_ref_valid context to valid = nullable_valid context (Abstract false abstract.Func) valid.0 (func_valid context)
+
+pub extern_ref_valid : (context : BodyContext) (to : RefType) → IsValid context (Ref to) → IsValid context (Ref (nullable_type abstract.Extern))
+extern_ref_valid context to valid = nullable_valid context (Abstract false abstract.Extern) valid.0 (extern_valid context)
+
+pub under_below : (context : BodyContext) (to : RefType) (ty : AbstractHeapType) → IsOrderly context.types → is_under context to ty ≡ true → IsRefBelow context.types to (nullable_type ty)
+under_below context to ty orderly is = tested context.types orderly (Ref to) (Ref (nullable_type ty)) is
+
+pub top_any : (context : BodyContext) (to : RefType) → is_internal context to ≡ true → top_above context to ≡ nullable_type abstract.Any
+top_any context to is = rw is refl
+
+pub top_func : (context : BodyContext) (to : RefType) → is_internal context to ≡ false → is_under context to abstract.Func ≡ true → top_above context to ≡ nullable_type abstract.Func
+top_func context to other is = rw (other, is) refl
+
+pub top_extern : (context : BodyContext) (to : RefType) → is_internal context to ≡ false → is_under context to abstract.Func ≡ false → is_under context to abstract.Extern ≡ true → top_above context to ≡ nullable_type abstract.Extern
+top_extern context to other another is = rw (other, another, is) refl
+
+pub top_none : (context : BodyContext) (to : RefType) → is_internal context to ≡ false → is_under context to abstract.Func ≡ false → is_under context to abstract.Extern ≡ false → top_above context to ≡ with_null to
+top_none context to other another third = rw (other, another, third) refl
 
 -- the type of a local, or the nullable form
 pub read_valid : (context : BodyContext) (value : ValType) (to : RefType) → IsValid context value → IsValid context (Ref to) → IsValid context (Ref (unwrap_or (reference_in (Some value)) (with_null to)))
@@ -47,10 +78,16 @@ read_above context to index d orderly inside is =
     read_below context.types (get_or context.locals index d) to orderly (subst (λ (o : Option ValType). is_above_at context.types to o ≡ true) (slice_get-get_or context.locals index d inside) is)
 
 -- the drawn type that a reference type matches
-pub above_none : (context : BodyContext) (to : RefType) (bytes left : List ℕ) → choose_at (offered (is_above context to) (indexed (length context.locals))) bytes ≡ (None, left) → above_at context to bytes ≡ (with_null to, left)
-above_none context to bytes left drawn = ap (λ (d : Option ℕ × List ℕ). (above_in context to d.0, d.1)) drawn
+pub local_above_none : (context : BodyContext) (to : RefType) (bytes left : List ℕ) → choose_at (offered (is_above context to) (indexed (length context.locals))) bytes ≡ (None, left) → local_above_at context to bytes ≡ (top_above context to, left)
+local_above_none context to bytes left drawn = ap (λ (d : Option ℕ × List ℕ). (above_in context to d.0, d.1)) drawn
 
-pub above_some : (context : BodyContext) (to : RefType) (bytes left : List ℕ) (index : ℕ) (d : ValType) → choose_at (offered (is_above context to) (indexed (length context.locals))) bytes ≡ (Some index, left) → index < length context.locals
-    → above_at context to bytes ≡ (unwrap_or (reference_in (Some (get_or context.locals index d))) (with_null to), left)
-above_some context to bytes left index d drawn inside =
+pub local_above_some : (context : BodyContext) (to : RefType) (bytes left : List ℕ) (index : ℕ) (d : ValType) → choose_at (offered (is_above context to) (indexed (length context.locals))) bytes ≡ (Some index, left) → index < length context.locals
+    → local_above_at context to bytes ≡ (unwrap_or (reference_in (Some (get_or context.locals index d))) (with_null to), left)
+local_above_some context to bytes left index d drawn inside =
     ap (λ (d : Option ℕ × List ℕ). (above_in context to d.0, d.1)) drawn ∙ ap (λ (o : Option ValType). (unwrap_or (reference_in o) (with_null to), left)) (slice_get-get_or context.locals index d inside)
+
+pub above_top : (context : BodyContext) (to : RefType) (bytes left : List ℕ) → bool_at bytes ≡ (true, left) → above_at context to bytes ≡ (top_above context to, left)
+above_top context to bytes left drawn = rw drawn refl
+
+pub above_local : (context : BodyContext) (to : RefType) (bytes left : List ℕ) → bool_at bytes ≡ (false, left) → above_at context to bytes ≡ local_above_at context to left
+above_local context to bytes left drawn = rw drawn refl

@@ -1,6 +1,6 @@
 -- Branches on casts.
 use Rattle.std.proofs.Common.{◌≡◌, ℕ, ◌-◌, ◌<◌, ◌≤◌, Bool, true, false, List, [], ◌∷◌, ◌++◌, Option, Some, None, length, get_or, take, refl, sym, subst, ap, ◌∙◌, arith}
-use Rattle.std.specs.Prelude.{slice_get, IsTrue, min, option_map, option_and_then, unwrap_or, if◌then◌else◌}
+use Rattle.std.specs.Prelude.{slice_get, not, IsTrue, min, option_map, option_and_then, unwrap_or, if◌then◌else◌}
 use Rattle.std.specs.List.{AllZip}
 use Rattle.std.proofs.lemmas.List.{length-take-le}
 use Rattle.std.proofs.lemmas.List.Elements.{All-push, All-take}
@@ -12,18 +12,19 @@ use Rattle.smith_syntax.specs.declared.composite_type.SubType.{SubType}
 use Rattle.smith_syntax.specs.declared.value_type.RefType.{RefType}
 use Rattle.smith_syntax.specs.declared.value_type.ValType.{ValType}
 use Rattle.smith_syntax.specs.declared.value_type.ValType.TheVariants.{I32, I64, F32, F64, V128, Ref}
-use Rattle.smith_types.proofs.GrowthLemmas.{IsValBelow-refl}
+use Rattle.smith_types.proofs.GrowthLemmas.{IsRefBelow-trans, IsValBelow-refl}
 use Rattle.smith_draw_types.specs.Below.{is_val_below}
 use Rattle.smith_instr.specs.Contexts.{BodyContext, IsValid, AreValid}
 use Rattle.smith_instr.specs.InstrTypes.{HasInstrType, difference, sets}
 use Rattle.smith_instr.specs.declared.instr.Instr.{Instr}
 use Rattle.smith_instr.specs.declared.instr.Instr.TheVariants as instr
-use Rattle.smith_body_reference_branches.specs.CastBranchChoices.{below_at, below_in, br_on_cast_at, br_on_cast_fail_at, cast_branch_for, cast_down_of, cast_fail_of, cast_label, cast_label_at, cast_label_there, cast_node, cast_value_at, kept_cast, kept_cast_node, last_of}
+use Rattle.smith_body_reference_branches.specs.CastBranchChoices.{below_at, below_in, br_on_cast_at, br_on_cast_fail_at, cast_branch_for, cast_label, cast_label_at, cast_label_there, cast_node, cast_of, cast_value_at, is_strictly_below, kept_cast, kept_cast_node, last_of, local_below_at, lower_at, reference_as, strictly_below_at}
 use Rattle.smith_body_nodes.specs.Above.{above_at, reference_in}
 use Rattle.smith_body_nodes.specs.Chosen.{giving}
+use Rattle.smith_body_nodes.specs.IndexedTypes.{names_types}
 use Rattle.smith_body_nodes.specs.Nodes.{IsNode}
 use Rattle.smith_body_reference_branches.specs.NullChoices.{is_of_reference, last_reference}
-use Rattle.smith_body_nodes.specs.Offered.{is_below_at, is_local_below, is_target, offered}
+use Rattle.smith_body_nodes.specs.Offered.{chunk_at, is_below_at, is_local_below, is_target, offered}
 use Rattle.smith_body_nodes.specs.Scopes.{AreLabels, bare, context_of, indexed, widest}
 use Rattle.smith_body_reference_branches.specs.declared.cast_branches.CastLabel.{CastLabel}
 use Rattle.smith_body_nodes.specs.declared.scope.Scope.{Scope}
@@ -31,7 +32,7 @@ use Rattle.smith_body_nodes.proofs.ItemLemmas.{given_none, given_some}
 use Rattle.smith_body_nodes.proofs.LabelLemmas.{label_at}
 use Rattle.smith_body_nodes.proofs.NodeLemmas.{no_valid, one_valid}
 use Rattle.smith_body_reference_branches.proofs.NullLemmas.{last_is, last_there, one_longer}
-use Rattle.smith_body_nodes.proofs.OfferLemmas.{target_there, tested}
+use Rattle.smith_body_nodes.proofs.OfferLemmas.{both, target_there, tested}
 use Rattle.smith_body_nodes.proofs.PlainLemmas.{gives_one}
 
 -- the type of a local that matches a reference type, or the type itself
@@ -59,13 +60,46 @@ pub drawn_below : (context : BodyContext) (from : RefType) (index : ℕ) (d : Va
 drawn_below context from index d orderly inside is =
     below_it context.types (get_or context.locals index d) from orderly (subst (λ (o : Option ValType). is_below_at context.types (Ref from) o ≡ true) (slice_get-get_or context.locals index d inside) is)
 
-pub below_none : (context : BodyContext) (from : RefType) (bytes left : List ℕ) → choose_at (offered (is_local_below context (Ref from)) (indexed (length context.locals))) bytes ≡ (None, left) → below_at context from bytes ≡ (from, left)
-below_none context from bytes left drawn = ap (λ (d : Option ℕ × List ℕ). (below_in context from d.0, d.1)) drawn
+pub local_none : (context : BodyContext) (from : RefType) (bytes left : List ℕ) → choose_at (offered (is_local_below context (Ref from)) (indexed (length context.locals))) bytes ≡ (None, left) → local_below_at context from bytes ≡ (from, left)
+local_none context from bytes left drawn = ap (λ (d : Option ℕ × List ℕ). (below_in context from d.0, d.1)) drawn
 
-pub below_some : (context : BodyContext) (from : RefType) (bytes left : List ℕ) (index : ℕ) (d : ValType) → choose_at (offered (is_local_below context (Ref from)) (indexed (length context.locals))) bytes ≡ (Some index, left) → index < length context.locals
-    → below_at context from bytes ≡ (unwrap_or (reference_in (Some (get_or context.locals index d))) from, left)
-below_some context from bytes left index d drawn inside =
+pub local_some : (context : BodyContext) (from : RefType) (bytes left : List ℕ) (index : ℕ) (d : ValType) → choose_at (offered (is_local_below context (Ref from)) (indexed (length context.locals))) bytes ≡ (Some index, left) → index < length context.locals
+    → local_below_at context from bytes ≡ (unwrap_or (reference_in (Some (get_or context.locals index d))) from, left)
+local_some context from bytes left index d drawn inside =
     ap (λ (d : Option ℕ × List ℕ). (below_in context from d.0, d.1)) drawn ∙ ap (λ (o : Option ValType). (unwrap_or (reference_in o) from, left)) (slice_get-get_or context.locals index d inside)
+
+-- a type strictly below a reference type, or the type itself
+pub strict_valid : (context : BodyContext) (above : RefType) (index : ℕ) → names_types context ≡ true → index < length context.types → IsValid context (Ref above) → IsValid context (Ref (reference_as above index))
+strict_valid context above index named inside valid =
+    let (on, gc) = both context.features.reference_types context.features.gc named in
+    (valid.0, record { heap_type = (gc, inside); nullable = valid.1.nullable })
+
+pub strict_below : (context : BodyContext) (above : RefType) (index : ℕ) → IsOrderly context.types → is_strictly_below context above index ≡ true → IsRefBelow context.types (reference_as above index) above
+strict_below context above index orderly is =
+    let (below, other) = both (is_val_below context.types (Ref (reference_as above index)) (Ref above)) (not (is_val_below context.types (Ref above) (Ref (reference_as above index)))) is in
+    tested context.types orderly (Ref (reference_as above index)) (Ref above) below
+
+pub strict_off : (context : BodyContext) (above : RefType) (bytes : List ℕ) → names_types context ≡ false → strictly_below_at context above bytes ≡ (above, bytes)
+strict_off context above bytes off = rw off refl
+
+pub strict_none : (context : BodyContext) (above : RefType) (bytes left : List ℕ) → names_types context ≡ true → chunk_at (is_strictly_below context above) (indexed (length context.types)) bytes ≡ (None, left) → strictly_below_at context above bytes ≡ (above, left)
+strict_none context above bytes left on drawn = rw (on, drawn) refl
+
+pub strict_some : (context : BodyContext) (above : RefType) (bytes left : List ℕ) (index : ℕ) → names_types context ≡ true → chunk_at (is_strictly_below context above) (indexed (length context.types)) bytes ≡ (Some index, left)
+    → strictly_below_at context above bytes ≡ (reference_as above index, left)
+strict_some context above bytes left index on drawn = rw (on, drawn) refl
+
+pub lower_strictly : (context : BodyContext) (above : RefType) (bytes left : List ℕ) → bool_at bytes ≡ (true, left) → strictly_below_at context above left ≡ lower_at context above bytes
+lower_strictly context above bytes left drawn = rw drawn refl
+
+pub lower_itself : (context : BodyContext) (above : RefType) (bytes left : List ℕ) → bool_at bytes ≡ (false, left) → lower_at context above bytes ≡ (above, left)
+lower_itself context above bytes left drawn = rw drawn refl
+
+pub below_strictly : (context : BodyContext) (from : RefType) (bytes left : List ℕ) → bool_at bytes ≡ (true, left) → strictly_below_at context from left ≡ below_at context from bytes
+below_strictly context from bytes left drawn = rw drawn refl
+
+pub below_local : (context : BodyContext) (from : RefType) (bytes left : List ℕ) → bool_at bytes ≡ (false, left) → local_below_at context from left ≡ below_at context from bytes
+below_local context from bytes left drawn = rw drawn refl
 
 -- a label whose last value is a reference
 pub cast_label_none : (labels : List (List ValType)) (bytes left : List ℕ) → choose_at (offered (is_of_reference labels) (min (length labels) 64)) bytes ≡ (None, left) → cast_label_at labels bytes ≡ (None, left)
@@ -126,38 +160,48 @@ cast_drops scope labels set taken from last left instruction valid few is from_v
       inside = tt;
     }
 
-pub br_on_cast_gives : (scope : Scope) (labels : List (List ValType)) (set : List ℕ) (label : CastLabel) (from : RefType) (taken : List ValType) → AreLabels scope labels → label.index < length labels → taken ≡ get_or labels label.index taken → last_of labels label.index ≡ Some label.last
-    → IsValid (bare scope) (Ref from) → IsRefBelow scope.types.now.types label.last from → IsNode (context_of scope labels) set [] (cast_node from (instr.BrOnCast (cast_down_of label from)) taken)
-br_on_cast_gives scope labels set label from taken are inside is last from_valid below =
+pub br_on_cast_gives : (scope : Scope) (labels : List (List ValType)) (set : List ℕ) (label : CastLabel) (to from : RefType) (taken : List ValType) → AreLabels scope labels → label.index < length labels → taken ≡ get_or labels label.index taken → last_of labels label.index ≡ Some label.last
+    → IsValid (bare scope) (Ref to) → IsRefBelow scope.types.now.types to label.last → IsValid (bare scope) (Ref from) → IsRefBelow scope.types.now.types label.last from
+    → IsNode (context_of scope labels) set [] (cast_node from (instr.BrOnCast (cast_of label from to)) taken)
+br_on_cast_gives scope labels set label to from taken are inside is last to_valid under from_valid above =
     let (at, valid, few) = label_at scope labels are label.index taken inside is in
     let last' = last_in labels label.index taken label.last at last in
-    let to_valid = last_valid scope labels label.index label.last are inside last in
     let at' : slice_get labels label.index ≡ Some (take (length taken - 1) taken ++ Ref label.last ∷ []) = at ∙ ap (λ (values : List ValType). Some values) (last_is taken label.last last') in
-    cast_drops scope labels set taken from label.last (difference from label.last) (instr.BrOnCast (cast_down_of label from)) valid few last' from_valid (left_below scope.types.now.types from label.last) refl
-    (λ more. (take (length taken - 1) taken, record { from_valid = from_valid.1; to_valid = to_valid.1; below = below; wanted = label.last; taken = at'; arrives = itself_below scope.types.now.types label.last }, (refl, refl)))
+    cast_drops scope labels set taken from label.last (difference from to) (instr.BrOnCast (cast_of label from to)) valid few last' from_valid (left_below scope.types.now.types from to) refl
+    (λ more. (
+      take (length taken - 1) taken,
+      record { from_valid = from_valid.1; to_valid = to_valid.1; below = IsRefBelow-trans scope.types.now.types under above; wanted = label.last; taken = at'; arrives = under },
+      (refl, refl),
+    ))
 
-pub br_on_cast_fail_gives : (scope : Scope) (labels : List (List ValType)) (set : List ℕ) (label : CastLabel) (to : RefType) (taken : List ValType) → AreLabels scope labels → label.index < length labels → taken ≡ get_or labels label.index taken → last_of labels label.index ≡ Some label.last
-    → IsValid (bare scope) (Ref to) → IsRefBelow scope.types.now.types to label.last → IsNode (context_of scope labels) set [] (cast_node label.last (instr.BrOnCastFail (cast_fail_of label to)) taken)
-br_on_cast_fail_gives scope labels set label to taken are inside is last to_valid below =
+pub br_on_cast_fail_gives : (scope : Scope) (labels : List (List ValType)) (set : List ℕ) (label : CastLabel) (from to : RefType) (taken : List ValType) → AreLabels scope labels → label.index < length labels → taken ≡ get_or labels label.index taken → last_of labels label.index ≡ Some label.last
+    → IsValid (bare scope) (Ref from) → IsRefBelow scope.types.now.types from label.last → IsValid (bare scope) (Ref to) → IsRefBelow scope.types.now.types to from
+    → IsNode (context_of scope labels) set [] (cast_node from (instr.BrOnCastFail (cast_of label from to)) taken)
+br_on_cast_fail_gives scope labels set label from to taken are inside is last from_valid under to_valid below =
     let (at, valid, few) = label_at scope labels are label.index taken inside is in
     let last' = last_in labels label.index taken label.last at last in
-    let from_valid = last_valid scope labels label.index label.last are inside last in
     let at' : slice_get labels label.index ≡ Some (take (length taken - 1) taken ++ Ref label.last ∷ []) = at ∙ ap (λ (values : List ValType). Some values) (last_is taken label.last last') in
-    cast_drops scope labels set taken label.last label.last to (instr.BrOnCastFail (cast_fail_of label to)) valid few last' from_valid below refl
-    (λ more. (take (length taken - 1) taken, record { from_valid = from_valid.1; to_valid = to_valid.1; below = below; wanted = label.last; taken = at'; arrives = left_below scope.types.now.types label.last to }, (refl, refl)))
+    cast_drops scope labels set taken from label.last to (instr.BrOnCastFail (cast_of label from to)) valid few last' from_valid below refl
+    (λ more. (
+      take (length taken - 1) taken,
+      record { from_valid = from_valid.1; to_valid = to_valid.1; below = below; wanted = label.last; taken = at'; arrives = IsRefBelow-trans scope.types.now.types (left_below scope.types.now.types from to) under },
+      (refl, refl),
+    ))
 
 -- the chosen branch
-pub br_on_cast_some : (context : BodyContext) (label : CastLabel) (from : RefType) (bytes left : List ℕ) (taken : List ValType) → above_at context label.last bytes ≡ (from, left) → slice_get context.labels label.index ≡ Some taken
-    → br_on_cast_at context label bytes ≡ (Some (cast_node from (instr.BrOnCast (cast_down_of label from)) taken), left)
-br_on_cast_some context label from bytes left taken drawn at =
-    ap (λ (d : RefType × List ℕ). (option_map (cast_node d.0 (instr.BrOnCast (cast_down_of label d.0))) (slice_get context.labels label.index), d.1)) drawn
-    ∙ ap (λ (o : Option (List ValType)). (option_map (cast_node from (instr.BrOnCast (cast_down_of label from))) o, left)) at
+pub br_on_cast_some : (context : BodyContext) (label : CastLabel) (to from : RefType) (bytes middle left : List ℕ) (taken : List ValType) → lower_at context label.last bytes ≡ (to, middle) → above_at context label.last middle ≡ (from, left)
+    → slice_get context.labels label.index ≡ Some taken → br_on_cast_at context label bytes ≡ (Some (cast_node from (instr.BrOnCast (cast_of label from to)) taken), left)
+br_on_cast_some context label to from bytes middle left taken lower drawn at =
+    ap (λ (d : RefType × List ℕ). let from = above_at context label.last d.1 in (option_map (cast_node from.0 (instr.BrOnCast (cast_of label from.0 d.0))) (slice_get context.labels label.index), from.1)) lower
+    ∙ (ap (λ (d : RefType × List ℕ). (option_map (cast_node d.0 (instr.BrOnCast (cast_of label d.0 to))) (slice_get context.labels label.index), d.1)) drawn
+    ∙ ap (λ (o : Option (List ValType)). (option_map (cast_node from (instr.BrOnCast (cast_of label from to))) o, left)) at)
 
-pub br_on_cast_fail_some : (context : BodyContext) (label : CastLabel) (to : RefType) (bytes left : List ℕ) (taken : List ValType) → below_at context label.last bytes ≡ (to, left) → slice_get context.labels label.index ≡ Some taken
-    → br_on_cast_fail_at context label bytes ≡ (Some (cast_node label.last (instr.BrOnCastFail (cast_fail_of label to)) taken), left)
-br_on_cast_fail_some context label to bytes left taken drawn at =
-    ap (λ (d : RefType × List ℕ). (option_map (cast_node label.last (instr.BrOnCastFail (cast_fail_of label d.0))) (slice_get context.labels label.index), d.1)) drawn
-    ∙ ap (λ (o : Option (List ValType)). (option_map (cast_node label.last (instr.BrOnCastFail (cast_fail_of label to))) o, left)) at
+pub br_on_cast_fail_some : (context : BodyContext) (label : CastLabel) (from to : RefType) (bytes middle left : List ℕ) (taken : List ValType) → lower_at context label.last bytes ≡ (from, middle) → below_at context from middle ≡ (to, left)
+    → slice_get context.labels label.index ≡ Some taken → br_on_cast_fail_at context label bytes ≡ (Some (cast_node from (instr.BrOnCastFail (cast_of label from to)) taken), left)
+br_on_cast_fail_some context label from to bytes middle left taken lower drawn at =
+    ap (λ (d : RefType × List ℕ). let to = below_at context d.0 d.1 in (option_map (cast_node d.0 (instr.BrOnCastFail (cast_of label d.0 to.0))) (slice_get context.labels label.index), to.1)) lower
+    ∙ (ap (λ (d : RefType × List ℕ). (option_map (cast_node from (instr.BrOnCastFail (cast_of label from d.0))) (slice_get context.labels label.index), d.1)) drawn
+    ∙ ap (λ (o : Option (List ValType)). (option_map (cast_node from (instr.BrOnCastFail (cast_of label from to))) o, left)) at)
 
 pub branch_succeeds : (context : BodyContext) (label : CastLabel) (bytes left : List ℕ) → bool_at bytes ≡ (true, left) → cast_branch_for context label bytes ≡ br_on_cast_at context label left
 unfolding cast_branch_for
@@ -191,7 +235,7 @@ kept_cast_gives scope labels set to from label taken orderly are inside is targe
     let (only, under) = one_above types to taken from below' last in
     let from_valid = last_valid scope labels label from are inside (last_at labels label taken from at last) in
     let one : slice_get labels label ≡ Some (Ref from ∷ []) = at ∙ ap (λ (values : List ValType). Some values) only in
-    gives_one (context_of scope labels) set (Ref to) (Ref to) (Ref from ∷ []) (instr.BrOnCastFail (cast_fail_of (cast_label label from) to))
+    gives_one (context_of scope labels) set (Ref to) (Ref to) (Ref from ∷ []) (instr.BrOnCastFail (cast_of (cast_label label from) from to))
     (λ more. ([], record { from_valid = from_valid.1; to_valid = to_valid.1; below = under; wanted = from; taken = one; arrives = left_below types from to }, (refl, refl)))
     (itself_below types to) to_valid refl (omega arith) (one_valid (context_of scope labels) (Ref from) from_valid)
 

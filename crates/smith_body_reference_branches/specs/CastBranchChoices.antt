@@ -1,20 +1,23 @@
 -- The branch on a cast that the bytes choose. The choices, their order and their weights are rules
 -- of this project.
-use Rattle.std.specs.Prelude.{ℕ, ◌-◌, min, Option, Some, None, option_map, option_and_then, unwrap_or, List, [], ◌∷◌, ◌++◌, length, slice_get, take, if◌then◌else◌}
+use Rattle.std.specs.Prelude.{ℕ, ◌-◌, ◌&&◌, not, Bool, min, Option, Some, None, option_map, option_and_then, unwrap_or, List, [], ◌∷◌, ◌++◌, length, slice_get, take, if◌then◌else◌}
 use Rattle.smith_bytes.specs.Draws.{bool_at, choose_at}
+use Rattle.smith_syntax.specs.declared.value_type.HeapType.TheVariants.{Concrete}
 use Rattle.smith_syntax.specs.declared.value_type.RefType.{RefType}
 use Rattle.smith_syntax.specs.declared.value_type.ValType.{ValType}
 use Rattle.smith_syntax.specs.declared.value_type.ValType.TheVariants.{Ref}
+use Rattle.smith_draw_types.specs.Below.{is_val_below}
 use Rattle.smith_instr.specs.Contexts.{BodyContext}
 use Rattle.smith_instr.specs.declared.control.BranchCast.{BranchCast}
 use Rattle.smith_instr.specs.declared.instr.Instr.{Instr}
 use Rattle.smith_instr.specs.declared.instr.Instr.TheVariants as instr
 use Rattle.smith_body_nodes.specs.Above.{above_at, reference_in}
 use Rattle.smith_body_nodes.specs.Chosen.{Chosen, giving}
+use Rattle.smith_body_nodes.specs.IndexedTypes.{names_types}
 use Rattle.smith_body_nodes.specs.Items.{continued}
 use Rattle.smith_body_nodes.specs.Nodes.{node_of}
 use Rattle.smith_body_reference_branches.specs.NullChoices.{is_of_reference, last_reference}
-use Rattle.smith_body_nodes.specs.Offered.{is_local_below, is_target, offered}
+use Rattle.smith_body_nodes.specs.Offered.{chunk_at, is_local_below, is_target, offered}
 use Rattle.smith_body_nodes.specs.Scopes.{indexed}
 use Rattle.smith_body_reference_branches.specs.declared.cast_branches.CastLabel.{CastLabel}
 use Rattle.smith_body_nodes.specs.declared.node.Node.{Node}
@@ -38,34 +41,62 @@ cast_label_at labels bytes = giving (cast_label_there labels) (choose_at (offere
 abbrev pub cast_node : RefType → Instr → List ValType → Node
 cast_node from instruction taken = node_of (take (length taken - 1) taken ++ Ref from ∷ []) instruction (length taken)
 
--- a branch if a reference has the type of the label's last value
-abbrev pub cast_down_of : CastLabel → RefType → BranchCast
-cast_down_of label from = record { label = label.index; from = from; to = label.last }
+-- the type of references to a type by its index, nullable if another is
+abbrev pub reference_as : RefType → ℕ → RefType
+reference_as above index = record { nullable = above.nullable; heap_type = Concrete index }
+
+-- such a type matches the other, and not the other way round
+abbrev pub is_strictly_below : BodyContext → RefType → ℕ → Bool
+is_strictly_below context above index =
+    is_val_below context.types (Ref (reference_as above index)) (Ref above)
+    && not (is_val_below context.types (Ref above) (Ref (reference_as above index)))
+
+-- a type strictly below a reference type, of a drawn chunk of the types, or the type itself if there
+-- is none
+abbrev pub strict_in : RefType → Option ℕ → RefType
+strict_in above (Some index) = reference_as above index
+strict_in above None = above
+
+abbrev pub strictly_below_at : BodyContext → RefType → List ℕ → RefType × List ℕ
+strictly_below_at context above bytes =
+    let index = chunk_at (is_strictly_below context above) (indexed (length context.types)) bytes in
+    if names_types context then (strict_in above index.0, index.1) else (above, bytes)
+
+-- a reference type, or half of the time one strictly below it
+abbrev pub lower_at : BodyContext → RefType → List ℕ → RefType × List ℕ
+lower_at context above bytes = let half = bool_at bytes in if half.0 then strictly_below_at context above half.1 else (above, half.1)
+
+-- a branch if a reference has a type that matches that of the label's last value
+abbrev pub cast_of : CastLabel → RefType → RefType → BranchCast
+cast_of label from to = record { label = label.index; from = from; to = to }
 
 abbrev pub br_on_cast_at : BodyContext → CastLabel → List ℕ → Chosen
 br_on_cast_at context label bytes =
-    let from = above_at context label.last bytes in
-    (option_map (cast_node from.0 (instr.BrOnCast (cast_down_of label from.0))) (slice_get context.labels label.index), from.1)
+    let to = lower_at context label.last bytes in
+    let from = above_at context label.last to.1 in
+    (option_map (cast_node from.0 (instr.BrOnCast (cast_of label from.0 to.0))) (slice_get context.labels label.index), from.1)
 
--- a type that matches a reference type: that of a local, or the type itself if there is none
+-- the type of a local that matches a reference type, or the type itself if there is none
 abbrev pub below_in : BodyContext → RefType → Option ℕ → RefType
 below_in context from (Some index) = unwrap_or (reference_in (slice_get context.locals index)) from
 below_in context from None = from
 
-abbrev pub below_at : BodyContext → RefType → List ℕ → RefType × List ℕ
-below_at context from bytes =
+abbrev pub local_below_at : BodyContext → RefType → List ℕ → RefType × List ℕ
+local_below_at context from bytes =
     let index = choose_at (offered (is_local_below context (Ref from)) (indexed (length context.locals))) bytes in
     (below_in context from index.0, index.1)
 
--- a branch if a reference does not have the type of a cast, which matches that of the label's last
--- value
-abbrev pub cast_fail_of : CastLabel → RefType → BranchCast
-cast_fail_of label to = record { label = label.index; from = label.last; to = to }
+-- a type that matches a reference type: half of the time one strictly below it, else that of a local
+abbrev pub below_at : BodyContext → RefType → List ℕ → RefType × List ℕ
+below_at context from bytes = let half = bool_at bytes in if half.0 then strictly_below_at context from half.1 else local_below_at context from half.1
 
+-- a branch if a reference, whose type matches that of the label's last value, does not have the type
+-- of a cast
 abbrev pub br_on_cast_fail_at : BodyContext → CastLabel → List ℕ → Chosen
 br_on_cast_fail_at context label bytes =
-    let to = below_at context label.last bytes in
-    (option_map (cast_node label.last (instr.BrOnCastFail (cast_fail_of label to.0))) (slice_get context.labels label.index), to.1)
+    let from = lower_at context label.last bytes in
+    let to = below_at context from.0 from.1 in
+    (option_map (cast_node from.0 (instr.BrOnCastFail (cast_of label from.0 to.0))) (slice_get context.labels label.index), to.1)
 
 -- a branch of either kind
 unfoldable pub cast_branch_for : BodyContext → CastLabel → List ℕ → Chosen
@@ -80,7 +111,7 @@ cast_branch_at context bytes = let label = cast_label_at context.labels bytes in
 -- a reference of the wanted type, to which a cast succeeds; if it fails, a branch is taken to a
 -- label of one value, whose type the wanted type matches
 abbrev pub kept_cast_node : RefType → ℕ → RefType → Node
-kept_cast_node to label from = node_of (Ref from ∷ []) (instr.BrOnCastFail (cast_fail_of (cast_label label from) to)) 0
+kept_cast_node to label from = node_of (Ref from ∷ []) (instr.BrOnCastFail (cast_of (cast_label label from) from to)) 0
 
 abbrev pub kept_cast : List (List ValType) → RefType → ℕ → Option Node
 kept_cast labels to label = option_map (kept_cast_node to label) (last_of labels label)

@@ -7,19 +7,52 @@ ghost use Rattle.smith_body_reference_branches.specs.CastBranchChoices.{below_at
 ghost use Rattle.smith_body_reference_branches.specs.CastBranchChoices.{br_on_cast_fail_at, cast_branch_at};
 ghost use Rattle.smith_body_reference_branches.specs.CastBranchChoices.{cast_branch_for, cast_label_at};
 ghost use Rattle.smith_body_reference_branches.specs.CastBranchChoices.{cast_node, cast_value_at, last_of};
+ghost use Rattle.smith_body_reference_branches.specs.CastBranchChoices.{is_strictly_below, local_below_at};
+ghost use Rattle.smith_body_reference_branches.specs.CastBranchChoices.{lower_at, reference_as};
+ghost use Rattle.smith_body_reference_branches.specs.CastBranchChoices.{strictly_below_at};
 ghost use Rattle.smith_body_nodes.specs.Chosen.{or_nop};
 ghost use Rattle.smith_body_nodes.specs.Nodes.{IsNode, IsOffer};
 ghost use Rattle.smith_body_nodes.specs.Scopes.{AreLabels, IsScope, bare, where_stands};
 
 use crate::null_branches::{choose_of_reference, last_reference};
 use smith_body_nodes::{
-    Draft, Node, Scope, choose_local, choose_target, draw_above, node_with_top, or_nop, plain,
-    reference_or,
+    Draft, Node, Offer, Scope, choose_in_chunk, choose_local, choose_target, draw_above,
+    indexed_count, is_sub_type, names_types, node_with_top, or_nop, plain, reference_or,
 };
 use smith_bytes::{Error, Unstructured};
 use smith_instr::{BranchCast, Instr};
-use smith_types::{RefType, ValType};
+use smith_types::{HeapType, RefType, ValType};
 use std::alloc::Global;
+
+/// Types that are strictly below a reference type.
+#[derive(Clone, Copy)]
+struct SubtypeOffer<'a> {
+    scope: &'a Scope<'a>,
+    above: RefType,
+}
+
+impl<'a> Offer for SubtypeOffer<'a> {
+    ghost use Rattle.std.specs.Prelude.{length};
+    ghost use Rattle.smith_syntax.specs.declared.value_type.ValType.TheVariants.{Ref};
+    ghost use Rattle.smith_instr.specs.Contexts.{IsValid};
+    ghost use Rattle.smith_body_nodes.specs.Scopes.{IsScope, bare, indexed};
+    ghost use Rattle.smith_body_reference_branches.specs.CastBranchChoices.{is_strictly_below};
+
+    ghost ready = { λ self.
+        IsScope (bare self.scope.now) × IsValid (bare self.scope.now) (Ref self.above) };
+
+    ghost size = { λ self. indexed (length self.scope.now.types.now.types) };
+
+    ghost test = { λ self index. is_strictly_below (bare self.scope.now) self.above index };
+
+    fn count(&self) -> usize {
+        indexed_count(self.scope.types.types().len())
+    }
+
+    fn is_offered(&self, index: usize) -> bool {
+        is_strictly_below(self.scope, self.above, index as u32)
+    }
+}
 
 /// A label whose last value is a reference.
 #[derive(Clone, Copy)]
@@ -124,11 +157,12 @@ fn choose_br_on_cast(
     ensures memory { IfErr result (λ e. e ≡ Error.Memory) }
     ensures left { KeepsPieces u.old u.new }
 {
+    let to = draw_lower(scope, label.last, u);
     let from = draw_above(scope, label.last, u);
     let cast = BranchCast {
         label: label.index,
         from,
-        to: label.last,
+        to,
     };
     let taken = draft.labels[label.index as usize].as_slice();
     let node = dropping_branch(alloc, from, Instr::BrOnCast(cast), taken)?;
@@ -152,22 +186,94 @@ fn choose_br_on_cast_fail(
     ensures memory { IfErr result (λ e. e ≡ Error.Memory) }
     ensures left { KeepsPieces u.old u.new }
 {
-    let to = draw_below(scope, label.last, u);
+    let from = draw_lower(scope, label.last, u);
+    let to = draw_below(scope, from, u);
     let cast = BranchCast {
         label: label.index,
-        from: label.last,
+        from,
         to,
     };
     let taken = draft.labels[label.index as usize].as_slice();
-    let node = dropping_branch(alloc, label.last, Instr::BrOnCastFail(cast), taken)?;
+    let node = dropping_branch(alloc, from, Instr::BrOnCastFail(cast), taken)?;
     Ok(Some(node))
 }
 
-/// Draws the type of a local that matches `from`. Returns `from` if there is none.
+/// Returns `above`, or half of the time a type strictly below it.
+fn draw_lower(scope: &Scope<'_>, above: RefType, u: &mut Unstructured<'_>) -> RefType
+    requires scope { IsScope (bare scope.now) }
+    requires above { IsValid (bare scope.now) (Ref above) }
+    ensures exact { lower_at (bare scope.now) above u.old ≡ (result, u.new) }
+    ensures valid { IsValid (bare scope.now) (Ref result) }
+    ensures below { IsRefBelow (bare scope.now).types result above }
+    ensures left { KeepsPieces u.old u.new }
+{
+    if u.arbitrary() {
+        return draw_strictly_below(scope, above, u);
+    }
+    above
+}
+
+/// Draws a type strictly below `above` among the types of a drawn chunk. Returns `above` if there is
+/// none, or if references may not name types.
+fn draw_strictly_below(scope: &Scope<'_>, above: RefType, u: &mut Unstructured<'_>) -> RefType
+    requires scope { IsScope (bare scope.now) }
+    requires above { IsValid (bare scope.now) (Ref above) }
+    ensures exact { strictly_below_at (bare scope.now) above u.old ≡ (result, u.new) }
+    ensures valid { IsValid (bare scope.now) (Ref result) }
+    ensures below { IsRefBelow (bare scope.now).types result above }
+    ensures left { KeepsPieces u.old u.new }
+{
+    if !names_types(scope) {
+        return above;
+    }
+    let Some(index) = choose_in_chunk(&SubtypeOffer { scope, above }, u) else {
+        return above;
+    };
+    reference_as(above, index as u32)
+}
+
+/// Returns the type of references to the type `index`, nullable if `above` is.
+fn reference_as(above: RefType, index: u32) -> RefType
+    ensures { result ≡ reference_as above index }
+{
+    RefType {
+        nullable: above.nullable,
+        heap_type: HeapType::Concrete(index),
+    }
+}
+
+/// Returns whether references to the type `index` match `above`, and not the other way round.
+fn is_strictly_below(scope: &Scope<'_>, above: RefType, index: u32) -> bool
+    requires above { IsValid (bare scope.now) (Ref above) }
+    requires below { index < length scope.now.types.now.types }
+    ensures { result ≡ is_strictly_below (bare scope.now) above index }
+{
+    let upper = ValType::Ref(above);
+    let lower = ValType::Ref(reference_as(above, index));
+    is_sub_type(scope, lower, upper) && !is_sub_type(scope, upper, lower)
+}
+
+/// Draws a type that matches `from`: half of the time one strictly below it, else that of a local.
+/// Returns `from` if there is none.
 fn draw_below(scope: &Scope<'_>, from: RefType, u: &mut Unstructured<'_>) -> RefType
     requires scope { IsScope (bare scope.now) }
     requires from { IsValid (bare scope.now) (Ref from) }
     ensures exact { below_at (bare scope.now) from u.old ≡ (result, u.new) }
+    ensures valid { IsValid (bare scope.now) (Ref result) }
+    ensures below { IsRefBelow (bare scope.now).types result from }
+    ensures left { KeepsPieces u.old u.new }
+{
+    if u.arbitrary() {
+        return draw_strictly_below(scope, from, u);
+    }
+    draw_local_below(scope, from, u)
+}
+
+/// Draws the type of a local that matches `from`. Returns `from` if there is none.
+fn draw_local_below(scope: &Scope<'_>, from: RefType, u: &mut Unstructured<'_>) -> RefType
+    requires scope { IsScope (bare scope.now) }
+    requires from { IsValid (bare scope.now) (Ref from) }
+    ensures exact { local_below_at (bare scope.now) from u.old ≡ (result, u.new) }
     ensures valid { IsValid (bare scope.now) (Ref result) }
     ensures below { IsRefBelow (bare scope.now).types result from }
     ensures left { KeepsPieces u.old u.new }

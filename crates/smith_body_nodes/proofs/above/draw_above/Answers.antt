@@ -1,28 +1,10 @@
-use Rattle.std.proofs.Common.{◌<◌, length, arith}
+use Rattle.std.proofs.Common.{◌∙◌}
 use Rattle.smith_body_nodes.specs.Scopes.{bare}
-use Rattle.smith_body_nodes.proofs.AboveLemmas.{above_none, above_some, null_above, null_valid, read_above, read_valid}
+use Rattle.smith_body_nodes.proofs.AboveLemmas.{above_local, above_top}
 use Rattle.smith_body_nodes.proofs.above.draw_above.Goals as goal
 
-pub returns-in_default-clause-exact : goal.returns-in_default-clause-exact
-returns-in_default-clause-exact c = rw c.with_null.ensures (above_none (bare c.args.scope.now) c.args.to c.args.u.now _ c.in_default.ensures.exact)
-
-pub returns-in_default-clause-valid : goal.returns-in_default-clause-valid
-returns-in_default-clause-valid c = rw c.with_null.ensures (null_valid (bare c.args.scope.now) c.args.to c.requires.to)
-
-pub returns-in_default-clause-above : goal.returns-in_default-clause-above
-returns-in_default-clause-above c = rw c.with_null.ensures (null_above (bare c.args.scope.now).types c.args.to)
+pub returns-then-arbitrary-clause-exact : goal.returns-then-arbitrary-clause-exact
+returns-then-arbitrary-clause-exact c = rw c.top_above.ensures.exact (above_top (bare c.args.scope.now) c.args.to c.args.u.now _ (rw c.if-arbitrary.true at c.arbitrary.ensures.exact))
 
 pub returns-clause-exact : goal.returns-clause-exact
-returns-clause-exact c =
-    let inside : c.in-Some.index < length c.args.scope.now.locals.now = omega (arith, c.in-Some.ensures.below) in
-    rw (c.reference_or.ensures, c.with_null-2.ensures) (above_some (bare c.args.scope.now) c.args.to c.args.u.now _ c.in-Some.index _ c.in-Some.ensures.exact inside)
-
-pub returns-clause-valid : goal.returns-clause-valid
-returns-clause-valid c =
-    let inside : c.in-Some.index < length c.args.scope.now.locals.now = omega (arith, c.in-Some.ensures.below) in
-    rw (c.reference_or.ensures, c.with_null-2.ensures) (read_valid (bare c.args.scope.now) _ c.args.to (c.requires.scope.locals c.in-Some.index _ inside) c.requires.to)
-
-pub returns-clause-above : goal.returns-clause-above
-returns-clause-above c =
-    let inside : c.in-Some.index < length c.args.scope.now.locals.now = omega (arith, c.in-Some.ensures.below) in
-    rw (c.reference_or.ensures, c.with_null-2.ensures) (read_above (bare c.args.scope.now) c.args.to c.in-Some.index _ c.requires.scope.orderly inside c.in-Some.ensures.offered)
+returns-clause-exact c = above_local (bare c.args.scope.now) c.args.to c.args.u.now _ (rw c.if-arbitrary.false at c.arbitrary.ensures.exact) ∙ c.draw_local_above.ensures.exact

@@ -1,19 +1,12 @@
+use Rattle.std.proofs.Common.{◌∙◌, sym}
 use Rattle.smith_body_nodes.specs.Scopes.{bare}
-use Rattle.smith_body_reference_branches.proofs.CastBranchLemmas.{below_none, below_some, below_valid, drawn_below, itself_below}
+use Rattle.smith_body_reference_branches.proofs.CastBranchLemmas.{below_local, below_strictly}
 use Rattle.smith_body_reference_branches.proofs.cast_branches.draw_below.Goals as goal
 
-pub returns-in_default-clause-exact : goal.returns-in_default-clause-exact
-returns-in_default-clause-exact c = below_none (bare c.args.scope.now) c.args.from c.args.u.now _ c.in_default.ensures.exact
-
-pub returns-in_default-clause-below : goal.returns-in_default-clause-below
-returns-in_default-clause-below c = itself_below (bare c.args.scope.now).types c.args.from
+pub returns-then-arbitrary-clause-exact : goal.returns-then-arbitrary-clause-exact
+returns-then-arbitrary-clause-exact c =
+    sym (below_strictly (bare c.args.scope.now) c.args.from c.args.u.now _ (rw c.if-arbitrary.true at c.arbitrary.ensures.exact)) ∙ c.draw_strictly_below.ensures.exact
 
 pub returns-clause-exact : goal.returns-clause-exact
-returns-clause-exact c = rw c.reference_or.ensures (below_some (bare c.args.scope.now) c.args.from c.args.u.now _ c.in-Some.index _ c.in-Some.ensures.exact c.in-Some.ensures.below)
-
-pub returns-clause-valid : goal.returns-clause-valid
-returns-clause-valid c =
-    rw c.reference_or.ensures (below_valid (bare c.args.scope.now) _ c.args.from (c.requires.scope.locals c.in-Some.index _ c.in-Some.ensures.below) c.requires.from)
-
-pub returns-clause-below : goal.returns-clause-below
-returns-clause-below c = rw c.reference_or.ensures (drawn_below (bare c.args.scope.now) c.args.from c.in-Some.index _ c.requires.scope.orderly c.in-Some.ensures.below c.in-Some.ensures.offered)
+returns-clause-exact c =
+    sym (below_local (bare c.args.scope.now) c.args.from c.args.u.now _ (rw c.if-arbitrary.false at c.arbitrary.ensures.exact)) ∙ c.draw_local_below.ensures.exact
