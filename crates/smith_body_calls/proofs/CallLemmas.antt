@@ -1,6 +1,7 @@
 -- Calls through tables and references, and tail calls.
 use Rattle.std.proofs.Common.{◌≡◌, inl, inr, ℕ, ◌+◌, ◌-◌, ◌<◌, ◌≤◌, Bool, true, false, List, [], ◌∷◌, ◌++◌, Option, Some, None, length, length-append, get_or, drop, refl, sym, subst, ap, ◌∙◌, arith}
-use Rattle.std.specs.Prelude.{slice_get, IsTrue, option_map, ◌&&◌}
+use Rattle.std.specs.Prelude.{IfSome, slice_get, IsTrue, if◌then◌else◌, option_map, ◌&&◌}
+use Rattle.std.proofs.lemmas.Bool.{ne_eqb}
 use Rattle.std.proofs.lemmas.List.{append-nil}
 use Rattle.std.proofs.lemmas.List.Elements.{All-push, All-drop}
 use Rattle.std.proofs.lemmas.Option.{same_Some, slice_get-get_or, slice_get_within}
@@ -20,13 +21,18 @@ use Rattle.smith_instr.specs.InstrTypes.{HasInstrType, IsFunctionTable, sets}
 use Rattle.smith_instr.specs.declared.instr.Instr.{Instr}
 use Rattle.smith_instr.specs.declared.instr.Instr.TheVariants as instr
 use Rattle.smith_instr.proofs.SequenceLemmas.{below_themselves}
-use Rattle.smith_body_control.specs.CallChoices.{IsLeft, IsOutcome, by_reference_at, by_reference_instr, by_reference_node, dropped_of, fit_type_at, holds_functions, indirect_at, indirect_by, indirect_instr, indirect_node, is_below_func, is_fit, is_fit_in, is_fit_type, is_function_table, is_function_table_at, is_returnable, return_call_at, return_call_node, tail_call_at}
+use Rattle.smith_body_control.specs.CallChoices.{IsLeft, IsOutcome, by_reference_at, by_reference_instr, by_reference_node, dropped_of}
+use Rattle.smith_body_control.specs.CallChoices.{called_at, may_be_own, named_type, named_type_at, referred_type_at}
+use Rattle.smith_body_control.specs.CallChoices.{fit_type_at, holds_functions, indirect_at, indirect_by, indirect_instr, indirect_node}
+use Rattle.smith_body_control.specs.CallChoices.{is_below_func, is_fit, is_fit_in, is_fit_named, is_fit_type, is_function_table}
+use Rattle.smith_body_control.specs.CallChoices.{is_function_table_at, is_returnable, return_call_at, return_call_node, tail_call_at}
 use Rattle.smith_body_nodes.specs.Chosen.{giving}
 use Rattle.smith_body_nodes.specs.Nodes.{IsNode, node_of}
-use Rattle.smith_body_nodes.specs.Offered.{chunk_at, func_in, function_at}
+use Rattle.smith_body_nodes.specs.Offered.{chunk_at, func_in, function_at, function_in}
 use Rattle.smith_body_nodes.specs.Scopes.{indexed, widest}
 use Rattle.smith_body_control.specs.declared.outcomes.Outcome.{Outcome}
 use Rattle.smith_body_control.specs.declared.outcomes.Outcome.TheVariants as outcome
+use Rattle.smith_body_nodes.proofs.ItemLemmas.{given_none, given_some}
 use Rattle.smith_body_nodes.proofs.NodeLemmas.{address_valid, first_below, func_wide, no_valid, one_valid, zip_length}
 use Rattle.smith_body_nodes.proofs.OfferLemmas.{all_below, either, func_there, function_there, tested}
 
@@ -172,6 +178,59 @@ return_call_gives context set function values index orderly params results is at
     (λ more given gives. (function, (ty, type_at, there), all_below context.types orderly function.results context.results fit, ([], refl, gives))) refl
     (func_wide context.types ty function there) (omega arith) params
 
+-- the type of a function that may be named
+named_tested : (context : BodyContext) (outcome : Outcome) (place ty : ℕ) → named_type context place ≡ Some ty
+    → is_fit_type context outcome ty ≡ is_fit_named context outcome place
+named_tested context outcome place ty is =
+    sym (ap (λ (o : Option ℕ). is_fit_in context.types context.results outcome (function_in context.types o)) is)
+
+pub named_fits : (context : BodyContext) (outcome : Outcome) (place : ℕ) (ty : Option ℕ) → is_fit_named context outcome place ≡ true
+    → ty ≡ named_type context place → IfSome ty (λ index. is_fit_type context outcome index ≡ true)
+named_fits context outcome place (Some ty) fit is = named_tested context outcome place ty (sym is) ∙ fit
+named_fits context outcome place None fit is = tt
+
+-- the type of a function that is called by a reference
+pub named_none : (context : BodyContext) (outcome : Outcome) (bytes left : List ℕ)
+    → chunk_at (is_fit_named context outcome) (length context.references) bytes ≡ (None, left)
+    → named_type_at context outcome bytes ≡ (None, left)
+named_none context outcome bytes left drawn = given_none (named_type context) _ left drawn
+
+pub named_there : (context : BodyContext) (outcome : Outcome) (bytes left : List ℕ) (place : ℕ) (ty : Option ℕ)
+    → chunk_at (is_fit_named context outcome) (length context.references) bytes ≡ (Some place, left) → ty ≡ named_type context place
+    → named_type_at context outcome bytes ≡ (ty, left)
+named_there context outcome bytes left place ty drawn is = given_some (named_type context) _ left place ty drawn (sym is)
+
+pub referred_named : (context : BodyContext) (outcome : Outcome) (bytes left : List ℕ) (number : ℕ)
+    → range_at 0 15 bytes ≡ (number, left) → number < 15
+    → referred_type_at context outcome bytes ≡ named_type_at context outcome left
+referred_named context outcome bytes left number drawn less = rw (drawn, ne_eqb number 15 (λ same. absurd (omega arith))) refl
+
+pub referred_any : (context : BodyContext) (outcome : Outcome) (bytes left : List ℕ) → range_at 0 15 bytes ≡ (15, left)
+    → referred_type_at context outcome bytes ≡ fit_type_at context outcome left
+referred_any context outcome bytes left drawn = rw drawn refl
+
+-- a function that is drawn once or twice
+called_by : (context : BodyContext) (draw : List ℕ → Option ℕ × List ℕ) (bytes left : List ℕ) (first : Option ℕ) (own : Bool)
+    → draw bytes ≡ (first, left) → own ≡ may_be_own context first
+    → called_at context draw bytes ≡ (if own then draw left else (first, left))
+called_by context draw bytes left first own drawn is =
+    ap (λ (r : Option ℕ × List ℕ). if may_be_own context r.0 then draw r.1 else r) drawn
+    ∙ ap (λ (b : Bool). if b then draw left else (first, left)) (sym is)
+
+pub called_once : (context : BodyContext) (draw : List ℕ → Option ℕ × List ℕ) (bytes left : List ℕ) (first : Option ℕ) (own : Bool)
+    → draw bytes ≡ (first, left) → own ≡ may_be_own context first → own ≡ false
+    → called_at context draw bytes ≡ (first, left)
+called_once context draw bytes left first own drawn is other =
+    called_by context draw bytes left first own drawn is
+    ∙ ap (λ (b : Bool). if b then draw left else (first, left)) other
+
+pub called_again : (context : BodyContext) (draw : List ℕ → Option ℕ × List ℕ) (bytes left : List ℕ) (first : Option ℕ) (own : Bool)
+    → draw bytes ≡ (first, left) → own ≡ may_be_own context first → own ≡ true
+    → called_at context draw bytes ≡ draw left
+called_again context draw bytes left first own drawn is again =
+    called_by context draw bytes left first own drawn is
+    ∙ ap (λ (b : Bool). if b then draw left else (first, left)) again
+
 -- the chosen call
 pub indirect_none : (context : BodyContext) (outcome : Outcome) (bytes left : List ℕ) → fit_type_at context outcome bytes ≡ (None, left) → indirect_at context outcome bytes ≡ (None, left)
 unfolding indirect_at
@@ -198,11 +257,14 @@ pub by_reference_off : (context : BodyContext) (outcome : Outcome) (bytes : List
 unfolding by_reference_at
 by_reference_off context outcome bytes off = rw off refl
 
-pub by_reference_none : (context : BodyContext) (outcome : Outcome) (bytes left : List ℕ) → (context.features.reference_types && context.features.gc) ≡ true → fit_type_at context outcome bytes ≡ (None, left) → by_reference_at context outcome bytes ≡ (None, left)
+pub by_reference_none : (context : BodyContext) (outcome : Outcome) (bytes left : List ℕ)
+    → (context.features.reference_types && context.features.gc) ≡ true → referred_type_at context outcome bytes ≡ (None, left)
+    → by_reference_at context outcome bytes ≡ (None, left)
 unfolding by_reference_at
 by_reference_none context outcome bytes left on drawn = rw on (ap (λ (ty : Option ℕ × List ℕ). giving (by_reference_node context outcome) ty) drawn)
 
-pub by_reference_there : (context : BodyContext) (outcome : Outcome) (bytes left : List ℕ) (ty : ℕ) (function : FuncType) → (context.features.reference_types && context.features.gc) ≡ true → fit_type_at context outcome bytes ≡ (Some ty, left)
+pub by_reference_there : (context : BodyContext) (outcome : Outcome) (bytes left : List ℕ) (ty : ℕ) (function : FuncType)
+    → (context.features.reference_types && context.features.gc) ≡ true → referred_type_at context outcome bytes ≡ (Some ty, left)
     → func_in (slice_get context.types ty) ≡ Some function
     → by_reference_at context outcome bytes ≡ (Some (node_of (function.params ++ nullable_to (Concrete ty) ∷ []) (by_reference_instr outcome ty) (dropped_of outcome function)), left)
 unfolding by_reference_at

@@ -9,6 +9,7 @@ ghost use Rattle.smith_body_nodes.specs.Nodes.{IsNode, IsOffer};
 ghost use Rattle.smith_body_nodes.specs.Scopes.{IsScope, bare, where_stands};
 
 use crate::function_tables::choose_function_table;
+use crate::referred_types::choose_referred_type;
 use smith_body_control::{Outcome, choose_fit_type, dropped_of};
 use smith_body_nodes::{
     Draft, Node, Scope, address, func_type_at, node_with_top, nullable_to, or_nop,
@@ -85,7 +86,7 @@ pub fn choose_by_reference(
     if !may_name_types(scope) {
         return Ok(None);
     }
-    let Some(ty) = choose_fit_type(scope, outcome, u) else {
+    let Some(ty) = choose_referred_type(scope, outcome, u) else {
         return Ok(None);
     };
     let Some(function) = func_type_at(scope, ty as usize) else {

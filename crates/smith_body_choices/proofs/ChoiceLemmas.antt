@@ -13,12 +13,15 @@ use Rattle.smith_draw_types.specs.Choices.{chosen_at}
 use Rattle.smith_instr.specs.Contexts.{BodyContext}
 use Rattle.smith_instr.specs.declared.instr.Instr.TheVariants as instr
 use Rattle.smith_body_control.specs.BlockChoices.{block_at}
+use Rattle.smith_body_control.specs.CallChoices.{called_at}
 use Rattle.smith_body_nodes.specs.Chosen.{or_nop, giving}
+use Rattle.smith_body_nodes.specs.Items.{index_at}
 use Rattle.smith_body_nodes.specs.Nodes.{is_node_allowed, node_of, setting}
 use Rattle.smith_body_nodes.specs.Offered.{chunk_at, function_at, is_callable, is_local_below, is_mutable, offered}
 use Rattle.smith_body_nodes.specs.Scopes.{indexed}
 use Rattle.smith_body_nodes.specs.declared.node.Node.{Node}
 use Rattle.smith_body_nodes.proofs.ChosenLemmas.{same_item, chosen_by, no_count, no_index}
+use Rattle.smith_body_nodes.proofs.ItemLemmas.{given_none, given_some}
 use Rattle.smith_body_choices.specs.Choices.{allowed_choice_at, any_call_at, any_call_node, any_statement_at, is_kept, call_at, call_node, drop_at, dropped_at, dropped_types, ending_choice_at, ending_families, ending_of, ending_value_at, global_set_at, global_set_node, set_at, set_node, statement_choice_at, statement_families, statement_of, tee_at, tee_node, value_choice_at, value_families, value_of}
 use Rattle.smith_body_choices.specs.declared.families.EndingFamily.{EndingFamily}
 use Rattle.smith_body_choices.specs.declared.families.EndingFamily.TheVariants as ending
@@ -40,37 +43,35 @@ tee_there context wanted bytes left index d drawn inside =
     ∙ ap (λ (o : Option ValType). (option_map (λ value. setting index value (instr.LocalTee index)) o, left)) (slice_get-get_or context.locals index d inside)
 
 -- a function that is called for a value
-pub call_none : (context : BodyContext) (wanted : ValType) (bytes left : List ℕ) → chunk_at (is_callable context wanted) (indexed (length context.funcs)) bytes ≡ (None, left) → call_at context wanted bytes ≡ (None, left)
+pub call_none : (context : BodyContext) (wanted : ValType) (bytes left : List ℕ)
+    → called_at context (chunk_at (is_callable context wanted) (indexed (length context.funcs))) bytes ≡ (None, left)
+    → call_at context wanted bytes ≡ (None, left)
 unfolding call_at
-call_none context wanted bytes left drawn = ap (λ (drawn : Option ℕ × List ℕ). giving (call_node context) drawn) drawn
+call_none context wanted bytes left drawn = given_none (call_node context) _ left drawn
 
-pub call_there : (context : BodyContext) (wanted : ValType) (bytes left : List ℕ) (index : ℕ) (function : FuncType) → chunk_at (is_callable context wanted) (indexed (length context.funcs)) bytes ≡ (Some index, left)
-    → function_at context index ≡ Some function → call_at context wanted bytes ≡ (Some (node_of function.params (instr.Call index) (length function.results - 1)), left)
+pub call_there : (context : BodyContext) (wanted : ValType) (bytes left : List ℕ) (index : ℕ) (function : FuncType)
+    → called_at context (chunk_at (is_callable context wanted) (indexed (length context.funcs))) bytes ≡ (Some index, left)
+    → function_at context index ≡ Some function
+    → call_at context wanted bytes ≡ (Some (node_of function.params (instr.Call index) (length function.results - 1)), left)
 unfolding call_at
 call_there context wanted bytes left index function drawn at =
-    ap (λ (drawn : Option ℕ × List ℕ). giving (call_node context) drawn) drawn
-    ∙ ap (λ (o : Option FuncType). (option_map (λ (function : FuncType). node_of function.params (instr.Call index) (length function.results - 1)) o, left)) at
+    given_some (call_node context) _ left index _ drawn
+    (ap (option_map (λ (function : FuncType). node_of function.params (instr.Call index) (length function.results - 1))) at)
 
 -- a function whose results are dropped
-pub any_call_none : (context : BodyContext) (bytes : List ℕ) → indexed (length context.funcs) ≡ 0 → any_call_at context bytes ≡ (None, bytes)
+pub any_call_none : (context : BodyContext) (bytes left : List ℕ) → called_at context (index_at (length context.funcs)) bytes ≡ (None, left)
+    → any_call_at context bytes ≡ (None, left)
 unfolding any_call_at
-any_call_none context bytes none =
-    let past : slice_get context.funcs 0 ≡ None = slice_get_past context.funcs 0 (no_count (length context.funcs) none) in
-    rw (no_index (length context.funcs) bytes none, past) refl
+any_call_none context bytes left drawn = given_none (any_call_node context) _ left drawn
 
-any_call_of : (context : BodyContext) (bytes left : List ℕ) (index : ℕ) (o : Option FuncType) → range_at 0 (indexed (length context.funcs) - 1) bytes ≡ (index, left) → function_at context index ≡ o
-    → any_call_at context bytes ≡ (option_map (λ (function : FuncType). node_of function.params (instr.Call index) (length function.results)) o, left)
+pub any_call_by : (context : BodyContext) (bytes left : List ℕ) (index : ℕ) (function : Option FuncType)
+    → called_at context (index_at (length context.funcs)) bytes ≡ (Some index, left) → function_at context index ≡ function
+    → any_call_at context bytes
+    ≡ (option_map (λ (function : FuncType). node_of function.params (instr.Call index) (length function.results)) function, left)
 unfolding any_call_at
-any_call_of context bytes left index o drawn at =
-    ap (λ (r : ℕ × List ℕ). (any_call_node context r.0, r.1)) drawn
-    ∙ ap (λ (o : Option FuncType). (option_map (λ (function : FuncType). node_of function.params (instr.Call index) (length function.results)) o, left)) at
-
-pub any_call_there : (context : BodyContext) (bytes left : List ℕ) (index : ℕ) (function : FuncType) → range_at 0 (indexed (length context.funcs) - 1) bytes ≡ (index, left) → function_at context index ≡ Some function
-    → any_call_at context bytes ≡ (Some (node_of function.params (instr.Call index) (length function.results)), left)
-any_call_there context bytes left index function drawn at = any_call_of context bytes left index (Some function) drawn at
-
-pub any_call_unknown : (context : BodyContext) (bytes left : List ℕ) (index : ℕ) → range_at 0 (indexed (length context.funcs) - 1) bytes ≡ (index, left) → function_at context index ≡ None → any_call_at context bytes ≡ (None, left)
-any_call_unknown context bytes left index drawn at = any_call_of context bytes left index None drawn at
+any_call_by context bytes left index function drawn at =
+    given_some (any_call_node context) _ left index _ drawn
+    (ap (option_map (λ (function : FuncType). node_of function.params (instr.Call index) (length function.results))) at)
 
 -- a local that is set
 pub set_none : (context : BodyContext) (bytes : List ℕ) → indexed (length context.locals) ≡ 0 → set_at context bytes ≡ (None, bytes)

@@ -11,6 +11,7 @@ use Rattle.smith_draw_types.specs.Choices.{chosen_at}
 use Rattle.smith_instr.specs.Contexts.{BodyContext}
 use Rattle.smith_instr.specs.declared.instr.Instr.TheVariants as instr
 use Rattle.smith_body_nodes.specs.Chosen.{Chosen, giving, or_nop}
+use Rattle.smith_body_nodes.specs.Items.{index_at}
 use Rattle.smith_body_nodes.specs.Nodes.{is_node_allowed, node_of, setting}
 use Rattle.smith_body_nodes.specs.Offered.{chunk_at, function_at, is_callable, is_local_below, is_mutable, offered}
 use Rattle.smith_body_nodes.specs.ReferenceChoices.{reference_value_at, select_typed_node}
@@ -24,7 +25,7 @@ use Rattle.smith_body_memory.specs.AtomicChoices.{atomic_at, atomic_store_at}
 use Rattle.smith_body_tables.specs.TableChoices.{table_change_at, table_value_at}
 use Rattle.smith_body_memory.specs.VectorChoices.{store_lane_at, vector_at, vector_store_at}
 use Rattle.smith_body_memory.specs.MemoryChoices.{load_at, memory_at, store_at}
-use Rattle.smith_body_control.specs.CallChoices.{by_reference_at, indirect_at, tail_call_at}
+use Rattle.smith_body_control.specs.CallChoices.{by_reference_at, called_at, indirect_at, tail_call_at}
 use Rattle.smith_body_reference_branches.specs.NullChoices.{br_on_null_value_at, null_branch_at}
 use Rattle.smith_body_control.specs.ThrowChoices.{any_throw_at}
 use Rattle.smith_body_control.specs.TryChoices.{any_try_at, try_at}
@@ -55,7 +56,8 @@ call_node context index =
     option_map (λ (function : FuncType). node_of function.params (instr.Call index) (length function.results - 1)) (function_at context index)
 
 unfoldable pub call_at : BodyContext → ValType → List ℕ → Chosen
-call_at context wanted bytes = giving (call_node context) (chunk_at (is_callable context wanted) (indexed (length context.funcs)) bytes)
+call_at context wanted bytes =
+    giving (call_node context) (called_at context (chunk_at (is_callable context wanted) (indexed (length context.funcs))) bytes)
 
 -- the families of instructions after which nothing is reached; the number of times that each is
 -- listed is its weight
@@ -283,7 +285,7 @@ any_call_node context index =
     option_map (λ (function : FuncType). node_of function.params (instr.Call index) (length function.results)) (function_at context index)
 
 unfoldable pub any_call_at : BodyContext → List ℕ → Chosen
-any_call_at context bytes = let index = range_at 0 (indexed (length context.funcs) - 1) bytes in (any_call_node context index.0, index.1)
+any_call_at context bytes = giving (any_call_node context) (called_at context (index_at (length context.funcs)) bytes)
 
 -- the families of statements; the number of times that each is listed is its weight
 abbrev pub statement_families : List StatementFamily

@@ -19,8 +19,8 @@ use crate::families::{
 };
 use smith_body_aggregates::{choose_creation, choose_field_read, choose_field_write};
 use smith_body_calls::{
-    choose_any_by_reference, choose_any_indirect, choose_by_reference, choose_indirect,
-    choose_tail_call,
+    choose_any_by_reference, choose_any_indirect, choose_by_reference, choose_called,
+    choose_indirect, choose_tail_call, draw_called,
 };
 use smith_body_casts::choose_cast;
 use smith_body_control::{
@@ -32,9 +32,8 @@ use smith_body_memory::{
     choose_store_lane, choose_vector, choose_vector_store,
 };
 use smith_body_nodes::{
-    Draft, Head, Node, Scope, choose_callable, choose_local, choose_mutable, choose_numeric,
-    choose_reference_value, choose_select, choose_select_typed, function_of, indexed_count,
-    is_node_allowed, plain, setter,
+    Draft, Head, Node, Scope, choose_local, choose_mutable, choose_numeric, choose_reference_value,
+    choose_select, choose_select_typed, function_of, indexed_count, is_node_allowed, plain, setter,
 };
 use smith_body_reference_branches::{
     choose_cast_branch, choose_kept, choose_kept_cast, choose_null_branch,
@@ -226,7 +225,7 @@ fn choose_call(
     ensures memory { IfErr result (λ e. e ≡ Error.Memory) }
     ensures left { KeepsPieces u.old u.new }
 {
-    let Some(index) = choose_callable(scope, wanted, u) else {
+    let Some(index) = choose_called(scope, wanted, u) else {
         return Ok(None);
     };
     let Some(function) = function_of(scope, index as usize) else {
@@ -408,18 +407,16 @@ fn choose_any_call(
     ensures memory { IfErr result (λ e. e ≡ Error.Memory) }
     ensures left { KeepsPieces u.old u.new }
 {
-    let count = indexed_count(scope.funcs.len());
-    if count == 0 {
+    let Some(index) = draw_called(scope, u) else {
         return plain(alloc, &[], Instr::Nop, 0);
-    }
-    let index = u.int_in_range(0..=count - 1);
-    let Some(function) = function_of(scope, index) else {
+    };
+    let Some(function) = function_of(scope, index as usize) else {
         return plain(alloc, &[], Instr::Nop, 0);
     };
     plain(
         alloc,
         function.params.as_slice(),
-        Instr::Call(index as u32),
+        Instr::Call(index),
         function.results.len(),
     )
 }

@@ -1,9 +1,10 @@
 -- Throws of exceptions.
-use Rattle.std.proofs.Common.{◌≡◌, ℕ, ◌-◌, ◌<◌, true, false, List, [], ◌∷◌, Option, Some, None, length, get_or, refl, sym, subst, ap, ◌∙◌, arith}
+use Rattle.std.proofs.Common.{◌≡◌, ℕ, ◌-◌, ◌<◌, true, List, [], ◌∷◌, Option, Some, None, length, get_or, refl, sym, subst, ap, ◌∙◌, arith}
 use Rattle.std.specs.Prelude.{All, slice_get, option_map}
+use Rattle.std.proofs.lemmas.Bool.{ne_eqb}
 use Rattle.std.proofs.lemmas.List.{append-nil}
 use Rattle.std.proofs.lemmas.Option.{same_Some, slice_get_within, get_or_from_slice_get}
-use Rattle.smith_bytes.specs.Draws.{bool_at, range_at}
+use Rattle.smith_bytes.specs.Draws.{range_at}
 use Rattle.smith_types.specs.Entities.{IsFuncAt, IsTagValid}
 use Rattle.smith_syntax.specs.declared.value_type.ValType.{ValType}
 use Rattle.smith_syntax.specs.declared.composite_type.CompositeInnerType.TheVariants.{Func}
@@ -93,10 +94,12 @@ throw_by context bytes left tag o drawn at =
     ap (λ (tag : Option ℕ × List ℕ). giving (throw_node context) tag) drawn
     ∙ ap (λ (o : Option FuncType). (option_map (λ (ty : FuncType). node_of ty.params (instr.Throw tag) 0) o, left)) at
 
-pub any_throw_tagged : (context : BodyContext) (bytes left : List ℕ) → bool_at bytes ≡ (true, left) → any_throw_at context bytes ≡ throw_at context left
+pub any_throw_tagged : (context : BodyContext) (bytes left : List ℕ) (number : ℕ) → range_at 0 7 bytes ≡ (number, left)
+    → number < 7 → any_throw_at context bytes ≡ throw_at context left
 unfolding any_throw_at
-any_throw_tagged context bytes left drawn = rw drawn refl
+any_throw_tagged context bytes left number drawn less = rw (drawn, ne_eqb number 7 (λ same. absurd (omega arith))) refl
 
-pub any_throw_by_reference : (context : BodyContext) (bytes left : List ℕ) → bool_at bytes ≡ (false, left) → any_throw_at context bytes ≡ (throw_ref_node context.features, left)
+pub any_throw_by_reference : (context : BodyContext) (bytes left : List ℕ) → range_at 0 7 bytes ≡ (7, left)
+    → any_throw_at context bytes ≡ (throw_ref_node context.features, left)
 unfolding any_throw_at
 any_throw_by_reference context bytes left drawn = rw drawn refl

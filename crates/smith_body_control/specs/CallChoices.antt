@@ -1,12 +1,15 @@
 -- The call through a table or a reference that the bytes choose, and the tail call. The choices,
 -- their order and their weights are rules of this project.
-use Rattle.std.specs.Prelude.{◌≡◌, ℕ, ◌-◌, ◌==◌, ◌&&◌, ◌||◌, Bool, true, false, Option, Some, None, option_map, List, [], ◌∷◌, ◌++◌, length, slice_get, All, if◌then◌else◌}
+use Rattle.std.specs.Prelude.{◌≡◌, ℕ, ◌-◌, ◌==◌, ◌&&◌, ◌||◌, Bool, true, false, if◌then◌else◌, List, [], ◌∷◌, ◌++◌, length, take, All}
+use Rattle.std.specs.Prelude.{Option, Some, None, option_and_then, option_map, slice_get}
+use Rattle.std.specs.Cmp.Lexicographic.{pointwise}
 use Rattle.smith_bytes.specs.Draws.{range_at}
 use Rattle.smith_syntax.specs.Features.{Features}
 use Rattle.smith_types.specs.ValidTypes.{IsValTypeValid}
 use Rattle.smith_syntax.specs.declared.value_type.AbstractHeapType.TheVariants as abstract
 use Rattle.smith_syntax.specs.declared.value_type.HeapType.TheVariants.{Abstract, Concrete}
 use Rattle.smith_syntax.specs.declared.value_type.RefType.{RefType}
+use Rattle.smith_syntax.specs.contracts.value_type.ValTypePartialEq.TheImpl.{ghosts as val_same}
 use Rattle.smith_syntax.specs.declared.value_type.ValType.{ValType}
 use Rattle.smith_syntax.specs.declared.value_type.ValType.TheVariants.{Ref}
 use Rattle.smith_syntax.specs.declared.composite_type.FuncType.{FuncType}
@@ -18,7 +21,7 @@ use Rattle.smith_instr.specs.declared.instr.Instr.{Instr}
 use Rattle.smith_instr.specs.declared.instr.Instr.TheVariants as instr
 use Rattle.smith_body_nodes.specs.Chosen.{Chosen, giving}
 use Rattle.smith_body_nodes.specs.Nodes.{node_of}
-use Rattle.smith_body_nodes.specs.Offered.{chunk_at, are_below, func_in, function_at, is_first_below}
+use Rattle.smith_body_nodes.specs.Offered.{chunk_at, are_below, func_in, function_at, function_in, is_first_below}
 use Rattle.smith_body_nodes.specs.Scopes.{indexed}
 use Rattle.smith_body_control.specs.declared.outcomes.Outcome.{Outcome}
 use Rattle.smith_body_control.specs.declared.outcomes.Outcome.TheVariants as outcome
@@ -117,11 +120,54 @@ by_reference_node context outcome ty =
     option_map (λ (function : FuncType). node_of (function.params ++ nullable_to (Concrete ty) ∷ []) (by_reference_instr outcome ty) (dropped_of outcome function))
     (func_in (slice_get context.types ty))
 
+-- the type of a function that may be named, by its place among those
+abbrev pub named_type : BodyContext → ℕ → Option ℕ
+named_type context place = option_and_then (slice_get context.funcs) (slice_get context.references place)
+
+-- a function that may be named and whose results may have this outcome
+abbrev pub is_fit_named : BodyContext → Outcome → ℕ → Bool
+is_fit_named context outcome place =
+    is_fit_in context.types context.results outcome (function_in context.types (named_type context place))
+
+-- the type of such a function
+abbrev pub named_type_at : BodyContext → Outcome → List ℕ → Option ℕ × List ℕ
+named_type_at context outcome bytes =
+    giving (named_type context) (chunk_at (is_fit_named context outcome) (length context.references) bytes)
+
+-- the type of a function that is called by a reference: of a function that may be named, since there
+-- is a reference to it; one of 16 times any function type
+abbrev pub referred_type_at : BodyContext → Outcome → List ℕ → Option ℕ × List ℕ
+referred_type_at context outcome bytes =
+    let number = range_at 0 15 bytes in
+    if number.0 == 15 then fit_type_at context outcome number.1 else named_type_at context outcome number.1
+
 -- such a call, of a type whose results may have this outcome, if a reference may name a type
 unfoldable pub by_reference_at : BodyContext → Outcome → List ℕ → Chosen
 by_reference_at context outcome bytes =
-    if context.features.reference_types && context.features.gc then giving (by_reference_node context outcome) (fit_type_at context outcome bytes)
+    if context.features.reference_types && context.features.gc
+    then giving (by_reference_node context outcome) (referred_type_at context outcome bytes)
     else (None, bytes)
+
+-- a function type is that of the function of the body
+abbrev pub is_own_type : BodyContext → FuncType → Bool
+is_own_type context function =
+    pointwise val_same.eq function.params (take context.params context.locals)
+    && pointwise val_same.eq function.results context.results
+
+-- a function that was drawn may be that of the body: it has the same type
+abbrev pub may_be_own_in : BodyContext → Option FuncType → Bool
+may_be_own_in context (Some function) = is_own_type context function
+may_be_own_in context None = false
+
+abbrev pub may_be_own : BodyContext → Option ℕ → Bool
+may_be_own context (Some index) = may_be_own_in context (function_at context index)
+may_be_own context None = false
+
+-- a function that may be that of the body is drawn once more, so that few functions call themselves
+abbrev pub called_at : BodyContext → (List ℕ → Option ℕ × List ℕ) → List ℕ → Option ℕ × List ℕ
+called_at context draw bytes =
+    let first = draw bytes in
+    if may_be_own context first.0 then draw first.1 else first
 
 -- a tail call of a function
 abbrev pub return_call_node : BodyContext → ℕ → Option Node

@@ -1,7 +1,7 @@
 -- The throw that the bytes choose. The choices, their order and their weights are rules of this
 -- project.
 use Rattle.std.specs.Prelude.{ℕ, ◌-◌, ◌==◌, ◌&&◌, Bool, false, Option, Some, None, option_map, List, [], ◌∷◌, length, slice_get, if◌then◌else◌}
-use Rattle.smith_bytes.specs.Draws.{bool_at, range_at}
+use Rattle.smith_bytes.specs.Draws.{range_at}
 use Rattle.smith_syntax.specs.Features.{Features}
 use Rattle.smith_syntax.specs.declared.value_type.AbstractHeapType.TheVariants as abstract
 use Rattle.smith_syntax.specs.declared.value_type.HeapType.{HeapType}
@@ -45,8 +45,8 @@ refers_to_exceptions features = features.reference_types && features.exceptions
 abbrev pub throw_ref_node : Features → Option Node
 throw_ref_node features = if refers_to_exceptions features then Some (node_of (nullable_to exn ∷ []) instr.ThrowRef 0) else None
 
--- `throw` or `throw_ref`
+-- `throw`, or one of eight times `throw_ref`, whose operand is often null
 unfoldable pub any_throw_at : BodyContext → List ℕ → Chosen
 any_throw_at context bytes =
-    let tagged = bool_at bytes in
-    if tagged.0 then throw_at context tagged.1 else (throw_ref_node context.features, tagged.1)
+    let number = range_at 0 7 bytes in
+    if number.0 == 7 then (throw_ref_node context.features, number.1) else throw_at context number.1

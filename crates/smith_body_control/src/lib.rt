@@ -12,6 +12,6 @@ mod try_tables;
 
 pub use blocks::{choose_any_block, choose_block};
 pub use branches::{choose_branch, choose_leaving, choose_table};
-pub use outcomes::{Outcome, choose_fit_type, dropped_of, is_fit};
+pub use outcomes::{Outcome, choose_fit_type, dropped_of, is_fit, is_fit_type};
 pub use throws::choose_any_throw;
 pub use try_tables::{choose_any_try, choose_try};

@@ -46,10 +46,19 @@ impl<'a> Offer for TypeOffer<'a> {
     }
 
     fn is_offered(&self, index: usize) -> bool {
-        match func_type_at(self.scope, index) {
-            Some(function) => is_fit(self.scope, self.outcome, function),
-            None => false,
-        }
+        is_fit_type(self.scope, self.outcome, index)
+    }
+}
+
+/// Returns whether there is a function type at `index` whose results may have the outcome `outcome`.
+pub fn is_fit_type(scope: &Scope<'_>, outcome: Outcome, index: usize) -> bool
+    requires scope { IsScope (bare scope.now) }
+    requires outcome { IsOutcome (bare scope.now) outcome }
+    ensures { result ≡ is_fit_type (bare scope.now) outcome index }
+{
+    match func_type_at(scope, index) {
+        Some(function) => is_fit(scope, outcome, function),
+        None => false,
     }
 }
 

@@ -95,7 +95,7 @@ fn choose_throw_ref(alloc: Global, scope: &Scope<'_>, draft: &Draft) -> Result<O
     Ok(Some(node))
 }
 
-/// Chooses `throw` or `throw_ref`.
+/// Chooses `throw`, or one of eight times `throw_ref`.
 pub fn choose_any_throw(
     alloc: Global,
     scope: &Scope<'_>,
@@ -110,7 +110,8 @@ pub fn choose_any_throw(
     ensures memory { IfErr result (λ e. e ≡ Error.Memory) }
     ensures left { KeepsPieces u.old u.new }
 {
-    if u.arbitrary() {
+    let number = u.int_in_range(0..=7u8);
+    if number < 7 {
         return choose_throw(alloc, scope, draft, u);
     }
     choose_throw_ref(alloc, scope, draft)

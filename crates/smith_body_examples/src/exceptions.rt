@@ -27,7 +27,7 @@ fn throws()
     ensures no_tag_for_a_value { body_at default_config
         (record (function_of [] (I64 ∷ [])) { tags = [] }) 1 (0 ∷ 12 ∷ 7 ∷ 4 ∷ 1 ∷ wide 5)
         ≡ (wide_number 5 ∷ [], []) }
-    ensures by_reference { body_at default_config (function_of [] []) 1 (252 ∷ 4 ∷ 0 ∷ 4 ∷ [])
+    ensures by_reference { body_at default_config (function_of [] []) 1 (252 ∷ 4 ∷ 7 ∷ 4 ∷ [])
         ≡ (instr.Reference (reference.Null exn) ∷ instr.ThrowRef ∷ [], []) }
 {}
 
@@ -90,7 +90,7 @@ fn features()
     ensures no_throw { body_at default_config (without_exceptions []) 1 (252 ∷ 4 ∷ 1 ∷ narrow 5)
         ≡ ([], narrow 5) }
     ensures no_throw_of_a_reference { body_at default_config (without_exceptions []) 1
-        (252 ∷ 4 ∷ 0 ∷ [])
+        (252 ∷ 4 ∷ 7 ∷ [])
         ≡ ([], []) }
     ensures no_block { body_at default_config (without_exceptions (I32 ∷ [])) 1
         (0 ∷ 34 ∷ 0 ∷ narrow 5)

@@ -144,7 +144,7 @@ fn without_traps()
         ≡ (number 2 ∷ instr.Memory (memory.Grow 0) ∷ [], []) }
     ensures thrown { body_at trapless (function_of [] []) 1 (252 ∷ 4 ∷ 1 ∷ narrow 5)
         ≡ (number 5 ∷ instr.Throw 0 ∷ [], []) }
-    ensures thrown_again { body_at trapless (function_of [] []) 1 (252 ∷ 4 ∷ 0 ∷ 4 ∷ [])
+    ensures thrown_again { body_at trapless (function_of [] []) 1 (252 ∷ 4 ∷ 7 ∷ 4 ∷ [])
         ≡ ([], 4 ∷ []) }
     ensures block_that_catches { body_at trapless
         (function_of [] (I32 ∷ [])) 1 (0 ∷ 34 ∷ 0 ∷ narrow 5)
