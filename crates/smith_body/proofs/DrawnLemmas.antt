@@ -347,7 +347,7 @@ plain_drawn {scope = scope} {old = old} head instruction operands results values
     drawn_within (omega arith) (written_drawn instruction operands results values set typed' below valid allowed' goes_on' local' written)
 
 -- a block around the instructions drawn in it
-enclosed : (config : Config) (opening : Opening) (context : BodyContext) (ty : BlockType) (body : List Instr) (params results values base : List ValType) (set inner after : List ℕ) → IsBlockType context ty params results → MayOpen opening params results → AreValid context results → AreBelow context results values → AreValid context values → AreValid context base → after ≡ set
+pub enclosed : (config : Config) (opening : Opening) (context : BodyContext) (ty : BlockType) (body : List Instr) (params results values base : List ValType) (set inner after : List ℕ) → IsBlockType context ty params results → MayOpen opening params results → AreValid context results → AreBelow context results values → AreValid context values → AreValid context base → after ≡ set
     → HaveNeededStops config (labelled context (label_of opening params results)) body (stacked params set) (stacked results inner)
     → HaveNeededStops config context (opened opening ty ∷ (body ++ instr.End ∷ [])) (stacked (base ++ taken_by opening params) set) (stacked (base ++ values) after)
 unfolding AreStopsNeeded around
@@ -385,25 +385,31 @@ Encloses config context opening label params results taken values =
     (body : List Instr) (base : List ValType) (set inner after : List ℕ) → AreValid context base → after ≡ set → HaveNeededStops config (labelled context label) body (stacked params set) (stacked results inner)
     → HaveNeededStops config context (opening ∷ (body ++ instr.End ∷ [])) (stacked (base ++ taken) set) (stacked (base ++ values) after)
 
-around_drawn : {scope : Scope} {old entered inside new : Draft} (opening : Instr) (label params results taken values : List ValType) → Encloses scope.config.now (where_stands scope old) opening label params results taken values
-    → IsAllowedIn scope opening → length params + length results ≤ widest scope.types.now.types → IsOpened opening label old entered → IsDrawn scope params results (length params + length results) entered inside
-    → (height : ℕ) → height ≡ length old.set.items → IsEnded instr.End height inside new → new.labels.items ≡ old.labels.items → IsDrawn scope taken values (block_cost scope.types.now.types) old new
-around_drawn {scope = scope} {old = old} {entered = entered} {inside = inside} {new = new} opening label params results taken values encloses allowed few start drawn height high ended labels =
+pub around_costing : {scope : Scope} {n : ℕ} {old entered inside new : Draft} (opening : Instr) (label params results taken values : List
+    ValType) → Encloses scope.config.now (where_stands scope old) opening label params results taken values
+    → IsAllowedIn scope opening → IsOpened opening label old entered → IsDrawn scope params results n entered inside
+    → (height : ℕ) → height ≡ length old.set.items → IsEnded instr.End height inside new → new.labels.items ≡ old.labels.items
+    → IsDrawn scope taken values (n + 2) old new
+around_costing {scope = scope} {old = old} {entered = entered} {inside = inside} {new = new} opening label params results taken values
+    encloses allowed start drawn height high ended labels =
     let end : IsEnded instr.End (length old.set.items) inside new = rw high at ended in
     let context = where_stands scope old in
     let none = All-nil (IsValid (bare scope)) in
-    let typed : HaveNeededStops scope.config.now (context_of scope entered.labels.items) drawn.more (stacked params entered.set.items) (stacked results inside.set.items) = drawn.typed [] none in
-    let inner : HaveNeededStops scope.config.now (labelled context label) drawn.more (stacked params old.set.items) (stacked results inside.set.items) = rw (start.labels, start.set) at typed in
-    let left : new.set.items ≡ old.set.items = end.set ∙ height_left old.set.items drawn.set inside.set.items (drawn.set_more ∙ ap (λ (xs : List ℕ). xs ++ drawn.set) start.set) in
+    let typed : HaveNeededStops scope.config.now (context_of scope entered.labels.items) drawn.more (stacked params entered.set.items)
+    (stacked results inside.set.items) = drawn.typed [] none in
+    let inner : HaveNeededStops scope.config.now (labelled context label) drawn.more (stacked params old.set.items) (stacked results
+    inside.set.items) = rw (start.labels, start.set) at typed in
+    let left : new.set.items ≡ old.set.items = end.set ∙ height_left old.set.items drawn.set inside.set.items (drawn.set_more ∙ ap (λ (xs
+    : List ℕ). xs ++ drawn.set) start.set) in
     let spent = drawn.spent in
     let short = drawn.short in
-    let out : new.out ≡ old.out ++ (opening ∷ (drawn.more ++ instr.End ∷ [])) = rw (end.out, drawn.longer, start.out) (simp append_assoc refl) in
+    let out : new.out ≡ old.out ++ (opening ∷ (drawn.more ++ instr.End ∷ [])) = rw (end.out, drawn.longer, start.out) (simp append_assoc
+    refl) in
     let len : length new.out ≡ length inside.out + 1 = rw end.out (simp length-append refl) in
     let len' : length entered.out ≡ length old.out + 1 = rw start.out (simp length-append refl) in
     let same = start.budget in
     let same' = end.budget in
     let some = some_leaf scope.config.now scope.types.now.types in
-    let most' = times (longest_leaf scope.config.now scope.types.now.types) (length params + length results) (widest scope.types.now.types) few in
     record {
       more = opening ∷ (drawn.more ++ instr.End ∷ []);
       longer = out;
@@ -416,6 +422,16 @@ around_drawn {scope = scope} {old = old} {entered = entered} {inside = inside} {
       spent = omega arith;
       short = rw (same', ← same) (omega arith);
     }
+
+around_drawn : {scope : Scope} {old entered inside new : Draft} (opening : Instr) (label params results taken values : List ValType)
+    → Encloses scope.config.now (where_stands scope old) opening label params results taken values
+    → IsAllowedIn scope opening → length params + length results ≤ widest scope.types.now.types → IsOpened opening label old entered
+    → IsDrawn scope params results (length params + length results) entered inside
+    → (height : ℕ) → height ≡ length old.set.items → IsEnded instr.End height inside new → new.labels.items ≡ old.labels.items
+    → IsDrawn scope taken values (block_cost scope.types.now.types) old new
+around_drawn opening label params results taken values encloses allowed few start drawn height high ended labels =
+    drawn_within (omega arith) (around_costing opening label params results taken values encloses allowed start drawn height high ended
+    labels)
 
 pub enclosed_drawn : {scope : Scope} {old entered inside new : Draft} (opening : Opening) (ty : BlockType) (params results values : List ValType) → IsBlockType (bare scope) ty params results → MayOpen opening params results → AreValid (bare scope) results → AreBelow (bare scope) results values → AreValid (bare scope) values
     → IsAllowedIn scope (opened opening ty) → length params + length results ≤ widest scope.types.now.types → IsOpened (opened opening ty) (label_of opening params results) old entered → IsDrawn scope params results (length params + length results) entered inside

@@ -10,9 +10,11 @@ use Rattle.smith_instr.specs.declared.control.BlockType.{BlockType}
 use Rattle.smith_instr.specs.declared.control.Catch.{Catch}
 use Rattle.smith_instr.specs.declared.instr.Instr.{Instr}
 use Rattle.smith_instr.specs.declared.instr.Instr.TheVariants as instr
-use Rattle.smith_body.specs.Bodies.{Drawing, State, begun, body_at, drawing_at, dropped, enclosed_at, ended, ended_by, ending_at, head_at, inside_at, interval, leaf_in, node_at, operands_at, results_at, statement_at, statements_within, value_at, values_at, written}
+use Rattle.smith_body.specs.Bodies.{Drawing, State, begun, body_at, drawing_at, dropped, enclosed_at, ended, ended_by, ending_at, head_at, in_block, inside_at, interval, leaf_in, node_at, opened_at, operands_at, repeated_at, results_at, statement_at, statements_within, value_at, values_at, written}
 use Rattle.smith_body_choices.specs.Choices.{allowed_choice_at, ending_choice_at, statement_choice_at}
 use Rattle.smith_body.specs.DraftSteps.{IsDrawn, IsEnded, IsOpened, IsWritten, state_of}
+use Rattle.smith_body.specs.Repeats.{repeat_at}
+use Rattle.smith_body.specs.declared.repeats.Repeat.{Repeat}
 use Rattle.smith_body_leaves.specs.DrawnLeaves.{leaf_at}
 use Rattle.smith_body_nodes.specs.Nodes.{is_node_allowed, label_of, opened}
 use Rattle.smith_body_nodes.specs.Scopes.{context_of}
@@ -76,32 +78,52 @@ pub drops_written : (scope : Scope) (count : ℕ) (old new : Draft) (bytes : Lis
 drops_written scope count old new bytes out set labels budget = state_is scope new old.labels.items (old.out ++ replicate count instr.Drop) old.set.items old.budget bytes labels out set budget
 
 -- a node: its operands, its head, and the dropped values
-pub node_exact : (config : Config) (draw : Drawing) (node : Node) (s operands rest : State) → operands_at config draw node.head node.operands (record s { budget = s.budget - 1 }) ≡ operands → head_at draw node.head node.sets operands ≡ rest
+pub node_exact : (config : Config) (draw : Drawing) (node : Node) (s operands rest : State) → operands_at config draw node.head node.operands (record s { budget = s.budget - 1 }) ≡ operands → head_at config draw node.head node.sets operands ≡ rest
     → node_at config draw node s ≡ dropped node.drops rest
 unfolding node_at
 node_exact config draw node s operands rest first second =
-    ap (λ (s : State). dropped node.drops (head_at draw node.head node.sets s)) first ∙ ap (λ (s : State). dropped node.drops s) second
+    ap (λ (s : State). dropped node.drops (head_at config draw node.head node.sets s)) first ∙ ap (λ (s : State). dropped node.drops s) second
 
-pub plain_exact : (scope : Scope) (draw : Drawing) (head : Head) (instruction : Instr) (sets : Option ℕ) (old new : Draft) (bytes : List ℕ) → head ≡ heads.Plain instruction → IsWritten instruction sets old new
-    → head_at draw head sets (state_of scope old bytes) ≡ state_of scope new bytes
+pub plain_exact : (scope : Scope) (config : Config) (draw : Drawing) (head : Head) (instruction : Instr) (sets : Option ℕ) (old new :
+    Draft) (bytes : List ℕ) → head ≡ heads.Plain instruction → IsWritten instruction sets old new
+    → head_at config draw head sets (state_of scope old bytes) ≡ state_of scope new bytes
 unfolding head_at
-plain_exact scope draw head instruction sets old new bytes is done =
-    rw is (state_is scope new old.labels.items (old.out ++ instruction ∷ []) (old.set.items ++ option_to_list sets) old.budget bytes done.same done.out done.set_more done.budget)
+plain_exact scope config draw head instruction sets old new bytes is done =
+    rw is (state_is scope new old.labels.items (old.out ++ instruction ∷ []) (old.set.items ++ option_to_list sets) old.budget bytes
+    done.same done.out done.set_more done.budget)
 
-pub head_enclosed : (draw : Drawing) (head : Head) (opening : Opening) (ty : BlockType) (sides : Sides) (sets : Option ℕ) (s : State) → head ≡ heads.Enclosed opening ty sides
-    → head_at draw head sets s ≡ written instr.End (enclosed_at draw (label_of opening sides.params sides.results) sides (written (opened opening ty) s))
+pub head_enclosed : (config : Config) (draw : Drawing) (head : Head) (opening : Opening) (ty : BlockType) (sides : Sides) (sets : Option
+    ℕ) (s : State) → head ≡ heads.Enclosed opening ty sides
+    → head_at config draw head sets s ≡ opened_at config draw opening ty sides s
 unfolding head_at
-head_enclosed draw head opening ty sides sets s is = rw is refl
+head_enclosed config draw head opening ty sides sets s is = rw is refl
 
-pub head_try : (draw : Drawing) (head : Head) (ty : BlockType) (clauses : List Catch) (sides : Sides) (sets : Option ℕ) (s : State) → head ≡ heads.Try ty clauses sides
-    → head_at draw head sets s ≡ written instr.End (enclosed_at draw sides.results sides (written (instr.TryTable ty clauses) s))
-unfolding head_at
-head_try draw head ty clauses sides sets s is = rw is refl
+-- a loop that is repeated, or a block that is not
+pub opened_again : (config : Config) (draw : Drawing) (opening : Opening) (ty : BlockType) (sides : Sides) (s : State) (repeat : Repeat)
+    (left : List ℕ) → repeat_at config s.context opening sides.params s.budget s.bytes ≡ (Some repeat, left)
+    → opened_at config draw opening ty sides s ≡ repeated_at draw repeat ty sides.results (record s { bytes = left })
+unfolding opened_at
+opened_again config draw opening ty sides s repeat left drawn = rw drawn refl
 
-pub head_if : (draw : Drawing) (head : Head) (ty : BlockType) (sides : Sides) (sets : Option ℕ) (s : State) → head ≡ heads.If ty sides
-    → head_at draw head sets s ≡ written instr.End (enclosed_at draw sides.results sides (written instr.Else (enclosed_at draw sides.results sides (written (instr.If ty) s))))
+pub opened_once : (config : Config) (draw : Drawing) (opening : Opening) (ty : BlockType) (sides : Sides) (s : State) (left : List ℕ)
+    → repeat_at config s.context opening sides.params s.budget s.bytes ≡ (None, left)
+    → opened_at config draw opening ty sides s ≡ written instr.End (enclosed_at draw (label_of opening sides.params sides.results) sides
+    (written (opened opening ty) (record s { bytes = left })))
+unfolding opened_at
+opened_once config draw opening ty sides s left drawn = rw drawn refl
+
+pub head_try : (config : Config) (draw : Drawing) (head : Head) (ty : BlockType) (clauses : List Catch) (sides : Sides) (sets : Option ℕ)
+    (s : State) → head ≡ heads.Try ty clauses sides
+    → head_at config draw head sets s ≡ written instr.End (enclosed_at draw sides.results sides (written (instr.TryTable ty clauses) s))
 unfolding head_at
-head_if draw head ty sides sets s is = rw is refl
+head_try config draw head ty clauses sides sets s is = rw is refl
+
+pub head_if : (config : Config) (draw : Drawing) (head : Head) (ty : BlockType) (sides : Sides) (sets : Option ℕ) (s : State)
+    → head ≡ heads.If ty sides
+    → head_at config draw head sets s ≡ written instr.End (enclosed_at draw sides.results sides (written instr.Else (enclosed_at draw
+    sides.results sides (written (instr.If ty) s))))
+unfolding head_at
+head_if config draw head ty sides sets s is = rw is refl
 
 -- an instruction after which nothing is reached, if one was chosen that is allowed
 chosen_end : (config : Config) (depth : ℕ) (s : State) (rest : List ℕ) (chosen : Option Node) → 0 < depth → ending_choice_at s.context s.bytes ≡ (chosen, rest)
@@ -164,14 +186,26 @@ set_again old entered inside new height drawn same high taken =
     let taken' : new.set.items ≡ take (length old.set.items) inside.set.items = rw high at taken in
     taken' ∙ height_left old.set.items drawn.set inside.set.items (drawn.set_more ∙ ap (λ (xs : List ℕ). xs ++ drawn.set) same)
 
-pub enclosed_exact : {a b : List ValType} {n : ℕ} (scope : Scope) (draw : Drawing) (opening : Instr) (label : List ValType) (sides : Sides) (old entered inside new : Draft) (bytes left : List ℕ) (height : ℕ)
-    → IsOpened opening label old entered → inside_at draw sides (state_of scope entered bytes) ≡ state_of scope inside left → IsDrawn scope a b n entered inside
+pub block_exact : {a b : List ValType} {n : ℕ} (scope : Scope) (inside : State → State) (opening : Instr) (label : List ValType) (old
+    entered within new : Draft) (bytes left : List ℕ) (height : ℕ)
+    → IsOpened opening label old entered → inside (state_of scope entered bytes) ≡ state_of scope within left
+    → IsDrawn scope a b n entered within
+    → height ≡ length old.set.items → IsEnded instr.End height within new → new.labels.items ≡ old.labels.items
+    → written instr.End (in_block inside label (written opening (state_of scope old bytes))) ≡ state_of scope new left
+block_exact scope inside opening label old entered within new bytes left height start exact drawn high end labels =
+    let begin = entered_exact scope opening label old entered bytes start in
+    closed_exact scope instr.End _ old within new bytes left (ap inside begin ∙ exact) end.out (set_again old entered within new height
+    drawn start.set high end.set) labels end.budget
+
+pub enclosed_exact : {a b : List ValType} {n : ℕ} (scope : Scope) (draw : Drawing) (opening : Instr) (label : List ValType) (sides :
+    Sides) (old entered inside new : Draft) (bytes left : List ℕ) (height : ℕ)
+    → IsOpened opening label old entered → inside_at draw sides (state_of scope entered bytes) ≡ state_of scope inside left
+    → IsDrawn scope a b n entered inside
     → height ≡ length old.set.items → IsEnded instr.End height inside new → new.labels.items ≡ old.labels.items
     → written instr.End (enclosed_at draw label sides (written opening (state_of scope old bytes))) ≡ state_of scope new left
 unfolding enclosed_at
 enclosed_exact scope draw opening label sides old entered inside new bytes left height start exact drawn high end labels =
-    let begin = entered_exact scope opening label old entered bytes start in
-    closed_exact scope instr.End _ old inside new bytes left (ap (λ (s : State). inside_at draw sides s) begin ∙ exact) end.out (set_again old entered inside new height drawn start.set high end.set) labels end.budget
+    block_exact scope (inside_at draw sides) opening label old entered inside new bytes left height start exact drawn high end labels
 
 pub if_exact : {a b c d : List ValType} {m n : ℕ} (scope : Scope) (draw : Drawing) (ty : BlockType) (sides : Sides) (old entered first other last new : Draft) (bytes middle left : List ℕ) (height : ℕ)
     → IsOpened (instr.If ty) sides.results old entered → inside_at draw sides (state_of scope entered bytes) ≡ state_of scope first middle → IsDrawn scope a b m entered first

@@ -4,4 +4,5 @@ pub mod MadeLemmas
 pub mod CreatedLemmas
 pub mod ExactLemmas
 pub mod OperandLemmas
+pub mod RepeatLemmas
 pub mod BodyLemmas

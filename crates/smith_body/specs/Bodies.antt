@@ -1,5 +1,6 @@
 -- The body that the bytes produce. Rules of this project.
-use Rattle.std.specs.Prelude.{ℕ, zero, suc, ◌+◌, ◌-◌, ◌/◌, ◌%◌, ◌==◌, ◌||◌, nat_le, not, Bool, true, false, Option, Some, None, option_to_list, List, [], ◌∷◌, ◌++◌, length, replicate, if◌then◌else◌}
+use Rattle.std.specs.Prelude.{ℕ, zero, suc, ◌+◌, ◌-◌, ◌/◌, ◌%◌, ◌==◌, ◌||◌, nat_le, not, Bool, true, false, Option, Some, None, option_to_list, List, [], ◌∷◌, ◌++◌, length, pos, replicate, if◌then◌else◌}
+use Rattle.std.specs.Int.{cast_signed, w32}
 use Rattle.smith_bytes.specs.Draws.{range_at}
 use Rattle.smith_config.specs.declared.config.Config.{Config}
 use Rattle.smith_syntax.specs.declared.value_type.ValType.{ValType}
@@ -8,6 +9,9 @@ use Rattle.smith_draw_types.specs.Choices.{chosen_at}
 use Rattle.smith_instr.specs.Contexts.{BodyContext, address, labelled}
 use Rattle.smith_instr.specs.declared.instr.Instr.{Instr}
 use Rattle.smith_instr.specs.declared.instr.Instr.TheVariants as instr
+use Rattle.smith_instr.specs.declared.numeric.IntBinary.TheVariants.{Sub}
+use Rattle.smith_instr.specs.declared.numeric.NumericInstr.TheVariants as numeric
+use Rattle.smith_instr.specs.declared.control.BlockType.{BlockType}
 use Rattle.smith_body_choices.specs.Choices.{allowed_choice_at, ending_choice_at, statement_choice_at}
 use Rattle.smith_body_leaves.specs.DrawnLeaves.{leaf_at}
 use Rattle.smith_body.specs.Operands.{address_constant, mask_of, masking, number_at, operand_ways}
@@ -16,11 +20,15 @@ use Rattle.smith_body.specs.declared.operands.OperandWay.TheVariants as way
 use Rattle.smith_body.specs.declared.operands.Place.{Place}
 use Rattle.smith_body.specs.declared.operands.Place.TheVariants as place
 use Rattle.smith_body.specs.Limits.{limit_at}
+use Rattle.smith_body.specs.Repeats.{repeat_at}
+use Rattle.smith_body.specs.declared.repeats.Repeat.{Repeat}
+use Rattle.smith_body.specs.declared.repeats.Repeat.TheVariants as repeats
 use Rattle.smith_body_nodes.specs.Nodes.{is_node_allowed, label_of, opened}
 use Rattle.smith_body_nodes.specs.Scopes.{is_permitted}
 use Rattle.smith_body_nodes.specs.declared.node.Head.{Head}
 use Rattle.smith_body_nodes.specs.declared.node.Head.TheVariants as head
 use Rattle.smith_body_nodes.specs.declared.node.Node.{Node}
+use Rattle.smith_body_nodes.specs.declared.node.Opening.{Opening}
 use Rattle.smith_body_nodes.specs.declared.node.Sides.{Sides}
 
 -- a body that is being drawn: the context of the next instruction, the instructions so far, the
@@ -107,27 +115,72 @@ results_at draw results s =
 unfoldable pub inside_at : Drawing → Sides → State → State
 inside_at draw sides s = results_at draw sides.results (dropped (length sides.params) s)
 
--- the inside of a block with its label; locals that are set in a block are not set after it
+-- what is inside a block with its label; locals that are set in a block are not set after it
+abbrev pub in_block : (State → State) → List ValType → State → State
+in_block inside label s = record (inside (record s { context = labelled s.context label })) { context = s.context; set = s.set }
+
+-- the inside of a block with its label
 unfoldable pub enclosed_at : Drawing → List ValType → Sides → State → State
-enclosed_at draw label sides s =
-    record (inside_at draw sides (record s { context = labelled s.context label })) { context = s.context; set = s.set }
+enclosed_at draw label sides s = in_block (λ s. inside_at draw sides s) label s
+
+-- an instruction that sets a local
+abbrev pub setting_local : Instr → ℕ → State → State
+setting_local instruction local s = record s { out = s.out ++ instruction ∷ []; set = s.set ++ local ∷ [] }
+
+-- before a loop that is counted its local is set to the number of times that it runs
+abbrev pub count_set : Repeat → State → State
+count_set (repeats.Counted local times) s = setting_local (instr.LocalSet local) local (written (instr.I32Const (cast_signed w32 times)) s)
+count_set repeats.Tested s = s
+
+-- the local is counted down, and its number is left
+abbrev pub counted_down : ℕ → State → State
+counted_down local s =
+    setting_local (instr.LocalTee local) local
+    (written (instr.Numeric (numeric.I32Binary Sub)) (written (instr.I32Const (pos 1)) (written (instr.LocalGet local) s)))
+
+-- the number that is tested at the end of a loop
+abbrev pub tested_at : Drawing → Repeat → State → State
+tested_at draw (repeats.Counted local times) s = counted_down local s
+tested_at draw repeats.Tested s = draw.value I32 s
+
+-- the inside of a loop that is repeated: statements, a branch to the start unless the number is 0,
+-- and the results
+abbrev pub repeated_inside : Drawing → Repeat → List ValType → State → State
+repeated_inside draw repeat results s = values_at draw results (written (instr.BrIf 0) (tested_at draw repeat (draw.statements s).1))
+
+-- a loop that is repeated takes one more unit of the budget
+unfoldable pub repeated_at : Drawing → Repeat → BlockType → List ValType → State → State
+repeated_at draw repeat ty results s =
+    written instr.End
+    (in_block (repeated_inside draw repeat results) [] (written (instr.Loop ty) (count_set repeat (record s { budget = s.budget - 1 }))))
+
+-- a block, or a loop that is repeated
+abbrev pub enclosed_by : Drawing → Opening → BlockType → Sides → Option Repeat → State → State
+enclosed_by draw opening ty sides (Some repeat) s = repeated_at draw repeat ty sides.results s
+enclosed_by draw opening ty sides None s =
+    written instr.End (enclosed_at draw (label_of opening sides.params sides.results) sides (written (opened opening ty) s))
+
+unfoldable pub opened_at : Config → Drawing → Opening → BlockType → Sides → State → State
+opened_at config draw opening ty sides s =
+    let repeat = repeat_at config s.context opening sides.params s.budget s.bytes in
+    enclosed_by draw opening ty sides repeat.0 (record s { bytes = repeat.1 })
 
 -- the instructions after operands, and the local that is set
-unfoldable pub head_at : Drawing → Head → Option ℕ → State → State
-head_at draw (head.Plain instruction) sets s = record s { out = s.out ++ instruction ∷ []; set = s.set ++ option_to_list sets }
-head_at draw (head.Enclosed opening ty sides) sets s =
-    written instr.End (enclosed_at draw (label_of opening sides.params sides.results) sides (written (opened opening ty) s))
-head_at draw (head.If ty sides) sets s =
+unfoldable pub head_at : Config → Drawing → Head → Option ℕ → State → State
+head_at config draw (head.Plain instruction) sets s = record s { out = s.out ++ instruction ∷ []; set = s.set ++ option_to_list sets }
+head_at config draw (head.Enclosed opening ty sides) sets s = opened_at config draw opening ty sides s
+head_at config draw (head.If ty sides) sets s =
     written instr.End (enclosed_at draw sides.results sides
     (written instr.Else (enclosed_at draw sides.results sides
     (written (instr.If ty) s))))
-head_at draw (head.Try ty clauses sides) sets s = written instr.End (enclosed_at draw sides.results sides (written (instr.TryTable ty clauses) s))
+head_at config draw (head.Try ty clauses sides) sets s =
+    written instr.End (enclosed_at draw sides.results sides (written (instr.TryTable ty clauses) s))
 
 -- a node takes one unit of the budget: its operands are drawn, then its other instructions
 unfoldable pub node_at : Config → Drawing → Node → State → State
 node_at config draw node s =
     dropped node.drops
-    (head_at draw node.head node.sets (operands_at config draw node.head node.operands (record s { budget = s.budget - 1 })))
+    (head_at config draw node.head node.sets (operands_at config draw node.head node.operands (record s { budget = s.budget - 1 })))
 
 -- a value without a budget
 unfoldable pub leaf_in : Config → ValType → State → State

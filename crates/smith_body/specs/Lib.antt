@@ -3,3 +3,4 @@ pub mod DraftSteps
 pub mod Stops
 pub mod Limits
 pub mod Operands
+pub mod Repeats

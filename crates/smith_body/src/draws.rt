@@ -8,15 +8,16 @@ ghost use Rattle.smith_instr.specs.InstrTypes.{IsCatch};
 ghost use Rattle.smith_instr.specs.declared.instr.Instr.TheVariants as instr;
 ghost use Rattle.smith_body.specs.Bodies.{drawing_at, enclosed_at, head_at, inside_at, interval};
 ghost use Rattle.smith_body.specs.Bodies.{limited_at, masked_at, near_at, node_at, operand_at};
-ghost use Rattle.smith_body.specs.Bodies.{operands_at, results_at, statement_at, values_at};
-ghost use Rattle.smith_body.specs.Bodies.{written};
+ghost use Rattle.smith_body.specs.Bodies.{opened_at, operands_at, repeated_at, results_at};
+ghost use Rattle.smith_body.specs.Bodies.{statement_at, tested_at, values_at, written};
 ghost use Rattle.smith_body.specs.DraftSteps.{IsDrawn, state_of};
+ghost use Rattle.smith_body.specs.Repeats.{IsRepeat};
 ghost use Rattle.smith_body_nodes.specs.Nodes.{AreSidesValid, HasHeadType, IsHeadAllowed};
 ghost use Rattle.smith_body_nodes.specs.Nodes.{IsHeadValid, IsNode, IsNodeAllowed, MayOpen};
 ghost use Rattle.smith_body_nodes.specs.Nodes.{block_cost, head_instruction, head_sets, label_of};
 ghost use Rattle.smith_body_nodes.specs.Nodes.{opened, taken_by};
 ghost use Rattle.smith_body_nodes.specs.Scopes.{AreLabels, IsAllowedIn, IsScope, bare};
-ghost use Rattle.smith_body_nodes.specs.Scopes.{where_stands};
+ghost use Rattle.smith_body_nodes.specs.Scopes.{where_stands, widest};
 ghost use Rattle.smith_body_nodes.specs.Traps.{IsNoStop};
 
 use crate::leaf::write_leaf;
@@ -24,6 +25,7 @@ use crate::limits::limit_at;
 use crate::operands::{
     OperandWay, Place, address_constant, draw_number, mask_of, masking, operand_ways,
 };
+use crate::repeats::{Repeat, draw_repeat, write_count, write_down};
 use crate::writes::{drop_values, write_else, write_end, write_opening, write_plain};
 use smith_body_choices::{choose_allowed, choose_ending, choose_statement};
 use smith_body_nodes::{
@@ -271,7 +273,8 @@ fn draw_head(
     requires labels { AreLabels scope.now draft.old.labels.items }
     requires inside { IsHeadValid (bare scope.now).features (bare scope.now).types head }
     requires allowed { IsHeadAllowed scope.now head }
-    ensures exact { OnOk result (head_at (drawing_at scope.now.config.now depth) head sets
+    ensures exact { OnOk result
+        (head_at scope.now.config.now (drawing_at scope.now.config.now depth) head sets
         (state_of scope.now draft.old u.old) ≡ state_of scope.now draft.new u.new) }
     ensures drawn { (operands given values : List Val)
         → HasHeadType (where_stands scope.now draft.old) draft.old.set.items head operands given
@@ -286,7 +289,7 @@ fn draw_head(
     match head {
         Head::Plain(instruction) => write_plain(instruction, sets, draft),
         Head::Enclosed(opening, ty, sides) => {
-            draw_enclosed(alloc, scope, opening, ty, &sides, depth, draft, u)
+            draw_opened(alloc, scope, opening, ty, &sides, depth, draft, u)
         }
         Head::If(ty, sides) => draw_if(alloc, scope, ty, &sides, depth, draft, u),
         Head::Try(ty, clauses, sides) => {
@@ -295,7 +298,55 @@ fn draw_head(
     }
 }
 
-/// Draws a block, a loop or an `if` without `else`, whose type has `sides`.
+/// Draws a block, a loop or an `if` without `else`, whose type has `sides`. Most loops without
+/// parameters go back to their start.
+#[cycle(body)]
+fn draw_opened(
+    alloc: Global,
+    scope: &Scope<'_>,
+    opening: Opening,
+    ty: BlockType,
+    sides: &Sides,
+    depth: u32,
+    draft: &mut Draft,
+    u: &mut Unstructured<'_>,
+) -> Result<(), Error>
+    requires scope { IsScope (bare scope.now) }
+    requires labels { AreLabels scope.now draft.old.labels.items }
+    requires sides { AreSidesValid (bare scope.now).features (bare scope.now).types sides.now }
+    requires allowed { IsAllowedIn scope.now (opened opening ty) }
+    requires drops { 0 < length sides.now.params → IsAllowedIn scope.now instr.Drop }
+    ensures exact { OnOk result (opened_at scope.now.config.now
+        (drawing_at scope.now.config.now depth) opening ty sides.now
+        (state_of scope.now draft.old u.old) ≡ state_of scope.now draft.new u.new) }
+    ensures drawn { (values : List Val)
+        → IsBlockType (bare scope.now) ty sides.now.params sides.now.results
+        → MayOpen opening sides.now.params sides.now.results
+        → AreBelow (bare scope.now) sides.now.results values → AreValid (bare scope.now) values
+        → OnOk result (IsDrawn scope.now (taken_by opening sides.now.params) values
+        (block_cost scope.now.types.now.types) draft.old draft.new) }
+    ensures less { OnOk result (draft.new.budget ≤ draft.old.budget) }
+    ensures memory { IfErr result (λ e. e ≡ Error.Memory) }
+    ensures left { KeepsPieces u.old u.new }
+{
+    match draw_repeat(scope, opening, sides, draft, u) {
+        Some(repeat) => {
+            draw_repeated(
+                alloc,
+                scope,
+                repeat,
+                ty,
+                sides.results.as_slice(),
+                depth,
+                draft,
+                u,
+            )
+        }
+        None => draw_enclosed(alloc, scope, opening, ty, sides, depth, draft, u),
+    }
+}
+
+/// Draws a block, a loop or an `if` without `else`, in which instructions are drawn once.
 #[cycle(body)]
 fn draw_enclosed(
     alloc: Global,
@@ -332,6 +383,71 @@ fn draw_enclosed(
     write_opening(alloc, opening_instr(opening, ty), label, draft)?;
     draw_inside(alloc, scope, sides, depth, draft, u)?;
     write_end(height, draft)
+}
+
+/// Draws a loop without parameters that goes back to its start. Takes one unit of the budget.
+#[cycle(body)]
+fn draw_repeated(
+    alloc: Global,
+    scope: &Scope<'_>,
+    repeat: Repeat,
+    ty: BlockType,
+    results: &[ValType],
+    depth: u32,
+    draft: &mut Draft,
+    u: &mut Unstructured<'_>,
+) -> Result<(), Error>
+    requires scope { IsScope (bare scope.now) }
+    requires labels { AreLabels scope.now draft.old.labels.items }
+    requires valid { AreValid (bare scope.now) results.now }
+    requires few { length results.now ≤ widest scope.now.types.now.types }
+    requires allowed { IsAllowedIn scope.now (instr.Loop ty) }
+    requires counts { IsRepeat scope.now repeat }
+    requires paid { 0 < draft.old.budget }
+    ensures exact { OnOk result
+        (repeated_at (drawing_at scope.now.config.now depth) repeat ty results.now
+        (state_of scope.now draft.old u.old) ≡ state_of scope.now draft.new u.new) }
+    ensures drawn { (values : List Val) → IsBlockType (bare scope.now) ty [] results.now
+        → AreBelow (bare scope.now) results.now values → AreValid (bare scope.now) values
+        → OnOk result (IsDrawn scope.now [] values 0 draft.old draft.new) }
+    ensures less { OnOk result (draft.new.budget ≤ draft.old.budget) }
+    ensures memory { IfErr result (λ e. e ≡ Error.Memory) }
+    ensures left { KeepsPieces u.old u.new }
+{
+    draft.budget = draft.budget.saturating_sub(1);
+    write_count(repeat, draft)?;
+    let height = draft.set.len();
+    write_opening(alloc, Instr::Loop(ty), &[], draft)?;
+    draw_statements(alloc, scope, depth, draft, u)?;
+    draw_tested(alloc, scope, repeat, depth, draft, u)?;
+    write_plain(Instr::BrIf(0), None, draft)?;
+    draw_values(alloc, scope, results, depth, draft, u)?;
+    write_end(height, draft)
+}
+
+/// Draws the number that is tested at the end of a loop.
+#[cycle(body)]
+fn draw_tested(
+    alloc: Global,
+    scope: &Scope<'_>,
+    repeat: Repeat,
+    depth: u32,
+    draft: &mut Draft,
+    u: &mut Unstructured<'_>,
+) -> Result<(), Error>
+    requires scope { IsScope (bare scope.now) }
+    requires labels { AreLabels scope.now draft.old.labels.items }
+    requires counts { IsRepeat scope.now repeat }
+    ensures exact { OnOk result (tested_at (drawing_at scope.now.config.now depth) repeat
+        (state_of scope.now draft.old u.old) ≡ state_of scope.now draft.new u.new) }
+    ensures drawn { OnOk result (IsDrawn scope.now [] (I32 ∷ []) 4 draft.old draft.new) }
+    ensures memory { IfErr result (λ e. e ≡ Error.Memory) }
+    ensures left { KeepsPieces u.old u.new }
+{
+    match repeat {
+        Repeat::Counted { local, .. } => write_down(local, draft),
+        Repeat::Tested => draw_value(alloc, scope, ValType::I32, depth, draft, u),
+    }
 }
 
 fn opening_instr(opening: Opening, ty: BlockType) -> Instr

@@ -7,6 +7,7 @@ pub mod laws;
 mod leaf;
 mod limits;
 mod operands;
+mod repeats;
 mod writes;
 
 pub use body::draw_body;

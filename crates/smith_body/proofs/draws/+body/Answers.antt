@@ -1,4 +1,4 @@
-use Rattle.std.proofs.Common.{◌≡◌, refl, sym, arith, ◌-◌, [], length, ◌∙◌}
+use Rattle.std.proofs.Common.{◌≡◌, ◌≤◌, refl, sym, arith, ◌-◌, [], length, ◌∙◌}
 use Rattle.smith_body_nodes.proofs.ResultLemmas.{ok_both}
 use Rattle.std.proofs.lemmas.Result.{on_ok_weaker}
 use Rattle.std.proofs.lemmas.List.{take_all}
@@ -8,12 +8,13 @@ use Rattle.smith_syntax.specs.FeatureBits.{features_in}
 use Rattle.smith_body.specs.DraftSteps.{state_of}
 use Rattle.smith_body_nodes.proofs.StopLemmas.{node_goes_on}
 use Rattle.smith_body_nodes.specs.Nodes.{IsNode, label_of, opened}
-use Rattle.smith_body_nodes.specs.Scopes.{bare, where_stands}
-use Rattle.smith_body.proofs.ExactLemmas.{all_left, chosen_ending, chosen_statement, chosen_value, deep_statements, drops_written, enclosed_exact, forbidden_ending, forbidden_statement, head_enclosed, head_if, head_try, if_exact, inside_exact, last_statements, last_value, next_value, no_ending, no_values, node_exact, none_left, one_less, other_value, plain_exact, results_dead, results_drawn, results_ended, results_still, stopped, unpaid_value}
+use Rattle.smith_body_nodes.specs.Scopes.{bare, where_stands, widest}
+use Rattle.smith_body.proofs.ExactLemmas.{all_left, chosen_ending, chosen_statement, chosen_value, deep_statements, drops_written, enclosed_exact, forbidden_ending, forbidden_statement, head_enclosed, head_if, head_try, if_exact, inside_exact, last_statements, last_value, next_value, no_ending, no_values, node_exact, none_left, one_less, opened_again, opened_once, other_value, plain_exact, results_dead, results_drawn, results_ended, results_still, stopped, unpaid_value}
 use Rattle.smith_instr.specs.declared.instr.Instr.TheVariants as instr
 use Rattle.smith_body_nodes.proofs.NodeLemmas.{no_valid}
 use Rattle.smith_body.proofs.draws.+body.Goals.{draw_value-then-depth-eq0-via-then-depth-eq0, draw_value-then-depth-eq0-via-else-depth-eq0+then-draft-eq0, draw_masked-then-draft-eq0-via-then-draft-eq0, draw_masked-then-draft-eq0-via-else-draft-eq0+then-not-is_allowed, draw_masked-then-draft-eq0-via-else-draft-eq0+else-not-is_allowed+then-not-is_allowed-2}
 use Rattle.smith_body.proofs.draws.+body.Goals as goal
+use Rattle.smith_body.proofs.RepeatLemmas.{budget_less, inside_drawn, opened_drawn, repeated_drawn, repeated_exact, without_params}
 use Rattle.smith_body.proofs.OperandLemmas.{next_operand, by_way, constant_drawn, near_constant, near_value, written_state, masked_drawn, masked_value, masks_written, no_mask, no_masking, unpaid_masked}
 use Rattle.smith_body.specs.declared.operands.OperandWay.TheVariants as way
 use Rattle.smith_body.specs.Operands.{address_constant, mask_of, masking}
@@ -136,15 +137,109 @@ draw_node-returns-clause-exact t c =
 
 pub draw_head-returns-in-Plain-clause-exact : goal.draw_head-returns-in-Plain-clause-exact
 draw_head-returns-in-Plain-clause-exact t c =
-    on_ok_weaker c.write_plain.result (λ done. plain_exact c.args.scope.now (drawing_at c.args.scope.now.config.now c.args.depth) c.args.head c.in-Plain.instruction c.args.sets c.args.draft.now _ c.args.u.now c.in-Plain.is done) c.write_plain.ensures.written
+    on_ok_weaker c.write_plain.result (λ done. plain_exact c.args.scope.now c.args.scope.now.config.now (drawing_at c.args.scope.now.config.now c.args.depth) c.args.head c.in-Plain.instruction c.args.sets c.args.draft.now _ c.args.u.now c.in-Plain.is done) c.write_plain.ensures.written
 
 pub draw_head-returns-in-Enclosed-clause-exact : goal.draw_head-returns-in-Enclosed-clause-exact
 draw_head-returns-in-Enclosed-clause-exact t c =
-    on_ok_weaker c.draw_enclosed.result (λ is. head_enclosed (drawing_at c.args.scope.now.config.now c.args.depth) c.args.head c.in-Enclosed.opening c.in-Enclosed.ty c.in-Enclosed.sides c.args.sets (state_of c.args.scope.now c.args.draft.now c.args.u.now) c.in-Enclosed.is ∙ is) c.draw_enclosed.ensures.exact
+    on_ok_weaker c.draw_opened.result (λ is. head_enclosed c.args.scope.now.config.now (drawing_at c.args.scope.now.config.now
+    c.args.depth) c.args.head c.in-Enclosed.opening c.in-Enclosed.ty c.in-Enclosed.sides c.args.sets (state_of c.args.scope.now
+    c.args.draft.now c.args.u.now) c.in-Enclosed.is ∙ is) c.draw_opened.ensures.exact
+
+pub draw_opened-draw_repeated-requires : goal.draw_opened-draw_repeated-requires
+draw_opened-draw_repeated-requires t c =
+    let repeats = rw c.in-Some.is at c.draw_repeat.ensures.may in
+    let few : length c.args.sides.now.results ≤ widest c.args.scope.now.types.now.types = omega (arith, c.requires.sides.few) in (
+      omega arith,
+      (
+        c.requires.scope,
+        (
+          c.requires.labels,
+          (
+            rw c.as_slice.ensures c.requires.sides.results,
+            (
+              rw c.as_slice.ensures few,
+              (rw repeats.loop at c.requires.allowed, (repeats.counts, repeats.paid)),
+            ),
+          ),
+        ),
+      ),
+    )
+
+pub draw_opened-returns-in-Some-clause-drawn : goal.draw_opened-returns-in-Some-clause-drawn
+draw_opened-returns-in-Some-clause-drawn t c = λ values fits may below valid.
+    let repeats = rw c.in-Some.is at c.draw_repeat.ensures.may in
+    let sides = c.args.sides.now in
+    let drawn = rw c.as_slice.ensures at c.draw_repeated.ensures.drawn in
+    on_ok_weaker c.draw_repeated.result (λ drawn. opened_drawn c.args.opening sides.params values repeats.loop repeats.none drawn)
+    (drawn values (without_params (bare c.args.scope.now) c.args.ty sides.params sides.results repeats.none fits) below valid)
+
+pub draw_opened-returns-in-Some-clause-exact : goal.draw_opened-returns-in-Some-clause-exact
+draw_opened-returns-in-Some-clause-exact t c =
+    on_ok_weaker c.draw_repeated.result
+    (λ is. opened_again c.args.scope.now.config.now (drawing_at c.args.scope.now.config.now c.args.depth) c.args.opening c.args.ty
+    c.args.sides.now (state_of c.args.scope.now c.args.draft.now c.args.u.now) c.in-Some.repeat _ (rw c.in-Some.is at
+    c.draw_repeat.ensures.exact) ∙ is) (rw c.as_slice.ensures at c.draw_repeated.ensures.exact)
+
+pub draw_opened-returns-in-None-clause-exact : goal.draw_opened-returns-in-None-clause-exact
+draw_opened-returns-in-None-clause-exact t c =
+    on_ok_weaker c.draw_enclosed.result
+    (λ is. opened_once c.args.scope.now.config.now (drawing_at c.args.scope.now.config.now c.args.depth) c.args.opening c.args.ty
+    c.args.sides.now (state_of c.args.scope.now c.args.draft.now c.args.u.now) _ (rw c.in-None.is at c.draw_repeat.ensures.exact) ∙ is)
+    c.draw_enclosed.ensures.exact
+
+pub draw_tested-returns-in-Counted-clause-exact : goal.draw_tested-returns-in-Counted-clause-exact
+draw_tested-returns-in-Counted-clause-exact t c = rw c.in-Counted.is (c.write_down.ensures.exact c.args.scope.now c.args.u.now)
+
+pub draw_tested-returns-in-Counted-clause-drawn : goal.draw_tested-returns-in-Counted-clause-drawn
+draw_tested-returns-in-Counted-clause-drawn t c = c.write_down.ensures.drawn c.args.scope.now (rw c.in-Counted.is at c.requires.counts)
+
+pub draw_tested-returns-in-Tested-clause-exact : goal.draw_tested-returns-in-Tested-clause-exact
+draw_tested-returns-in-Tested-clause-exact t c = rw c.in-Tested.is c.draw_value.ensures.exact
+
+pub draw_tested-returns-in-Tested-clause-drawn : goal.draw_tested-returns-in-Tested-clause-drawn
+draw_tested-returns-in-Tested-clause-drawn t c = on_ok_weaker c.draw_value.result (λ drawn. drawn_within (omega arith) drawn)
+    c.draw_value.ensures.drawn
+
+pub draw_repeated-returns-clause-drawn : goal.draw_repeated-returns-clause-drawn
+draw_repeated-returns-clause-drawn t c = λ values fits below valid.
+    let count = rw c.saturating_sub-draft.ensures at (c.in_ok-write_count.ensures.drawn c.args.scope.now c.requires.counts) in
+    let start = c.in_ok-write_opening.ensures.opened in
+    let inside = inside_drawn c.args.ty _ c.args.results.now c.requires.allowed start.labels c.in_ok-draw_statements.ensures.drawn
+    c.in_ok-draw_tested.ensures.drawn c.in_ok-write_plain.ensures.written c.in_ok-draw_values.ensures.drawn in
+    ok_both c.write_end.result
+    (repeated_drawn c.args.ty c.args.results.now values fits c.requires.valid below valid c.requires.allowed c.requires.few c.requires.paid
+    count start inside c.len-height.result c.len-height.ensures)
+    c.write_end.ensures.ended (c.write_end.ensures.left_label _ _ (inside.same ∙ start.labels))
+
+pub draw_repeated-returns-clause-exact : goal.draw_repeated-returns-clause-exact
+draw_repeated-returns-clause-exact t c =
+    let count = rw c.saturating_sub-draft.ensures at (c.in_ok-write_count.ensures.drawn c.args.scope.now c.requires.counts) in
+    let counted = rw c.saturating_sub-draft.ensures at (c.in_ok-write_count.ensures.exact c.args.scope.now c.args.u.now) in
+    let start = c.in_ok-write_opening.ensures.opened in
+    let inside = inside_drawn c.args.ty _ c.args.results.now c.requires.allowed start.labels c.in_ok-draw_statements.ensures.drawn
+    c.in_ok-draw_tested.ensures.drawn c.in_ok-write_plain.ensures.written c.in_ok-draw_values.ensures.drawn in
+    ok_both c.write_end.result
+    (repeated_exact c.args.scope.now (drawing_at c.args.scope.now.config.now c.args.depth) c.args.repeat c.args.ty c.args.results.now
+    c.args.draft.now _ _ _ _ _ _ _ c.args.u.now _ _ _ _ c.len-height.result count
+    c.in_ok-draw_statements.ensures.drawn counted start c.in_ok-draw_statements.ensures.exact
+    c.in_ok-draw_tested.ensures.exact c.in_ok-write_plain.ensures.written c.in_ok-draw_values.ensures.exact inside c.len-height.ensures)
+    c.write_end.ensures.ended (c.write_end.ensures.left_label _ _ (inside.same ∙ start.labels))
+
+pub draw_repeated-returns-clause-less : goal.draw_repeated-returns-clause-less
+draw_repeated-returns-clause-less t c =
+    let count = rw c.saturating_sub-draft.ensures at (c.in_ok-write_count.ensures.drawn c.args.scope.now c.requires.counts) in
+    let start = c.in_ok-write_opening.ensures.opened in
+    let inside = inside_drawn c.args.ty _ c.args.results.now c.requires.allowed start.labels c.in_ok-draw_statements.ensures.drawn
+    c.in_ok-draw_tested.ensures.drawn c.in_ok-write_plain.ensures.written c.in_ok-draw_values.ensures.drawn in
+    on_ok_weaker c.write_end.result (λ end. budget_less count start inside end) c.write_end.ensures.ended
+
+pub draw_repeated-returns-clause-left : goal.draw_repeated-returns-clause-left
+draw_repeated-returns-clause-left t c = λ whole h.
+    c.draw_values.ensures.left whole (c.draw_tested.ensures.left whole (c.draw_statements.ensures.left whole h))
 
 pub draw_head-returns-in-If-clause-exact : goal.draw_head-returns-in-If-clause-exact
 draw_head-returns-in-If-clause-exact t c =
-    on_ok_weaker c.draw_if.result (λ is. head_if (drawing_at c.args.scope.now.config.now c.args.depth) c.args.head c.in-If.ty c.in-If.sides c.args.sets (state_of c.args.scope.now c.args.draft.now c.args.u.now) c.in-If.is ∙ is) c.draw_if.ensures.exact
+    on_ok_weaker c.draw_if.result (λ is. head_if c.args.scope.now.config.now (drawing_at c.args.scope.now.config.now c.args.depth) c.args.head c.in-If.ty c.in-If.sides c.args.sets (state_of c.args.scope.now c.args.draft.now c.args.u.now) c.in-If.is ∙ is) c.draw_if.ensures.exact
 
 pub draw_enclosed-returns-clause-exact : goal.draw_enclosed-returns-clause-exact
 draw_enclosed-returns-clause-exact t c =
@@ -172,7 +267,7 @@ draw_inside-returns-clause-exact t c =
 
 pub draw_head-returns-in-Try-clause-exact : goal.draw_head-returns-in-Try-clause-exact
 draw_head-returns-in-Try-clause-exact t c =
-    on_ok_weaker c.draw_try.result (λ is. head_try (drawing_at c.args.scope.now.config.now c.args.depth) c.args.head c.in-Try.ty c.in-Try.clauses c.in-Try.sides c.args.sets (state_of c.args.scope.now c.args.draft.now c.args.u.now) c.in-Try.is ∙ is) c.draw_try.ensures.exact
+    on_ok_weaker c.draw_try.result (λ is. head_try c.args.scope.now.config.now (drawing_at c.args.scope.now.config.now c.args.depth) c.args.head c.in-Try.ty c.in-Try.clauses c.in-Try.sides c.args.sets (state_of c.args.scope.now c.args.draft.now c.args.u.now) c.in-Try.is ∙ is) c.draw_try.ensures.exact
 
 pub draw_try-returns-clause-drawn : goal.draw_try-returns-clause-drawn
 draw_try-returns-clause-drawn t c = λ values fits caught below valid.

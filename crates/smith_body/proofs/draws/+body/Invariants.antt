@@ -45,6 +45,15 @@ decreases-draw_inside l = 8 * l.depth + 3
 abbrev pub decreases-draw_enclosed : goal.decreases-draw_enclosed
 decreases-draw_enclosed l = 8 * l.depth + 4
 
+abbrev pub decreases-draw_opened : goal.decreases-draw_opened
+decreases-draw_opened l = 8 * l.depth + 5
+
+abbrev pub decreases-draw_repeated : goal.decreases-draw_repeated
+decreases-draw_repeated l = 8 * l.depth + 4
+
+abbrev pub decreases-draw_tested : goal.decreases-draw_tested
+decreases-draw_tested l = 8 * l.depth + 1
+
 abbrev pub decreases-draw_if : goal.decreases-draw_if
 decreases-draw_if l = 8 * l.depth + 4
 
@@ -52,10 +61,10 @@ abbrev pub decreases-draw_try : goal.decreases-draw_try
 decreases-draw_try l = 8 * l.depth + 4
 
 abbrev pub decreases-draw_head : goal.decreases-draw_head
-decreases-draw_head l = 8 * l.depth + 5
+decreases-draw_head l = 8 * l.depth + 6
 
 abbrev pub decreases-draw_node : goal.decreases-draw_node
-decreases-draw_node l = 8 * l.depth + 6
+decreases-draw_node l = 8 * l.depth + 7
 
 abbrev pub invariant-draw_values-loop-value : goal.invariant-draw_values-loop-value
 invariant-draw_values-loop-value l = record {
