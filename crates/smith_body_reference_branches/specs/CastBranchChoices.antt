@@ -88,7 +88,9 @@ local_below_at context from bytes =
 
 -- a type that matches a reference type: half of the time one strictly below it, else that of a local
 abbrev pub below_at : BodyContext → RefType → List ℕ → RefType × List ℕ
-below_at context from bytes = let half = bool_at bytes in if half.0 then strictly_below_at context from half.1 else local_below_at context from half.1
+below_at context from bytes =
+    let half = bool_at bytes in
+    if half.0 then strictly_below_at context from half.1 else local_below_at context from half.1
 
 -- a branch if a reference, whose type matches that of the label's last value, does not have the type
 -- of a cast
