@@ -90,6 +90,25 @@ fn type_use<'a>(types: &[u32], place: usize, signatures: &'a [SubType]) -> Optio
     Some(TypeUse { index, signatures })
 }
 
+/// Writes the start of the function `index`: its type, and on lines of their own its locals. The
+/// section Text Format, Functions. Requires that no write to `sink` has failed.
+///
+/// # Errors
+///
+/// Returns the error of the first write that fails. Nothing is written after it.
+pub fn write_function_start<U: TextForm, L: TextForm, S: Sink>(
+    index: usize,
+    ty: &U,
+    locals: &L,
+    sink: &mut S,
+) -> fmt::Result
+    requires open { S.failed sink.old ≡ false }
+    ensures fault { S.failed sink.new ≡ is_err result }
+    ensures keeps { OnOk result (Keeps S.has sink.old sink.new) }
+{
+    (("  (func (;", index, ";) "), ty, ("\n", locals)).write_text(sink)
+}
+
 /// Writes the functions that `module` defines, with the parameters and the results of the types
 /// among `signatures`. `bodies` writes their instructions. The section Text Format, Functions.
 pub(crate) fn write_functions<B: BodyText, S: Sink>(
@@ -108,7 +127,7 @@ pub(crate) fn write_functions<B: BodyText, S: Sink>(
         let index = imported.saturating_add(place);
         let ty = type_use(types, index, signatures);
         let locals = Listed("    (local", body.locals.as_slice(), ")\n");
-        (("  (func (;", index, ";) "), ty, ("\n", locals)).write_text(sink)?;
+        write_function_start(index, &ty, &locals, sink)?;
         bodies.write_body(place, body, module.fuel_globals(), sink)?;
         sink.write_str("  )\n")?;
     }

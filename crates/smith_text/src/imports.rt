@@ -126,8 +126,12 @@ fn write_group<'a, S: Sink>(
 
 /// Writes the imports of a module, with the parameters and the results of the function types among
 /// `signatures`. The section Text Format, Imports; groups as the compact imports proposal writes
-/// them.
-pub(crate) fn write_imports<S: Sink>(
+/// them. Requires that no write to `sink` has failed.
+///
+/// # Errors
+///
+/// Returns the error of the first write that fails. Nothing is written after it.
+pub fn write_imports<S: Sink>(
     imports: &[Imports],
     signatures: &[SubType],
     sink: &mut S,

@@ -2,6 +2,7 @@ ghost use Rattle.std.specs.Prelude.{◌≡◌, ◌≤◌, false, is_err, length,
 ghost use Rattle.std.specs.String.{string_bytes};
 ghost use Rattle.smith_text.specs.Written.{Keeps, Writes};
 
+use crate::fields::{write_export, write_field, write_start};
 use crate::functions::{BodyText, OwnBodies, write_functions};
 use crate::imports::write_imports;
 use crate::notes::{write_notes, write_raw_bodies};
@@ -58,9 +59,8 @@ fn write_tables<S: Sink>(
 {
     let (imported, defined) = split_defined(tables, initialisers.len());
     for (place, table) in defined.iter().enumerate() {
-        let opening = ("  (table (;", imported.saturating_add(place), ";) ");
-        let initialiser = initialisers.get(place);
-        (opening, table, (initialiser, ")\n")).write_text(sink)?;
+        let details = (table, initialisers.get(place));
+        write_field("table", imported.saturating_add(place), &details, sink)?;
     }
     Ok(())
 }
@@ -74,8 +74,7 @@ fn write_memories<S: Sink>(memories: &[MemoryType], defined: usize, sink: &mut S
 {
     let (imported, defined) = split_defined(memories, defined);
     for (place, memory) in defined.iter().enumerate() {
-        let opening = ("  (memory (;", imported.saturating_add(place), ";) ");
-        (opening, memory, ")\n").write_text(sink)?;
+        write_field("memory", imported.saturating_add(place), memory, sink)?;
     }
     Ok(())
 }
@@ -94,10 +93,9 @@ fn write_tags<S: Sink>(
 {
     let (imported, defined) = split_defined(tags, defined);
     for (place, index) in defined.iter().enumerate() {
-        let opening = ("  (tag (;", imported.saturating_add(place), ";) ");
         let index = *index;
         let ty = TypeUse { index, signatures };
-        (opening, ty, ")\n").write_text(sink)?;
+        write_field("tag", imported.saturating_add(place), &ty, sink)?;
     }
     Ok(())
 }
@@ -114,9 +112,9 @@ fn write_globals<S: Sink>(
     ensures keeps { OnOk result (Keeps S.has sink.old sink.new) }
 {
     for (index, initialiser) in initialisers {
-        let opening = ("  (global (;", index, ";) ");
-        let ty = globals.get(*index as usize);
-        (opening, ty, (initialiser, ")\n")).write_text(sink)?;
+        let place = *index as usize;
+        let details = (globals.get(place), initialiser);
+        write_field("global", place, &details, sink)?;
     }
     Ok(())
 }
@@ -133,13 +131,9 @@ fn write_exports<S: Sink>(
     ensures keeps { OnOk result (Keeps S.has sink.old sink.new) }
 {
     for (name, kind, index) in exports {
-        let opening = ("  (export ", name, " (");
-        (opening, (kind, " ", index), "))\n").write_text(sink)?;
+        write_export(name, *kind, *index, sink)?;
     }
-    match start {
-        Some(index) => ("  (start ", index, ")\n").write_text(sink),
-        None => Ok(()),
-    }
+    write_start(start, sink)
 }
 
 /// Writes what follows a module: all notes, or only its raw bodies.

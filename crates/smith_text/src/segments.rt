@@ -1,6 +1,7 @@
 ghost use Rattle.std.specs.Prelude.{◌≡◌, false, is_err, OnOk};
 ghost use Rattle.smith_text.specs.Written.{Keeps};
 
+use crate::fields::write_field;
 use crate::sink::Sink;
 use crate::strings::write_string;
 use crate::text_form::{Listed, Repeated, TextForm};
@@ -129,8 +130,7 @@ pub(crate) fn write_element_segments<S: Sink>(
     ensures keeps { OnOk result (Keeps S.has sink.old sink.new) }
 {
     for (index, segment) in segments.iter().enumerate() {
-        let opening = ("  (elem (;", index, ";) ");
-        (opening, ElementDetails(segment), ")\n").write_text(sink)?;
+        write_field("elem", index, &ElementDetails(segment), sink)?;
     }
     Ok(())
 }
@@ -142,8 +142,7 @@ pub(crate) fn write_data_segments<S: Sink>(segments: &[DataSegment], sink: &mut 
     ensures keeps { OnOk result (Keeps S.has sink.old sink.new) }
 {
     for (index, segment) in segments.iter().enumerate() {
-        let opening = ("  (data (;", index, ";) ");
-        (opening, DataDetails(segment), ")\n").write_text(sink)?;
+        write_field("data", index, &DataDetails(segment), sink)?;
     }
     Ok(())
 }

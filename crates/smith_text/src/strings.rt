@@ -21,8 +21,12 @@ fn write_byte<S: Sink>(byte: u8, sink: &mut S) -> fmt::Result
 
 /// Writes `bytes` as a string. Printable ASCII is written as it is, with a backslash before a
 /// quotation mark and a backslash; any other byte as two hexadecimal digits after a backslash. The
-/// section Text Format, Strings.
-pub(crate) fn write_string<S: Sink>(bytes: &[u8], sink: &mut S) -> fmt::Result
+/// section Text Format, Strings. Requires that no write to `sink` has failed.
+///
+/// # Errors
+///
+/// Returns the error of the first write that fails. Nothing is written after it.
+pub fn write_string<S: Sink>(bytes: &[u8], sink: &mut S) -> fmt::Result
     requires open { S.failed sink.old ≡ false }
     ensures fault { S.failed sink.new ≡ is_err result }
     ensures keeps { OnOk result (Keeps S.has sink.old sink.new) }

@@ -164,12 +164,13 @@ fn write_group<S: Sink>(types: &[SubType], group: &Range<usize>, sink: &mut S) -
     }
 }
 
-/// Writes the types of a module, `types`, in their groups.
-pub(crate) fn write_types<S: Sink>(
-    types: &[SubType],
-    groups: &[Range<usize>],
-    sink: &mut S,
-) -> fmt::Result
+/// Writes the types of a module, `types`, of which each of `groups` is a recursive group. Requires that
+/// no write to `sink` has failed.
+///
+/// # Errors
+///
+/// Returns the error of the first write that fails. Nothing is written after it.
+pub fn write_types<S: Sink>(types: &[SubType], groups: &[Range<usize>], sink: &mut S) -> fmt::Result
     requires open { S.failed sink.old ≡ false }
     ensures fault { S.failed sink.new ≡ is_err result }
     ensures keeps { OnOk result (Keeps S.has sink.old sink.new) }
