@@ -1,17 +1,17 @@
 -- Readings of data segments: the section Binary Format, Modules, Data Section, of the WebAssembly
 -- Core Specification 3.0.
 use Rattle.std.specs.Prelude.{ℕ, ◌==◌, if◌then◌else◌, List}
-use Rattle.smith_syntax.specs.declared.const_instr.ConstInstr.{ConstInstr}
-use Rattle.smith_binary_sections.specs.Data.{Data, IsData, DataMode as AbstractMode}
-use Rattle.smith_binary_sections.specs.Data.DataMode.{passive, active}
-use Rattle.smith_binary_read.specs.declared.data.DataMode.{DataMode}
-use Rattle.smith_binary_read.specs.declared.data.DataMode.TheVariants.{Passive, Active}
-use Rattle.smith_binary_read.specs.declared.data.DataSegment.{DataSegment}
 use Rattle.smith_binary_read.specs.declared.error.Reason.TheVariants.{UnknownByte}
 use Rattle.smith_binary_read.specs.Readings.{Reading, ◌>>=◌, fault_at, joined_at, mapped_at}
 use Rattle.smith_binary_read.specs.Numbers.{unsigned_at}
 use Rattle.smith_binary_read.specs.Contents.{content_at}
-use Rattle.smith_binary_read.specs.InstructionReadings.{expression_at}
+use Rattle.smith_instr.specs.declared.instr.Instr.{Instr}
+use Rattle.smith_binary_read_instr.specs.ExpressionReadings.{expr_at}
+use Rattle.smith_decode.specs.declared.data.DataMode.{DataMode}
+use Rattle.smith_decode.specs.declared.data.DataMode.TheVariants.{Passive, Active}
+use Rattle.smith_decode.specs.declared.data.DataSegment.{DataSegment}
+use Rattle.smith_decode.specs.Data.{Data, IsData, DataMode as AbstractMode}
+use Rattle.smith_decode.specs.Data.DataMode.{passive, active}
 
 abbrev pub segment : DataMode → List ℕ → DataSegment
 segment mode bytes = record { mode = mode; bytes = bytes }
@@ -29,11 +29,11 @@ abbrev pub IsSegment : DataSegment → List ℕ → Type 0
 IsSegment segment = IsData (segment_view segment)
 
 -- an offset, then bytes (Data Section)
-abbrev pub placed_at : List ℕ → Reading (List ConstInstr × List ℕ)
-placed_at = joined_at (λ offset bytes. (offset, bytes)) expression_at content_at
+abbrev pub placed_at : List ℕ → Reading (List Instr × List ℕ)
+placed_at = joined_at (λ offset bytes. (offset, bytes)) expr_at content_at
 
 -- a memory, then an offset and bytes (Data Section)
-abbrev pub named_at : List ℕ → Reading (ℕ × (List ConstInstr × List ℕ))
+abbrev pub named_at : List ℕ → Reading (ℕ × (List Instr × List ℕ))
 named_at = joined_at (λ memory placed. (memory, placed)) (unsigned_at 32) placed_at
 
 -- a segment, after the number of its form (Data Section)

@@ -2,29 +2,28 @@
 use Rattle.std.proofs.Common.{◌≡◌, ℕ, ◌≤◌, List, [], ◌∷◌, ◌++◌, Ok, refl, sym, ap, ◌∙◌, arith}
 use Rattle.std.proofs.lemmas.Bool.{ne_eqb}
 use Rattle.smith_binary.specs.Pieces.{Is, IsByte, Joined}
-use Rattle.smith_syntax.specs.declared.const_instr.ConstInstr.{ConstInstr}
 use Rattle.smith_syntax.specs.declared.entity_type.TableType.{TableType}
-use Rattle.smith_binary_sections.specs.Definitions.{null_of, IsTable}
 use Rattle.smith_binary_sections.specs.Entities.{IsTableType}
-use Rattle.smith_binary_sections.specs.Instructions.{IsExpression}
-use Rattle.smith_binary_read.specs.declared.definitions.TableDefinition.{TableDefinition}
 use Rattle.smith_binary_read.specs.Decodes.{Front, Decodes}
-use Rattle.smith_binary_read.proofs.ReadLemmas.{step, branch, test_passed, front_as, front_joined, joined_decodes, mapped_decodes}
-use Rattle.smith_binary_read.specs.DefinitionReadings.{IsGlobalDefinition, global_of, global_at, IsTableDefinition, table_of}
-use Rattle.smith_binary_read.specs.DefinitionReadings.{initialised_at, table_at, tag_of, tag_at, IsTagDefinition}
+use Rattle.smith_binary_read.proofs.ReadLemmas.{step, branch, test_passed, front_as, front_joined, joined_decodes}
 use Rattle.smith_binary_read.proofs.ChoiceLemmas.{Begins, joined_begins, mapped_sound, tag_front}
 use Rattle.smith_binary_read.proofs.TypeLemmas.{ref_begins, head_is}
-use Rattle.smith_binary_read.proofs.EntityLemmas.{global_decodes, table_decodes, tag_decodes}
-use Rattle.smith_binary_read.proofs.InstructionLemmas.{expression_decodes}
+use Rattle.smith_binary_read.proofs.EntityLemmas.{global_decodes, table_decodes}
+use Rattle.smith_instr.specs.declared.instr.Instr.{Instr}
+use Rattle.smith_binary_read_instr.proofs.NestedLemmas.{expr_decodes}
+use Rattle.smith_decode.specs.declared.definitions.TableDefinition.{TableDefinition}
+use Rattle.smith_decode.specs.Definitions.{null_of, IsTypedTable, IsTable}
+use Rattle.smith_decode.specs.DefinitionReadings.{IsGlobalDefinition, global_of, global_at, IsTableDefinition, table_of}
+use Rattle.smith_decode.specs.DefinitionReadings.{initialised_at, table_at}
 
 pub global_def_decodes : Decodes IsGlobalDefinition global_at
 unfolding global_at
 global_def_decodes = joined_decodes global_of (λ global. global.ty) (λ global. global.initial) (λ x y. refl) (λ x y. refl)
-    (λ z. refl) global_decodes expression_decodes
+    (λ z. refl) global_decodes expr_decodes
 
-initial_decodes : Decodes (λ (table : TableDefinition). Joined (IsTableType table.ty) (IsExpression table.initial)) initialised_at
+initial_decodes : Decodes (λ (table : TableDefinition). IsTypedTable table.ty table.initial) initialised_at
 initial_decodes = joined_decodes table_of (λ table. table.ty) (λ table. table.initial) (λ x y. refl) (λ x y. refl)
-    (λ z. refl) table_decodes expression_decodes
+    (λ z. refl) table_decodes expr_decodes
 
 -- two bytes, then more
 two_bytes : {P : List ℕ → Type 0} (a b : ℕ) (piece : List ℕ) → Joined (IsByte a) (Joined (IsByte b) P) piece
@@ -63,11 +62,7 @@ table_complete x piece rest (IsTable.null e h) =
     let low : 0x63 ≤ begins.head = begins.test.0 in
     let high : begins.head ≤ 0x74 = begins.test.1 in
     rw (head_is _ piece rest begins (omega arith), ne_eqb begins.head 0x40 (λ e. omega arith), table_decodes.complete x.ty piece rest h)
-    (ap (λ (initial : List ConstInstr). Ok (table_of x.ty initial, rest)) (sym e))
+    (ap (λ (initial : List Instr). Ok (table_of x.ty initial, rest)) (sym e))
 
 pub table_def_decodes : Decodes IsTableDefinition table_at
 table_def_decodes = record { sound = table_sound; complete = table_complete }
-
-pub tag_def_decodes : Decodes IsTagDefinition tag_at
-unfolding tag_at
-tag_def_decodes = mapped_decodes tag_of (λ tag. tag.0) (λ x. refl) (λ z. refl) tag_decodes

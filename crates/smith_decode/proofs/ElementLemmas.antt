@@ -1,25 +1,26 @@
 -- Element segments that are read: the reading is sound and complete.
 use Rattle.std.proofs.Common.{◌≡◌, ℕ, List, ◌++◌, Ok, refl, sym, ap, ◌∙◌}
 use Rattle.smith_binary.specs.Pieces.{Joined}
-use Rattle.smith_syntax.specs.declared.const_instr.ConstInstr.{ConstInstr}
-use Rattle.smith_syntax.specs.declared.segments.Elements.TheVariants.{Expressions}
 use Rattle.smith_syntax.specs.declared.value_type.RefType.{RefType}
-use Rattle.smith_binary_sections.specs.Elements.{Elem, Form, IsFuncs, IsItems, IsKindFuncs, IsElemIn, IsElem}
+use Rattle.smith_binary_sections.specs.Elements.{Form, IsFuncs, IsKindFuncs}
 use Rattle.smith_binary_sections.specs.Elements.Form.{first_funcs, passive_funcs, table_funcs, declared_funcs}
 use Rattle.smith_binary_sections.specs.Elements.Form.{first_items, passive_items, table_items, declared_items}
-use Rattle.smith_binary_read.specs.declared.elements.ElementMode.TheVariants.{Passive, Declared, Active}
-use Rattle.smith_binary_read.specs.declared.elements.ElementSegment.{ElementSegment}
 use Rattle.smith_binary_read.specs.Readings.{Reading}
 use Rattle.smith_binary_read.specs.Decodes.{Front, Decodes}
-use Rattle.smith_binary_read.specs.ElementReadings.{element, of_funcs, of_items, element_view, IsElementSegment, IsTypedItems}
-use Rattle.smith_binary_read.specs.ElementReadings.{pair_at, funcs_at, kind_funcs_at, items_at, typed_items_at, segment_at}
+use Rattle.smith_binary_read.specs.Views.{Viewed, From}
 use Rattle.smith_binary_read.proofs.ReadLemmas.{step, branch, test_passed, front_joined, joined_decodes, first_read}
 use Rattle.smith_binary_read.proofs.IntegerLemmas.{unsigned_decodes}
 use Rattle.smith_binary_read.proofs.ContentLemmas.{list_decodes}
 use Rattle.smith_binary_read.proofs.ChoiceLemmas.{tagged_read, tag_front, counted_sound}
 use Rattle.smith_binary_read.proofs.TypeLemmas.{ref_decodes}
-use Rattle.smith_binary_read.proofs.InstructionLemmas.{expression_decodes}
-use Rattle.smith_binary_read.specs.Views.{Viewed, From}
+use Rattle.smith_instr.specs.declared.instr.Instr.{Instr}
+use Rattle.smith_binary_read_instr.proofs.NestedLemmas.{expr_decodes}
+use Rattle.smith_decode.specs.declared.elements.ElementItems.TheVariants.{Expressions}
+use Rattle.smith_decode.specs.declared.elements.ElementMode.TheVariants.{Passive, Declared, Active}
+use Rattle.smith_decode.specs.declared.elements.ElementSegment.{ElementSegment}
+use Rattle.smith_decode.specs.Elements.{Elem, IsItems, IsTypedItems, IsElemIn, IsElem}
+use Rattle.smith_decode.specs.ElementReadings.{element, of_funcs, of_items, element_view, IsElementSegment}
+use Rattle.smith_decode.specs.ElementReadings.{pair_at, funcs_at, kind_funcs_at, items_at, typed_items_at, segment_at}
 
 pair_decodes : {A B : Type 0} {P : A → List ℕ → Type 0} {Q : B → List ℕ → Type 0} {p : List ℕ → Reading A} {q : List ℕ → Reading B}
     → Decodes P p → Decodes Q q → Decodes (λ (x : A × B). Joined (P x.0) (Q x.1)) (pair_at p q)
@@ -42,9 +43,9 @@ kind_decodes : Decodes IsKindFuncs kind_funcs_at
 kind_decodes = record { sound = kind_sound; complete = kind_complete }
 
 items_decodes : Decodes IsItems items_at
-items_decodes = list_decodes expression_decodes
+items_decodes = list_decodes expr_decodes
 
-typed_decodes : Decodes (λ (x : RefType × List (List ConstInstr)). IsTypedItems x.0 x.1) typed_items_at
+typed_decodes : Decodes (λ (x : RefType × List (List Instr)). IsTypedItems x.0 x.1) typed_items_at
 unfolding typed_items_at
 typed_decodes = pair_decodes ref_decodes items_decodes
 
@@ -54,7 +55,7 @@ unfolding segment_at
 segment_sound bytes x rest e = step _ _ _ e (λ form first e.
     branch _ _ _ _ e
     (λ is e. counted_sound IsElementSegment (λ y. of_funcs y.1 (Active 0 y.0)) 0
-    (pair_decodes expression_decodes funcs_decodes) (λ y piece h. IsElementSegment.form_0 y.0 y.1 refl h) bytes form x rest first is e)
+    (pair_decodes expr_decodes funcs_decodes) (λ y piece h. IsElementSegment.form_0 y.0 y.1 refl h) bytes form x rest first is e)
     (λ is_not e.
     branch _ _ _ _ e
     (λ is e. counted_sound IsElementSegment (λ y. of_funcs y Passive) 1
@@ -62,7 +63,7 @@ segment_sound bytes x rest e = step _ _ _ e (λ form first e.
     (λ is_not e.
     branch _ _ _ _ e
     (λ is e. counted_sound IsElementSegment (λ y. of_funcs y.1.1 (Active y.0 y.1.0)) 2
-    (pair_decodes (unsigned_decodes 32) (pair_decodes expression_decodes kind_decodes))
+    (pair_decodes (unsigned_decodes 32) (pair_decodes expr_decodes kind_decodes))
     (λ y piece h. IsElementSegment.form_2 y.0 y.1.0 y.1.1 refl h) bytes form x rest first is e)
     (λ is_not e.
     branch _ _ _ _ e
@@ -71,7 +72,7 @@ segment_sound bytes x rest e = step _ _ _ e (λ form first e.
     (λ is_not e.
     branch _ _ _ _ e
     (λ is e. counted_sound IsElementSegment (λ y. of_items y.1 (Active 0 y.0)) 4
-    (pair_decodes expression_decodes items_decodes) (λ y piece h. IsElementSegment.form_4 y.0 y.1 refl h) bytes form x rest first is e)
+    (pair_decodes expr_decodes items_decodes) (λ y piece h. IsElementSegment.form_4 y.0 y.1 refl h) bytes form x rest first is e)
     (λ is_not e.
     branch _ _ _ _ e
     (λ is e. counted_sound IsElementSegment (λ y. element y.0 (Expressions y.1) Passive) 5
@@ -79,7 +80,7 @@ segment_sound bytes x rest e = step _ _ _ e (λ form first e.
     (λ is_not e.
     branch _ _ _ _ e
     (λ is e. counted_sound IsElementSegment (λ y. element y.1.1.0 (Expressions y.1.1.1) (Active y.0 y.1.0)) 6
-    (pair_decodes (unsigned_decodes 32) (pair_decodes expression_decodes typed_decodes))
+    (pair_decodes (unsigned_decodes 32) (pair_decodes expr_decodes typed_decodes))
     (λ y piece h. IsElementSegment.form_6 y.0 y.1.0 y.1.1.0 y.1.1.1 refl h) bytes form x rest first is e)
     (λ is_not e.
     test_passed _ _ _ _ e
@@ -91,7 +92,7 @@ unfolding segment_at
 segment_complete x piece rest (IsElementSegment.form_0 offset funcs e h) =
     rw (
       first_read 0 rest (unsigned_decodes 32) h,
-      (pair_decodes expression_decodes funcs_decodes).complete
+      (pair_decodes expr_decodes funcs_decodes).complete
           (offset, funcs) h.second rest h.is_second,
     )
     (ap (λ (s : ElementSegment). Ok (s, rest)) (sym e))
@@ -101,7 +102,7 @@ segment_complete x piece rest (IsElementSegment.form_1 funcs e h) =
 segment_complete x piece rest (IsElementSegment.form_2 table offset funcs e h) =
     rw (
       first_read 2 rest (unsigned_decodes 32) h,
-      (pair_decodes (unsigned_decodes 32) (pair_decodes expression_decodes kind_decodes)).complete
+      (pair_decodes (unsigned_decodes 32) (pair_decodes expr_decodes kind_decodes)).complete
           (table, (offset, funcs)) h.second rest h.is_second,
     )
     (ap (λ (s : ElementSegment). Ok (s, rest)) (sym e))
@@ -111,7 +112,7 @@ segment_complete x piece rest (IsElementSegment.form_3 funcs e h) =
 segment_complete x piece rest (IsElementSegment.form_4 offset items e h) =
     rw (
       first_read 4 rest (unsigned_decodes 32) h,
-      (pair_decodes expression_decodes items_decodes).complete
+      (pair_decodes expr_decodes items_decodes).complete
           (offset, items) h.second rest h.is_second,
     )
     (ap (λ (s : ElementSegment). Ok (s, rest)) (sym e))
@@ -121,7 +122,7 @@ segment_complete x piece rest (IsElementSegment.form_5 ty items e h) =
 segment_complete x piece rest (IsElementSegment.form_6 table offset ty items e h) =
     rw (
       first_read 6 rest (unsigned_decodes 32) h,
-      (pair_decodes (unsigned_decodes 32) (pair_decodes expression_decodes typed_decodes)).complete
+      (pair_decodes (unsigned_decodes 32) (pair_decodes expr_decodes typed_decodes)).complete
           (table, (offset, (ty, items))) h.second rest h.is_second,
     )
     (ap (λ (s : ElementSegment). Ok (s, rest)) (sym e))

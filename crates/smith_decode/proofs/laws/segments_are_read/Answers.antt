@@ -1,6 +1,6 @@
-use Rattle.smith_binary_read.proofs.ElementLemmas as elements
-use Rattle.smith_binary_read.proofs.DataLemmas as data_segments
-use Rattle.smith_binary_read.proofs.laws.segments_are_read.Goals as goal
+use Rattle.smith_decode.proofs.ElementLemmas as elements
+use Rattle.smith_decode.proofs.DataLemmas as data_segments
+use Rattle.smith_decode.proofs.laws.segments_are_read.Goals as goal
 
 pub returns-clause-elements : goal.returns-clause-elements
 returns-clause-elements c = elements.segment_decodes

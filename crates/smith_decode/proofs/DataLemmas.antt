@@ -2,37 +2,34 @@
 use Rattle.std.proofs.Common.{◌≡◌, ℕ, List, ◌++◌, Ok, refl, sym, ap, ◌∙◌}
 use Rattle.smith_binary.specs.Numbers.{IsUnsigned}
 use Rattle.smith_binary.specs.Pieces.{IsByte, Joined, IsList}
-use Rattle.smith_syntax.specs.declared.const_instr.ConstInstr.{ConstInstr}
-use Rattle.smith_binary_sections.specs.Instructions.{IsExpression}
-use Rattle.smith_binary_sections.specs.Data.{DataForm, IsDataIn}
-use Rattle.smith_binary_sections.specs.Data.DataMode.{passive, active}
+use Rattle.smith_binary_sections.specs.Data.{DataForm}
 use Rattle.smith_binary_sections.specs.Data.DataForm.{first_memory, no_memory, named_memory}
-use Rattle.smith_binary_read.specs.declared.data.DataMode.{DataMode}
-use Rattle.smith_binary_read.specs.declared.data.DataMode.TheVariants.{Passive, Active}
-use Rattle.smith_binary_read.specs.declared.data.DataSegment.{DataSegment}
 use Rattle.smith_binary_read.specs.Decodes.{Front, Decodes}
-use Rattle.smith_binary_read.specs.DataReadings.{segment, segment_view, IsSegment, placed_at, named_at, segment_at}
 use Rattle.smith_binary_read.proofs.ReadLemmas.{step, branch, test_passed, joined_decodes, first_read}
 use Rattle.smith_binary_read.proofs.IntegerLemmas.{unsigned_decodes}
 use Rattle.smith_binary_read.proofs.ContentLemmas.{bytes_decodes}
 use Rattle.smith_binary_read.proofs.ChoiceLemmas.{counted_sound}
-use Rattle.smith_binary_read.proofs.InstructionLemmas.{expression_decodes}
+use Rattle.smith_instr.specs.declared.instr.Instr.{Instr}
+use Rattle.smith_binary_read_instr.proofs.NestedLemmas.{expr_decodes}
+use Rattle.smith_decode.specs.declared.data.DataMode.{DataMode}
+use Rattle.smith_decode.specs.declared.data.DataMode.TheVariants.{Passive, Active}
+use Rattle.smith_decode.specs.declared.data.DataSegment.{DataSegment}
+use Rattle.smith_decode.specs.Data.{IsPlaced, IsDataIn}
+use Rattle.smith_decode.specs.Data.DataMode.{passive, active}
+use Rattle.smith_decode.specs.DataReadings.{segment, segment_view, IsSegment, placed_at, named_at, segment_at}
 
-abbrev IsPlaced : List ConstInstr × List ℕ → List ℕ → Type 0
-IsPlaced placed = Joined (IsExpression placed.0) (IsList IsByte placed.1)
-
-placed_decodes : Decodes IsPlaced placed_at
+placed_decodes : Decodes (λ (placed : List Instr × List ℕ). IsPlaced placed.0 placed.1) placed_at
 placed_decodes =
     joined_decodes (λ offset bytes. (offset, bytes)) (λ placed. placed.0) (λ placed. placed.1) (λ x y. refl) (λ x y. refl) (λ z. refl)
-    expression_decodes bytes_decodes
+    expr_decodes bytes_decodes
 
-named_decodes : Decodes (λ (named : ℕ × (List ConstInstr × List ℕ)). Joined (IsUnsigned 32 named.0) (IsPlaced named.1)) named_at
+named_decodes : Decodes (λ (named : ℕ × (List Instr × List ℕ)). Joined (IsUnsigned 32 named.0) (IsPlaced named.1.0 named.1.1)) named_at
 named_decodes =
     joined_decodes (λ memory placed. (memory, placed)) (λ named. named.0) (λ named. named.1) (λ x y. refl) (λ x y. refl) (λ z. refl)
     (unsigned_decodes 32) placed_decodes
 
 -- the three forms
-in_first : (offset : List ConstInstr) (content piece : List ℕ) → Joined (IsUnsigned 32 0) (IsPlaced (offset, content)) piece
+in_first : (offset : List Instr) (content piece : List ℕ) → Joined (IsUnsigned 32 0) (IsPlaced offset content) piece
     → IsSegment (segment (Active 0 offset) content) piece
 in_first offset content piece h = record {
   form = first_memory;
@@ -45,8 +42,8 @@ in_passive content piece h = record {
   spelled = record { first = h.first; second = h.second; is_first = h.is_first; is_second = (refl, h.is_second); whole = h.whole };
 }
 
-in_named : (memory : ℕ) (offset : List ConstInstr) (content piece : List ℕ)
-    → Joined (IsUnsigned 32 2) (Joined (IsUnsigned 32 memory) (IsPlaced (offset, content))) piece
+in_named : (memory : ℕ) (offset : List Instr) (content piece : List ℕ)
+    → Joined (IsUnsigned 32 2) (Joined (IsUnsigned 32 memory) (IsPlaced offset content)) piece
     → IsSegment (segment (Active memory offset) content) piece
 in_named memory offset content piece h = record {
   form = named_memory;
@@ -82,7 +79,7 @@ segment_again (Active memory offset) content first_memory piece rest h =
     let same_offset : offset ≡ h.is_second.0 = let same = h.is_second.1 in cc in
     rw (first_read 0 rest (unsigned_decodes 32) h, placed_decodes.complete (h.is_second.0, content) h.second rest h.is_second.2)
     (ap (λ (m : ℕ). Ok (segment (Active m h.is_second.0) content, rest)) (sym same_memory)
-    ∙ ap (λ (o : List ConstInstr). Ok (segment (Active memory o) content, rest)) (sym same_offset))
+    ∙ ap (λ (o : List Instr). Ok (segment (Active memory o) content, rest)) (sym same_offset))
 segment_again Passive content no_memory piece rest h =
     rw (first_read 1 rest (unsigned_decodes 32) h, bytes_decodes.complete content h.second rest h.is_second.1) refl
 segment_again (Active memory offset) content no_memory piece rest h =
@@ -98,7 +95,7 @@ segment_again (Active memory offset) content named_memory piece rest h =
           (h.is_second.0, (h.is_second.1, content)) h.second rest h.is_second.3,
     )
     (ap (λ (m : ℕ). Ok (segment (Active m h.is_second.1) content, rest)) (sym same_memory)
-    ∙ ap (λ (o : List ConstInstr). Ok (segment (Active memory o) content, rest)) (sym same_offset))
+    ∙ ap (λ (o : List Instr). Ok (segment (Active memory o) content, rest)) (sym same_offset))
 
 pub segment_decodes : Decodes IsSegment segment_at
 segment_decodes = record { sound = segment_sound; complete = λ x piece rest h. segment_again x.mode x.bytes h.form piece rest h.spelled }

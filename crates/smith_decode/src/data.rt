@@ -1,11 +1,11 @@
 ghost use Rattle.smith_binary_read.specs.Readings.{Gives};
 ghost use Rattle.smith_binary_read.specs.Contents.{content_at};
-ghost use Rattle.smith_binary_read.specs.DataReadings.{placed_at};
+ghost use Rattle.smith_decode.specs.DataReadings.{placed_at};
 
-use crate::error::{ReadError, Reason};
-use crate::lists::Decode;
-use crate::reader::Reader;
-use smith_types::{ConstInstr, Items};
+use smith_binary_read::{Decode, ReadError, Reader, Reason};
+use smith_binary_read_instr::read_expr;
+use smith_instr::Instr;
+use smith_types::Items;
 
 /// The mode of a data segment: its effect at instantiation (Data Section).
 #[derive(Debug, Drop)]
@@ -14,10 +14,7 @@ pub enum DataMode {
     Passive,
     /// Copies the bytes into the memory `memory`, from the byte on whose address is the value of
     /// `offset`.
-    Active {
-        memory: u32,
-        offset: Items<ConstInstr>,
-    },
+    Active { memory: u32, offset: Items<Instr> },
 }
 
 /// A data segment, with any expression as its offset (Data Section).
@@ -38,16 +35,16 @@ fn read_bytes(reader: &mut Reader<'_>) -> Result<Items<u8>, ReadError>
 }
 
 // Reads an offset, then bytes.
-fn read_placed(reader: &mut Reader<'_>) -> Result<(Items<ConstInstr>, Items<u8>), ReadError>
+fn read_placed(reader: &mut Reader<'_>) -> Result<(Items<Instr>, Items<u8>), ReadError>
     ensures { Gives result reader.new (placed_at reader.old) }
 {
-    let offset = Items::<ConstInstr>::decode(reader)?;
+    let offset = read_expr(reader)?;
     let bytes = read_bytes(reader)?;
     Ok((offset, bytes))
 }
 
 impl Decode for DataSegment {
-    ghost use Rattle.smith_binary_read.specs.DataReadings.{segment_at};
+    ghost use Rattle.smith_decode.specs.DataReadings.{segment_at};
 
     ghost reading = { segment_at };
 
