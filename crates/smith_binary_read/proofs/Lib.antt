@@ -6,9 +6,6 @@ pub mod ChoiceLemmas
 pub mod TypeLemmas
 pub mod EntityLemmas
 pub mod ImportLemmas
-pub mod InstructionLemmas
-pub mod ExpressionLemmas
-pub mod DefinitionLemmas
+pub mod PrefixLemmas
+pub mod TagLemmas
 pub mod ViewLemmas
-pub mod ElementLemmas
-pub mod DataLemmas

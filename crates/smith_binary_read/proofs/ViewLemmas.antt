@@ -5,15 +5,27 @@ use Rattle.smith_binary.specs.Numbers.{IsUnsigned}
 use Rattle.smith_binary.specs.Pieces.{Each, IsList, IsSized}
 use Rattle.smith_binary_read.specs.Views.{From, Viewed}
 
-each_forth : {A B : Type 0} (view : B → A) (P : A → List ℕ → Type 0) (Q : B → List ℕ → Type 0) → Viewed view P Q
-    → (xs : List B) (piece : List ℕ) → Each Q xs piece → Each P (map view xs) piece
+pub each_forth : {A B : Type 0} (view : B → A) (P : A → List ℕ → Type 0) (Q : B → List ℕ → Type 0)
+    → ((x : B) (piece : List ℕ) → Q x piece → P (view x) piece) → (xs : List B) (piece : List ℕ) → Each Q xs piece
+    → Each P (map view xs) piece
 unfolding Each
-each_forth view P Q v [] piece h = h
-each_forth view P Q v (x ∷ xs) piece h = record {
+each_forth view P Q forth [] piece h = h
+each_forth view P Q forth (x ∷ xs) piece h = record {
   first = h.first;
   second = h.second;
-  is_first = v.forth x h.first h.is_first;
-  is_second = each_forth view P Q v xs h.second h.is_second;
+  is_first = forth x h.first h.is_first;
+  is_second = each_forth view P Q forth xs h.second h.is_second;
+  whole = h.whole;
+}
+
+pub list_forth : {A B : Type 0} (view : B → A) (P : A → List ℕ → Type 0) (Q : B → List ℕ → Type 0)
+    → ((x : B) (piece : List ℕ) → Q x piece → P (view x) piece) → (xs : List B) (piece : List ℕ) → IsList Q xs piece
+    → IsList P (map view xs) piece
+list_forth view P Q forth xs piece h = record {
+  first = h.first;
+  second = h.second;
+  is_first = subst (λ (n : ℕ). IsUnsigned 32 n h.first) (sym (length-map xs view)) h.is_first;
+  is_second = each_forth view P Q forth xs h.second h.is_second;
   whole = h.whole;
 }
 
@@ -33,13 +45,7 @@ each_back view P Q v (x ∷ xs) piece h =
 pub list_viewed : {A B : Type 0} {view : B → A} {P : A → List ℕ → Type 0} {Q : B → List ℕ → Type 0} → Viewed view P Q
     → Viewed (map view) (IsList P) (IsList Q)
 list_viewed {view = view} {P = P} {Q = Q} v = record {
-  forth = λ xs piece h. record {
-    first = h.first;
-    second = h.second;
-    is_first = subst (λ (n : ℕ). IsUnsigned 32 n h.first) (sym (length-map xs view)) h.is_first;
-    is_second = each_forth view P Q v xs h.second h.is_second;
-    whole = h.whole;
-  };
+  forth = λ xs piece h. list_forth view P Q v.forth xs piece h;
   back = λ xs piece h.
       let items = each_back view P Q v xs h.second h.is_second in
       record {

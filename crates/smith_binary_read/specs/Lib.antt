@@ -7,7 +7,4 @@ pub mod Choices
 pub mod TypeReadings
 pub mod EntityReadings
 pub mod ImportReadings
-pub mod InstructionReadings
-pub mod DefinitionReadings
-pub mod ElementReadings
-pub mod DataReadings
+pub mod TagReadings

@@ -2,7 +2,7 @@
 use Rattle.std.specs.Prelude.{ℕ, zero, suc, ◌+◌, ◌-◌, ◌*◌, ◌^◌, List, [], ◌∷◌, Ok, nat_lt, nat_le, ◌&&◌}
 use Rattle.std.specs.Prelude.{if◌then◌else◌, ℤ, pos, negsuc, ◌+ℤ◌, ◌*ℤ◌}
 use Rattle.smith_binary_read.specs.declared.error.Reason.TheVariants.{UnexpectedEnd, IntegerTooLarge, IntegerTooLong}
-use Rattle.smith_binary_read.specs.Readings.{Reading, ◌>>=◌, fault_at, byte_at, mapped_at}
+use Rattle.smith_binary_read.specs.Readings.{Reading, ◌>>=◌, fault_at, byte_at, joined_at, mapped_at}
 
 -- an unsigned integer of a number of bits
 unfoldable pub unsigned_at : ℕ → List ℕ → Reading ℕ
@@ -39,3 +39,7 @@ vector_at bytes = mapped_at as_signed (little_endian_at 16) bytes
 abbrev pub lane_at : List ℕ → Reading ℕ
 lane_at [] = fault_at UnexpectedEnd []
 lane_at (lane ∷ bytes) = Ok (lane, bytes)
+
+-- two indices
+abbrev pub two_at : List ℕ → Reading (ℕ × ℕ)
+two_at = joined_at (λ first second. (first, second)) (unsigned_at 32) (unsigned_at 32)

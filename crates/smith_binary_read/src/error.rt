@@ -38,6 +38,9 @@ pub enum Reason {
     /// Two numbers of items that must agree differ (Modules).
     #[error("inconsistent counts")]
     CountMismatch,
+    /// A body names a data segment, and their number is not stated (Modules).
+    #[error("data count section required")]
+    DataCountMissing,
 }
 
 /// The first fault of malformed bytes.

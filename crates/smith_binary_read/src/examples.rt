@@ -1,12 +1,10 @@
-ghost use Rattle.std.specs.Prelude.{◌≡◌, true, false, None, Ok, Err, [], ◌∷◌, pos, negsuc};
-ghost use Rattle.smith_syntax.specs.declared.const_instr.ConstInstr.TheVariants as instr;
+ghost use Rattle.std.specs.Prelude.{◌≡◌, true, false, None, Ok, Err, [], ◌∷◌, negsuc};
 ghost use Rattle.smith_syntax.specs.declared.value_type.ValType.TheVariants.{I32, I64};
 ghost use Rattle.smith_binary_read.specs.declared.error.Reason.TheVariants as reason;
 ghost use Rattle.smith_binary_read.specs.Numbers.{unsigned_at, signed_at, little_endian_at};
 ghost use Rattle.smith_binary_read.specs.Contents.{content_at, list_at};
 ghost use Rattle.smith_binary_read.specs.TypeReadings.{val_type_at, mutability_at, supertype_at};
 ghost use Rattle.smith_binary_read.specs.EntityReadings.{memory_type_at, tag_type_at};
-ghost use Rattle.smith_binary_read.specs.InstructionReadings.{expression_at};
 
 fn numbers()
     ensures short { unsigned_at 32 (0x03 ∷ 0x7F ∷ []) ≡ Ok (3, 0x7F ∷ []) }
@@ -53,15 +51,5 @@ fn types()
     ensures no_flags { memory_type_at (0x10 ∷ 0x01 ∷ [])
         ≡ Err (record { left = 2; reason = reason.UnknownByte }) }
     ensures no_tag { tag_type_at (0x01 ∷ 0x00 ∷ [])
-        ≡ Err (record { left = 2; reason = reason.UnknownByte }) }
-{}
-
-fn expressions()
-    ensures constant { expression_at (0x41 ∷ 0x2A ∷ 0x0B ∷ [])
-        ≡ Ok (instr.I32Const (pos 42) ∷ [], []) }
-    ensures empty { expression_at (0x0B ∷ 0x0B ∷ []) ≡ Ok ([], 0x0B ∷ []) }
-    ensures without_its_end { expression_at (0x41 ∷ 0x2A ∷ [])
-        ≡ Err (record { left = 0; reason = reason.UnexpectedEnd }) }
-    ensures no_constant { expression_at (0x01 ∷ 0x0B ∷ [])
         ≡ Err (record { left = 2; reason = reason.UnknownByte }) }
 {}

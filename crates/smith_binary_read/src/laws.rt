@@ -3,11 +3,8 @@ ghost use Rattle.smith_binary.specs.Numbers.{IsUnsigned, IsSigned, IsLittleEndia
 ghost use Rattle.smith_binary.specs.Pieces.{IsByte, IsName};
 ghost use Rattle.smith_binary_sections.specs.Types.{IsRecGroup, IsRefType, IsValType};
 ghost use Rattle.smith_binary_sections.specs.Entities.{IsExternType, IsMemoryType};
-ghost use Rattle.smith_binary_sections.specs.Elements.{IsElem};
 ghost use Rattle.smith_binary_sections.specs.Imports.{IsImportGroup};
-ghost use Rattle.smith_binary_sections.specs.Instructions.{IsExpression, IsInstr};
 ghost use Rattle.smith_binary_read.specs.Decodes.{Decodes};
-ghost use Rattle.smith_binary_read.specs.Views.{Viewed};
 ghost use Rattle.smith_binary_read.specs.Numbers.{unsigned_at, signed_at, little_endian_at};
 ghost use Rattle.smith_binary_read.specs.Numbers.{vector_at, lane_at};
 ghost use Rattle.smith_binary_read.specs.Contents.{name_at};
@@ -15,12 +12,7 @@ ghost use Rattle.smith_binary_read.specs.TypeReadings.{ref_type_at, val_type_at,
 ghost use Rattle.smith_binary_read.specs.EntityReadings.{memory_type_at, extern_type_at};
 ghost use Rattle.smith_binary_read.specs.EntityReadings.{export_at, IsExportItem};
 ghost use Rattle.smith_binary_read.specs.ImportReadings.{import_group_at};
-ghost use Rattle.smith_binary_read.specs.InstructionReadings.{instr_at, expression_at};
-ghost use Rattle.smith_binary_read.specs.DefinitionReadings.{IsGlobalDefinition, IsTableDefinition};
-ghost use Rattle.smith_binary_read.specs.DefinitionReadings.{IsTagDefinition, global_at, table_at};
-ghost use Rattle.smith_binary_read.specs.DefinitionReadings.{tag_at};
-ghost use Rattle.smith_binary_read.specs.ElementReadings as elements;
-ghost use Rattle.smith_binary_read.specs.DataReadings as data_segments;
+ghost use Rattle.smith_binary_read.specs.TagReadings.{IsTagDefinition, tag_at};
 
 /// States that a number is read exactly where bytes begin with one, however long it is.
 pub fn numbers_are_read()
@@ -31,7 +23,7 @@ pub fn numbers_are_read()
     ensures lanes { Decodes IsByte lane_at }
 {}
 
-/// States that a name, a type, an import and an export are read exactly where bytes begin with one.
+/// States that a name, a type, an import, an export and a tag are read exactly where bytes begin with one.
 pub fn entities_are_read()
     ensures names { Decodes IsName name_at }
     ensures references { Decodes IsRefType ref_type_at }
@@ -41,22 +33,5 @@ pub fn entities_are_read()
     ensures entities { Decodes IsExternType extern_type_at }
     ensures imports { Decodes IsImportGroup import_group_at }
     ensures exports { Decodes IsExportItem export_at }
-{}
-
-/// States that a constant instruction, an expression of them and a definition are read exactly where
-/// bytes begin with one.
-pub fn definitions_are_read()
-    ensures instructions { Decodes IsInstr instr_at }
-    ensures expressions { Decodes IsExpression expression_at }
-    ensures tables { Decodes IsTableDefinition table_at }
-    ensures globals { Decodes IsGlobalDefinition global_at }
     ensures tags { Decodes IsTagDefinition tag_at }
-{}
-
-/// States that a segment is read exactly where bytes begin with one, and that bytes spell an element
-/// segment of the abstract syntax exactly if they spell a segment that is seen as it.
-pub fn segments_are_read()
-    ensures elements { Decodes elements.IsElementSegment elements.segment_at }
-    ensures view { Viewed elements.element_view IsElem elements.IsElementSegment }
-    ensures data_segments { Decodes data_segments.IsSegment data_segments.segment_at }
 {}

@@ -6,26 +6,21 @@
 #![tactic(auto)]
 
 mod contents;
-mod data;
-mod definitions;
-mod elements;
 mod entities;
 mod error;
 mod examples;
 mod exports;
 mod imports;
-mod instructions;
 /// Laws: functions without effect, whose clauses state properties.
 pub mod laws;
 mod lists;
 mod numbers;
 mod reader;
+mod tags;
 mod types;
 
-pub use data::{DataMode, DataSegment};
-pub use definitions::{GlobalDefinition, TableDefinition, TagDefinition};
-pub use elements::{ElementMode, ElementSegment};
 pub use error::{Fault, ReadError, Reason};
 pub use exports::Export;
 pub use lists::{Decode, read_list};
 pub use reader::Reader;
+pub use tags::TagDefinition;

@@ -5,15 +5,14 @@ use Rattle.std.proofs.lemmas.Bool.{ne_eqb, ltb-true, ltb-false}
 use Rattle.smith_binary.specs.Numbers.{IsUnsigned}
 use Rattle.smith_binary.specs.Pieces.{Joined}
 use Rattle.smith_binary_sections.specs.Instructions.{IsPrefixed}
-use Rattle.smith_binary_read.specs.Numbers.{unsigned_at}
+use Rattle.smith_binary_read.specs.Numbers.{unsigned_at, two_at}
 use Rattle.smith_binary_read.specs.Choices.{item_of}
 use Rattle.smith_binary_read.specs.Decodes.{Front}
-use Rattle.smith_binary_read.specs.InstructionReadings.{two_at}
 use Rattle.smith_binary_read.specs.TypeReadings.{heap_type_at}
 use Rattle.smith_binary_read.proofs.ReadLemmas.{step, branch, test_passed, front_as}
 use Rattle.smith_binary_read.proofs.IntegerLemmas.{unsigned_decodes}
 use Rattle.smith_binary_read.proofs.ChoiceLemmas.{or_branch, item_holds}
-use Rattle.smith_binary_read.proofs.InstructionLemmas.{prefix_alone}
+use Rattle.smith_binary_read.proofs.PrefixLemmas.{prefix_alone}
 use Rattle.smith_binary_read.proofs.TypeLemmas.{heap_decodes}
 use Rattle.smith_syntax.specs.declared.value_type.HeapType.{HeapType}
 use Rattle.smith_instr.specs.declared.aggregate.AggregateInstr.{AggregateInstr}

@@ -9,7 +9,7 @@ use Rattle.smith_binary_read.specs.Decodes.{Front}
 use Rattle.smith_binary_read.proofs.ReadLemmas.{step, branch, test_passed, front_as, front_same, first_read}
 use Rattle.smith_binary_read.proofs.IntegerLemmas.{unsigned_decodes}
 use Rattle.smith_binary_read.proofs.ChoiceLemmas.{tag_front, tagged_read}
-use Rattle.smith_binary_read.proofs.InstructionLemmas.{prefix_apart}
+use Rattle.smith_binary_read.proofs.PrefixLemmas.{prefix_apart}
 use Rattle.smith_instr.specs.declared.aggregate.AggregateInstr.TheVariants as aggregate
 use Rattle.smith_instr.specs.declared.atomic.AtomicAccess.{AtomicAccess}
 use Rattle.smith_instr.specs.declared.atomic.AtomicAccess.TheVariants as atomic

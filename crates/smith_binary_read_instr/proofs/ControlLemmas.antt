@@ -5,7 +5,7 @@ use Rattle.smith_binary_read.proofs.ReadLemmas.{step, branch, test_passed, front
 use Rattle.smith_binary_read.proofs.IntegerLemmas.{unsigned_decodes}
 use Rattle.smith_binary_read.proofs.ContentLemmas.{list_decodes}
 use Rattle.smith_binary_read.proofs.ChoiceLemmas.{tag_front, tagged_sound, or_branch}
-use Rattle.smith_binary_read.proofs.InstructionLemmas.{tag_joined}
+use Rattle.smith_binary_read.proofs.PrefixLemmas.{tag_joined}
 use Rattle.smith_binary_read.proofs.TypeLemmas.{heap_decodes, val_decodes}
 use Rattle.smith_instr.specs.declared.instr.Instr.{Instr}
 use Rattle.smith_instr.specs.declared.instr.Instr.TheVariants as instr

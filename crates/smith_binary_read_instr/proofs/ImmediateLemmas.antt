@@ -10,7 +10,7 @@ use Rattle.smith_syntax.specs.declared.value_type.ValType.TheVariants.{I32, I64,
 use Rattle.smith_binary_sections.specs.Types.{IsHeapType, IsValType}
 use Rattle.smith_binary_read.specs.Decodes.{Front, Decodes}
 use Rattle.smith_binary_read.specs.Choices.{coded_at}
-use Rattle.smith_binary_read.specs.InstructionReadings.{two_at}
+use Rattle.smith_binary_read.specs.Numbers.{two_at}
 use Rattle.smith_binary_read.proofs.ReadLemmas.{step, branch, test_passed, front_same, joined_decodes}
 use Rattle.smith_binary_read.proofs.IntegerLemmas.{unsigned_decodes}
 use Rattle.smith_binary_read.proofs.ChoiceLemmas.{Begins, byte_begins, begins_as, tagged_read, mapped_sound, tag_front}

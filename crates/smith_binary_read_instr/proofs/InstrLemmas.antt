@@ -7,7 +7,7 @@ use Rattle.smith_binary_read.proofs.ReadLemmas.{step, branch, test_passed}
 use Rattle.smith_binary_read.proofs.IntegerLemmas.{unsigned_decodes, signed_decodes, little_endian_decodes}
 use Rattle.smith_binary_read.proofs.ContentLemmas.{list_decodes}
 use Rattle.smith_binary_read.proofs.ChoiceLemmas.{tag_front}
-use Rattle.smith_binary_read.proofs.InstructionLemmas.{tag_joined}
+use Rattle.smith_binary_read.proofs.PrefixLemmas.{tag_joined}
 use Rattle.smith_binary_read.proofs.TypeLemmas.{val_decodes}
 use Rattle.smith_instr.specs.declared.instr.Instr.{Instr}
 use Rattle.smith_instr.specs.declared.instr.Instr.TheVariants as instr

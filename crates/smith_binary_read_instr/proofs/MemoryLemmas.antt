@@ -9,7 +9,7 @@ use Rattle.smith_binary_read.specs.Decodes.{Front}
 use Rattle.smith_binary_read.proofs.ReadLemmas.{step, branch, test_passed, item_is, front_as}
 use Rattle.smith_binary_read.proofs.IntegerLemmas.{unsigned_decodes}
 use Rattle.smith_binary_read.proofs.ChoiceLemmas.{tagged_sound, item_holds}
-use Rattle.smith_binary_read.proofs.InstructionLemmas.{prefix_alone}
+use Rattle.smith_binary_read.proofs.PrefixLemmas.{prefix_alone}
 use Rattle.smith_instr.specs.declared.instr.Instr.{Instr}
 use Rattle.smith_instr.specs.declared.instr.Instr.TheVariants as instr
 use Rattle.smith_instr.specs.declared.memory.Load.{Load}

@@ -13,7 +13,7 @@ use Rattle.smith_binary_read.specs.Decodes.{Front, Decodes}
 use Rattle.smith_binary_read.proofs.ReadLemmas.{step, item_and_rest, front_as, front_same, front_joined, first_read, byte_sound}
 use Rattle.smith_binary_read.proofs.IntegerLemmas.{unsigned_decodes}
 use Rattle.smith_binary_read.proofs.ChoiceLemmas.{tagged_read, item_holds}
-use Rattle.smith_binary_read.proofs.InstructionLemmas.{prefix_alone, prefix_apart}
+use Rattle.smith_binary_read.proofs.PrefixLemmas.{prefix_alone, prefix_apart}
 use Rattle.smith_instr.specs.declared.instr.Instr.{Instr}
 use Rattle.smith_binary_instr.specs.Instructions.{IsInstr}
 use Rattle.smith_binary_read_instr.specs.InstrReadings.{instr_at}

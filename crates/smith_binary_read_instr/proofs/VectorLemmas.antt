@@ -13,7 +13,7 @@ use Rattle.smith_binary_read.proofs.ReadLemmas.{step, branch, test_passed, fault
 use Rattle.smith_binary_read.proofs.ReadLemmas.{bytes_sound, bytes_complete}
 use Rattle.smith_binary_read.proofs.IntegerLemmas.{unsigned_decodes, vector_decodes, lane_decodes}
 use Rattle.smith_binary_read.proofs.ChoiceLemmas.{tagged_read, item_none}
-use Rattle.smith_binary_read.proofs.InstructionLemmas.{prefix_alone, prefix_apart}
+use Rattle.smith_binary_read.proofs.PrefixLemmas.{prefix_alone, prefix_apart}
 use Rattle.smith_instr.specs.declared.instr.Instr.{Instr}
 use Rattle.smith_instr.specs.declared.instr.Instr.TheVariants as instr
 use Rattle.smith_instr.specs.declared.memory.MemArg.{MemArg}

@@ -3,10 +3,9 @@
 use Rattle.std.specs.Prelude.{ℕ, true, false, nat_lt, ◌==◌, if◌then◌else◌, List, [], ◌∷◌}
 use Rattle.smith_binary_read.specs.declared.error.Reason.TheVariants.{UnknownByte}
 use Rattle.smith_binary_read.specs.Readings.{Reading, ◌>>=◌, fault_at, mapped_at}
-use Rattle.smith_binary_read.specs.Numbers.{unsigned_at}
+use Rattle.smith_binary_read.specs.Numbers.{unsigned_at, two_at}
 use Rattle.smith_binary_read.specs.Choices.{item_of, or_at}
 use Rattle.smith_binary_read.specs.TypeReadings.{heap_type_at}
-use Rattle.smith_binary_read.specs.InstructionReadings.{two_at}
 use Rattle.smith_instr.specs.declared.aggregate.AggregateInstr.{AggregateInstr}
 use Rattle.smith_instr.specs.declared.aggregate.AggregateInstr.TheVariants as aggregate
 use Rattle.smith_instr.specs.declared.aggregate.Extension.TheVariants as extension

@@ -5,11 +5,10 @@ use Rattle.std.specs.Prelude.{ℕ, Bool, true, false, nat_lt, nat_le, ◌||◌, 
 use Rattle.smith_syntax.specs.declared.value_type.HeapType.{HeapType}
 use Rattle.smith_binary_read.specs.declared.error.Reason.TheVariants.{UnknownByte}
 use Rattle.smith_binary_read.specs.Readings.{Reading, ◌>>=◌, fault_at, byte_at, joined_at, mapped_at}
-use Rattle.smith_binary_read.specs.Numbers.{unsigned_at}
+use Rattle.smith_binary_read.specs.Numbers.{unsigned_at, two_at}
 use Rattle.smith_binary_read.specs.Contents.{list_at}
 use Rattle.smith_binary_read.specs.Choices.{item_of, or_at, coded_at, type_index_at}
 use Rattle.smith_binary_read.specs.TypeReadings.{heap_type_at, val_type_at}
-use Rattle.smith_binary_read.specs.InstructionReadings.{two_at}
 use Rattle.smith_instr.specs.declared.control.BlockType.{BlockType}
 use Rattle.smith_instr.specs.declared.control.BlockType.TheVariants as block
 use Rattle.smith_instr.specs.declared.control.BranchCast.{BranchCast}

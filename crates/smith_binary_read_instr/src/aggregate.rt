@@ -1,7 +1,6 @@
 ghost use Rattle.std.specs.Prelude.{◌≡◌};
 ghost use Rattle.smith_instr.specs.declared.aggregate.AggregateInstr.TheVariants as aggregate;
-ghost use Rattle.smith_binary_read.specs.InstructionReadings.{two_at};
-ghost use Rattle.smith_binary_read.specs.Numbers.{unsigned_at};
+ghost use Rattle.smith_binary_read.specs.Numbers.{unsigned_at, two_at};
 ghost use Rattle.smith_binary_read.specs.Readings.{Gives, mapped_at};
 ghost use Rattle.smith_binary_read.specs.Choices.{item_of};
 ghost use Rattle.smith_binary_read_instr.specs.AggregateReadings.{

@@ -2,7 +2,7 @@ ghost use Rattle.std.specs.Prelude.{◌≡◌};
 ghost use Rattle.smith_binary_read.specs.Readings.{Gives, each_at};
 ghost use Rattle.smith_binary_read.specs.Contents.{list_at};
 ghost use Rattle.smith_binary_read.specs.Choices.{item_of, type_index_at};
-ghost use Rattle.smith_binary_read.specs.InstructionReadings.{two_at};
+ghost use Rattle.smith_binary_read.specs.Numbers.{two_at};
 ghost use Rattle.smith_binary_read_instr.specs.ControlReadings.{
   block_type_at,
   catch_at,

@@ -1,12 +1,12 @@
 -- Decoded modules in the abstract syntax, as a whole.
-use Rattle.std.proofs.Common.{◌≡◌, ℕ, true, eqb, List, [], length, map, Option, Some, None, Result, Ok, Err, refl}
+use Rattle.std.proofs.Common.{◌≡◌, ℕ, Bool, true, false, ◌||◌, eqb, List, [], ◌∷◌, length, map, Option, Some, None, Result, Ok, Err, refl}
 use Rattle.std.proofs.Common.{sym, ap, subst, ◌∙◌}
+use Rattle.std.specs.List.{list_any}
 use Rattle.std.specs.Prelude.{IfOk, IfSome}
 use Rattle.std.proofs.lemmas.Bool.{eqb-true, eq-eqb, and_parts}
 use Rattle.std.proofs.lemmas.List.{length-map}
 use Rattle.smith_binary.specs.Pieces.{IsList}
 use Rattle.smith_syntax.specs.declared.composite_type.SubType.{SubType}
-use Rattle.smith_syntax.specs.declared.const_instr.ConstInstr.{ConstInstr}
 use Rattle.smith_syntax.specs.declared.entity_type.ExportKind.{ExportKind}
 use Rattle.smith_syntax.specs.declared.entity_type.GlobalType.{GlobalType}
 use Rattle.smith_syntax.specs.declared.entity_type.MemoryType.{MemoryType}
@@ -18,24 +18,25 @@ use Rattle.smith_binary_sections.specs.Types.{IsRecGroup}
 use Rattle.smith_binary_sections.specs.Instructions.{IsIndex}
 use Rattle.smith_binary_sections.specs.Entities.{IsMemoryType, IsTagType}
 use Rattle.smith_binary_sections.specs.Imports.{IsImports}
-use Rattle.smith_binary_sections.specs.Definitions.{IsTable, IsGlobal}
 use Rattle.smith_binary_sections.specs.Exports.{IsExport}
 use Rattle.smith_instr.specs.declared.instr.Instr.{Instr}
-use Rattle.smith_binary_sections.specs.Data.{Data, IsData}
-use Rattle.smith_binary_sections.specs.Elements.{Elem, IsElem}
-use Rattle.smith_binary_read.specs.DataReadings.{segment_view}
-use Rattle.smith_binary_read.specs.ElementReadings.{element_view}
-use Rattle.smith_binary_read.proofs.ElementLemmas.{segment_viewed}
 use Rattle.smith_binary_read.specs.Views.{Viewed}
 use Rattle.smith_binary_read.proofs.ViewLemmas.{list_viewed}
 use Rattle.smith_decode.specs.declared.error.DecodeError.{DecodeError}
 use Rattle.smith_decode.specs.declared.error.DecodeError.TheVariants.{Memory, Malformed}
+use Rattle.smith_decode.specs.declared.bodies.Body.{Body}
+use Rattle.smith_decode.specs.declared.customs.Custom.{Custom}
 use Rattle.smith_decode.specs.declared.modules.Module.{Module}
-use Rattle.smith_decode.specs.BodyReadings.{body_view}
-use Rattle.smith_decode.specs.ModuleReadings.{Parts, module_of, is_number, module_at, Locates}
+use Rattle.smith_decode.specs.BodyReadings.{body_view, names_data_in, name_data}
+use Rattle.smith_decode.specs.Data.{Data, IsData}
+use Rattle.smith_decode.specs.DataReadings.{segment_view}
+use Rattle.smith_decode.specs.Definitions.{IsTable, IsGlobal}
+use Rattle.smith_decode.specs.ElementReadings.{element_view}
+use Rattle.smith_decode.specs.Elements.{Elem, IsElem}
+use Rattle.smith_decode.specs.ModuleReadings.{Parts, module_of, with_customs, is_number, is_stated_if, module_at, Locates}
 use Rattle.smith_decode.specs.Modules.{Syntax, IsFunctionBody, IsStated, IsModuleBinary, syntax_of, Returns}
-use Rattle.smith_decode.specs.Modules.{table_pair, tag_index, global_pair}
-use Rattle.smith_decode.specs.Modules.{export_triple}
+use Rattle.smith_decode.specs.Modules.{table_pair, tag_index, global_pair, export_triple, body_names_data}
+use Rattle.smith_decode.proofs.ElementLemmas.{segment_viewed}
 use Rattle.smith_decode.proofs.CustomLemmas.{IsMore, IsEnd}
 use Rattle.smith_decode.proofs.ModuleLemmas.{AreParts, parts_of, IsDecodedBinary, module_decodes}
 use Rattle.smith_decode.proofs.ViewLemmas.{same_viewed, table_viewed, tag_viewed, global_viewed, export_viewed, imports_viewed, data_viewed}
@@ -44,8 +45,8 @@ use Rattle.smith_decode.proofs.ViewLemmas.{body_viewed, both_views, more_viewed}
 -- the parts of a module in the abstract syntax, and the stated number of data segments
 abbrev Abstract : Type 0
 Abstract =
-    List (List SubType) × (List Import × (List ℕ × (List (TableType × List ConstInstr) × (List MemoryType × (List ℕ
-    × (List (GlobalType × List ConstInstr) × (List (List ℕ × ExportKind × ℕ) × (Option ℕ × (List Elem × (Option ℕ
+    List (List SubType) × (List Import × (List ℕ × (List (TableType × List Instr) × (List MemoryType × (List ℕ
+    × (List (GlobalType × List Instr) × (List (List ℕ × ExportKind × ℕ) × (Option ℕ × (List Elem × (Option ℕ
     × (List (List ValType × List Instr) × (List Data × Unit {0}))))))))))))
 
 abbrev abstract_of : Syntax → Option ℕ → Abstract
@@ -63,8 +64,8 @@ abstract_of m count = (
   ),
 )
 
-abbrev syntax_from : Abstract → Syntax
-syntax_from a = record {
+abbrev syntax_from : List Custom → Abstract → Syntax
+syntax_from customs a = record {
   types = a.0;
   imports = a.1.0;
   functions = a.1.1.0;
@@ -77,6 +78,7 @@ syntax_from a = record {
   elems = a.1.1.1.1.1.1.1.1.1.0;
   bodies = a.1.1.1.1.1.1.1.1.1.1.1.0;
   datas = a.1.1.1.1.1.1.1.1.1.1.1.1.0;
+  customs = customs;
 }
 
 -- the sections of these parts
@@ -138,6 +140,21 @@ stated_again : (count : Option ℕ) (n : ℕ) → IfSome count (λ stated. state
 stated_again None n h = refl
 stated_again (Some stated) n h = eq-eqb stated n h
 
+-- the number of data segments that is needed
+any_viewed : (bodies : List Body) → list_any body_names_data (map body_view bodies) ≡ name_data bodies
+any_viewed [] = refl
+any_viewed (body ∷ bodies) = ap (λ (more : Bool). names_data_in body || more) (any_viewed bodies)
+
+none_named : (named : Bool) (count : Option ℕ) → is_stated_if named count ≡ true → count ≡ None → named ≡ false
+none_named false None e none = refl
+none_named true None e none = absurd cc
+none_named named (Some stated) e none = absurd cc
+
+suffices_again : (named : Bool) (count : Option ℕ) → (count ≡ None → named ≡ false) → is_stated_if named count ≡ true
+suffices_again false None h = refl
+suffices_again true None h = absurd (let never : true ≡ false = h refl in cc)
+suffices_again named (Some stated) h = refl
+
 pub module_forth : (m : Module) (bytes : List ℕ) → IsDecodedBinary m bytes → IsModuleBinary (syntax_of m) bytes
 module_forth m bytes h =
     let agrees = and_parts (eqb (length m.functions) (length m.bodies)) (is_number m.data_count (length m.datas)) h.agrees in
@@ -154,6 +171,8 @@ module_forth m bytes h =
       bodies = functions ∙ sym (length-map m.bodies body_view);
       datas = subst (λ (n : ℕ). IfSome m.data_count (λ stated. stated ≡ n)) (sym (length-map m.datas segment_view))
           (stated_is m.data_count (length m.datas) agrees.1);
+      named = λ none. any_viewed m.bodies ∙ none_named (name_data m.bodies) m.data_count h.suffices none;
+      customs = h.customs;
     }
 
 -- a decoded module that is seen as one of the abstract syntax
@@ -165,8 +184,8 @@ pub record Decoded (m : Syntax) (bytes : List ℕ) : Type 0 where
 pub module_back : (m : Syntax) (bytes : List ℕ) → IsModuleBinary m bytes → Decoded m bytes
 module_back m bytes h =
     let one = parts_viewed.back (abstract_of m h.count) h.form.second h.form.is_second in
-    let decoded = module_of one.item in
-    let same : syntax_of decoded ≡ m = ap syntax_from one.is in
+    let decoded = with_customs (module_of one.item) m.customs in
+    let same : syntax_of decoded ≡ m = ap (syntax_from m.customs) one.is in
     let count : decoded.data_count ≡ h.count = ap (λ (a : Abstract). a.1.1.1.1.1.1.1.1.1.1.0) one.is in
     let functions : decoded.functions ≡ m.functions = ap (λ (c : Syntax). c.functions) same in
     let bodies : map body_view decoded.bodies ≡ m.bodies = ap (λ (c : Syntax). c.bodies) same in
@@ -192,6 +211,9 @@ module_back m bytes h =
           stated_again decoded.data_count
               (length decoded.datas) stated,
         ) refl;
+        suffices = suffices_again (name_data decoded.bodies) decoded.data_count
+            (λ none. sym (any_viewed decoded.bodies) ∙ ap (list_any body_names_data) bodies ∙ h.named (sym count ∙ none));
+        customs = h.customs;
       };
     }
 

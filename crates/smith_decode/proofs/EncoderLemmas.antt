@@ -1,23 +1,34 @@
 -- Modules without custom sections, as an encoder writes them, and what the reading says of modules.
-use Rattle.std.proofs.Common.{◌≡◌, ℕ, suc, List, [], ◌∷◌, ◌++◌, length, Option, Some, None, Err, refl, sym, ap, subst, ◌∙◌}
-use Rattle.std.proofs.lemmas.List.{nil_from_length}
+use Rattle.std.proofs.Common.{◌≡◌, ℕ, suc, Bool, true, false, List, [], ◌∷◌, ◌++◌, length, map, Option, Some, None, Err}
+use Rattle.std.proofs.Common.{refl, sym, ap, subst, ◌∙◌, arith}
+use Rattle.std.proofs.lemmas.List.{length-map, nil_from_length}
 use Rattle.std.proofs.Common.{append-nil}
+use Rattle.std.specs.List.{list_any}
 use Rattle.std.specs.Prelude.{IfSome}
 use Rattle.smith_binary.specs.Pieces.{Joined, Each, IsList, IsSection}
 use Rattle.smith_binary.specs.Numbers.{IsUnsigned}
 use Rattle.smith_syntax.specs.declared.value_type.ValType.{ValType}
 use Rattle.smith_instr.specs.declared.instr.Instr.{Instr}
 use Rattle.smith_binary_sections.specs.Codes.{IsBody, IsLocals}
-use Rattle.smith_binary_sections.specs.Data.{IsData}
-use Rattle.smith_binary_sections.specs.Modules.{Contents, IsModule, IsStartSection, IsDataCount}
+use Rattle.smith_binary_sections.specs.Data.{IsData as IsConstData}
+use Rattle.smith_binary_sections.specs.Definitions.{IsTable as IsConstTable, IsGlobal as IsConstGlobal}
+use Rattle.smith_binary_sections.specs.Elements.{IsElem as IsConstElem}
+use Rattle.smith_binary_sections.specs.Modules.{Contents, IsModule, IsStartSection}
 use Rattle.smith_binary_sections.specs.Sections.{IsOptionalSection, IsListSection}
 use Rattle.smith_binary_read.specs.declared.error.Fault.{Fault}
+use Rattle.smith_binary_read.proofs.ViewLemmas.{list_forth}
 use Rattle.smith_binary_read_instr.specs.Expressions.{IsNestedExpr}
+use Rattle.smith_decode.specs.Constants.{as_table, as_global, as_elem, as_data, with_bodies, IsPresent, StatesCount}
 use Rattle.smith_decode.specs.Customs.{AreCustoms, IsThen}
+use Rattle.smith_decode.specs.Data.{IsData}
+use Rattle.smith_decode.specs.Definitions.{IsTable, IsGlobal}
+use Rattle.smith_decode.specs.Elements.{IsElem}
 use Rattle.smith_decode.specs.ModuleReadings.{module_at}
-use Rattle.smith_decode.specs.Modules.{AreBodiesOf, IsFunctionBody, IsStated, IsModuleBinary, Syntax, syntax_of, with_bodies}
+use Rattle.smith_decode.specs.Modules.{AreBodiesOf, IsFunctionBody, IsStated, IsModuleBinary, Syntax, syntax_of, body_names_data}
+use Rattle.smith_decode.proofs.ConstantLemmas.{first_as, table_as, global_as, elem_as, data_as}
 use Rattle.smith_decode.proofs.ContentsLemmas.{module_back}
 use Rattle.smith_decode.proofs.CustomLemmas.{no_customs}
+use Rattle.smith_decode.proofs.KeptLemmas.{plain_then, plain_last}
 use Rattle.smith_decode.proofs.ModuleLemmas.{module_decodes}
 
 -- a section after no custom section
@@ -47,10 +58,12 @@ optional_as : {N M : Type 0} {P Q : List ℕ → Type 0} {piece : List ℕ} (id 
 optional_as id nothing up (IsOptionalSection.present h) = IsOptionalSection.present (section_as id up h)
 optional_as id nothing up (IsOptionalSection.absent is empty) = IsOptionalSection.absent (nothing is) empty
 
--- the first of two pieces
-first_as : {P Q More : List ℕ → Type 0} {piece : List ℕ} → ((first : List ℕ) → P first → Q first) → Joined P More piece
-    → Joined Q More piece
-first_as up h = record { first = h.first; second = h.second; is_first = up h.first h.is_first; is_second = h.is_second; whole = h.whole }
+-- a section of items that are seen as others
+section_of : {A B : Type 0} (id : ℕ) (view : B → A) (P : A → List ℕ → Type 0) (Q : B → List ℕ → Type 0)
+    → ((x : B) (piece : List ℕ) → Q x piece → P (view x) piece) → (xs : List B) (piece : List ℕ) → IsListSection id Q xs piece
+    → IsListSection id P (map view xs) piece
+section_of id view P Q forth xs piece h =
+    optional_as id (λ is. ap (map view) is) (λ content items. list_forth view P Q forth xs content items) h
 
 start_form : (start : Option ℕ) (piece : List ℕ) → IsStartSection start piece → IsOptionalSection 8 (start ≡ None) (IsStated start) piece
 start_form (Some index) piece h =
@@ -120,90 +133,122 @@ no_bodies : (bodies : List (List ValType × List Instr)) (raws : List (List ValT
 no_bodies bodies raws same is = nil_from_length bodies (sym (as_many bodies raws same) ∙ ap length is)
 
 -- the code and data sections
+abbrev AreLast : Syntax → List ℕ → Type 0
+AreLast m = IsThen 10 (m.bodies ≡ []) (IsList IsFunctionBody m.bodies) (IsThen 11 (m.datas ≡ []) (IsList IsData m.datas) AreCustoms)
+
 tail_form : (m : Contents) (bodies : List (List ValType × List Instr)) (piece : List ℕ) → AreBodiesOf bodies m.bodies
-    → Joined (IsListSection 10 IsBody m.bodies) (IsListSection 11 IsData m.datas) piece
-    → IsThen 10 (bodies ≡ []) (IsList IsFunctionBody bodies) (IsThen 11 (m.datas ≡ []) (IsList IsData m.datas) AreCustoms) piece
+    → Joined (IsListSection 10 IsBody m.bodies) (IsListSection 11 IsConstData m.datas) piece
+    → AreLast (with_bodies m bodies) piece
 tail_form m bodies piece same h =
-    before_more 10 (λ rest is. last_form 11 is) (first_as (λ first is.
+    before_more 10 (λ rest is. last_form 11 (section_of 11 as_data IsData IsConstData data_as m.datas rest is)) (first_as (λ first is.
     optional_as 10 (no_bodies bodies m.bodies same) (λ content one. bodies_form bodies m.bodies content same one) is) h)
 
 -- sections, and the number of data segments that is stated among them, if it is
-record WithCount (n : ℕ) (Sections : Option ℕ → List ℕ → Type 0) (piece : List ℕ) : Type 0 where
+record WithCount (n : ℕ) (named : Bool) (Sections : Option ℕ → List ℕ → Type 0) (piece : List ℕ) : Type 0 where
   pub count : Option ℕ
   pub stated : IfSome count (λ stated. stated ≡ n)
+  pub needed : count ≡ None → named ≡ false
   pub form : Sections count piece
 
-then_counted : {N : Type 0} {P More : List ℕ → Type 0} {Then : Option ℕ → List ℕ → Type 0} {piece : List ℕ} {n : ℕ} (id : ℕ)
-    → ((rest : List ℕ) → More rest → WithCount n Then rest) → Joined (IsOptionalSection id N P) More piece
-    → WithCount n (λ count. IsThen id N P (Then count)) piece
-then_counted {piece = piece} id up h =
-    let one = up h.second h.is_second in
-    record {
-      count = one.count;
-      stated = one.stated;
-      form = record {
-        first = [];
-        second = piece;
-        is_first = no_customs;
-        is_second = record { first = h.first; second = h.second; is_first = h.is_first; is_second = one.form; whole = h.whole };
-        whole = refl;
-      };
-    }
-
--- the sections from the number of data segments on
-abbrev FromCount : Syntax → Option ℕ → List ℕ → Type 0
-FromCount m count =
-    IsThen 12 (count ≡ None) (IsStated count)
-    (IsThen 10 (m.bodies ≡ []) (IsList IsFunctionBody m.bodies) (IsThen 11 (m.datas ≡ []) (IsList IsData m.datas) AreCustoms))
-
-from_count : (m : Syntax) (count : Option ℕ) (piece first second : List ℕ) → IfSome count (λ stated. stated ≡ length m.datas)
-    → IsOptionalSection 12 (count ≡ None) (IsStated count) first
-    → IsThen 10 (m.bodies ≡ []) (IsList IsFunctionBody m.bodies) (IsThen 11 (m.datas ≡ []) (IsList IsData m.datas) AreCustoms) second
-    → piece ≡ first ++ second → WithCount (length m.datas) (FromCount m) piece
-from_count m count piece first second stated one two whole = record {
-  count = count;
-  stated = stated;
+then_counted : {N : Type 0} {P More : List ℕ → Type 0} {Then : Option ℕ → List ℕ → Type 0} {piece : List ℕ} {n : ℕ} {named : Bool}
+    (id : ℕ) (h : Joined (IsOptionalSection id N P) More piece) → WithCount n named Then h.second
+    → WithCount n named (λ count. IsThen id N P (Then count)) piece
+then_counted {piece = piece} id h one = record {
+  count = one.count;
+  stated = one.stated;
+  needed = one.needed;
   form = record {
     first = [];
     second = piece;
     is_first = no_customs;
-    is_second = record { first = first; second = second; is_first = one; is_second = two; whole = whole };
+    is_second = record { first = h.first; second = h.second; is_first = h.is_first; is_second = one.form; whole = h.whole };
     whole = refl;
   };
 }
 
-counts_form : (m : Syntax) (piece first second : List ℕ) → IsDataCount m.datas first
-    → IsThen 10 (m.bodies ≡ []) (IsList IsFunctionBody m.bodies) (IsThen 11 (m.datas ≡ []) (IsList IsData m.datas) AreCustoms) second
-    → piece ≡ first ++ second → WithCount (length m.datas) (FromCount m) piece
-counts_form m piece first second (IsOptionalSection.present h) two whole =
-    from_count m (Some (length m.datas)) piece first second refl
-    (IsOptionalSection.present (section_as 12 (λ content is. record { number = length m.datas; is = refl; form = is }) h)) two whole
-counts_form m piece first second (IsOptionalSection.absent is empty) two whole =
-    from_count m None piece first second tt (IsOptionalSection.absent refl empty) two whole
+-- the sections from the number of data segments on
+abbrev FromCount : Syntax → Option ℕ → List ℕ → Type 0
+FromCount m count = IsThen 12 (count ≡ None) (IsStated count) (AreLast m)
+
+from_count : (m : Syntax) (count : Option ℕ) (piece first second : List ℕ) → IsOptionalSection 12 (count ≡ None) (IsStated count) first
+    → AreLast m second → piece ≡ first ++ second → FromCount m count piece
+from_count m count piece first second one two whole = record {
+  first = [];
+  second = piece;
+  is_first = no_customs;
+  is_second = record { first = first; second = second; is_first = one; is_second = two; whole = whole };
+  whole = refl;
+}
+
+never_named : (named : Bool) → (named ≡ true → ⊥) → named ≡ false
+never_named false never = refl
+never_named true never = absurd (never refl)
+
+counts_form : (m : Syntax) (n : ℕ) (named : Bool) (piece first second : List ℕ) → n ≡ length m.datas
+    → (h : IsOptionalSection 12 (Unit {0}) (IsUnsigned 32 n) first) → (named ≡ true → IsPresent h) → AreLast m second
+    → piece ≡ first ++ second → WithCount (length m.datas) named (FromCount m) piece
+counts_form m n named piece first second many (IsOptionalSection.present h) needed two whole = record {
+  count = Some n;
+  stated = many;
+  needed = λ none. absurd cc;
+  form = from_count m (Some n) piece first second
+      (IsOptionalSection.present (section_as 12 (λ content is. record { number = n; is = refl; form = is }) h)) two whole;
+}
+counts_form m n named piece first second many (IsOptionalSection.absent is empty) needed two whole = record {
+  count = None;
+  stated = tt;
+  needed = λ none. never_named named needed;
+  form = from_count m None piece first second (IsOptionalSection.absent refl empty) two whole;
+}
 
 -- a module without custom sections
-pub encoder_form : (m : Contents) (bodies : List (List ValType × List Instr)) (bytes : List ℕ) → IsModule m bytes
-    → AreBodiesOf bodies m.bodies → IsModuleBinary (with_bodies m bodies) bytes
-encoder_form m bodies bytes is_module same =
+pub encoder_form : (m : Contents) (bodies : List (List ValType × List Instr)) (bytes : List ℕ) → (h : IsModule m bytes)
+    → AreBodiesOf bodies m.bodies → (list_any body_names_data bodies ≡ true → StatesCount h)
+    → IsModuleBinary (with_bodies m bodies) bytes
+encoder_form m bodies bytes is_module same needed =
     let h = is_module.form in
-    let sections =
-    then_counted 1 (λ rest h.
-    then_counted 2 (λ rest h.
-    then_counted 3 (λ rest h.
-    then_counted 4 (λ rest h.
-    then_counted 5 (λ rest h.
-    then_counted 13 (λ rest h.
-    then_counted 6 (λ rest h.
-    then_counted 7 (λ rest h.
-    then_counted 8 (λ rest h.
-    then_counted 9 (λ rest h.
-    counts_form (with_bodies m bodies) rest h.first h.second h.is_first (tail_form m bodies h.second same h.is_second) h.whole) h)
-    (first_as (λ first is. start_form m.start first is) h)) h) h) h) h) h) h) h) h.is_second in
+    let types = h.is_second in
+    let imports = types.is_second in
+    let functions = imports.is_second in
+    let tables = functions.is_second in
+    let memories = tables.is_second in
+    let tags = memories.is_second in
+    let globals = tags.is_second in
+    let exports = globals.is_second in
+    let start = exports.is_second in
+    let elems = start.is_second in
+    let count = elems.is_second in
+    let counted =
+    counts_form (with_bodies m bodies) (length m.datas) (list_any body_names_data bodies) elems.second count.first count.second
+    (sym (length-map m.datas as_data)) count.is_first needed (tail_form m bodies count.second same count.is_second) count.whole in
+    let from_elems =
+    then_counted 9 (first_as (λ first is. section_of 9 as_elem IsElem IsConstElem elem_as m.elems first is) elems) counted in
+    let from_start = then_counted 8 (first_as (λ first is. start_form m.start first is) start) from_elems in
+    let from_globals =
+    then_counted 6 (first_as (λ first is. section_of 6 as_global IsGlobal IsConstGlobal global_as m.globals first is) globals)
+    (then_counted 7 exports from_start) in
+    let from_tables =
+    then_counted 4 (first_as (λ first is. section_of 4 as_table IsTable IsConstTable table_as m.tables first is) tables)
+    (then_counted 5 memories (then_counted 13 tags from_globals)) in
+    let sections = then_counted 1 types (then_counted 2 imports (then_counted 3 functions from_tables)) in
+    let code = count.is_second in
+    let plain_start =
+    plain_then 8 (λ e. omega arith) (omega arith) (first_as (λ first is. start_form m.start first is) start)
+    (plain_then 9 (λ e. omega arith) (omega arith) elems (plain_then 12 (λ e. omega arith) (omega arith) count
+    (plain_then 10 (λ e. omega arith) (omega arith) code (plain_last 11 (λ e. omega arith) (omega arith) code.is_second)))) in
+    let plain_memories =
+    plain_then 5 (λ e. omega arith) (omega arith) memories (plain_then 13 (λ e. omega arith) (omega arith) tags
+    (plain_then 6 (λ e. omega arith) (omega arith) globals (plain_then 7 (λ e. omega arith) (omega arith) exports plain_start))) in
+    let plain =
+    plain_then 1 (λ e. omega arith) (omega arith) types (plain_then 2 (λ e. omega arith) (omega arith) imports
+    (plain_then 3 (λ e. omega arith) (omega arith) functions (plain_then 4 (λ e. omega arith) (omega arith) tables plain_memories))) in
     record {
       count = sections.count;
       form = record { first = h.first; second = h.second; is_first = h.is_first; is_second = sections.form; whole = h.whole };
       bodies = is_module.each ∙ as_many bodies m.bodies same;
       datas = sections.stated;
+      named = sections.needed;
+      customs = (plain.sections, plain.each, plain.none None);
     }
 
 -- bytes are at most one module

@@ -1,6 +1,12 @@
+pub mod DefinitionLemmas
+pub mod ElementLemmas
+pub mod DataLemmas
 pub mod CustomLemmas
 pub mod SkipLemmas
+pub mod GatherLemmas
+pub mod KeptLemmas
 pub mod ModuleLemmas
 pub mod ViewLemmas
 pub mod ContentsLemmas
+pub mod ConstantLemmas
 pub mod EncoderLemmas

@@ -14,10 +14,8 @@ use Rattle.smith_binary_read.specs.Readings.{◌>>=◌, mapped_at}
 use Rattle.smith_binary_read.specs.Numbers.{unsigned_at}
 use Rattle.smith_binary_read.specs.Contents.{list_at}
 use Rattle.smith_binary_read.specs.Decodes.{Decodes, DecodesWhole}
-use Rattle.smith_binary_read.specs.DefinitionReadings.{IsTagDefinition, IsGlobalDefinition, IsTableDefinition}
+use Rattle.smith_binary_read.specs.TagReadings.{IsTagDefinition}
 use Rattle.smith_binary_read.specs.EntityReadings.{IsExportItem}
-use Rattle.smith_binary_read.specs.ElementReadings.{IsElementSegment}
-use Rattle.smith_binary_read.specs.DataReadings.{IsSegment}
 use Rattle.smith_binary_read.proofs.ReadLemmas.{step, test_passed, joined_decodes, byte_sound, whole_decodes}
 use Rattle.smith_binary_read.proofs.IntegerLemmas.{unsigned_decodes}
 use Rattle.smith_binary_read.proofs.ContentLemmas.{list_decodes, sized_decodes}
@@ -25,18 +23,25 @@ use Rattle.smith_binary_read.proofs.ChoiceLemmas.{mapped_sound}
 use Rattle.smith_binary_read.proofs.TypeLemmas.{val_decodes, group_decodes}
 use Rattle.smith_binary_read.proofs.EntityLemmas.{memory_decodes, export_decodes}
 use Rattle.smith_binary_read.proofs.ImportLemmas.{import_group_decodes}
-use Rattle.smith_binary_read.proofs.DefinitionLemmas.{global_def_decodes, table_def_decodes, tag_def_decodes}
-use Rattle.smith_binary_read.proofs.ElementLemmas as element
-use Rattle.smith_binary_read.proofs.DataLemmas as data_segment
+use Rattle.smith_binary_read.proofs.TagLemmas.{tag_def_decodes}
 use Rattle.smith_binary_read_instr.proofs.NestedLemmas.{expr_decodes}
 use Rattle.smith_decode.specs.declared.bodies.Body.{Body}
 use Rattle.smith_decode.specs.declared.modules.Module.{Module}
 use Rattle.smith_decode.specs.BodyReadings.{IsLocalRun, total, IsRunContent, IsRunBody, local_run, run_at, body_of, body_whole, body_at}
-use Rattle.smith_decode.specs.CustomReadings.{customs_at}
+use Rattle.smith_decode.specs.Customs.{HasCustoms}
+use Rattle.smith_decode.specs.CustomReadings.{kept_at}
+use Rattle.smith_decode.specs.DataReadings.{IsSegment}
+use Rattle.smith_decode.specs.DefinitionReadings.{IsGlobalDefinition, IsTableDefinition}
+use Rattle.smith_decode.specs.ElementReadings.{IsElementSegment}
 use Rattle.smith_decode.specs.ModuleReadings.{literal_at, preamble, preamble_at, index_whole, Bodies, Counts, Starts, Globals, Memories}
 use Rattle.smith_decode.specs.ModuleReadings.{Functions, Parts, module_of, bodies_at, counts_at, starts_at, globals_at, memories_at}
-use Rattle.smith_decode.specs.ModuleReadings.{functions_at, parts_at, sections_at, counts_agree, if_counts_agree, module_at}
+use Rattle.smith_decode.specs.ModuleReadings.{functions_at, parts_at, sections_at, counts_agree, count_suffices, if_counts_agree}
+use Rattle.smith_decode.specs.ModuleReadings.{with_customs, checked_at, module_at}
 use Rattle.smith_decode.specs.Modules.{IsStated}
+use Rattle.smith_decode.proofs.DataLemmas as data_segment
+use Rattle.smith_decode.proofs.KeptLemmas.{kept_decodes}
+use Rattle.smith_decode.proofs.DefinitionLemmas.{global_def_decodes, table_def_decodes}
+use Rattle.smith_decode.proofs.ElementLemmas as element
 use Rattle.smith_decode.proofs.CustomLemmas.{IsMore, IsEnd, DecodesTail, customs_sound, end_decodes, more_decodes}
 
 -- the sections of a module, with custom sections between them (Modules)
@@ -102,6 +107,8 @@ parts_of m = (
 pub record IsDecodedBinary (m : Module) (bytes : List ℕ) : Type 0 where
   pub form : Joined IsPreamble (AreParts (parts_of m)) bytes
   pub agrees : counts_agree m ≡ true
+  pub suffices : count_suffices m ≡ true
+  pub customs : HasCustoms m.customs form.second
 
 -- these bytes
 literal_sound : (literal bytes rest : List ℕ) → literal_at literal bytes ≡ Ok rest → bytes ≡ literal ++ rest
@@ -211,29 +218,59 @@ sections_read bytes m e = step _ _ _ e (λ parts first e.
     let same : module_of parts ≡ m = cc in
     subst (λ (x : Module). AreParts (parts_of x) bytes) same (parts_decode.sound bytes parts first))
 
+-- a module after its preamble
+record IsChecked (m : Module) (bytes : List ℕ) : Type 0 where
+  pub form : AreParts (parts_of m) bytes
+  pub agrees : counts_agree m ≡ true
+  pub suffices : count_suffices m ≡ true
+
+agreed_is : (m agreed : Module) → if_counts_agree m ≡ Ok agreed
+    → (m ≡ agreed) × (counts_agree m ≡ true) × (count_suffices m ≡ true)
+agreed_is m agreed e = test_passed _ _ _ _ e (λ agrees e. test_passed _ _ _ _ e (λ suffices e.
+    let same : m ≡ agreed = cc in (same, agrees, suffices)))
+
+checked_sound : (bytes : List ℕ) (x : Module) → checked_at bytes ≡ Ok x → IsChecked x bytes
+unfolding checked_at
+checked_sound bytes x e = step _ _ _ e (λ settled first e. step _ _ _ e (λ m second e.
+    let customs = customs_sound bytes settled first in
+    let agreed = agreed_is m x e in
+    subst (λ (y : Module). IsChecked y bytes) agreed.0 (record {
+      form = subst (AreParts (parts_of m)) (sym customs.whole)
+          (parts_decode.prepend (parts_of m) customs.piece settled customs.spelled (sections_read settled m second));
+      agrees = agreed.1;
+      suffices = agreed.2;
+    })))
+
+checked_complete : (x : Module) (bytes : List ℕ) → IsChecked x bytes → checked_at bytes ≡ Ok (with_customs x [])
+unfolding checked_at sections_at
+checked_complete x bytes h =
+    let one = parts_decode.complete (parts_of x) bytes h.form in
+    rw (one.skipped, one.is_read, h.agrees, h.suffices) refl
+
 -- a module
 pub module_decodes : DecodesWhole IsDecodedBinary module_at
-unfolding module_at sections_at preamble_at
+unfolding module_at preamble_at
 module_decodes = record {
-  sound = λ bytes x e. step _ _ _ e (λ rest first e. step _ _ _ e
-      (λ settled second e. step _ _ _ e (λ m third e. test_passed _ _ _ _ e (λ agrees e.
-      let customs = customs_sound rest settled second in
-      let same : m ≡ x = cc in
+  sound = λ bytes x e. step _ _ _ e (λ rest first e. step _ _ _ e (λ m second e. step _ _ _ e (λ customs third e.
+      let checked = checked_sound rest m second in
+      let same : with_customs m customs ≡ x = cc in
       subst (λ (y : Module). IsDecodedBinary y bytes) same (record {
         form = record {
           first = preamble;
           second = rest;
           is_first = refl;
-          is_second = subst (AreParts (parts_of m)) (sym customs.whole)
-              (parts_decode.prepend (parts_of m) customs.piece settled customs.spelled (sections_read settled m third));
+          is_second = checked.form;
           whole = literal_sound preamble bytes rest first;
         };
-        agrees = agrees;
-      })))));
+        agrees = checked.agrees;
+        suffices = checked.suffices;
+        customs = kept_decodes.sound rest customs third;
+      }))));
   complete = λ x bytes h.
-      let one = parts_decode.complete (parts_of x) h.form.second h.form.is_second in
-      let whole : bytes ≡ preamble ++ h.form.second = h.form.whole ∙ ap (λ (first : List ℕ). first ++ h.form.second) h.form.is_first in
-      ap (λ (b : List ℕ). preamble_at b >>=
-      (λ rest. customs_at rest >>= (λ settled. sections_at settled >>= (λ m. if_counts_agree m)))) whole
-      ∙ rw (one.skipped, one.is_read, h.agrees) refl;
+      let rest = h.form.second in
+      let checked = checked_complete x rest (record { form = h.form.is_second; agrees = h.agrees; suffices = h.suffices }) in
+      let whole : bytes ≡ preamble ++ rest = h.form.whole ∙ ap (λ (first : List ℕ). first ++ rest) h.form.is_first in
+      ap (λ (b : List ℕ). preamble_at b >>= (λ after. checked_at after >>= (λ m. kept_at after
+      >>= (λ customs. Ok (with_customs m customs))))) whole
+      ∙ rw (checked, kept_decodes.complete x.customs rest h.customs) refl;
 }

@@ -7,17 +7,11 @@ use Rattle.smith_binary.specs.Pieces.{Joined, IsList}
 use Rattle.smith_syntax.specs.declared.value_type.ValType.{ValType}
 use Rattle.smith_types.specs.Imports.{flattened}
 use Rattle.smith_binary_sections.specs.Codes.{IsRun, locals_of, IsLocals}
-use Rattle.smith_binary_sections.specs.Data.{Data, IsData, DataMode as AbstractMode}
-use Rattle.smith_binary_sections.specs.Data.DataMode.{passive, active}
-use Rattle.smith_binary_sections.specs.Definitions.{IsTable, IsGlobal}
 use Rattle.smith_binary_sections.specs.Entities.{IsTagType}
 use Rattle.smith_binary_sections.specs.Exports.{IsExport}
 use Rattle.smith_binary_sections.specs.Imports.{IsImportGroup, IsImports}
 use Rattle.smith_binary_sections.specs.Sections.{IsOptionalSection}
-use Rattle.smith_binary_read.specs.declared.data.DataMode.{DataMode}
-use Rattle.smith_binary_read.specs.declared.data.DataMode.TheVariants.{Passive, Active}
-use Rattle.smith_binary_read.specs.DataReadings.{segment, mode_view, segment_view, IsSegment}
-use Rattle.smith_binary_read.specs.DefinitionReadings.{IsTagDefinition, IsGlobalDefinition, IsTableDefinition}
+use Rattle.smith_binary_read.specs.TagReadings.{IsTagDefinition}
 use Rattle.smith_binary_read.specs.EntityReadings.{IsExportItem}
 use Rattle.smith_binary_read.specs.Views.{From, Viewed}
 use Rattle.smith_binary_read.proofs.ViewLemmas.{list_viewed, sized_viewed}
@@ -25,7 +19,14 @@ use Rattle.smith_instr.specs.declared.instr.Instr.{Instr}
 use Rattle.smith_binary_read_instr.specs.Expressions.{IsNestedExpr}
 use Rattle.smith_decode.specs.declared.bodies.Body.{Body}
 use Rattle.smith_decode.specs.declared.bodies.LocalRun.{LocalRun}
+use Rattle.smith_decode.specs.declared.data.DataMode.{DataMode}
+use Rattle.smith_decode.specs.declared.data.DataMode.TheVariants.{Passive, Active}
 use Rattle.smith_decode.specs.BodyReadings.{run_pair, IsLocalRun, total, IsRunContent, IsRunBody, body_view, local_run, body_of}
+use Rattle.smith_decode.specs.Data.{Data, IsData, DataMode as AbstractMode}
+use Rattle.smith_decode.specs.Data.DataMode.{passive, active}
+use Rattle.smith_decode.specs.DataReadings.{segment, mode_view, segment_view, IsSegment}
+use Rattle.smith_decode.specs.Definitions.{IsTable, IsGlobal}
+use Rattle.smith_decode.specs.DefinitionReadings.{IsGlobalDefinition, IsTableDefinition}
 use Rattle.smith_decode.specs.Modules.{IsFunctionBody, table_pair, tag_index, global_pair, export_triple}
 use Rattle.smith_decode.proofs.CustomLemmas.{IsMore}
 

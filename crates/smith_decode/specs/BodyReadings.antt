@@ -1,6 +1,7 @@
 -- Bodies with runs of locals, and their readings: the section Binary Format, Modules, Code Section,
 -- of the WebAssembly Core Specification 3.0.
-use Rattle.std.specs.Prelude.{ℕ, ◌+◌, ◌^◌, ◌<◌, nat_lt, if◌then◌else◌, List, [], ◌∷◌, map, Result, Ok}
+use Rattle.std.specs.Prelude.{ℕ, Bool, ◌+◌, ◌^◌, ◌<◌, nat_lt, if◌then◌else◌, List, [], ◌∷◌, map, Result, Ok}
+use Rattle.std.specs.List.{list_any}
 use Rattle.smith_binary.specs.Pieces.{Joined, IsList, IsSized}
 use Rattle.smith_syntax.specs.declared.value_type.ValType.{ValType}
 use Rattle.smith_binary_sections.specs.Codes.{IsRun, locals_of}
@@ -10,6 +11,7 @@ use Rattle.smith_binary_read.specs.Readings.{Reading, ◌>>=◌, fault_at, joine
 use Rattle.smith_binary_read.specs.Numbers.{unsigned_at}
 use Rattle.smith_binary_read.specs.Contents.{list_at, sized_at}
 use Rattle.smith_binary_read.specs.TypeReadings.{val_type_at}
+use Rattle.smith_instr.specs.Enabled.{names_data}
 use Rattle.smith_instr.specs.declared.instr.Instr.{Instr}
 use Rattle.smith_binary_read_instr.specs.Expressions.{IsNestedExpr}
 use Rattle.smith_binary_read_instr.specs.ExpressionReadings.{expr_at}
@@ -39,6 +41,13 @@ IsRunBody body = IsSized (IsRunContent body)
 -- the locals of a body, and its instructions (Code Section)
 abbrev pub body_view : Body → List ValType × List Instr
 body_view body = (locals_of (map run_pair body.locals), body.instructions)
+
+-- whether a body names a data segment, and whether one of several does
+abbrev pub names_data_in : Body → Bool
+names_data_in body = list_any names_data body.instructions
+
+abbrev pub name_data : List Body → Bool
+name_data bodies = list_any names_data_in bodies
 
 abbrev pub local_run : ℕ → ValType → LocalRun
 local_run count ty = record { count = count; ty = ty }

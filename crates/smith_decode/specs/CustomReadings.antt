@@ -1,10 +1,12 @@
 -- Readings of custom sections, and of sections after which they stand.
-use Rattle.std.specs.Prelude.{◌≡◌, ℕ, zero, suc, ◌==◌, List, length, drop, Result, Ok, Err, if◌then◌else◌}
+use Rattle.std.specs.Prelude.{◌≡◌, ℕ, zero, suc, ◌==◌, List, [], ◌∷◌, ◌++◌, length, drop, Option, Some, None}
+use Rattle.std.specs.Prelude.{Result, Ok, Err, if◌then◌else◌}
 use Rattle.smith_binary_read.specs.declared.error.Fault.{Fault}
 use Rattle.smith_binary_read.specs.declared.error.ReadError.{ReadError}
 use Rattle.smith_binary_read.specs.declared.error.Reason.TheVariants.{SectionOrder}
-use Rattle.smith_binary_read.specs.Readings.{Reading, ◌>>=◌, Fails, starts_with, fault_at}
-use Rattle.smith_binary_read.specs.Contents.{name_at, sized_at}
+use Rattle.smith_binary_read.specs.Readings.{Reading, ◌>>=◌, Fails, starts_with, fault_at, byte_at, at_end}
+use Rattle.smith_binary_read.specs.Contents.{content_at, name_at, sized_at}
+use Rattle.smith_decode.specs.declared.customs.Custom.{Custom}
 
 -- the content of a custom section
 unfoldable pub custom_whole : List ℕ → Result (Unit {0}) Fault
@@ -37,3 +39,28 @@ end_at bytes = if length bytes == 0 then Ok tt else fault_at SectionOrder bytes
 abbrev pub GivesRest : Result (Unit {0}) ReadError → List ℕ → Result (List ℕ) Fault → Type 0
 GivesRest (Ok done) rest reading = reading ≡ Ok rest
 GivesRest (Err e) rest reading = Fails e reading
+
+-- a custom section that is kept
+abbrev pub custom : Option ℕ → List ℕ → List ℕ → Custom
+custom after name bytes = record { after = after; name = name; bytes = bytes }
+
+unfoldable pub custom_at : Option ℕ → List ℕ → Result Custom Fault
+custom_at after content = name_at content >>= (λ name. Ok (custom after name.0 name.1))
+
+-- a section after another one: the last one that is not custom, and the custom sections so far
+unfoldable pub next_section_at : Option ℕ → List Custom → List ℕ → Reading (Option ℕ × List Custom)
+next_section_at after customs bytes = byte_at bytes >>= (λ id. content_at id.1 >>= (λ content.
+    if id.0 == 0 then (custom_at after content.0 >>= (λ x. Ok ((after, customs ++ (x ∷ [])), content.1)))
+    else Ok ((Some id.0, customs), content.1)))
+
+-- the custom sections so far, and those among the sections that are left, of which there are no more
+-- than `most`
+unfoldable pub gathered_at : ℕ → Option ℕ → List Custom → List ℕ → Result (List Custom) Fault
+gathered_at zero after customs bytes = at_end customs bytes
+gathered_at (suc most) after customs bytes =
+    if length bytes == 0 then Ok customs
+    else (next_section_at after customs bytes >>= (λ s. gathered_at most s.0.0 s.0.1 s.1))
+
+-- the custom sections of a module
+unfoldable pub kept_at : List ℕ → Result (List Custom) Fault
+kept_at bytes = gathered_at (length bytes) None [] bytes

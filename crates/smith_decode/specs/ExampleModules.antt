@@ -1,5 +1,11 @@
 -- Modules of the examples.
-use Rattle.std.specs.Prelude.{List, [], ◌∷◌, ℕ, None}
+use Rattle.std.specs.Prelude.{List, [], ◌∷◌, ℕ, Some, None, pos}
+use Rattle.smith_instr.specs.declared.instr.Instr.{Instr}
+use Rattle.smith_instr.specs.declared.instr.Instr.TheVariants as instr
+use Rattle.smith_instr.specs.declared.memory.MemoryInstr.TheVariants.{DataDrop}
+use Rattle.smith_instr.specs.declared.numeric.IntUnary.TheVariants.{Ctz}
+use Rattle.smith_instr.specs.declared.numeric.NumericInstr.TheVariants.{I32Unary}
+use Rattle.smith_decode.specs.BodyReadings.{body_of}
 use Rattle.smith_decode.specs.declared.modules.Module.{Module}
 
 -- a module in which nothing is defined
@@ -18,8 +24,25 @@ no_item = record {
   data_count = None;
   bodies = [];
   datas = [];
+  customs = [];
 }
 
 -- the magic number, the version, then bytes
 abbrev pub after_preamble : List ℕ → List ℕ
 after_preamble bytes = 0x00 ∷ 0x61 ∷ 0x73 ∷ 0x6D ∷ 0x01 ∷ 0x00 ∷ 0x00 ∷ 0x00 ∷ bytes
+
+-- an expression with an instruction that no constant expression has
+abbrev pub ctz : List Instr
+ctz = instr.I32Const (pos 1) ∷ instr.Numeric (I32Unary Ctz) ∷ []
+
+-- a code section of one body, which is `data.drop 0`
+abbrev pub one_drop : List ℕ
+one_drop = 0x0A ∷ 0x07 ∷ 0x01 ∷ 0x05 ∷ 0x00 ∷ 0xFC ∷ 0x09 ∷ 0x00 ∷ 0x0B ∷ []
+
+-- a module of one function with that body, which states that it has no data segment
+abbrev pub dropping : Module
+dropping = record no_item {
+  functions = 0 ∷ [];
+  data_count = Some 0;
+  bodies = body_of [] (instr.Memory (DataDrop 0) ∷ []) ∷ [];
+}

@@ -1,6 +1,13 @@
+pub mod Definitions
+pub mod Elements
+pub mod Data
+pub mod DefinitionReadings
+pub mod ElementReadings
+pub mod DataReadings
 pub mod Customs
 pub mod CustomReadings
 pub mod BodyReadings
 pub mod ModuleReadings
 pub mod Modules
+pub mod Constants
 pub mod ExampleModules

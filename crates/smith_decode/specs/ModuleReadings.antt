@@ -1,32 +1,34 @@
 -- Readings of modules: the section Binary Format, Modules, of the WebAssembly Core Specification 3.0.
-use Rattle.std.specs.Prelude.{◌≡◌, ◌-◌, ◌==◌, ◌&&◌, ℕ, Bool, true, if◌then◌else◌, List, [], ◌∷◌, length, Option, Some, None, Result, Ok}
-use Rattle.std.specs.Prelude.{Err}
+use Rattle.std.specs.Prelude.{◌≡◌, ◌-◌, ◌==◌, ◌&&◌, ℕ, Bool, true, not, if◌then◌else◌, List, [], ◌∷◌, length, Option, Some, None}
+use Rattle.std.specs.Prelude.{Result, Ok, Err}
 use Rattle.smith_syntax.specs.declared.composite_type.SubType.{SubType}
 use Rattle.smith_syntax.specs.declared.entity_type.MemoryType.{MemoryType}
 use Rattle.smith_syntax.specs.declared.imports.Imports.{Imports}
-use Rattle.smith_binary_read.specs.declared.data.DataSegment.{DataSegment}
-use Rattle.smith_binary_read.specs.declared.definitions.GlobalDefinition.{GlobalDefinition}
-use Rattle.smith_binary_read.specs.declared.definitions.TableDefinition.{TableDefinition}
-use Rattle.smith_binary_read.specs.declared.definitions.TagDefinition.{TagDefinition}
-use Rattle.smith_binary_read.specs.declared.elements.ElementSegment.{ElementSegment}
 use Rattle.smith_binary_read.specs.declared.error.Fault.{Fault}
-use Rattle.smith_binary_read.specs.declared.error.Reason.TheVariants.{UnknownByte, CountMismatch}
+use Rattle.smith_binary_read.specs.declared.error.Reason.TheVariants.{UnknownByte, CountMismatch, DataCountMissing}
 use Rattle.smith_binary_read.specs.declared.exports.Export.{Export}
+use Rattle.smith_binary_read.specs.declared.tags.TagDefinition.{TagDefinition}
 use Rattle.smith_binary_read.specs.Readings.{◌>>=◌, fault_at, byte_at, mapped_at, whole_at}
 use Rattle.smith_binary_read.specs.Numbers.{unsigned_at}
 use Rattle.smith_binary_read.specs.Contents.{list_at}
 use Rattle.smith_binary_read.specs.TypeReadings.{group_at}
 use Rattle.smith_binary_read.specs.EntityReadings.{memory_type_at, export_at}
 use Rattle.smith_binary_read.specs.ImportReadings.{import_group_at}
-use Rattle.smith_binary_read.specs.DefinitionReadings.{tag_at, global_at, table_at}
-use Rattle.smith_binary_read.specs.ElementReadings as element
-use Rattle.smith_binary_read.specs.DataReadings as data_segment
+use Rattle.smith_binary_read.specs.TagReadings.{tag_at}
 use Rattle.smith_decode.specs.declared.bodies.Body.{Body}
+use Rattle.smith_decode.specs.declared.customs.Custom.{Custom}
+use Rattle.smith_decode.specs.declared.data.DataSegment.{DataSegment}
+use Rattle.smith_decode.specs.declared.definitions.GlobalDefinition.{GlobalDefinition}
+use Rattle.smith_decode.specs.declared.definitions.TableDefinition.{TableDefinition}
+use Rattle.smith_decode.specs.declared.elements.ElementSegment.{ElementSegment}
 use Rattle.smith_decode.specs.declared.error.DecodeError.{DecodeError}
 use Rattle.smith_decode.specs.declared.error.DecodeError.TheVariants.{Memory, Malformed}
 use Rattle.smith_decode.specs.declared.modules.Module.{Module}
-use Rattle.smith_decode.specs.BodyReadings.{body_at}
-use Rattle.smith_decode.specs.CustomReadings.{customs_at, end_at, more_at}
+use Rattle.smith_decode.specs.BodyReadings.{body_at, name_data}
+use Rattle.smith_decode.specs.CustomReadings.{customs_at, end_at, more_at, kept_at}
+use Rattle.smith_decode.specs.DataReadings as data_segment
+use Rattle.smith_decode.specs.DefinitionReadings.{global_at, table_at}
+use Rattle.smith_decode.specs.ElementReadings as element
 
 -- these bytes
 abbrev pub literal_at : List ℕ → List ℕ → Result (List ℕ) Fault
@@ -90,7 +92,7 @@ functions_at bytes = more_at 3 [] (whole_at (list_at (unsigned_at 32))) (more_at
 unfoldable pub parts_at : List ℕ → Result Parts Fault
 parts_at bytes = more_at 1 [] (whole_at (list_at group_at)) (more_at 2 [] (whole_at (list_at import_group_at)) functions_at) bytes
 
--- a module, by its parts
+-- a module, by its parts, and with its custom sections
 abbrev pub module_of : Parts → Module
 module_of p = record {
   types = p.0;
@@ -106,7 +108,11 @@ module_of p = record {
   data_count = p.1.1.1.1.1.1.1.1.1.1.0;
   bodies = p.1.1.1.1.1.1.1.1.1.1.1.0;
   datas = p.1.1.1.1.1.1.1.1.1.1.1.1.0;
+  customs = [];
 }
+
+abbrev pub with_customs : Module → List Custom → Module
+with_customs m customs = record m { customs = customs }
 
 unfoldable pub sections_at : List ℕ → Result Module Fault
 sections_at bytes = parts_at bytes >>= (λ parts. Ok (module_of parts))
@@ -120,13 +126,29 @@ is_number (Some stated) n = stated == n
 abbrev pub counts_agree : Module → Bool
 counts_agree m = (length m.functions == length m.bodies) && is_number m.data_count (length m.datas)
 
--- a module, if its numbers of items agree: else a fault at the end (Modules)
+-- whether the number of data segments is stated, if a body names one (Modules)
+abbrev pub is_stated_if : Bool → Option ℕ → Bool
+is_stated_if named None = not named
+is_stated_if named (Some stated) = true
+
+abbrev pub count_suffices : Module → Bool
+count_suffices m = is_stated_if (name_data m.bodies) m.data_count
+
+-- a module, if its numbers of items agree, and it states the number of data segments if it must: else
+-- a fault at the end (Modules)
 abbrev pub if_counts_agree : Module → Result Module Fault
-if_counts_agree m = if counts_agree m then Ok m else Err (record { left = 0; reason = CountMismatch })
+if_counts_agree m =
+    if counts_agree m then (if count_suffices m then Ok m else Err (record { left = 0; reason = DataCountMissing }))
+    else Err (record { left = 0; reason = CountMismatch })
+
+-- a module after its preamble, without its custom sections (Modules)
+unfoldable pub checked_at : List ℕ → Result Module Fault
+checked_at bytes = customs_at bytes >>= (λ settled. sections_at settled >>= (λ m. if_counts_agree m))
 
 -- a module (Modules)
 unfoldable pub module_at : List ℕ → Result Module Fault
-module_at bytes = preamble_at bytes >>= (λ rest. customs_at rest >>= (λ settled. sections_at settled >>= (λ m. if_counts_agree m)))
+module_at bytes =
+    preamble_at bytes >>= (λ rest. checked_at rest >>= (λ m. kept_at rest >>= (λ customs. Ok (with_customs m customs))))
 
 -- a call returned what is read of bytes, or the fault with its offset in them, unless memory was
 -- refused

@@ -1,10 +1,10 @@
 -- Modules with custom sections: the section Binary Format, Modules, of the WebAssembly Core
 -- Specification 3.0.
-use Rattle.std.specs.Prelude.{◌≡◌, ℕ, Option, Some, None, List, [], ◌∷◌, length, map, IfSome, Result, Ok, Err}
+use Rattle.std.specs.Prelude.{◌≡◌, ℕ, Bool, false, Option, Some, None, List, [], ◌∷◌, length, map, IfSome, Result, Ok, Err}
+use Rattle.std.specs.List.{list_any}
 use Rattle.smith_binary.specs.Numbers.{IsUnsigned}
 use Rattle.smith_binary.specs.Pieces.{Joined, IsList, IsSized}
 use Rattle.smith_syntax.specs.declared.composite_type.SubType.{SubType}
-use Rattle.smith_syntax.specs.declared.const_instr.ConstInstr.{ConstInstr}
 use Rattle.smith_syntax.specs.declared.entity_type.ExportKind.{ExportKind}
 use Rattle.smith_syntax.specs.declared.entity_type.GlobalType.{GlobalType}
 use Rattle.smith_syntax.specs.declared.entity_type.MemoryType.{MemoryType}
@@ -12,29 +12,31 @@ use Rattle.smith_syntax.specs.declared.entity_type.TableType.{TableType}
 use Rattle.smith_syntax.specs.declared.imports.Import.{Import}
 use Rattle.smith_syntax.specs.declared.value_type.ValType.{ValType}
 use Rattle.smith_instr.specs.declared.instr.Instr.{Instr}
+use Rattle.smith_instr.specs.Enabled.{names_data}
 use Rattle.smith_types.specs.Imports.{flattened}
 use Rattle.smith_binary_sections.specs.Types.{IsRecGroup}
 use Rattle.smith_binary_sections.specs.Instructions.{IsIndex}
 use Rattle.smith_binary_sections.specs.Entities.{IsMemoryType, IsTagType}
 use Rattle.smith_binary_sections.specs.Imports.{IsImports}
-use Rattle.smith_binary_sections.specs.Definitions.{IsTable, IsGlobal}
 use Rattle.smith_binary_sections.specs.Exports.{IsExport}
-use Rattle.smith_binary_sections.specs.Elements.{Elem, IsElem}
 use Rattle.smith_binary_sections.specs.Codes.{IsLocals}
-use Rattle.smith_binary_sections.specs.Data.{Data, IsData}
-use Rattle.smith_binary_sections.specs.Modules.{Contents, IsPreamble}
-use Rattle.smith_binary_read.specs.declared.definitions.GlobalDefinition.{GlobalDefinition}
-use Rattle.smith_binary_read.specs.declared.definitions.TableDefinition.{TableDefinition}
-use Rattle.smith_binary_read.specs.declared.definitions.TagDefinition.{TagDefinition}
+use Rattle.smith_binary_sections.specs.Modules.{IsPreamble}
+use Rattle.smith_binary_read.specs.declared.tags.TagDefinition.{TagDefinition}
 use Rattle.smith_binary_read.specs.declared.exports.Export.{Export}
-use Rattle.smith_binary_read.specs.DataReadings.{segment_view}
-use Rattle.smith_binary_read.specs.ElementReadings.{element_view}
 use Rattle.smith_binary_read_instr.specs.Expressions.{IsNestedExpr}
+use Rattle.smith_decode.specs.declared.customs.Custom.{Custom}
+use Rattle.smith_decode.specs.declared.definitions.GlobalDefinition.{GlobalDefinition}
+use Rattle.smith_decode.specs.declared.definitions.TableDefinition.{TableDefinition}
 use Rattle.smith_decode.specs.declared.error.DecodeError.{DecodeError}
 use Rattle.smith_decode.specs.declared.error.DecodeError.TheVariants.{Memory, Malformed}
 use Rattle.smith_decode.specs.declared.modules.Module.{Module}
 use Rattle.smith_decode.specs.BodyReadings.{body_view}
-use Rattle.smith_decode.specs.Customs.{AreCustoms, IsThen}
+use Rattle.smith_decode.specs.Data.{Data, IsData}
+use Rattle.smith_decode.specs.DataReadings.{segment_view}
+use Rattle.smith_decode.specs.Definitions.{IsTable, IsGlobal}
+use Rattle.smith_decode.specs.ElementReadings.{element_view}
+use Rattle.smith_decode.specs.Elements.{Elem, IsElem}
+use Rattle.smith_decode.specs.Customs.{AreCustoms, IsThen, HasCustoms}
 
 -- a number that a section states (Start Section, Data Count Section)
 pub record IsStated (stated : Option ℕ) (piece : List ℕ) : Type 0 where
@@ -42,21 +44,22 @@ pub record IsStated (stated : Option ℕ) (piece : List ℕ) : Type 0 where
   pub is : stated ≡ Some number
   pub form : IsUnsigned 32 number piece
 
--- a module in the abstract syntax (Structure, Modules). A function is its type and its body, which are
--- two lists here, as in the bytes; a body is its locals and its instructions
+-- a module in the abstract syntax (Structure, Modules), with its custom sections. A function is its type
+-- and its body, which are two lists here, as in the bytes; a body is its locals and its instructions
 pub record Syntax : Type 0 where
   pub types : List (List SubType)
   pub imports : List Import
   pub functions : List ℕ
-  pub tables : List (TableType × List ConstInstr)
+  pub tables : List (TableType × List Instr)
   pub memories : List MemoryType
   pub tags : List ℕ
-  pub globals : List (GlobalType × List ConstInstr)
+  pub globals : List (GlobalType × List Instr)
   pub exports : List (List ℕ × ExportKind × ℕ)
   pub start : Option ℕ
   pub elems : List Elem
   pub bodies : List (List ValType × List Instr)
   pub datas : List Data
+  pub customs : List Custom
 
 -- a body after its size: its locals, then its expression (Code Section)
 abbrev pub IsFunctionBody : List ValType × List Instr → List ℕ → Type 0
@@ -80,22 +83,29 @@ AreSections m count =
     (IsThen 10 (m.bodies ≡ []) (IsList IsFunctionBody m.bodies)
     (IsThen 11 (m.datas ≡ []) (IsList IsData m.datas) AreCustoms))))))))))))
 
+-- whether an instruction of a body names a data segment (Data Count Section)
+abbrev pub body_names_data : List ValType × List Instr → Bool
+body_names_data body = list_any names_data body.1
+
 -- a module: the preamble, then its sections; it has a body for each function, and as many data
--- segments as it states, if it states their number (Modules)
+-- segments as it states, if it states their number; if it doesn't, no body names a data segment; and
+-- these are its custom sections (Modules)
 pub record IsModuleBinary (m : Syntax) (bytes : List ℕ) : Type 0 where
   pub count : Option ℕ
   pub form : Joined IsPreamble (AreSections m count) bytes
   pub bodies : length m.functions ≡ length m.bodies
   pub datas : IfSome count (λ stated. stated ≡ length m.datas)
+  pub named : count ≡ None → list_any body_names_data m.bodies ≡ false
+  pub customs : HasCustoms m.customs form.second
 
 -- tables, tags, globals and exports in the abstract syntax (Structure, Modules)
-abbrev pub table_pair : TableDefinition → TableType × List ConstInstr
+abbrev pub table_pair : TableDefinition → TableType × List Instr
 table_pair table = (table.ty, table.initial)
 
 abbrev pub tag_index : TagDefinition → ℕ
 tag_index tag = tag.0
 
-abbrev pub global_pair : GlobalDefinition → GlobalType × List ConstInstr
+abbrev pub global_pair : GlobalDefinition → GlobalType × List Instr
 global_pair global = (global.ty, global.initial)
 
 abbrev pub export_triple : Export → List ℕ × ExportKind × ℕ
@@ -117,6 +127,7 @@ syntax_of m = record {
   elems = map element_view m.elements;
   bodies = map body_view m.bodies;
   datas = map segment_view m.datas;
+  customs = m.customs;
 }
 
 -- a call returned this module, or memory was refused
@@ -132,20 +143,3 @@ AreBodiesOf [] [] = Unit {0}
 AreBodiesOf (body ∷ bodies) (raw ∷ raws) = (body.0 ≡ raw.0) × IsNestedExpr body.1 raw.1 × AreBodiesOf bodies raws
 AreBodiesOf [] (raw ∷ raws) = ⊥
 AreBodiesOf (body ∷ bodies) [] = ⊥
-
--- a module with these bodies (Structure, Modules)
-abbrev pub with_bodies : Contents → List (List ValType × List Instr) → Syntax
-with_bodies m bodies = record {
-  types = m.types;
-  imports = m.imports;
-  functions = m.functions;
-  tables = m.tables;
-  memories = m.memories;
-  tags = m.tags;
-  globals = m.globals;
-  exports = m.exports;
-  start = m.start;
-  elems = m.elems;
-  bodies = bodies;
-  datas = m.datas;
-}

@@ -1,12 +1,13 @@
 ghost use Rattle.std.specs.Prelude.{◌≡◌, ◌^◌, nat_lt};
+ghost use Rattle.smith_instr.specs.Enabled.{names_data};
 ghost use Rattle.smith_binary_read.specs.Readings.{GivesWhole, whole_at};
 ghost use Rattle.smith_binary_read_instr.specs.ExpressionReadings.{expr_at};
-ghost use Rattle.smith_decode.specs.BodyReadings.{total};
+ghost use Rattle.smith_decode.specs.BodyReadings.{total, names_data_in, name_data};
 
 use crate::sections::{DecodeWhole, finish, read_sized};
 use smith_binary_read::{Decode, ReadError, Reader, Reason, read_list};
 use smith_binary_read_instr::read_expr;
-use smith_instr::Instr;
+use smith_instr::{AggregateInstr, Instr, MemoryInstr};
 use smith_types::{Items, ValType};
 
 /// A run of locals of one type (Code Section).
@@ -53,6 +54,42 @@ fn are_few(runs: &[LocalRun]) -> bool
         }
     }
     true
+}
+
+// Returns whether `instruction` names a data segment.
+fn names_data(instruction: &Instr) -> bool
+    ensures { result ≡ names_data instruction.now }
+{
+    match instruction {
+        Instr::Memory(MemoryInstr::Init { .. } | MemoryInstr::DataDrop(_)) => true,
+        Instr::Aggregate(AggregateInstr::ArrayNewData { .. }) => true,
+        Instr::Aggregate(AggregateInstr::ArrayInitData { .. }) => true,
+        _ => false,
+    }
+}
+
+// Returns whether `body` names a data segment.
+fn names_data_in(body: &Body) -> bool
+    ensures { result ≡ names_data_in body.now }
+{
+    for instruction in body.instructions.as_slice() {
+        if names_data(instruction) {
+            return true;
+        }
+    }
+    false
+}
+
+/// Returns whether one of `bodies` names a data segment.
+pub(crate) fn name_data(bodies: &[Body]) -> bool
+    ensures { result ≡ name_data bodies.now }
+{
+    for body in bodies {
+        if names_data_in(body) {
+            return true;
+        }
+    }
+    false
 }
 
 // Reads all bytes of `reader` as an expression.

@@ -8,7 +8,8 @@ pub enum DecodeError {
     #[error("out of memory")]
     Memory,
     /// The bytes are no module. The first fault is at the byte `offset`, counted from 0, and breaks the
-    /// rule `reason`. Numbers of items that differ are a fault at the end.
+    /// rule `reason`. Numbers of items that differ, and a number of data segments that is not stated,
+    /// are a fault at the end.
     #[error("malformed at byte {offset}: {reason}")]
     Malformed { offset: usize, reason: Reason },
 }

@@ -1,14 +1,22 @@
-ghost use Rattle.std.specs.Prelude.{◌≡◌, Ok, Err, [], ◌∷◌};
+ghost use Rattle.std.specs.Prelude.{◌≡◌, false, Some, None, Ok, Err, [], ◌∷◌};
+ghost use Rattle.smith_syntax.specs.declared.value_type.ValType.TheVariants.{I32};
 ghost use Rattle.smith_instr.specs.declared.instr.Instr.TheVariants as instr;
 ghost use Rattle.smith_binary_read.specs.declared.error.Reason.TheVariants as reason;
+ghost use Rattle.smith_decode.specs.declared.data.DataMode.TheVariants as mode;
 ghost use Rattle.smith_decode.specs.BodyReadings.{body_at, body_of};
-ghost use Rattle.smith_decode.specs.ExampleModules.{no_item, after_preamble};
-ghost use Rattle.smith_decode.specs.ModuleReadings.{module_at};
+ghost use Rattle.smith_decode.specs.DataReadings as data_segment;
+ghost use Rattle.smith_decode.specs.DefinitionReadings.{global_at, global_of};
+ghost use Rattle.smith_decode.specs.ExampleModules.{no_item, after_preamble, ctz, one_drop, dropping};
+ghost use Rattle.smith_decode.specs.CustomReadings.{custom};
+ghost use Rattle.smith_decode.specs.ModuleReadings.{module_at, with_customs};
 ghost use Rattle.smith_decode.specs.Modules.{IsModuleBinary, Syntax, syntax_of};
 
 fn modules()
     ensures preamble { module_at (after_preamble []) ≡ Ok no_item }
-    ensures custom_section { module_at (after_preamble (0x00 ∷ 0x02 ∷ 0x00 ∷ 0x2A ∷ [])) ≡ Ok no_item }
+    ensures custom_section { module_at (after_preamble (0x00 ∷ 0x02 ∷ 0x00 ∷ 0x2A ∷ []))
+        ≡ Ok (with_customs no_item (custom None [] (0x2A ∷ []) ∷ [])) }
+    ensures customs_around { module_at (after_preamble (0x00 ∷ 0x01 ∷ 0x00 ∷ 0x0A ∷ 0x01 ∷ 0x00 ∷ 0x00 ∷ 0x01 ∷ 0x00 ∷ []))
+        ≡ Ok (with_customs no_item (custom None [] [] ∷ custom (Some 10) [] [] ∷ [])) }
     ensures empty_sections { module_at (after_preamble (0x01 ∷ 0x01 ∷ 0x00 ∷ 0x0A ∷ 0x01 ∷ 0x00 ∷ []))
         ≡ Ok no_item }
     ensures long_size { module_at (after_preamble (0x01 ∷ 0x81 ∷ 0x00 ∷ 0x00 ∷ [])) ≡ Ok no_item }
@@ -34,8 +42,32 @@ fn bodies()
         ≡ Err (record { left = 1; reason = reason.TrailingBytes }) }
 {}
 
+fn initialisers()
+    ensures no_constant { global_at (0x7F ∷ 0x00 ∷ 0x41 ∷ 0x01 ∷ 0x68 ∷ 0x0B ∷ [])
+        ≡ Ok (global_of (record { val_type = I32; mutable = false; shared = false }) ctz, []) }
+    ensures open_block { global_at (0x7F ∷ 0x00 ∷ 0x02 ∷ 0x40 ∷ 0x0B ∷ [])
+        ≡ Err (record { left = 0; reason = reason.UnexpectedEnd }) }
+    ensures offset { data_segment.segment_at (0x00 ∷ 0x41 ∷ 0x01 ∷ 0x68 ∷ 0x0B ∷ 0x01 ∷ 0xFF ∷ [])
+        ≡ Ok (data_segment.segment (mode.Active 0 ctz) (0xFF ∷ []), []) }
+{}
+
+fn data_counts()
+    ensures stated { module_at (after_preamble (0x03 ∷ 0x02 ∷ 0x01 ∷ 0x00 ∷ 0x0C ∷ 0x01 ∷ 0x00 ∷ one_drop))
+        ≡ Ok dropping }
+    ensures missing { module_at (after_preamble (0x03 ∷ 0x02 ∷ 0x01 ∷ 0x00 ∷ one_drop))
+        ≡ Err (record { left = 0; reason = reason.DataCountMissing }) }
+    ensures other_count { module_at (after_preamble (0x0C ∷ 0x01 ∷ 0x01 ∷ []))
+        ≡ Err (record { left = 0; reason = reason.CountMismatch }) }
+{}
+
 fn modules_in_the_abstract_syntax()
     ensures preamble { IsModuleBinary (syntax_of no_item) (after_preamble []) }
+    ensures without_its_custom_section { ¬ IsModuleBinary (syntax_of no_item)
+        (after_preamble (0x00 ∷ 0x02 ∷ 0x00 ∷ 0x2A ∷ [])) }
+    ensures stated { IsModuleBinary (syntax_of dropping)
+        (after_preamble (0x03 ∷ 0x02 ∷ 0x01 ∷ 0x00 ∷ 0x0C ∷ 0x01 ∷ 0x00 ∷ one_drop)) }
+    ensures not_stated { (m : Syntax)
+        → ¬ IsModuleBinary m (after_preamble (0x03 ∷ 0x02 ∷ 0x01 ∷ 0x00 ∷ one_drop)) }
     ensures without_a_body { (m : Syntax)
         → ¬ IsModuleBinary m (after_preamble (0x03 ∷ 0x02 ∷ 0x01 ∷ 0x00 ∷ [])) }
     ensures out_of_order { (m : Syntax)

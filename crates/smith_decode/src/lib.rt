@@ -3,6 +3,10 @@
 #![tactic(auto)]
 
 mod bodies;
+mod customs;
+mod data;
+mod definitions;
+mod elements;
 mod error;
 mod examples;
 /// Laws: functions without effect, whose clauses state properties.
@@ -11,5 +15,9 @@ mod modules;
 mod sections;
 
 pub use bodies::{Body, LocalRun};
+pub use customs::Custom;
+pub use data::{DataMode, DataSegment};
+pub use definitions::{GlobalDefinition, TableDefinition};
+pub use elements::{ElementItems, ElementMode, ElementSegment};
 pub use error::DecodeError;
 pub use modules::{Module, decode};

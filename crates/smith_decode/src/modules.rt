@@ -1,24 +1,26 @@
 ghost use Rattle.std.specs.Prelude.{◌≡◌, [], ◌∷◌, IfOk, List};
+ghost use Rattle.smith_binary_read.specs.declared.error.ReadError.TheVariants as error;
 ghost use Rattle.smith_binary_read.specs.Readings.{GivesWhole};
 ghost use Rattle.smith_decode.specs.CustomReadings.{GivesRest, end_at};
 ghost use Rattle.smith_decode.specs.ModuleReadings.{literal_at, preamble_at, bodies_at, counts_at};
 ghost use Rattle.smith_decode.specs.ModuleReadings.{starts_at, globals_at, memories_at};
-ghost use Rattle.smith_decode.specs.ModuleReadings.{functions_at, sections_at, module_at};
-ghost use Rattle.smith_decode.specs.ModuleReadings.{counts_agree, Locates};
+ghost use Rattle.smith_decode.specs.ModuleReadings.{functions_at, sections_at, checked_at, module_at};
+ghost use Rattle.smith_decode.specs.ModuleReadings.{counts_agree, count_suffices, Locates};
 ghost use Rattle.smith_decode.specs.Modules.{Syntax, IsModuleBinary, syntax_of, Returns};
 
-use crate::bodies::Body;
+use crate::bodies::{Body, name_data};
+use crate::customs::{Custom, read_customs};
+use crate::data::DataSegment;
+use crate::definitions::{GlobalDefinition, TableDefinition};
+use crate::elements::ElementSegment;
 use crate::error::DecodeError;
 use crate::sections::{read_section, skip_customs};
-use smith_binary_read::{
-    DataSegment, ElementSegment, Export, Fault, GlobalDefinition, ReadError, Reader, Reason,
-    TableDefinition, TagDefinition,
-};
+use smith_binary_read::{Export, Fault, ReadError, Reader, Reason, TagDefinition};
 use smith_types::{Imports, Items, MemoryType, SubType};
 use std::alloc::Global;
 
-/// A module as it is in the bytes, custom sections aside: what [`decode`] returns. Types, functions and
-/// other entities are named by their indices.
+/// A module as it is in the bytes: what [`decode`] returns. Types, functions and other entities are named
+/// by their indices.
 #[derive(Debug, Drop)]
 pub struct Module {
     /// The recursive groups of types (Type Section).
@@ -47,6 +49,8 @@ pub struct Module {
     pub bodies: Items<Body>,
     /// The data segments (Data Section).
     pub datas: Items<DataSegment>,
+    /// The custom sections, in order (Custom Section).
+    pub customs: Items<Custom>,
 }
 
 // The bodies and the data segments.
@@ -170,7 +174,7 @@ fn read_functions(reader: &mut Reader<'_>) -> Result<Functions, ReadError>
     Ok((functions, (tables, rest)))
 }
 
-// Reads the sections of a module.
+// Reads the sections of a module, apart from its custom sections.
 #[tactic(auto, unfolding(crate::specs::ModuleReadings::sections_at, crate::specs::ModuleReadings::parts_at))]
 fn read_sections(reader: &mut Reader<'_>) -> Result<Module, ReadError>
     ensures { GivesWhole result (sections_at reader.old) }
@@ -194,6 +198,7 @@ fn read_sections(reader: &mut Reader<'_>) -> Result<Module, ReadError>
         data_count,
         bodies,
         datas,
+        customs: Items::new(reader.alloc()),
     })
 }
 
@@ -210,21 +215,49 @@ fn counts_agree(m: &Module) -> bool
     }
 }
 
-// Reads a module.
+// Returns whether `m` states the number of its data segments, if a body names one.
+fn count_suffices(m: &Module) -> bool
+    ensures { result ≡ count_suffices m.now }
+{
+    match m.data_count {
+        None => !name_data(m.bodies.as_slice()),
+        Some(_) => true,
+    }
+}
+
+// Returns the fault `reason` at the end.
+fn end_fault(reason: Reason) -> ReadError
+    ensures { result ≡ error.Malformed (record { left = 0; reason = reason }) }
+{
+    ReadError::Malformed(Fault { left: 0, reason })
+}
+
+// Reads a module after its preamble, without its custom sections.
+#[tactic(auto, unfolding(crate::specs::ModuleReadings::checked_at))]
+fn read_checked(reader: &mut Reader<'_>) -> Result<Module, ReadError>
+    ensures { GivesWhole result (checked_at reader.old) }
+{
+    skip_customs(reader)?;
+    let m = read_sections(reader)?;
+    if !counts_agree(&m) {
+        return Err(end_fault(Reason::CountMismatch));
+    }
+    if !count_suffices(&m) {
+        return Err(end_fault(Reason::DataCountMissing));
+    }
+    Ok(m)
+}
+
+// Reads a module. Its sections are read once more for the custom ones.
 #[tactic(auto, unfolding(crate::specs::ModuleReadings::module_at))]
 fn read_module(alloc: Global, bytes: &[u8]) -> Result<Module, ReadError>
     ensures { GivesWhole result (module_at bytes.now) }
 {
     let mut reader = Reader::new(alloc, bytes);
     read_preamble(&mut reader)?;
-    skip_customs(&mut reader)?;
-    let m = read_sections(&mut reader)?;
-    if !counts_agree(&m) {
-        return Err(ReadError::Malformed(Fault {
-            left: 0,
-            reason: Reason::CountMismatch,
-        }));
-    }
+    let mut again = Reader::new(alloc, reader.rest());
+    let mut m = read_checked(&mut reader)?;
+    m.customs = read_customs(&mut again)?;
     Ok(m)
 }
 
@@ -242,7 +275,7 @@ fn read_located(alloc: Global, bytes: &[u8]) -> Result<Module, DecodeError>
     }
 }
 
-/// Decodes the module that `bytes` are. Custom sections are skipped. `alloc` allocates the module.
+/// Decodes the module that `bytes` are. Custom sections are kept as bytes. `alloc` allocates the module.
 ///
 /// # Errors
 ///

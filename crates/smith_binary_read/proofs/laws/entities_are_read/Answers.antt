@@ -2,6 +2,7 @@ use Rattle.smith_binary_read.proofs.ContentLemmas.{name_decodes}
 use Rattle.smith_binary_read.proofs.TypeLemmas.{ref_decodes, val_decodes, group_decodes}
 use Rattle.smith_binary_read.proofs.EntityLemmas.{memory_decodes, extern_decodes, export_decodes}
 use Rattle.smith_binary_read.proofs.ImportLemmas.{import_group_decodes}
+use Rattle.smith_binary_read.proofs.TagLemmas.{tag_def_decodes}
 use Rattle.smith_binary_read.proofs.laws.entities_are_read.Goals as goal
 
 pub returns-clause-names : goal.returns-clause-names
@@ -27,3 +28,6 @@ returns-clause-imports c = import_group_decodes
 
 pub returns-clause-exports : goal.returns-clause-exports
 returns-clause-exports c = export_decodes
+
+pub returns-clause-tags : goal.returns-clause-tags
+returns-clause-tags c = tag_def_decodes

@@ -1,0 +1,25 @@
+use Rattle.std.proofs.Common.{List, Ok, ap, sym, ◌∙◌}
+use Rattle.std.proofs.lemmas.Result.{err_from_is_err_and}
+use Rattle.smith_binary_read.specs.Readings.{each_at}
+use Rattle.smith_binary_read.proofs.LoopLemmas.{goes_on, ends, is_done}
+use Rattle.smith_instr.specs.declared.instr.Instr.{Instr}
+use Rattle.smith_binary_read_instr.specs.ExpressionReadings.{expr_at}
+use Rattle.smith_decode.proofs.elements.read_each_expr.Goals as goal
+
+pub returns-in_err-item : goal.returns-in_err-item
+returns-in_err-item c =
+    let p = err_from_is_err_and c.from_residual.result c.from_residual.ensures.1 in
+    rw (p.1, p.2) (ends expr_at c.in_err-item.field-0.0 c.loop.items.items c.args.count c.loop.counter c.loop.reader
+    (each_at expr_at c.args.count c.args.reader.now) c.loop-test.true c.in_err-item.ensures c.loop.invariant)
+
+pub loop-preserved : goal.loop-preserved
+loop-preserved c =
+    rw c.in_ok-push.ensures.items
+    (goes_on expr_at c.loop.items.items c.args.count c.loop.counter c.loop.reader c.in_ok-item.item c.read_expr.new.reader
+    (each_at expr_at c.args.count c.args.reader.now) c.loop-test.true c.in_ok-item.ensures c.loop.invariant)
+
+pub returns : goal.returns
+returns c =
+    is_done expr_at c.loop.items.items c.args.count c.loop.counter c.loop.reader
+    (each_at expr_at c.args.count c.args.reader.now) c.loop-test.false c.loop.invariant
+    ∙ ap (λ (xs : List (List Instr)). Ok (xs, c.loop.reader)) (sym c.from_vec.ensures)

@@ -1,0 +1,30 @@
+-- Definitions of tables and globals, whose initialisers are any expressions: the section Binary
+-- Format, Modules, Table Section and Global Section, of the WebAssembly Core Specification 3.0.
+use Rattle.std.specs.Prelude.{◌≡◌, ℕ, List, [], ◌∷◌}
+use Rattle.smith_binary.specs.Pieces.{Is, Joined}
+use Rattle.smith_syntax.specs.declared.entity_type.GlobalType.{GlobalType}
+use Rattle.smith_syntax.specs.declared.entity_type.TableType.{TableType}
+use Rattle.smith_syntax.specs.declared.value_type.RefType.{RefType}
+use Rattle.smith_binary_sections.specs.Entities.{IsGlobalType, IsTableType}
+use Rattle.smith_instr.specs.declared.instr.Instr.{Instr}
+use Rattle.smith_instr.specs.declared.instr.Instr.TheVariants.{Reference}
+use Rattle.smith_instr.specs.declared.reference.ReferenceInstr.TheVariants.{Null}
+use Rattle.smith_binary_read_instr.specs.Expressions.{IsNestedExpr}
+
+-- the expression of the null reference of a type (Table Section)
+abbrev pub null_of : RefType → List Instr
+null_of reference = Reference (Null reference.heap_type) ∷ []
+
+-- the type of a table, then the expression of its elements (Table Section)
+abbrev pub IsTypedTable : TableType → List Instr → List ℕ → Type 0
+IsTypedTable ty initial = Joined (IsTableType ty) (IsNestedExpr initial)
+
+-- a table: two bytes, its type and the expression of its elements; or its type alone, if they are null
+-- (Table Section)
+pub data IsTable (table : TableType × List Instr) (piece : List ℕ) : Type 0 where
+  initialised : Joined (Is (0x40 ∷ 0x00 ∷ [])) (IsTypedTable table.0 table.1) piece → IsTable table piece
+  null : table.1 ≡ null_of table.0.element_type → IsTableType table.0 piece → IsTable table piece
+
+-- a global: its type, then the expression of its first value (Global Section)
+abbrev pub IsGlobal : GlobalType × List Instr → List ℕ → Type 0
+IsGlobal global = Joined (IsGlobalType global.0) (IsNestedExpr global.1)
