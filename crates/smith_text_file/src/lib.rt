@@ -1,0 +1,12 @@
+//! Decoded files in the text format of the WebAssembly Core Specification 3.0, chapter Text Format: any
+//! module of the binary format as text, valid or not. Fields and instructions are written as those of
+//! generated modules are.
+#![tactic(auto)]
+
+mod expressions;
+mod fields;
+mod functions;
+mod imported;
+mod segments;
+
+pub use fields::{File, text, write_file};
