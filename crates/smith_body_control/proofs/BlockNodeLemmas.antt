@@ -73,7 +73,7 @@ opened_node context set values dropped None ty sides may fits below given spare 
   inside = valid;
 }
 
-block_node : (context : BodyContext) (set : List ℕ) (values dropped : List ValType) (opening : Option Opening) (ty : BlockType) (params results : List ValType) → IsBlockType context ty params results → AreBelow context results (values ++ dropped)
+pub block_node : (context : BodyContext) (set : List ℕ) (values dropped : List ValType) (opening : Option Opening) (ty : BlockType) (params results : List ValType) → IsBlockType context ty params results → AreBelow context results (values ++ dropped)
     → AreValid context values → AreValid context dropped → AreValid context params → AreValid context results → length params + length results ≤ widest context.types → length dropped ≤ length results → IsNode context set values (blocked opening ty params results (length dropped))
 block_node context set values dropped opening ty params results fits below given spare params_valid results_valid few less =
     opened_node context set values dropped (fitting opening params results) ty (record { params = params; results = results }) (may_open opening params results) fits below given spare

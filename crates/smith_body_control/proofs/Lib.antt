@@ -5,3 +5,4 @@ pub mod BlockNodeLemmas
 pub mod BlockChoiceLemmas
 pub mod ThrowLemmas
 pub mod TryLemmas
+pub mod HandlerLemmas

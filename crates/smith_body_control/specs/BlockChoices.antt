@@ -1,15 +1,18 @@
 -- The block that the bytes choose. The choices, their order and their weights are rules of this
 -- project.
-use Rattle.std.specs.Prelude.{ℕ, Option, Some, None, List, [], ◌∷◌, length, slice_get, slice_index_or}
+use Rattle.std.specs.Prelude.{ℕ, ◌%◌, nat_le, ◌&&◌, Bool, Option, Some, None, List, [], ◌∷◌, length, slice_get, slice_index_or, if◌then◌else◌}
 use Rattle.smith_bytes.specs.Draws.{range_at}
+use Rattle.smith_syntax.specs.Features.{Features}
 use Rattle.smith_syntax.specs.declared.value_type.ValType.{ValType}
 use Rattle.smith_syntax.specs.declared.composite_type.FuncType.{FuncType}
-use Rattle.smith_instr.specs.Contexts.{BodyContext}
+use Rattle.smith_instr.specs.Contexts.{BodyContext, nullable_to}
 use Rattle.smith_instr.specs.declared.control.BlockType.TheVariants as block
 use Rattle.smith_body_nodes.specs.Chosen.{Chosen}
 use Rattle.smith_body_nodes.specs.Nodes.{blocked}
 use Rattle.smith_body_nodes.specs.Offered.{func_in}
 use Rattle.smith_body_nodes.specs.Scopes.{indexed}
+use Rattle.smith_body_control.specs.ThrowChoices.{exn}
+use Rattle.smith_body_control.specs.TryChoices.{refers_to_caught}
 use Rattle.smith_body_nodes.specs.declared.node.Node.{Node}
 use Rattle.smith_body_nodes.specs.declared.node.Opening.{Opening}
 use Rattle.smith_body_nodes.specs.declared.node.Opening.TheVariants as opening
@@ -38,8 +41,27 @@ abbrev pub any_block_node : Option Opening → ℕ → Option FuncType → Node
 any_block_node opening index (Some function) = blocked opening (block.Func index) function.params function.results (length function.results)
 any_block_node opening index None = blocked opening block.Empty [] [] 0
 
+abbrev pub any_block_of : BodyContext → Option Opening → List ℕ → Chosen
+any_block_of context opening bytes =
+    let index = range_at 0 (indexed (length context.types)) bytes in
+    (Some (any_block_node opening index.0 (func_in (slice_get context.types index.0))), index.1)
+
+-- the type of references to exceptions, or null
+abbrev pub exnref : ValType
+exnref = nullable_to exn
+
+-- a handler: a block that leaves such a reference, which is dropped after it; clauses may pass one to
+-- its label
+abbrev pub handler : Node
+handler = blocked (Some opening.Block) (block.Value exnref) [] (exnref ∷ []) 1
+
+-- one of 16 numbers is that of a handler, if clauses may pass references
+abbrev pub is_of_handler : Features → ℕ → Bool
+is_of_handler features number = nat_le 240 number && refers_to_caught features
+
+-- a handler, or a block of a function type
 unfoldable pub any_block_at : BodyContext → List ℕ → Chosen
 any_block_at context bytes =
-    let opening = opening_at bytes in
-    let index = range_at 0 (indexed (length context.types)) opening.1 in
-    (Some (any_block_node opening.0 index.0 (func_in (slice_get context.types index.0))), index.1)
+    let number = range_at 0 255 bytes in
+    if is_of_handler context.features number.0 then (Some handler, number.1)
+    else any_block_of context (slice_index_or openings (number.0 % 6) None) number.1

@@ -19,7 +19,7 @@ use smith_types::{Items, RefType, ValType, WasmFeatures};
 use std::alloc::Global;
 
 /// Returns whether non-nullable references to exceptions are enabled.
-fn refers_to_caught(scope: &Scope<'_>) -> bool
+pub(crate) fn refers_to_caught(scope: &Scope<'_>) -> bool
     ensures { result ≡ refers_to_caught (bare scope.now).features }
 {
     refers_to_exceptions(scope) && scope.features.contains(WasmFeatures::FUNCTION_REFERENCES)

@@ -1,6 +1,6 @@
-#![tactic(auto, unfolding(smith_body_reference_branches::specs::CastBranchChoices::cast_branch_for, smith_body_reference_branches::specs::CastBranchChoices::cast_value_at, smith_body_casts::specs::CastChoices::cast_at, smith_body_casts::specs::CastChoices::cast_choice_at, smith_body_casts::specs::CastChoices::cast_for, smith_body_casts::specs::CastChoices::conversion_at, smith_body_casts::specs::CastChoices::non_null_test_at, smith_body_casts::specs::CastChoices::scalar_at, smith_body_casts::specs::CastChoices::type_test_at, smith_body_nodes::specs::Offered::chunk_at, smith_body_nodes::specs::Offered::offered, smith_draw_types::specs::Below::is_heap_below, smith_draw_types::specs::Choices::chosen_at, smith_draw_types::specs::Offered::ancestors, smith_bytes::specs::Draws::bool_at, smith_bytes::specs::Draws::choose_at, smith_bytes::specs::Draws::digit_count, smith_bytes::specs::Draws::range_at))]
+#![tactic(auto, unfolding(smith_body_reference_branches::specs::CastBranchChoices::cast_branch_for, smith_body_reference_branches::specs::CastBranchChoices::left_out_at, smith_body_reference_branches::specs::CastBranchChoices::cast_value_at, smith_body_casts::specs::CastChoices::cast_at, smith_body_casts::specs::CastChoices::cast_choice_at, smith_body_casts::specs::CastChoices::cast_for, smith_body_casts::specs::CastChoices::conversion_at, smith_body_casts::specs::CastChoices::non_null_test_at, smith_body_casts::specs::CastChoices::scalar_at, smith_body_casts::specs::CastChoices::type_test_at, smith_body_nodes::specs::Offered::chunk_at, smith_body_nodes::specs::Offered::offered, smith_draw_types::specs::Below::is_heap_below, smith_draw_types::specs::Choices::chosen_at, smith_draw_types::specs::Offered::ancestors, smith_bytes::specs::Draws::bool_at, smith_bytes::specs::Draws::choose_at, smith_bytes::specs::Draws::digit_count, smith_bytes::specs::Draws::range_at))]
 
-ghost use Rattle.std.specs.Prelude.{◌≡◌, Some, None, [], ◌∷◌, true};
+ghost use Rattle.std.specs.Prelude.{◌≡◌, Some, None, [], ◌∷◌, false, true};
 ghost use Rattle.smith_types.specs.ExampleTypes.{not_null, nullable, plain};
 ghost use Rattle.smith_types.specs.Flags.{funcref};
 ghost use Rattle.smith_syntax.specs.declared.value_type.AbstractHeapType.TheVariants as heap;
@@ -10,8 +10,10 @@ ghost use Rattle.smith_instr.specs.declared.aggregate.AggregateInstr.TheVariants
 ghost use Rattle.smith_instr.specs.declared.instr.Instr.TheVariants as instr;
 ghost use Rattle.smith_instr.specs.declared.reference.ReferenceInstr.TheVariants as reference;
 ghost use Rattle.smith_body_reference_branches.specs.CastBranchChoices.{cast_branch_at, cast_value_at};
+ghost use Rattle.smith_body_reference_branches.specs.CastBranchChoices.{is_exception};
 ghost use Rattle.smith_body_casts.specs.CastChoices.{cast_choice_at};
 ghost use Rattle.smith_body_nodes.specs.Nodes.{aggregate_of, node_of};
+ghost use Rattle.smith_instr_examples.specs.ExampleBodies.{exnref};
 ghost use Rattle.smith_body_examples.specs.ExampleAggregates.{aggregates, any, any_of, branching};
 ghost use Rattle.smith_body_examples.specs.ExampleAggregates.{labelled_by, references, some};
 ghost use Rattle.smith_body_examples.specs.ExampleAggregates.{some_of, unmanaged};
@@ -178,6 +180,45 @@ fn branches_between_types()
               1),
           9 ∷ [],
         ) }
+{}
+
+fn branches_on_exceptions()
+    ensures left_out { cast_branch_at (labelled_by ((exnref ∷ []) ∷ [])) (14 ∷ 9 ∷ [])
+        ≡ (None, 9 ∷ []) }
+    ensures one_of_16 { cast_branch_at (labelled_by ((exnref ∷ []) ∷ [])) (15 ∷ 0 ∷ 0 ∷ 0 ∷ 9 ∷ [])
+        ≡ (
+          Some (node_of (exnref ∷ []) (instr.BrOnCastFail
+              (record { label = 0; from = nullable (plain heap.Exn); to = nullable (plain heap.Exn) }))
+              1),
+          9 ∷ [],
+        ) }
+    ensures always_made { ¬ (cast_branch_at (labelled_by ((exnref ∷ []) ∷ []))
+        (0 ∷ 0 ∷ 0 ∷ 9 ∷ [])
+        ≡ (
+          Some (node_of (exnref ∷ []) (instr.BrOnCastFail
+              (record { label = 0; from = nullable (plain heap.Exn); to = nullable (plain heap.Exn) }))
+              1),
+          9 ∷ [],
+        )) }
+{}
+
+fn kept_casts_of_exceptions()
+    ensures left_out { cast_value_at (labelled_by ((exnref ∷ []) ∷ [])) exnref (0 ∷ 9 ∷ [])
+        ≡ (None, 9 ∷ []) }
+    ensures one_of_16 { cast_value_at (labelled_by ((exnref ∷ []) ∷ [])) exnref (15 ∷ 9 ∷ [])
+        ≡ (
+          Some (node_of (exnref ∷ []) (instr.BrOnCastFail
+              (record { label = 0; from = nullable (plain heap.Exn); to = nullable (plain heap.Exn) }))
+              0),
+          9 ∷ [],
+        ) }
+{}
+
+fn exceptions()
+    ensures of_all { is_exception (plain heap.Exn) ≡ true }
+    ensures of_none { is_exception (Abstract true heap.NoExn) ≡ true }
+    ensures external { is_exception (plain heap.Extern) ≡ false }
+    ensures of_a_type { is_exception (Concrete 0) ≡ false }
 {}
 
 fn kept_casts()

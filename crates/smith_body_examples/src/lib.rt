@@ -13,6 +13,7 @@ mod creations;
 mod enabled;
 mod exceptions;
 mod fields;
+mod handlers;
 mod memories;
 mod null_branches;
 mod offers;

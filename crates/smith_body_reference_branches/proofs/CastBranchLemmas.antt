@@ -1,14 +1,15 @@
 -- Branches on casts.
 use Rattle.std.proofs.Common.{◌≡◌, ℕ, ◌-◌, ◌<◌, ◌≤◌, Bool, true, false, List, [], ◌∷◌, ◌++◌, Option, Some, None, length, get_or, take, refl, sym, subst, ap, ◌∙◌, arith}
-use Rattle.std.specs.Prelude.{slice_get, not, IsTrue, min, option_map, option_and_then, unwrap_or, if◌then◌else◌}
+use Rattle.std.specs.Prelude.{slice_get, ◌==◌, not, IsTrue, min, option_map, option_and_then, unwrap_or, if◌then◌else◌}
 use Rattle.std.specs.List.{AllZip}
 use Rattle.std.proofs.lemmas.List.{length-take-le}
 use Rattle.std.proofs.lemmas.List.Elements.{All-push, All-take}
 use Rattle.std.proofs.lemmas.Option.{same_Some, slice_get-get_or}
-use Rattle.smith_bytes.specs.Draws.{bool_at, choose_at}
+use Rattle.smith_bytes.specs.Draws.{bool_at, choose_at, range_at}
 use Rattle.smith_types.specs.Subtyping.{IsRefBelow, IsValBelow, itself}
 use Rattle.smith_types.specs.Types.{IsOrderly}
 use Rattle.smith_syntax.specs.declared.composite_type.SubType.{SubType}
+use Rattle.smith_syntax.specs.declared.value_type.HeapType.{HeapType}
 use Rattle.smith_syntax.specs.declared.value_type.RefType.{RefType}
 use Rattle.smith_syntax.specs.declared.value_type.ValType.{ValType}
 use Rattle.smith_syntax.specs.declared.value_type.ValType.TheVariants.{I32, I64, F32, F64, V128, Ref}
@@ -18,10 +19,11 @@ use Rattle.smith_instr.specs.Contexts.{BodyContext, IsValid, AreValid}
 use Rattle.smith_instr.specs.InstrTypes.{HasInstrType, difference, sets}
 use Rattle.smith_instr.specs.declared.instr.Instr.{Instr}
 use Rattle.smith_instr.specs.declared.instr.Instr.TheVariants as instr
-use Rattle.smith_body_reference_branches.specs.CastBranchChoices.{below_at, below_in, br_on_cast_at, br_on_cast_fail_at, cast_branch_for, cast_label, cast_label_at, cast_label_there, cast_node, cast_of, cast_value_at, is_strictly_below, kept_cast, kept_cast_node, last_of, local_below_at, lower_at, reference_as, strictly_below_at}
+use Rattle.smith_body_reference_branches.specs.CastBranchChoices.{below_at, below_in, br_on_cast_at, br_on_cast_fail_at, cast_branch_at, cast_branch_for, cast_branch_to, cast_label, cast_label_at, cast_label_there, cast_node, cast_of, cast_value_at, is_exception, is_strictly_below, kept_cast, kept_cast_at, kept_cast_node, last_of, left_out_at, local_below_at, lower_at, reference_as, strictly_below_at}
 use Rattle.smith_body_nodes.specs.Above.{above_at, reference_in}
-use Rattle.smith_body_nodes.specs.Chosen.{giving}
+use Rattle.smith_body_nodes.specs.Chosen.{Chosen, giving}
 use Rattle.smith_body_nodes.specs.IndexedTypes.{names_types}
+use Rattle.smith_body_nodes.specs.Items.{continued}
 use Rattle.smith_body_nodes.specs.Nodes.{IsNode}
 use Rattle.smith_body_reference_branches.specs.NullChoices.{is_of_reference, last_reference}
 use Rattle.smith_body_nodes.specs.Offered.{chunk_at, is_below_at, is_local_below, is_target, offered}
@@ -211,6 +213,29 @@ pub branch_fails : (context : BodyContext) (label : CastLabel) (bytes left : Lis
 unfolding cast_branch_for
 branch_fails context label bytes left drawn = rw drawn refl
 
+-- a branch that is left out, or is not
+pub left_out_never : (heap_type : HeapType) (bytes : List ℕ) → is_exception heap_type ≡ false → left_out_at heap_type bytes ≡ (false, bytes)
+unfolding left_out_at
+left_out_never heap_type bytes other = rw other refl
+
+pub left_out_by : (heap_type : HeapType) (bytes left : List ℕ) (number : ℕ) → is_exception heap_type ≡ true → range_at 0 15 bytes ≡ (number, left) → left_out_at heap_type bytes ≡ (not (number == 15), left)
+unfolding left_out_at
+left_out_by heap_type bytes left number exception drawn = rw (exception, drawn) refl
+
+abbrev made_unless : BodyContext → CastLabel → Bool × List ℕ → Chosen
+made_unless context label out = if out.0 then (None, out.1) else cast_branch_for context label out.1
+
+pub branch_out : (context : BodyContext) (label : CastLabel) (bytes middle left : List ℕ) → cast_label_at context.labels bytes ≡ (Some label, middle) → left_out_at label.last.heap_type middle ≡ (true, left) → cast_branch_at context bytes ≡ (None, left)
+branch_out context label bytes middle left chosen drawn =
+    ap (λ (d : Option CastLabel × List ℕ). continued (cast_branch_to context) d.0 d.1) chosen
+    ∙ ap (λ (out : Bool × List ℕ). made_unless context label out) drawn
+
+pub branch_in : (context : BodyContext) (label : CastLabel) (bytes middle left : List ℕ) → cast_label_at context.labels bytes ≡ (Some label, middle) → left_out_at label.last.heap_type middle ≡ (false, left)
+    → cast_branch_at context bytes ≡ cast_branch_for context label left
+branch_in context label bytes middle left chosen drawn =
+    ap (λ (d : Option CastLabel × List ℕ). continued (cast_branch_to context) d.0 d.1) chosen
+    ∙ ap (λ (out : Bool × List ℕ). made_unless context label out) drawn
+
 -- a reference of the type of the cast, if the branch is not taken
 one_above : (types : List SubType) (to : RefType) (taken : List ValType) (from : RefType) → AllZip (IsValBelow types) (Ref to ∷ []) taken → last_reference taken ≡ Some from → (taken ≡ Ref from ∷ []) × IsRefBelow types to from
 one_above types to [] from below is = absurd below
@@ -239,14 +264,20 @@ kept_cast_gives scope labels set to from label taken orderly are inside is targe
     (λ more. ([], record { from_valid = from_valid.1; to_valid = to_valid.1; below = under; wanted = from; taken = one; arrives = left_below types from to }, (refl, refl)))
     (itself_below types to) to_valid refl (omega arith) (one_valid (context_of scope labels) (Ref from) from_valid)
 
-pub cast_value_none : (context : BodyContext) (to : RefType) (bytes left : List ℕ) → choose_at (offered (is_target context.types context.labels (Ref to ∷ [])) (min (length context.labels) 64)) bytes ≡ (None, left) → cast_value_at context (Ref to) bytes ≡ (None, left)
+pub value_out : (context : BodyContext) (to : RefType) (bytes left : List ℕ) → left_out_at to.heap_type bytes ≡ (true, left) → cast_value_at context (Ref to) bytes ≡ (None, left)
 unfolding cast_value_at
-cast_value_none context to bytes left drawn = ap (λ (label : Option ℕ × List ℕ). giving (kept_cast context.labels to) label) drawn
+value_out context to bytes left drawn = rw drawn refl
 
-pub cast_value_some : (context : BodyContext) (to : RefType) (bytes left : List ℕ) (label : ℕ) (taken : List ValType) (o : Option RefType) → choose_at (offered (is_target context.types context.labels (Ref to ∷ [])) (min (length context.labels) 64)) bytes ≡ (Some label, left)
-    → slice_get context.labels label ≡ Some taken → last_reference taken ≡ o → cast_value_at context (Ref to) bytes ≡ (option_map (kept_cast_node to label) o, left)
+pub value_in : (context : BodyContext) (to : RefType) (bytes left : List ℕ) → left_out_at to.heap_type bytes ≡ (false, left) → cast_value_at context (Ref to) bytes ≡ kept_cast_at context to left
 unfolding cast_value_at
-cast_value_some context to bytes left label taken o drawn at last =
+value_in context to bytes left drawn = rw drawn refl
+
+pub kept_none : (context : BodyContext) (to : RefType) (bytes left : List ℕ) → choose_at (offered (is_target context.types context.labels (Ref to ∷ [])) (min (length context.labels) 64)) bytes ≡ (None, left) → kept_cast_at context to bytes ≡ (None, left)
+kept_none context to bytes left drawn = ap (λ (label : Option ℕ × List ℕ). giving (kept_cast context.labels to) label) drawn
+
+pub kept_some : (context : BodyContext) (to : RefType) (bytes left : List ℕ) (label : ℕ) (taken : List ValType) (o : Option RefType) → choose_at (offered (is_target context.types context.labels (Ref to ∷ [])) (min (length context.labels) 64)) bytes ≡ (Some label, left)
+    → slice_get context.labels label ≡ Some taken → last_reference taken ≡ o → kept_cast_at context to bytes ≡ (option_map (kept_cast_node to label) o, left)
+kept_some context to bytes left label taken o drawn at last =
     ap (λ (label : Option ℕ × List ℕ). giving (kept_cast context.labels to) label) drawn
     ∙ (ap (λ (values : Option (List ValType)). (option_map (kept_cast_node to label) (option_and_then last_reference values), left)) at
     ∙ ap (λ (o : Option RefType). (option_map (kept_cast_node to label) o, left)) last)

@@ -1,8 +1,10 @@
 -- The branch on a cast that the bytes choose. The choices, their order and their weights are rules
 -- of this project.
-use Rattle.std.specs.Prelude.{ℕ, ◌-◌, ◌&&◌, not, Bool, min, Option, Some, None, option_map, option_and_then, unwrap_or, List, [], ◌∷◌, ◌++◌, length, slice_get, take, if◌then◌else◌}
-use Rattle.smith_bytes.specs.Draws.{bool_at, choose_at}
-use Rattle.smith_syntax.specs.declared.value_type.HeapType.TheVariants.{Concrete}
+use Rattle.std.specs.Prelude.{ℕ, ◌-◌, ◌==◌, ◌&&◌, not, Bool, true, false, min, Option, Some, None, option_map, option_and_then, unwrap_or, List, [], ◌∷◌, ◌++◌, length, slice_get, take, if◌then◌else◌}
+use Rattle.smith_bytes.specs.Draws.{bool_at, choose_at, range_at}
+use Rattle.smith_syntax.specs.declared.value_type.AbstractHeapType.TheVariants as abstract
+use Rattle.smith_syntax.specs.declared.value_type.HeapType.{HeapType}
+use Rattle.smith_syntax.specs.declared.value_type.HeapType.TheVariants.{Abstract, Concrete}
 use Rattle.smith_syntax.specs.declared.value_type.RefType.{RefType}
 use Rattle.smith_syntax.specs.declared.value_type.ValType.{ValType}
 use Rattle.smith_syntax.specs.declared.value_type.ValType.TheVariants.{Ref}
@@ -106,9 +108,27 @@ cast_branch_for context label bytes =
     let succeeds = bool_at bytes in
     if succeeds.0 then br_on_cast_at context label succeeds.1 else br_on_cast_fail_at context label succeeds.1
 
+-- a heap type is that of exceptions, or of none
+abbrev pub is_exception : HeapType → Bool
+is_exception (Abstract shared abstract.Exn) = true
+is_exception (Abstract shared abstract.NoExn) = true
+is_exception _ = false
+
+-- whether a branch on a cast of a reference to such a type is left out: 15 of 16 times for
+-- exceptions, since references to them have no types in between
+unfoldable pub left_out_at : HeapType → List ℕ → Bool × List ℕ
+left_out_at heap_type bytes =
+    let number = range_at 0 15 bytes in
+    if is_exception heap_type then (not (number.0 == 15), number.1) else (false, bytes)
+
+abbrev pub cast_branch_to : BodyContext → CastLabel → List ℕ → Chosen
+cast_branch_to context label bytes =
+    let out = left_out_at label.last.heap_type bytes in
+    if out.0 then (None, out.1) else cast_branch_for context label out.1
+
 -- a branch of either kind, to a label whose last value is a reference
 abbrev pub cast_branch_at : BodyContext → List ℕ → Chosen
-cast_branch_at context bytes = let label = cast_label_at context.labels bytes in continued (cast_branch_for context) label.0 label.1
+cast_branch_at context bytes = let label = cast_label_at context.labels bytes in continued (cast_branch_to context) label.0 label.1
 
 -- a reference of the wanted type, to which a cast succeeds; if it fails, a branch is taken to a
 -- label of one value, whose type the wanted type matches
@@ -118,7 +138,12 @@ kept_cast_node to label from = node_of (Ref from ∷ []) (instr.BrOnCastFail (ca
 abbrev pub kept_cast : List (List ValType) → RefType → ℕ → Option Node
 kept_cast labels to label = option_map (kept_cast_node to label) (last_of labels label)
 
+abbrev pub kept_cast_at : BodyContext → RefType → List ℕ → Chosen
+kept_cast_at context to bytes =
+    giving (kept_cast context.labels to) (choose_at (offered (is_target context.types context.labels (Ref to ∷ [])) (min (length context.labels) 64)) bytes)
+
 unfoldable pub cast_value_at : BodyContext → ValType → List ℕ → Chosen
 cast_value_at context (Ref to) bytes =
-    giving (kept_cast context.labels to) (choose_at (offered (is_target context.types context.labels (Ref to ∷ [])) (min (length context.labels) 64)) bytes)
+    let out = left_out_at to.heap_type bytes in
+    if out.0 then (None, out.1) else kept_cast_at context to out.1
 cast_value_at context _ bytes = (None, bytes)

@@ -7,7 +7,8 @@ ghost use Rattle.smith_body_reference_branches.specs.CastBranchChoices.{below_at
 ghost use Rattle.smith_body_reference_branches.specs.CastBranchChoices.{br_on_cast_fail_at, cast_branch_at};
 ghost use Rattle.smith_body_reference_branches.specs.CastBranchChoices.{cast_branch_for, cast_label_at};
 ghost use Rattle.smith_body_reference_branches.specs.CastBranchChoices.{cast_node, cast_value_at, last_of};
-ghost use Rattle.smith_body_reference_branches.specs.CastBranchChoices.{is_strictly_below, local_below_at};
+ghost use Rattle.smith_body_reference_branches.specs.CastBranchChoices.{is_exception, is_strictly_below};
+ghost use Rattle.smith_body_reference_branches.specs.CastBranchChoices.{kept_cast_at, left_out_at, local_below_at};
 ghost use Rattle.smith_body_reference_branches.specs.CastBranchChoices.{lower_at, reference_as};
 ghost use Rattle.smith_body_reference_branches.specs.CastBranchChoices.{strictly_below_at};
 ghost use Rattle.smith_body_nodes.specs.Chosen.{or_nop};
@@ -21,7 +22,7 @@ use smith_body_nodes::{
 };
 use smith_bytes::{Error, Unstructured};
 use smith_instr::{BranchCast, Instr};
-use smith_types::{HeapType, RefType, ValType};
+use smith_types::{AbstractHeapType, HeapType, RefType, ValType};
 use std::alloc::Global;
 
 /// Types that are strictly below a reference type.
@@ -99,7 +100,34 @@ fn draw_cast_branch(
     let Some(label) = choose_cast_label(draft, u) else {
         return Ok(None);
     };
+    if is_left_out(label.last, u) {
+        return Ok(None);
+    }
     branch_to(alloc, scope, label, draft, u)
+}
+
+/// Draws whether a branch on a cast of a reference of the type `to` is left out: 15 of 16 times if the
+/// reference is to an exception.
+fn is_left_out(to: RefType, u: &mut Unstructured<'_>) -> bool
+    ensures exact { left_out_at to.heap_type u.old ≡ (result, u.new) }
+    ensures left { KeepsPieces u.old u.new }
+{
+    if !is_exception(to.heap_type) {
+        return false;
+    }
+    u.int_in_range(0..=15u8) != 15
+}
+
+/// Returns whether `heap_type` is that of exceptions, or of none.
+fn is_exception(heap_type: HeapType) -> bool
+    ensures { result ≡ is_exception heap_type }
+{
+    match heap_type {
+        HeapType::Abstract { ty, .. } => {
+            matches!(ty, AbstractHeapType::Exn | AbstractHeapType::NoExn)
+        }
+        _ => false,
+    }
 }
 
 /// Chooses a label whose last value is a reference, if there is one.
@@ -325,10 +353,13 @@ pub fn choose_kept_cast(
     ensures memory { IfErr result (λ e. e ≡ Error.Memory) }
     ensures left { KeepsPieces u.old u.new }
 {
-    match wanted {
-        ValType::Ref(to) => choose_cast_to(alloc, scope, to, draft, u),
-        _ => Ok(None),
+    let ValType::Ref(to) = wanted else {
+        return Ok(None);
+    };
+    if is_left_out(to, u) {
+        return Ok(None);
     }
+    choose_cast_to(alloc, scope, to, draft, u)
 }
 
 fn choose_cast_to(
@@ -342,7 +373,7 @@ fn choose_cast_to(
     requires labels { AreLabels scope.now draft.now.labels.items }
     requires to { IsValid (bare scope.now) (Ref to) }
     ensures exact { IfOk result (λ chosen.
-        cast_value_at (where_stands scope.now draft.now) (Ref to) u.old ≡ (chosen, u.new)) }
+        kept_cast_at (where_stands scope.now draft.now) to u.old ≡ (chosen, u.new)) }
     ensures offer { IsOffer (where_stands scope.now draft.now) draft.now.set.items
         (Ref to ∷ []) result }
     ensures memory { IfErr result (λ e. e ≡ Error.Memory) }
