@@ -1,0 +1,4 @@
+pub mod Slots
+pub mod StackTypes
+pub mod Sequences
+pub mod Laws
