@@ -1,0 +1,11 @@
+pub mod Fits
+pub mod Lookups
+pub mod Scopes
+pub mod SetLocals
+pub mod Covers
+pub mod Closes
+pub mod Opens
+pub mod Applies
+pub mod Checks
+pub mod Covered
+pub mod Verdicts
