@@ -1,1 +1,2 @@
 mod EmbeddingLemmas
+mod ExampleLemmas

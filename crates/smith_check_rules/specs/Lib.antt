@@ -2,3 +2,4 @@ pub mod Slots
 pub mod StackTypes
 pub mod Sequences
 pub mod Laws
+pub mod ExampleBodies

@@ -5,6 +5,7 @@
 //! typed here too ([`laws`]).
 #![tactic(auto)]
 
+mod examples;
 /// Laws: functions without effect, whose clauses state properties.
 pub mod laws;
 mod slot;
