@@ -18,3 +18,5 @@ mod CheckLemmas
 mod EndLemmas
 mod BodyLemmas
 mod VectorLemmas
+mod SelectLemmas
+mod MemoryLemmas

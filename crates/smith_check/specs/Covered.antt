@@ -2,9 +2,19 @@
 use Rattle.std.specs.Prelude.{Bool, true, false}
 use Rattle.smith_instr.specs.declared.instr.Instr.{Instr}
 use Rattle.smith_instr.specs.declared.instr.Instr.TheVariants as instr
+use Rattle.smith_instr.specs.declared.memory.MemoryInstr.{MemoryInstr}
+use Rattle.smith_instr.specs.declared.memory.MemoryInstr.TheVariants as memory
+
+-- the instructions on whole memories that the check knows (own rule)
+abbrev pub is_memory_covered : MemoryInstr → Bool
+is_memory_covered (memory.Size index) = true
+is_memory_covered (memory.Grow index) = true
+is_memory_covered (memory.Fill index) = true
+is_memory_covered _ = false
 
 -- the instructions that the check knows: blocks, loops, ifs and their ends, branches to one label,
--- calls of functions, and instructions on variables and numbers (own rule)
+-- calls of functions, instructions on variables and numbers, and loads and stores of numbers and the
+-- size, growth and filling of memories (own rule)
 abbrev pub is_covered : Instr → Bool
 is_covered instr.Unreachable = true
 is_covered instr.Nop = true
@@ -18,6 +28,9 @@ is_covered (instr.BrIf label) = true
 is_covered instr.Return = true
 is_covered (instr.Call index) = true
 is_covered instr.Drop = true
+is_covered instr.ThrowRef = true
+is_covered instr.AtomicFence = true
+is_covered instr.Select = true
 is_covered (instr.LocalGet index) = true
 is_covered (instr.LocalSet index) = true
 is_covered (instr.LocalTee index) = true
@@ -29,4 +42,7 @@ is_covered (instr.F32Const bits) = true
 is_covered (instr.F64Const bits) = true
 is_covered (instr.V128Const bits) = true
 is_covered (instr.Numeric op) = true
+is_covered (instr.Load op at) = true
+is_covered (instr.Store op at) = true
+is_covered (instr.Memory op) = is_memory_covered op
 is_covered _ = false

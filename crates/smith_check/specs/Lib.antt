@@ -3,6 +3,7 @@ pub mod Lookups
 pub mod Scopes
 pub mod SetLocals
 pub mod Covers
+pub mod Selects
 pub mod Closes
 pub mod Opens
 pub mod Applies

@@ -12,7 +12,7 @@ use crate::frame::{Frame, Operands, Shape};
 use crate::lookups::{func_at, label, type_index_at};
 use crate::scope::Scope;
 use smith_bytes::Error;
-use smith_types::ValType;
+use smith_types::{AbstractHeapType, HeapType, RefType, ValType};
 
 /// Tries `unreachable`.
 pub fn unreachable(operands: &mut Operands, scope: &Scope) -> bool
@@ -115,4 +115,32 @@ pub fn call(operands: &mut Operands, scope: &Scope, index: u32) -> Result<bool, 
         return Ok(false);
     };
     operands.apply(scope, &function.params, &function.results)
+}
+
+/// Tries `throw_ref`.
+pub fn throw_ref(operands: &mut Operands, scope: &Scope) -> bool
+    requires { AreSlotsValid (bare scope.now) operands.old.known.items }
+    ensures { (labels : List (List ValType)) (set : List ℕ)
+        → IsTried (bare scope.now) labels instr.ThrowRef set result
+        (held operands.old) (held operands.new) }
+{
+    let exception = ValType::Ref(RefType {
+        nullable: true,
+        heap_type: HeapType::Abstract {
+            shared: false,
+            ty: AbstractHeapType::Exn,
+        },
+    });
+    operands.leave_with(scope, &[exception])
+}
+
+/// Tries `atomic.fence`.
+pub fn atomic_fence(operands: &mut Operands, scope: &Scope) -> Result<bool, Error>
+    requires { AreSlotsValid (bare scope.now) operands.old.known.items }
+    ensures ok { (labels : List (List ValType)) (set : List ℕ) → IfOk result
+        (λ there. IsTried (bare scope.now) labels instr.AtomicFence set there
+        (held operands.old) (held operands.new)) }
+    ensures memory { IfErr result (λ e. e ≡ Error.Memory) }
+{
+    operands.apply(scope, &[], &[])
 }

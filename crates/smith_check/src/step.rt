@@ -12,9 +12,13 @@ ghost use Rattle.smith_check.specs.Closes.{label_of, labels_of, IsPlain};
 ghost use Rattle.smith_check.specs.Covered.{is_covered};
 
 use crate::constants::{f32_const, f64_const, i32_const, i64_const, numeric, v128_const};
-use crate::control::{br, br_if, call, drop_one, nop, return_all, unreachable};
+use crate::control::{
+    atomic_fence, br, br_if, call, drop_one, nop, return_all, throw_ref, unreachable,
+};
 use crate::frame::{Frame, Operands, Shape};
+use crate::memory::{load, memory, store};
 use crate::scope::Scope;
+use crate::select::select;
 use crate::set_locals::SetLocals;
 use crate::variables::{global_get, global_set, local_get, local_set, local_tee};
 use smith_bytes::Error;
@@ -48,6 +52,9 @@ pub fn step(
         Instr::Return => Ok(return_all(operands, scope)),
         Instr::Call(index) => call(operands, scope, *index),
         Instr::Drop => Ok(drop_one(operands, scope)),
+        Instr::ThrowRef => Ok(throw_ref(operands, scope)),
+        Instr::AtomicFence => atomic_fence(operands, scope),
+        Instr::Select => select(operands, scope),
         Instr::LocalGet(index) => local_get(operands, scope, log, *index),
         Instr::LocalSet(index) => local_set(operands, scope, *index),
         Instr::LocalTee(index) => local_tee(operands, scope, *index),
@@ -59,7 +66,19 @@ pub fn step(
         Instr::F64Const(_) => f64_const(operands, scope),
         Instr::V128Const(_) => v128_const(operands, scope),
         Instr::Numeric(op) => numeric(operands, scope, *op),
-        _ => Ok(false),
+        Instr::Load(op, at) => load(operands, scope, *op, *at),
+        Instr::Store(op, at) => store(operands, scope, *op, *at),
+        Instr::Memory(op) => memory(operands, scope, *op),
+        Instr::Block(_) | Instr::Loop(_) | Instr::If(_) | Instr::Else | Instr::End => Ok(false),
+        Instr::TryTable(_, _) | Instr::Throw(_) | Instr::BrTable(_, _) => Ok(false),
+        Instr::BrOnNull(_) | Instr::BrOnNonNull(_) => Ok(false),
+        Instr::BrOnCast(_) | Instr::BrOnCastFail(_) => Ok(false),
+        Instr::CallIndirect { .. } | Instr::CallRef(_) | Instr::ReturnCall(_) => Ok(false),
+        Instr::ReturnCallIndirect { .. } | Instr::ReturnCallRef(_) => Ok(false),
+        Instr::SelectTyped(_) | Instr::Reference(_) | Instr::Table(_) => Ok(false),
+        Instr::Aggregate(_) | Instr::Vector(_) | Instr::Atomic(_, _) => Ok(false),
+        Instr::VectorLoad(_, _) | Instr::VectorStore(_) => Ok(false),
+        Instr::VectorLoadLane { .. } | Instr::VectorStoreLane { .. } => Ok(false),
     }
 }
 
