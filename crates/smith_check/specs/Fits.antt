@@ -1,0 +1,27 @@
+-- Values where others are expected, type by type.
+use Rattle.std.specs.Prelude.{List, [], ◌∷◌}
+use Rattle.smith_syntax.specs.declared.value_type.ValType.{ValType}
+use Rattle.smith_syntax.specs.declared.composite_type.SubType.{SubType}
+use Rattle.smith_types.specs.Subtyping.{IsValBelow, IsValInRange}
+use Rattle.smith_check_rules.specs.Slots.{IsBelow}
+use Rattle.smith_check_rules.specs.declared.slot.Slot.{Slot}
+use Rattle.smith_check_rules.specs.declared.slot.Slot.TheVariants.{Value}
+
+-- the type that a slot refers to exists (own rule)
+abbrev pub IsSlotInRange : List SubType → Slot → Type 0
+IsSlotInRange types (Value value) = IsValInRange types value
+IsSlotInRange types _ = Unit {0}
+
+-- as many values as are expected, each of a type that matches its expected type (Validation,
+-- Matching, Result Types)
+abbrev pub AreFit : List SubType → List Slot → List ValType → Type 0
+AreFit types [] [] = Unit {0}
+AreFit types (slot ∷ slots) (expected ∷ more) = IsBelow types slot (Value expected) × AreFit types slots more
+AreFit types _ _ = ⊥
+
+-- as many types, each of which matches that at its place in the others (Validation, Matching,
+-- Result Types)
+abbrev pub AreMatched : List SubType → List ValType → List ValType → Type 0
+AreMatched types [] [] = Unit {0}
+AreMatched types (a ∷ these) (b ∷ others) = IsValBelow types a b × AreMatched types these others
+AreMatched types _ _ = ⊥

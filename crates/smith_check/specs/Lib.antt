@@ -1,0 +1,12 @@
+pub mod Fits
+pub mod Lookups
+pub mod Scopes
+pub mod SetLocals
+pub mod Covers
+pub mod Selects
+pub mod Closes
+pub mod Opens
+pub mod Applies
+pub mod Checks
+pub mod Covered
+pub mod Verdicts

@@ -1,0 +1,16 @@
+-- Items that an index doesn't have.
+use Rattle.std.specs.Prelude.{ℕ, ◌≤◌, Bool, List}
+use Rattle.smith_syntax.specs.declared.composite_type.FuncType.{FuncType}
+use Rattle.smith_syntax.specs.declared.composite_type.SubType.{SubType}
+use Rattle.smith_syntax.specs.declared.entity_type.MemoryType.{MemoryType}
+use Rattle.smith_instr.specs.MemoryTypes.{IsAccess}
+use Rattle.smith_instr.specs.declared.memory.MemArg.{MemArg}
+use Rattle.smith_types.specs.Entities.{IsFuncAt}
+
+-- there is no such access to bytes of this binary logarithm (Validation, Memory Instructions, memarg)
+abbrev pub HasNoAccess : List MemoryType → MemArg → ℕ → Type 0
+HasNoAccess memories at log2_bytes = (wide : Bool) → IsAccess memories at wide → at.align ≤ log2_bytes → ⊥
+
+-- there is no function type at this index (Validation, Contexts)
+abbrev pub HasNoFunc : List SubType → ℕ → Type 0
+HasNoFunc types index = (function : FuncType) → IsFuncAt types index function → ⊥

@@ -1,0 +1,2 @@
+mod EmbeddingLemmas
+mod ExampleLemmas

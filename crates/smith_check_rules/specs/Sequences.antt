@@ -1,0 +1,91 @@
+-- Sequences of instructions and bodies, with the bottom types: the sections Validation, Instruction
+-- Sequences, and Validation, Functions, of the WebAssembly Core Specification 3.0.
+use Rattle.std.specs.Prelude.{◌≡◌, ℕ, List, [], ◌∷◌, ◌++◌, All}
+use Rattle.smith_syntax.specs.declared.value_type.ValType.{ValType}
+use Rattle.smith_syntax.specs.declared.value_type.ValType.TheVariants.{I32}
+use Rattle.smith_instr.specs.Contexts.{BodyContext, labelled, IsBlockType}
+use Rattle.smith_instr.specs.InstrTypes.{sets, IsCatch}
+use Rattle.smith_instr.specs.declared.control.BlockType.{BlockType}
+use Rattle.smith_instr.specs.declared.control.Catch.{Catch}
+use Rattle.smith_instr.specs.declared.instr.Instr.{Instr}
+use Rattle.smith_instr.specs.declared.instr.Instr.TheVariants as instr
+use Rattle.smith_check_rules.specs.Slots.{AreBelow, AreSlotsValid, values}
+use Rattle.smith_check_rules.specs.StackTypes.{HasStackType}
+use Rattle.smith_check_rules.specs.declared.slot.Slot.{Slot}
+
+-- the types of the values on the stack, the last on top, and the locals that were set (Validation,
+-- Conventions, Types)
+pub record Stacked : Type 0 where
+  pub stack : List Slot
+  pub set : List ℕ
+
+-- these types and these set locals (Validation, Conventions, Types)
+abbrev pub stacked : List Slot → List ℕ → Stacked
+stacked stack set = record { stack = stack; set = set }
+
+-- values count as values of these valid types, which they match (Validation, Instruction Sequences,
+-- subsumption)
+pub record CountsAs (context : BodyContext) (these given : List Slot) : Type 0 where
+  pub below : AreBelow context.types these given
+  pub valid : AreSlotsValid context given
+
+-- an instruction with these operands and results applies to a stack with values on top that match
+-- the operands; its results count as values of types that they match; the rest of the stack stays,
+-- and some locals are set (Validation, Instruction Sequences, frame and subsumption)
+pub record IsFramed (context : BodyContext) (operands results : List Slot) (set : List ℕ) (before after : Stacked) : Type 0 where
+  pub rest : List Slot
+  pub taken : List Slot
+  pub given : List Slot
+  pub under : before.stack ≡ rest ++ taken
+  pub accepted : AreBelow context.types taken operands
+  pub offered : CountsAs context results given
+  pub over : after.stack ≡ rest ++ given
+  pub set_then : after.set ≡ before.set ++ set
+
+-- an instruction, blocks aside, takes one stack to another (Validation, Instruction Sequences)
+pub record IsStep (context : BodyContext) (instruction : Instr) (before after : Stacked) : Type 0 where
+  pub operands : List Slot
+  pub results : List Slot
+  pub typed : HasStackType context before.set instruction operands results
+  pub framed : IsFramed context operands results (sets instruction) before after
+
+-- instructions take one stack to another, from the first to the last. The body of a block has one
+-- more label, for a branch to its end, or for a loop to its start; the locals that it sets are not
+-- set after it (Validation, Instruction Sequences; Control Instructions, block, loop, if,
+-- try_table). An empty sequence leaves the stack, which may count as another. An if without an else
+-- is an if whose else is empty
+pub data AreTyped : BodyContext → List Instr → Stacked → Stacked → Type 0 where
+  nothing : {context : BodyContext} {before after : Stacked}
+      → CountsAs context before.stack after.stack → after.set ≡ before.set → AreTyped context [] before after
+  step : {context : BodyContext} {instruction : Instr} {more : List Instr} {before between after : Stacked}
+      → IsStep context instruction before between → AreTyped context more between after → AreTyped context (instruction ∷ more) before after
+  block : {context : BodyContext} {ty : BlockType} {all body more : List Instr} (params results : List ValType) {set : List ℕ} {before between after : Stacked}
+      → all ≡ instr.Block ty ∷ (body ++ instr.End ∷ more) → IsBlockType context ty params results
+      → AreTyped (labelled context results) body (stacked (values params) before.set) (stacked (values results) set)
+      → IsFramed context (values params) (values results) [] before between → AreTyped context more between after → AreTyped context all before after
+  loop : {context : BodyContext} {ty : BlockType} {all body more : List Instr} (params results : List ValType) {set : List ℕ} {before between after : Stacked}
+      → all ≡ instr.Loop ty ∷ (body ++ instr.End ∷ more) → IsBlockType context ty params results
+      → AreTyped (labelled context params) body (stacked (values params) before.set) (stacked (values results) set)
+      → IsFramed context (values params) (values results) [] before between → AreTyped context more between after → AreTyped context all before after
+  if_alone : {context : BodyContext} {ty : BlockType} {all body more : List Instr} (params results : List ValType) {set : List ℕ} {before between after : Stacked}
+      → all ≡ instr.If ty ∷ (body ++ instr.End ∷ more) → IsBlockType context ty params results
+      → AreTyped (labelled context results) body (stacked (values params) before.set) (stacked (values results) set)
+      → CountsAs context (values params) (values results)
+      → IsFramed context (values (params ++ I32 ∷ [])) (values results) [] before between → AreTyped context more between after → AreTyped context all before after
+  if_else : {context : BodyContext} {ty : BlockType} {all body other more : List Instr} (params results : List ValType) {set reset : List ℕ} {before between after : Stacked}
+      → all ≡ instr.If ty ∷ (body ++ instr.Else ∷ (other ++ instr.End ∷ more)) → IsBlockType context ty params results
+      → AreTyped (labelled context results) body (stacked (values params) before.set) (stacked (values results) set)
+      → AreTyped (labelled context results) other (stacked (values params) before.set) (stacked (values results) reset)
+      → IsFramed context (values (params ++ I32 ∷ [])) (values results) [] before between → AreTyped context more between after → AreTyped context all before after
+  try_table : {context : BodyContext} {ty : BlockType} {clauses : List Catch} {all body more : List Instr} (params results : List ValType) {set : List ℕ} {before between after : Stacked}
+      → all ≡ instr.TryTable ty clauses ∷ (body ++ instr.End ∷ more) → IsBlockType context ty params results → All (IsCatch context) clauses
+      → AreTyped (labelled context results) body (stacked (values params) before.set) (stacked (values results) set)
+      → IsFramed context (values params) (values results) [] before between → AreTyped context more between after → AreTyped context all before after
+
+-- a body, its last `end` aside, leaves the results of its function and nothing else. At its start
+-- only the locals that are always set are set, and its only label is that of the function, to which
+-- a branch is a return (Validation, Functions). The types of the context, its locals among them,
+-- are not required to be valid here
+pub record IsBodyTyped (context : BodyContext) (body : List Instr) : Type 0 where
+  pub set : List ℕ
+  pub typed : AreTyped (record context { labels = context.results ∷ [] }) body (stacked [] []) (stacked (values context.results) set)
