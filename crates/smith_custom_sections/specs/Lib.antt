@@ -1,0 +1,4 @@
+pub mod Additions
+pub mod CustomDraws
+pub mod CustomSections
+pub mod WithoutCustoms
