@@ -1,0 +1,3 @@
+pub mod FrontLemmas
+pub mod StableLemmas
+pub mod AmongLemmas
