@@ -5,3 +5,4 @@ pub mod ShortLemmas
 pub mod FitLemmas
 pub mod ReadLemmas
 pub mod SourceLemmas
+pub mod ExampleLemmas

@@ -6,6 +6,7 @@
 mod addition;
 mod custom_section;
 mod draws;
+mod examples;
 mod insertion;
 
 pub use addition::add_custom_sections;
