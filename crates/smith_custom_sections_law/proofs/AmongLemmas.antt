@@ -105,7 +105,7 @@ kept_woven after customs place (section ∷ sections) woven small h =
     kept_due after customs false place h.first h.second woven h.is_first own h.whole
 
 -- bytes after the preamble
-after_preamble : {Rest : List ℕ → Type 0} {file : List ℕ} → (h : Joined IsPreamble Rest file) → drop 8 file ≡ h.second
+pub after_preamble : {Rest : List ℕ → Type 0} {file : List ℕ} → (h : Joined IsPreamble Rest file) → drop 8 file ≡ h.second
 after_preamble h = rw (h.whole, h.is_first) refl
 
 pub kept_module : (m : Syntax) (customs : List CustomSection) (file bytes : List ℕ) → IsModuleBinary m file → IsWithCustomsIn any customs file bytes

@@ -1,4 +1,5 @@
-//! The law that a module stays the same module when custom sections are put into its file.
+//! Laws on files with custom sections: they stay files of the same module, and without their custom
+//! sections they are one file.
 #![tactic(auto)]
 
 /// Laws: functions with empty bodies whose clauses state theorems.
