@@ -1,5 +1,5 @@
 -- Small sections, and files that are refused.
-use Rattle.std.proofs.Common.{◌≡◌, ◌≢◌, ℕ, ◌+◌, ◌<◌, ◌≤◌, true, false, List, [], ◌∷◌, ◌++◌, length, drop, refl, sym, ap, subst, ◌∙◌, arith, length-append}
+use Rattle.std.proofs.Common.{◌≡◌, ℕ, ◌+◌, ◌<◌, ◌≤◌, true, false, List, [], ◌∷◌, ◌++◌, length, drop, refl, sym, ap, subst, ◌∙◌, arith, length-append}
 use Rattle.std.specs.Prelude.{IsUtf8}
 use Rattle.std.specs.List.{concat}
 use Rattle.std.proofs.lemmas.Str.{IsUtf8-from_ascii}
@@ -12,7 +12,6 @@ use Rattle.smith_binary.proofs.WrittenLemmas.{each_byte}
 use Rattle.smith_custom_sections.specs.CustomSections.{AreDueIn, AreWovenIn, IsAny, IsContentIn, IsPlainFile, IsPlainSection, IsWithCustomsIn}
 use Rattle.smith_custom_sections.specs.ExampleCustoms.{after_preamble, custom}
 use Rattle.smith_custom_sections.specs.WithoutCustoms.{IsLeftOf, IsNamed, IsWithoutCustoms}
-use Rattle.smith_custom_sections.proofs.FileLemmas.{plain_cut}
 use Rattle.smith_custom_sections.proofs.WovenLemmas.{none_left}
 
 -- a section of few bytes

@@ -1,5 +1,5 @@
 -- Custom sections and files of examples.
-use Rattle.std.specs.Prelude.{ℕ, List, [], ◌∷◌}
+use Rattle.std.specs.Prelude.{ℕ, List, ◌∷◌}
 use Rattle.smith_custom_sections.specs.declared.custom_section.CustomSection.{CustomSection}
 
 abbrev pub custom : ℕ → List ℕ → List ℕ → CustomSection
