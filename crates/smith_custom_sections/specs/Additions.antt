@@ -1,0 +1,13 @@
+-- Files to which custom sections are added.
+use Rattle.std.specs.Prelude.{ℕ, List}
+use Rattle.smith_binary.specs.Spelling.Spelling.{any, written}
+use Rattle.smith_custom_sections.specs.declared.custom_section.CustomSection.{CustomSection}
+use Rattle.smith_custom_sections.specs.CustomSections.{IsWithCustomsIn}
+use Rattle.smith_custom_sections.specs.WithoutCustoms.{IsWithoutCustoms}
+
+-- the bytes are a file with custom sections among its own, whose sizes and lengths have this number of
+-- bytes at least; without the custom sections they are the file
+pub record IsAdded (least : ℕ) (customs : List CustomSection) (file bytes : List ℕ) : Type 0 where
+  pub inserted : IsWithCustomsIn any customs file bytes
+  pub spelling : IsWithCustomsIn (written least) customs file bytes
+  pub without : IsWithoutCustoms bytes file

@@ -1,0 +1,4 @@
+pub mod FrontLemmas
+pub mod StableLemmas
+pub mod AmongLemmas
+pub mod LeftSameLemmas
