@@ -10,7 +10,7 @@ import json
 import os
 import pathlib
 
-__version__ = "0.6.0"
+__version__ = "0.7.0"
 
 
 class Answer(ctypes.Structure):
