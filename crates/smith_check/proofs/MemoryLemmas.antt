@@ -1,7 +1,5 @@
 -- Accesses to memories.
-use Rattle.std.proofs.Common.{◌≡◌, ℕ, ◌<◌, ◌≤◌, ◌^◌, Bool, true, false, List, sym, ap, ◌∙◌, subst, refl}
-use Rattle.std.specs.Prelude.{Some, slice_get, if◌then◌else◌}
-use Rattle.smith_syntax.specs.declared.value_type.ValType.{ValType}
+use Rattle.std.proofs.Common.{◌≡◌, Bool, true, false, List, sym, ap, ◌∙◌}
 use Rattle.smith_syntax.specs.declared.composite_type.SubType.{SubType}
 use Rattle.smith_syntax.specs.declared.entity_type.MemoryType.{MemoryType}
 use Rattle.smith_types.specs.Subtyping.{IsValInRange}

@@ -1,7 +1,6 @@
 -- `select` without a type, with the types of dead code.
 use Rattle.std.proofs.Common.{◌≡◌, ℕ, List, [], ◌∷◌, ◌++◌, rules, refl, sym, ap, ◌∙◌, subst, append_assoc}
-use Rattle.std.specs.Prelude.{Option, Some, None, MatchOption, Bool, true, false}
-use Rattle.std.specs.List.{AllZip}
+use Rattle.std.specs.Prelude.{None, MatchOption, Bool}
 use Rattle.smith_syntax.specs.declared.composite_type.SubType.{SubType}
 use Rattle.smith_syntax.specs.declared.value_type.ValType.TheVariants.{I32, I64, F32, F64, V128, Ref}
 use Rattle.smith_syntax.specs.declared.value_type.ValType.{ValType}
@@ -16,7 +15,7 @@ use Rattle.smith_instr.specs.Contexts.{BodyContext}
 use Rattle.smith_check_rules.specs.StackTypes.{IsNumeric}
 use Rattle.smith_check.specs.Selects.{IsJoin, HaveNoJoin, number, both, join}
 use Rattle.smith_check_rules.specs.Sequences.{Stacked, stacked, IsFramed, IsStep}
-use Rattle.smith_check.specs.Covers.{Held, holding, Covers, Takes, Pops, PopsNothing, Pushes, Tops, TopsNothing}
+use Rattle.smith_check.specs.Covers.{Held, holding, Covers, Pops, PopsNothing, Pushes, Tops, TopsNothing}
 use Rattle.smith_check.specs.Closes.{with_labels, StepsNowhere}
 use Rattle.smith_check.specs.Applies.{IsTaken}
 use Rattle.smith_check.proofs.ApplyLemmas.{nothing_above}

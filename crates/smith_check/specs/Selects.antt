@@ -7,7 +7,7 @@ use Rattle.smith_syntax.specs.declared.composite_type.SubType.{SubType}
 use Rattle.smith_check_rules.specs.Slots.{IsBelow}
 use Rattle.smith_check_rules.specs.StackTypes.{IsNumeric}
 use Rattle.smith_check_rules.specs.declared.slot.Slot.{Slot}
-use Rattle.smith_check_rules.specs.declared.slot.Slot.TheVariants.{Bottom, SomeRef, Value}
+use Rattle.smith_check_rules.specs.declared.slot.Slot.TheVariants.{Bottom, Value}
 
 -- the least numeric type that two types match (Validation, Parametric Instructions, select)
 pub record IsJoin (types : List SubType) (first second given : Slot) : Type 0 where

@@ -1,14 +1,12 @@
-use Rattle.std.proofs.Common.{◌≡◌, ◌∙◌, ap, sym, refl, subst, [], ◌∷◌, ℕ, ◌≤◌}
-use Rattle.std.specs.Prelude.{All}
-use Rattle.std.proofs.lemmas.List.Elements.{All-cons}
+use Rattle.std.proofs.Common.{ap, sym, refl, subst, [], ◌∷◌, ℕ, ◌≤◌}
 use Rattle.smith_syntax.specs.declared.value_type.ValType.{ValType}
 use Rattle.smith_types.specs.Subtyping.{IsValInRange}
 use Rattle.smith_instr.specs.Contexts.{To, IsValid, address}
-use Rattle.smith_instr.specs.MemoryTypes.{IsAccess, loaded, stored}
+use Rattle.smith_instr.specs.MemoryTypes.{loaded}
 use Rattle.smith_instr.specs.declared.instr.Instr.TheVariants as instr
 use Rattle.smith_check.specs.Scopes.{bare}
 use Rattle.smith_check.specs.Covers.{held}
-use Rattle.smith_check.proofs.MemoryLemmas.{access_same, address_in_range, loaded_valid, stored_in_range}
+use Rattle.smith_check.proofs.MemoryLemmas.{access_same, address_in_range, loaded_valid}
 use Rattle.smith_check.proofs.RangeLemmas.{one_in_range}
 use Rattle.smith_check.proofs.StepLemmas.{tried_values, one_valid}
 use Rattle.smith_check.proofs.memory.load.Goals as goal

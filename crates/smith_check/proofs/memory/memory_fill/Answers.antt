@@ -1,9 +1,8 @@
-use Rattle.std.proofs.Common.{◌≡◌, ◌∙◌, ap, sym, refl, subst, [], ◌∷◌}
-use Rattle.std.specs.Prelude.{All}
+use Rattle.std.proofs.Common.{◌∙◌, ap, sym, refl, subst, [], ◌∷◌}
 use Rattle.std.proofs.lemmas.List.Elements.{All-cons}
 use Rattle.smith_syntax.specs.declared.value_type.ValType.{ValType}
 use Rattle.smith_types.specs.Subtyping.{IsValInRange}
-use Rattle.smith_instr.specs.Contexts.{To, IsValid, address}
+use Rattle.smith_instr.specs.Contexts.{To, address}
 use Rattle.smith_instr.specs.declared.instr.Instr.TheVariants as instr
 use Rattle.smith_instr.specs.declared.memory.MemoryInstr.TheVariants as memory
 use Rattle.smith_syntax.specs.declared.entity_type.MemoryType.{MemoryType}
@@ -11,9 +10,9 @@ use Rattle.smith_syntax.specs.declared.value_type.ValType.TheVariants.{I32}
 use Rattle.smith_check.proofs.LookupLemmas.{some_same}
 use Rattle.smith_check.specs.Scopes.{bare}
 use Rattle.smith_check.specs.Covers.{held}
-use Rattle.smith_check.proofs.MemoryLemmas.{address_in_range, address_valid}
+use Rattle.smith_check.proofs.MemoryLemmas.{address_in_range}
 use Rattle.smith_check.proofs.RangeLemmas.{one_in_range}
-use Rattle.smith_check.proofs.StepLemmas.{tried_values, one_valid}
+use Rattle.smith_check.proofs.StepLemmas.{tried_values}
 use Rattle.smith_check.proofs.memory.memory_fill.Goals as goal
 
 pub apply-requires-clause-expected : goal.apply-requires-clause-expected

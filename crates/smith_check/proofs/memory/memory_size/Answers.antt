@@ -1,17 +1,13 @@
-use Rattle.std.proofs.Common.{◌≡◌, ◌∙◌, ap, sym, refl, subst, [], ◌∷◌}
-use Rattle.std.specs.Prelude.{All}
-use Rattle.std.proofs.lemmas.List.Elements.{All-cons}
+use Rattle.std.proofs.Common.{◌∙◌, ap, sym, refl, subst, [], ◌∷◌}
 use Rattle.smith_syntax.specs.declared.value_type.ValType.{ValType}
-use Rattle.smith_types.specs.Subtyping.{IsValInRange}
 use Rattle.smith_instr.specs.Contexts.{To, IsValid, address}
 use Rattle.smith_instr.specs.declared.instr.Instr.TheVariants as instr
 use Rattle.smith_instr.specs.declared.memory.MemoryInstr.TheVariants as memory
 use Rattle.smith_syntax.specs.declared.entity_type.MemoryType.{MemoryType}
-use Rattle.smith_syntax.specs.declared.value_type.ValType.TheVariants.{I32}
 use Rattle.smith_check.proofs.LookupLemmas.{some_same}
 use Rattle.smith_check.specs.Scopes.{bare}
 use Rattle.smith_check.specs.Covers.{held}
-use Rattle.smith_check.proofs.MemoryLemmas.{address_in_range, address_valid}
+use Rattle.smith_check.proofs.MemoryLemmas.{address_valid}
 use Rattle.smith_check.proofs.RangeLemmas.{no_range}
 use Rattle.smith_check.proofs.StepLemmas.{tried_values, one_valid}
 use Rattle.smith_check.proofs.memory.memory_size.Goals as goal

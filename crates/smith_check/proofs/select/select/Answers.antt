@@ -1,4 +1,4 @@
-use Rattle.std.proofs.Common.{◌≡◌, sym, subst, [], ◌∷◌}
+use Rattle.std.proofs.Common.{sym, subst}
 use Rattle.std.specs.Prelude.{MatchOption}
 use Rattle.smith_syntax.specs.declared.value_type.ValType.TheVariants.{I32}
 use Rattle.smith_check_rules.specs.Slots.{IsSlotValid}
