@@ -1,0 +1,6 @@
+pub mod CodeLemmas
+pub mod PieceLemmas
+pub mod FirstGroupLemmas
+pub mod CanonicalLemmas
+pub mod LawLemmas
+pub mod ExampleLemmas
