@@ -4,3 +4,4 @@ pub mod FirstGroupLemmas
 pub mod CanonicalLemmas
 pub mod LawLemmas
 pub mod ExampleLemmas
+pub mod ScopeLemmas

@@ -4,11 +4,16 @@
 //! A call that returns a `Result` fails only if an allocation fails.
 #![tactic(auto)]
 
+mod canonical;
 mod codes;
 mod examples;
+mod first_groups;
 /// Laws: functions with empty bodies whose clauses state theorems.
 pub mod laws;
 mod renamed;
+mod scope;
+
+pub use canonical::canonical_indices;
 
 pub use renamed::{
     canonical_groups, canonical_heap_type, canonical_index, canonical_ref_type, canonical_val_type,
