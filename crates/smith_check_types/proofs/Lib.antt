@@ -4,4 +4,5 @@ pub mod FirstGroupLemmas
 pub mod CanonicalLemmas
 pub mod LawLemmas
 pub mod ExampleLemmas
+pub mod CheckLemmas
 pub mod ScopeLemmas

@@ -5,6 +5,7 @@
 #![tactic(auto)]
 
 mod canonical;
+mod check;
 mod codes;
 mod examples;
 mod first_groups;
@@ -14,7 +15,7 @@ mod renamed;
 mod scope;
 
 pub use canonical::canonical_indices;
-
+pub use check::{CheckedTypes, check_types};
 pub use renamed::{
     canonical_groups, canonical_heap_type, canonical_index, canonical_ref_type, canonical_val_type,
 };
