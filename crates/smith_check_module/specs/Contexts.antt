@@ -1,0 +1,44 @@
+-- The context of a module: the section Validation, Modules, of the WebAssembly Core Specification 3.0.
+use Rattle.std.specs.Prelude.{ℕ, List, ◌++◌, length, map}
+use Rattle.smith_syntax.specs.Features.{Features}
+use Rattle.smith_syntax.specs.declared.composite_type.SubType.{SubType}
+use Rattle.smith_syntax.specs.declared.entity_type.GlobalType.{GlobalType}
+use Rattle.smith_syntax.specs.declared.entity_type.TableType.{TableType}
+use Rattle.smith_instr.specs.declared.instr.Instr.{Instr}
+use Rattle.smith_types.specs.Imports.{EntitySpaces, imported_spaces}
+use Rattle.smith_types.specs.Expressions.{Context}
+use Rattle.smith_types.specs.Groups.{space_of}
+use Rattle.smith_decode.specs.Modules.{Syntax}
+use Rattle.smith_check_types.specs.TypeSections.{canonical_index, canonical_groups}
+use Rattle.smith_check_module.specs.CanonicalModules.{renamed_spaces}
+
+-- the index spaces of a module as it is written: imports first, then definitions (Structure, Indices)
+abbrev pub spaces_of : Syntax → EntitySpaces
+spaces_of m =
+    let imports = imported_spaces m.imports in
+    record {
+      tags = imports.tags ++ m.tags;
+      funcs = imports.funcs ++ m.functions;
+      tables = imports.tables ++ map (λ (table : TableType × List Instr). table.0) m.tables;
+      memories = imports.memories ++ m.memories;
+      globals = imports.globals ++ map (λ (global : GlobalType × List Instr). global.0) m.globals;
+    }
+
+-- the types and the index spaces, by canonical indices (Validation, Modules)
+abbrev pub types_in : List ℕ → Syntax → List SubType
+types_in indices m = (space_of (canonical_groups indices m.types)).types
+
+abbrev pub spaces_in : List ℕ → Syntax → EntitySpaces
+spaces_in indices m = renamed_spaces (canonical_index indices) (spaces_of m)
+
+-- the context of constant expressions, with no global visible (Validation, Modules)
+abbrev pub context_in : Features → List ℕ → Syntax → Context
+context_in features indices m = record {
+  features = features;
+  types = types_in indices m;
+  funcs = (spaces_in indices m).funcs;
+  globals = (spaces_in indices m).globals;
+  imported_funcs = length (imported_spaces m.imports).funcs;
+  imported_globals = length (imported_spaces m.imports).globals;
+  visible = 0;
+}

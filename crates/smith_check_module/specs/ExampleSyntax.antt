@@ -1,0 +1,38 @@
+-- Modules of the examples.
+use Rattle.std.specs.Prelude.{ℕ, List, [], ◌∷◌, Some, None, pos}
+use Rattle.smith_syntax.specs.declared.entity_type.ExportKind.TheVariants as kind
+use Rattle.smith_instr.specs.declared.instr.Instr.{Instr}
+use Rattle.smith_instr.specs.declared.instr.Instr.TheVariants as instr
+use Rattle.smith_decode.specs.Modules.{Syntax}
+
+-- a module in which nothing is defined
+abbrev pub nothing : Syntax
+nothing = record {
+  types = [];
+  imports = [];
+  functions = [];
+  tables = [];
+  memories = [];
+  tags = [];
+  globals = [];
+  exports = [];
+  start = None;
+  elems = [];
+  bodies = [];
+  datas = [];
+  customs = [];
+}
+
+-- a module that exports a function, and one that starts with a function, where there is none
+abbrev pub exports_missing : Syntax
+exports_missing = record nothing { exports = ([], kind.Func, 0) ∷ [] }
+
+abbrev pub starts_missing : Syntax
+starts_missing = record nothing { start = Some 0 }
+
+-- the constant 1, and the value of the first global
+abbrev pub one : List Instr
+one = instr.I32Const (pos 1) ∷ []
+
+abbrev pub first_global : List Instr
+first_global = instr.GlobalGet 0 ∷ []

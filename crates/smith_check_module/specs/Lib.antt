@@ -1,0 +1,4 @@
+pub mod CanonicalModules
+pub mod Contexts
+pub mod ValidModules
+pub mod ExampleSyntax
