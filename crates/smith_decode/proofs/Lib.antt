@@ -1,3 +1,4 @@
+pub mod LocationLemmas
 pub mod DefinitionLemmas
 pub mod ElementLemmas
 pub mod DataLemmas

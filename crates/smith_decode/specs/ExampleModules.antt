@@ -46,3 +46,7 @@ dropping = record no_item {
   data_count = Some 0;
   bodies = body_of [] (instr.Memory (DataDrop 0) ∷ []) ∷ [];
 }
+
+-- the bytes of that module
+abbrev pub dropping_bytes : List ℕ
+dropping_bytes = after_preamble (0x03 ∷ 0x02 ∷ 0x01 ∷ 0x00 ∷ 0x0C ∷ 0x01 ∷ 0x00 ∷ one_drop)

@@ -10,4 +10,5 @@ pub mod BodyReadings
 pub mod ModuleReadings
 pub mod Modules
 pub mod Constants
+pub mod Locations
 pub mod ExampleModules

@@ -7,6 +7,9 @@ ghost use Rattle.smith_decode.specs.BodyReadings.{body_at, body_of};
 ghost use Rattle.smith_decode.specs.DataReadings as data_segment;
 ghost use Rattle.smith_decode.specs.DefinitionReadings.{global_at, global_of};
 ghost use Rattle.smith_decode.specs.ExampleModules.{no_item, after_preamble, ctz, one_drop, dropping};
+ghost use Rattle.smith_decode.specs.ExampleModules.{dropping_bytes};
+ghost use Rattle.smith_decode.specs.declared.locations.Place.TheVariants as place;
+ghost use Rattle.smith_decode.specs.Locations.{located};
 ghost use Rattle.smith_decode.specs.CustomReadings.{custom};
 ghost use Rattle.smith_decode.specs.ModuleReadings.{module_at, with_customs};
 ghost use Rattle.smith_decode.specs.Modules.{IsModuleBinary, Syntax, syntax_of};
@@ -72,4 +75,14 @@ fn modules_in_the_abstract_syntax()
         → ¬ IsModuleBinary m (after_preamble (0x03 ∷ 0x02 ∷ 0x01 ∷ 0x00 ∷ [])) }
     ensures out_of_order { (m : Syntax)
         → ¬ IsModuleBinary m (after_preamble (0x0A ∷ 0x01 ∷ 0x00 ∷ 0x01 ∷ 0x01 ∷ 0x00 ∷ [])) }
+{}
+
+fn locations()
+    ensures function { located (place.Function 0) dropping_bytes ≡ Some 11 }
+    ensures data_count { located place.DataCount dropping_bytes ≡ Some 14 }
+    ensures body { located (place.Body 0) dropping_bytes ≡ Some 18 }
+    ensures instruction { located (place.Instruction 0 0) dropping_bytes ≡ Some 20 }
+    ensures last_end { located (place.Instruction 0 1) dropping_bytes ≡ Some 23 }
+    ensures no_second_body { located (place.Body 1) dropping_bytes ≡ None }
+    ensures no_start { located place.Start dropping_bytes ≡ None }
 {}

@@ -11,6 +11,7 @@ mod error;
 mod examples;
 /// Laws: functions without effect, whose clauses state properties.
 pub mod laws;
+mod locations;
 mod modules;
 mod sections;
 
@@ -20,4 +21,5 @@ pub use data::{DataMode, DataSegment};
 pub use definitions::{GlobalDefinition, TableDefinition};
 pub use elements::{ElementItems, ElementMode, ElementSegment};
 pub use error::DecodeError;
+pub use locations::{Place, locate};
 pub use modules::{Module, decode};

@@ -83,9 +83,9 @@ fn expect_byte(reader: &mut Reader<'_>, byte: u8) -> Result<(), ReadError>
     Ok(())
 }
 
-// Reads the magic number and the version.
+/// Reads the magic number and the version (Modules).
 #[tactic(auto, unfolding(crate::specs::ModuleReadings::preamble_at))]
-fn read_preamble(reader: &mut Reader<'_>) -> Result<(), ReadError>
+pub(crate) fn read_preamble(reader: &mut Reader<'_>) -> Result<(), ReadError>
     ensures { GivesRest result reader.new (preamble_at reader.old) }
 {
     expect_byte(reader, 0x00)?;
