@@ -19,6 +19,7 @@ use Rattle.smith_instr.specs.declared.instr.Instr.{Instr}
 use Rattle.smith_instr.specs.declared.instr.Instr.TheVariants as instr
 use Rattle.smith_instr.proofs.SequenceLemmas.{below_themselves}
 use Rattle.smith_body_nodes.specs.Nodes.{HasHeadType, IsHeadValid, IsNode, block_cost, head_instruction, head_sets}
+use Rattle.smith_body_nodes.proofs.NodeLemmas.{zip_length}
 use Rattle.smith_body_nodes.proofs.OfferLemmas.{func_there}
 use Rattle.smith_body_nodes.specs.Offered.{func_in, function_in}
 use Rattle.smith_body_nodes.specs.Scopes.{AreLabels, IsAllowedIn, IsScope, bare, context_of, most, where_stands, widest}
@@ -117,15 +118,8 @@ spare_few context head count =
 first_below : (types : List SubType) (results values more : List ValType) → AllZip (IsValBelow types) results (values ++ more)
     → AllZip (IsValBelow types) results (values ++ drop (length values) results)
 first_below types results [] more below = below_themselves types results
-first_below types [] (value ∷ values) more below = cc
+first_below types [] (value ∷ values) more below = absurd below
 first_below types (result ∷ results) (value ∷ values) more (first, rest) = (first, first_below types results values more rest)
-
-same_length : (types : List SubType) (results others : List ValType) → AllZip (IsValBelow types) results others
-    → length results ≡ length others
-same_length types [] [] below = refl
-same_length types [] (other ∷ others) below = cc
-same_length types (result ∷ results) [] below = cc
-same_length types (result ∷ results) (other ∷ others) (first, rest) = let more = same_length types results others rest in omega arith
 
 -- the results that nothing takes: some whose types aren't known, or those that are settled
 record AreSpare (scope : Scope) (results values spare : List ValType) (drops : ℕ) : Type 0 where
@@ -140,7 +134,7 @@ are_spare : (scope : Scope) (left results values dropped : List ValType) (drops 
     → AreSpare scope results values (drop (length left - drops) left) drops
 unfolding AreLeft
 are_spare scope left results values dropped drops below valid count (inl known) =
-    let long = same_length scope.types.now.types results (values ++ dropped) below in
+    let long = zip_length (IsValBelow scope.types.now.types) results (values ++ dropped) below in
     let long' : length (values ++ dropped) ≡ length values + length dropped = length-append values dropped in
     let first : length results - drops ≡ length values = omega arith in
     let spare : drop (length left - drops) left ≡ drop (length values) results =

@@ -1,4 +1,4 @@
-use Rattle.std.proofs.Common.{◌≡◌, ◌≤◌, refl, sym, arith, ◌-◌, [], length, ◌∙◌}
+use Rattle.std.proofs.Common.{◌≡◌, ◌≤◌, refl, sym, subst, arith, ◌-◌, [], length, ◌∙◌}
 use Rattle.smith_body_nodes.proofs.ResultLemmas.{ok_both}
 use Rattle.std.proofs.lemmas.Result.{on_ok_weaker}
 use Rattle.std.proofs.lemmas.List.{take_all}
@@ -10,6 +10,7 @@ use Rattle.smith_body_nodes.proofs.StopLemmas.{node_goes_on}
 use Rattle.smith_body_nodes.specs.Nodes.{IsNode, label_of, opened}
 use Rattle.smith_body_nodes.specs.Scopes.{bare, where_stands, widest}
 use Rattle.smith_body.proofs.ExactLemmas.{all_left, chosen_ending, chosen_statement, chosen_value, deep_statements, drops_written, enclosed_exact, forbidden_ending, forbidden_statement, head_enclosed, head_if, head_try, if_exact, inside_exact, last_statements, last_value, next_value, no_ending, no_values, node_exact, none_left, one_less, opened_again, opened_once, other_value, plain_exact, results_dead, results_drawn, results_ended, results_still, stopped, unpaid_value}
+use Rattle.smith_instr.specs.Contexts.{AreValid}
 use Rattle.smith_instr.specs.declared.instr.Instr.TheVariants as instr
 use Rattle.smith_body_nodes.proofs.NodeLemmas.{no_valid}
 use Rattle.smith_body.proofs.draws.+body.Goals.{draw_value-then-depth-eq0-via-then-depth-eq0, draw_value-then-depth-eq0-via-else-depth-eq0+then-draft-eq0, draw_masked-then-draft-eq0-via-then-draft-eq0, draw_masked-then-draft-eq0-via-else-draft-eq0+then-not-is_allowed, draw_masked-then-draft-eq0-via-else-draft-eq0+else-not-is_allowed+then-not-is_allowed-2}
@@ -107,13 +108,16 @@ draw_node-settle_values-requires-clause-drops t c = rw (c.as_slice-2.ensures, c.
 pub draw_node-returns-clause-drawn : goal.draw_node-returns-clause-drawn
 draw_node-returns-clause-drawn t c = λ values fits goes_on.
     let spare = c.in_ok-spare.ensures.exact in
-    let valid = rw spare (spare_valid c.args.scope.now c.args.draft.now.labels.items c.args.node.head c.args.node.drops c.requires.scope
-    c.requires.labels c.requires.inside) in
+    let valid = subst (AreValid (bare c.args.scope.now)) (sym spare) (spare_valid c.args.scope.now c.args.draft.now.labels.items c.args.node.head
+    c.args.node.drops c.requires.scope c.requires.labels c.requires.inside) in
+    let operands = rw c.as_slice.ensures at c.in_ok-draw_operands.ensures.drawn in
+    let settles = rw c.as_slice-2.ensures at c.in_ok-settle_values.ensures.drawn in
+    let out = rw (c.saturating_sub.ensures, c.len.ensures) at c.drop_values.ensures.out in
     on_ok_weaker c.drop_values.result
-    (λ out. node_drawn fits c.requires.allowed.drops goes_on c.requires.paid (rw c.as_slice.ensures at c.in_ok-draw_operands.ensures.drawn)
-    c.in_ok-draw_head.ensures.drawn _ spare valid (rw c.as_slice-2.ensures at c.in_ok-settle_values.ensures.drawn) out
+    (λ out. node_drawn fits c.requires.allowed.drops goes_on c.requires.paid operands
+    c.in_ok-draw_head.ensures.drawn _ spare valid settles out
     c.drop_values.ensures.set c.drop_values.ensures.same c.drop_values.ensures.budget)
-    (rw (c.saturating_sub.ensures, c.len.ensures) at c.drop_values.ensures.out)
+    out
 
 pub draw_statement-returns-then-not-is_node_allowed-clause-drawn : goal.draw_statement-returns-then-not-is_node_allowed-clause-drawn
 draw_statement-returns-then-not-is_node_allowed-clause-drawn t c =
