@@ -166,7 +166,7 @@ drawn_then {scope = scope} {b = b} {c = c} {old = old} {middle = middle} {new = 
     }
 
 -- instructions drawn on top of more values
-drawn_above : {scope : Scope} {a b : List ValType} {n : ℕ} {old new : Draft} (below : List ValType) → AreValid (bare scope) below → IsDrawn scope a b n old new → IsDrawn scope (below ++ a) (below ++ b) n old new
+pub drawn_above : {scope : Scope} {a b : List ValType} {n : ℕ} {old new : Draft} (below : List ValType) → AreValid (bare scope) below → IsDrawn scope a b n old new → IsDrawn scope (below ++ a) (below ++ b) n old new
 drawn_above {scope = scope} {a = a} {b = b} below valid drawn = record {
   more = drawn.more;
   longer = drawn.longer;
@@ -298,27 +298,6 @@ paid_for {scope = scope} {n = n} {old = old} {new = new} few paid drawn =
       spent = omega arith;
       short = pay (longest_leaf scope.config.now scope.types.now.types) (widest scope.types.now.types) n new.budget (length old.out) (length new.out) old.budget few paid drawn.short;
     }
-
--- a node: its operands, its head, and the dropped values
-pub node_drawn : {scope : Scope} {values : List ValType} {node : Node} {old middle after new : Draft} → IsNode (where_stands scope old) old.set.items values node → (0 < node.drops → IsAllowedIn scope instr.Drop) → IsNoStop scope.config.now (head_instruction node.head) → 0 < old.budget
-    → IsDrawn scope [] node.operands (length node.operands) (record old { budget = old.budget - 1 }) middle
-    → ((operands given values : List ValType) → HasHeadType (where_stands scope middle) middle.set.items node.head operands given → AreBelow (bare scope) given values → AreValid (bare scope) values → IsNoStop scope.config.now (head_instruction node.head) → head_sets node.head ≡ option_to_list node.sets
-    → IsDrawn scope operands values (block_cost scope.types.now.types) middle after)
-    → new.out ≡ after.out ++ replicate node.drops instr.Drop → new.set.items ≡ after.set.items → new.labels.items ≡ after.labels.items → new.budget ≡ after.budget
-    → IsDrawn scope [] values 0 old new
-node_drawn {scope = scope} {values = values} {node = node} {old = old} {middle = middle} {after = after} {new = new} fits may_drop goes_on paid operands tops out set labels budget =
-    let stood : HasHeadType (context_of scope old.labels.items) (old.set.items ++ operands.set) node.head node.operands fits.results = fits.typed operands.set in
-    let at_set : HasHeadType (context_of scope old.labels.items) middle.set.items node.head node.operands fits.results =
-    subst (λ (set : List ℕ). HasHeadType (context_of scope old.labels.items) set node.head node.operands fits.results) (sym operands.set_more) stood in
-    let stands : HasHeadType (where_stands scope middle) middle.set.items node.head node.operands fits.results =
-    subst (λ (labels : List (List ValType)). HasHeadType (context_of scope labels) middle.set.items node.head node.operands fits.results) (sym operands.same) at_set in
-    let both = joined_valid (bare scope) values fits.dropped fits.given fits.spare in
-    let top = tops node.operands fits.results (values ++ fits.dropped) stands fits.below both goes_on fits.sets_local in
-    let allowed : 0 < length fits.dropped → IsAllowedIn scope instr.Drop = rw fits.drops may_drop in
-    let out' : new.out ≡ after.out ++ replicate (length fits.dropped) instr.Drop = rw fits.drops out in
-    let few = fits.few in
-    let same = fits.drops in
-    paid_for {n = length node.operands + block_cost scope.types.now.types + length fits.dropped} (omega arith) paid (drawn_then (drawn_then operands top) (dropped_drawn values fits.dropped fits.given fits.spare allowed out' set labels budget))
 
 -- the locals that were set before remain
 pub height_left : (xs ys zs : List ℕ) → zs ≡ xs ++ ys → take (length xs) zs ≡ xs

@@ -10,9 +10,10 @@ use Rattle.smith_instr.specs.declared.control.BlockType.{BlockType}
 use Rattle.smith_instr.specs.declared.control.Catch.{Catch}
 use Rattle.smith_instr.specs.declared.instr.Instr.{Instr}
 use Rattle.smith_instr.specs.declared.instr.Instr.TheVariants as instr
-use Rattle.smith_body.specs.Bodies.{Drawing, State, begun, body_at, drawing_at, dropped, enclosed_at, ended, ended_by, ending_at, head_at, in_block, inside_at, interval, leaf_in, node_at, opened_at, operands_at, repeated_at, results_at, statement_at, statements_within, value_at, values_at, written}
+use Rattle.smith_body.specs.Bodies.{Drawing, State, begun, body_at, drawing_at, dropped, enclosed_at, ended, ended_by, ending_at, head_at, in_block, inside_at, interval, leaf_in, node_at, opened_at, operands_at, repeated_at, results_at, settled_all, statement_at, statements_within, value_at, values_at, written}
 use Rattle.smith_body_choices.specs.Choices.{allowed_choice_at, ending_choice_at, statement_choice_at}
 use Rattle.smith_body.specs.DraftSteps.{IsDrawn, IsEnded, IsOpened, IsWritten, state_of}
+use Rattle.smith_body.specs.Left.{spare_of}
 use Rattle.smith_body.specs.Repeats.{repeat_at}
 use Rattle.smith_body.specs.declared.repeats.Repeat.{Repeat}
 use Rattle.smith_body_leaves.specs.DrawnLeaves.{leaf_at}
@@ -77,12 +78,17 @@ pub drops_written : (scope : Scope) (count : ℕ) (old new : Draft) (bytes : Lis
     → dropped count (state_of scope old bytes) ≡ state_of scope new bytes
 drops_written scope count old new bytes out set labels budget = state_is scope new old.labels.items (old.out ++ replicate count instr.Drop) old.set.items old.budget bytes labels out set budget
 
--- a node: its operands, its head, and the dropped values
-pub node_exact : (config : Config) (draw : Drawing) (node : Node) (s operands rest : State) → operands_at config draw node.head node.operands (record s { budget = s.budget - 1 }) ≡ operands → head_at config draw node.head node.sets operands ≡ rest
-    → node_at config draw node s ≡ dropped node.drops rest
+-- a node: its operands, its head, and the results that nothing takes
+pub node_exact : (config : Config) (draw : Drawing) (node : Node) (s operands after settling : State) (spare : List ValType)
+    → operands_at config draw node.head node.operands (record s { budget = s.budget - 1 }) ≡ operands
+    → head_at config draw node.head node.sets operands ≡ after → spare ≡ spare_of s.context node.head node.drops
+    → settled_all config spare after ≡ settling → node_at config draw node s ≡ dropped (node.drops - length spare) settling
 unfolding node_at
-node_exact config draw node s operands rest first second =
-    ap (λ (s : State). dropped node.drops (head_at config draw node.head node.sets s)) first ∙ ap (λ (s : State). dropped node.drops s) second
+node_exact config draw node s operands after settling spare first second is third =
+    rw (← is)
+    (ap (λ (s : State). dropped (node.drops - length spare) (settled_all config spare (head_at config draw node.head node.sets s))) first
+    ∙ (ap (λ (s : State). dropped (node.drops - length spare) (settled_all config spare s)) second
+    ∙ ap (λ (s : State). dropped (node.drops - length spare) s) third))
 
 pub plain_exact : (scope : Scope) (config : Config) (draw : Drawing) (head : Head) (instruction : Instr) (sets : Option ℕ) (old new :
     Draft) (bytes : List ℕ) → head ≡ heads.Plain instruction → IsWritten instruction sets old new
@@ -107,20 +113,20 @@ opened_again config draw opening ty sides s repeat left drawn = rw drawn refl
 
 pub opened_once : (config : Config) (draw : Drawing) (opening : Opening) (ty : BlockType) (sides : Sides) (s : State) (left : List ℕ)
     → repeat_at config s.context opening sides.params s.budget s.bytes ≡ (None, left)
-    → opened_at config draw opening ty sides s ≡ written instr.End (enclosed_at draw (label_of opening sides.params sides.results) sides
+    → opened_at config draw opening ty sides s ≡ written instr.End (enclosed_at config draw (label_of opening sides.params sides.results) sides
     (written (opened opening ty) (record s { bytes = left })))
 unfolding opened_at
 opened_once config draw opening ty sides s left drawn = rw drawn refl
 
 pub head_try : (config : Config) (draw : Drawing) (head : Head) (ty : BlockType) (clauses : List Catch) (sides : Sides) (sets : Option ℕ)
     (s : State) → head ≡ heads.Try ty clauses sides
-    → head_at config draw head sets s ≡ written instr.End (enclosed_at draw sides.results sides (written (instr.TryTable ty clauses) s))
+    → head_at config draw head sets s ≡ written instr.End (enclosed_at config draw sides.results sides (written (instr.TryTable ty clauses) s))
 unfolding head_at
 head_try config draw head ty clauses sides sets s is = rw is refl
 
 pub head_if : (config : Config) (draw : Drawing) (head : Head) (ty : BlockType) (sides : Sides) (sets : Option ℕ) (s : State)
     → head ≡ heads.If ty sides
-    → head_at config draw head sets s ≡ written instr.End (enclosed_at draw sides.results sides (written instr.Else (enclosed_at draw
+    → head_at config draw head sets s ≡ written instr.End (enclosed_at config draw sides.results sides (written instr.Else (enclosed_at config draw
     sides.results sides (written (instr.If ty) s))))
 unfolding head_at
 head_if config draw head ty sides sets s is = rw is refl
@@ -163,9 +169,10 @@ unfolding results_at
 results_dead draw results s t u v left ends stopped is drawn after = rw (stopped, is, drawn, after) refl
 
 -- the inside of a block
-pub inside_exact : (draw : Drawing) (sides : Sides) (s dropping : State) → dropped (length sides.params) s ≡ dropping → inside_at draw sides s ≡ results_at draw sides.results dropping
+pub inside_exact : (config : Config) (draw : Drawing) (sides : Sides) (s settling : State) → settled_all config sides.params s ≡ settling
+    → inside_at config draw sides s ≡ results_at draw sides.results settling
 unfolding inside_at
-inside_exact draw sides s dropping is = ap (λ (s : State). results_at draw sides.results s) is
+inside_exact config draw sides s settling is = ap (λ (s : State). results_at draw sides.results s) is
 
 -- a block that was opened
 entered_exact : (scope : Scope) (opening : Instr) (label : List ValType) (old entered : Draft) (bytes : List ℕ) → IsOpened opening label old entered
@@ -199,31 +206,31 @@ block_exact scope inside opening label old entered within new bytes left height 
 
 pub enclosed_exact : {a b : List ValType} {n : ℕ} (scope : Scope) (draw : Drawing) (opening : Instr) (label : List ValType) (sides :
     Sides) (old entered inside new : Draft) (bytes left : List ℕ) (height : ℕ)
-    → IsOpened opening label old entered → inside_at draw sides (state_of scope entered bytes) ≡ state_of scope inside left
+    → IsOpened opening label old entered → inside_at scope.config.now draw sides (state_of scope entered bytes) ≡ state_of scope inside left
     → IsDrawn scope a b n entered inside
     → height ≡ length old.set.items → IsEnded instr.End height inside new → new.labels.items ≡ old.labels.items
-    → written instr.End (enclosed_at draw label sides (written opening (state_of scope old bytes))) ≡ state_of scope new left
+    → written instr.End (enclosed_at scope.config.now draw label sides (written opening (state_of scope old bytes))) ≡ state_of scope new left
 unfolding enclosed_at
 enclosed_exact scope draw opening label sides old entered inside new bytes left height start exact drawn high end labels =
-    block_exact scope (inside_at draw sides) opening label old entered inside new bytes left height start exact drawn high end labels
+    block_exact scope (inside_at scope.config.now draw sides) opening label old entered inside new bytes left height start exact drawn high end labels
 
 pub if_exact : {a b c d : List ValType} {m n : ℕ} (scope : Scope) (draw : Drawing) (ty : BlockType) (sides : Sides) (old entered first other last new : Draft) (bytes middle left : List ℕ) (height : ℕ)
-    → IsOpened (instr.If ty) sides.results old entered → inside_at draw sides (state_of scope entered bytes) ≡ state_of scope first middle → IsDrawn scope a b m entered first
-    → height ≡ length old.set.items → IsEnded instr.Else height first other → other.labels.items ≡ first.labels.items → inside_at draw sides (state_of scope other middle) ≡ state_of scope last left → IsDrawn scope c d n other last
+    → IsOpened (instr.If ty) sides.results old entered → inside_at scope.config.now draw sides (state_of scope entered bytes) ≡ state_of scope first middle → IsDrawn scope a b m entered first
+    → height ≡ length old.set.items → IsEnded instr.Else height first other → other.labels.items ≡ first.labels.items → inside_at scope.config.now draw sides (state_of scope other middle) ≡ state_of scope last left → IsDrawn scope c d n other last
     → IsEnded instr.End height last new → new.labels.items ≡ old.labels.items
-    → written instr.End (enclosed_at draw sides.results sides (written instr.Else (enclosed_at draw sides.results sides (written (instr.If ty) (state_of scope old bytes))))) ≡ state_of scope new left
+    → written instr.End (enclosed_at scope.config.now draw sides.results sides (written instr.Else (enclosed_at scope.config.now draw sides.results sides (written (instr.If ty) (state_of scope old bytes))))) ≡ state_of scope new left
 unfolding enclosed_at
 if_exact scope draw ty sides old entered first other last new bytes middle left height start exact drawn high split between exact' drawn' end labels =
     let begin = entered_exact scope (instr.If ty) sides.results old entered bytes start in
-    let once = ap (λ (s : State). inside_at draw sides s) begin ∙ exact in
+    let once = ap (λ (s : State). inside_at scope.config.now draw sides s) begin ∙ exact in
     let set : other.set.items ≡ old.set.items = set_again old entered first other height drawn start.set high split.set in
     let set' : new.set.items ≡ old.set.items = set_again old other last new height drawn' set high end.set in
     let labels' : other.labels.items ≡ sides.results ∷ old.labels.items = between ∙ (drawn.same ∙ start.labels) in
     let begin' : made scope (sides.results ∷ old.labels.items) (first.out ++ instr.Else ∷ []) old.set.items first.budget middle ≡ state_of scope other middle =
     state_is scope other (sides.results ∷ old.labels.items) (first.out ++ instr.Else ∷ []) old.set.items first.budget middle labels' split.out set split.budget in
-    let again : inside_at draw sides (made scope (sides.results ∷ old.labels.items) (first.out ++ instr.Else ∷ []) old.set.items first.budget middle) ≡ state_of scope last left =
-    ap (λ (s : State). inside_at draw sides s) begin' ∙ exact' in
-    ap (λ (s : State). written instr.End (enclosed_at draw sides.results sides (written instr.Else (record s { context = context_of scope old.labels.items; set = old.set.items })))) once
+    let again : inside_at scope.config.now draw sides (made scope (sides.results ∷ old.labels.items) (first.out ++ instr.Else ∷ []) old.set.items first.budget middle) ≡ state_of scope last left =
+    ap (λ (s : State). inside_at scope.config.now draw sides s) begin' ∙ exact' in
+    ap (λ (s : State). written instr.End (enclosed_at scope.config.now draw sides.results sides (written instr.Else (record s { context = context_of scope old.labels.items; set = old.set.items })))) once
     ∙ closed_exact scope instr.End _ old last new middle left again end.out set' labels end.budget
 
 -- values, one after another

@@ -6,3 +6,5 @@ pub mod ExactLemmas
 pub mod OperandLemmas
 pub mod RepeatLemmas
 pub mod BodyLemmas
+pub mod SettledLemmas
+pub mod LeftLemmas

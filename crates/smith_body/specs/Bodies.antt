@@ -20,6 +20,8 @@ use Rattle.smith_body.specs.declared.operands.OperandWay.TheVariants as way
 use Rattle.smith_body.specs.declared.operands.Place.{Place}
 use Rattle.smith_body.specs.declared.operands.Place.TheVariants as place
 use Rattle.smith_body.specs.Limits.{limit_at}
+use Rattle.smith_body.specs.Left.{spare_of}
+use Rattle.smith_body.specs.Settled.{instructions_of, set_by, settling_at}
 use Rattle.smith_body.specs.Repeats.{repeat_at}
 use Rattle.smith_body.specs.declared.repeats.Repeat.{Repeat}
 use Rattle.smith_body.specs.declared.repeats.Repeat.TheVariants as repeats
@@ -52,6 +54,17 @@ written instruction s = record s { out = s.out ++ instruction ∷ [] }
 
 abbrev pub dropped : ℕ → State → State
 dropped count s = record s { out = s.out ++ replicate count instr.Drop }
+
+-- a value of a type is settled
+unfoldable pub settled : Config → ValType → State → State
+settled config value s =
+    let settling = settling_at config s.context value s.bytes in
+    record s { out = s.out ++ instructions_of settling.0; set = s.set ++ set_by settling.0; bytes = settling.1 }
+
+-- values of these types, the last of which is on top, are settled, the last first
+abbrev pub settled_all : Config → List ValType → State → State
+settled_all config [] s = s
+settled_all config (value ∷ more) s = settled config value (settled_all config more s)
 
 -- values of these types, in order
 abbrev pub values_at : Drawing → List ValType → State → State
@@ -111,17 +124,17 @@ results_at draw results s =
     else if more.0 == 7 then values_at draw results (draw.statements after).1
     else after
 
--- the inside of a block: its parameters are dropped, then there are statements and its results
-unfoldable pub inside_at : Drawing → Sides → State → State
-inside_at draw sides s = results_at draw sides.results (dropped (length sides.params) s)
+-- the inside of a block: its parameters are settled, then there are statements and its results
+unfoldable pub inside_at : Config → Drawing → Sides → State → State
+inside_at config draw sides s = results_at draw sides.results (settled_all config sides.params s)
 
 -- what is inside a block with its label; locals that are set in a block are not set after it
 abbrev pub in_block : (State → State) → List ValType → State → State
 in_block inside label s = record (inside (record s { context = labelled s.context label })) { context = s.context; set = s.set }
 
 -- the inside of a block with its label
-unfoldable pub enclosed_at : Drawing → List ValType → Sides → State → State
-enclosed_at draw label sides s = in_block (λ s. inside_at draw sides s) label s
+unfoldable pub enclosed_at : Config → Drawing → List ValType → Sides → State → State
+enclosed_at config draw label sides s = in_block (λ s. inside_at config draw sides s) label s
 
 -- an instruction that sets a local
 abbrev pub setting_local : Instr → ℕ → State → State
@@ -155,32 +168,34 @@ repeated_at draw repeat ty results s =
     (in_block (repeated_inside draw repeat results) [] (written (instr.Loop ty) (count_set repeat (record s { budget = s.budget - 1 }))))
 
 -- a block, or a loop that is repeated
-abbrev pub enclosed_by : Drawing → Opening → BlockType → Sides → Option Repeat → State → State
-enclosed_by draw opening ty sides (Some repeat) s = repeated_at draw repeat ty sides.results s
-enclosed_by draw opening ty sides None s =
-    written instr.End (enclosed_at draw (label_of opening sides.params sides.results) sides (written (opened opening ty) s))
+abbrev pub enclosed_by : Config → Drawing → Opening → BlockType → Sides → Option Repeat → State → State
+enclosed_by config draw opening ty sides (Some repeat) s = repeated_at draw repeat ty sides.results s
+enclosed_by config draw opening ty sides None s =
+    written instr.End (enclosed_at config draw (label_of opening sides.params sides.results) sides (written (opened opening ty) s))
 
 unfoldable pub opened_at : Config → Drawing → Opening → BlockType → Sides → State → State
 opened_at config draw opening ty sides s =
     let repeat = repeat_at config s.context opening sides.params s.budget s.bytes in
-    enclosed_by draw opening ty sides repeat.0 (record s { bytes = repeat.1 })
+    enclosed_by config draw opening ty sides repeat.0 (record s { bytes = repeat.1 })
 
 -- the instructions after operands, and the local that is set
 unfoldable pub head_at : Config → Drawing → Head → Option ℕ → State → State
 head_at config draw (head.Plain instruction) sets s = record s { out = s.out ++ instruction ∷ []; set = s.set ++ option_to_list sets }
 head_at config draw (head.Enclosed opening ty sides) sets s = opened_at config draw opening ty sides s
 head_at config draw (head.If ty sides) sets s =
-    written instr.End (enclosed_at draw sides.results sides
-    (written instr.Else (enclosed_at draw sides.results sides
+    written instr.End (enclosed_at config draw sides.results sides
+    (written instr.Else (enclosed_at config draw sides.results sides
     (written (instr.If ty) s))))
 head_at config draw (head.Try ty clauses sides) sets s =
-    written instr.End (enclosed_at draw sides.results sides (written (instr.TryTable ty clauses) s))
+    written instr.End (enclosed_at config draw sides.results sides (written (instr.TryTable ty clauses) s))
 
--- a node takes one unit of the budget: its operands are drawn, then its other instructions
+-- a node takes one unit of the budget: its operands are drawn, then its other instructions, and its
+-- spare results are settled
 unfoldable pub node_at : Config → Drawing → Node → State → State
 node_at config draw node s =
-    dropped node.drops
-    (head_at config draw node.head node.sets (operands_at config draw node.head node.operands (record s { budget = s.budget - 1 })))
+    let spare = spare_of s.context node.head node.drops in
+    dropped (node.drops - length spare) (settled_all config spare
+    (head_at config draw node.head node.sets (operands_at config draw node.head node.operands (record s { budget = s.budget - 1 }))))
 
 -- a value without a budget
 unfoldable pub leaf_in : Config → ValType → State → State

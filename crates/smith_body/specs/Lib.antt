@@ -4,3 +4,5 @@ pub mod Stops
 pub mod Limits
 pub mod Operands
 pub mod Repeats
+pub mod Left
+pub mod Settled

@@ -21,11 +21,13 @@ ghost use Rattle.smith_body_nodes.specs.Scopes.{where_stands, widest};
 ghost use Rattle.smith_body_nodes.specs.Traps.{IsNoStop};
 
 use crate::leaf::write_leaf;
+use crate::left::spare_of;
 use crate::limits::limit_at;
 use crate::operands::{
     OperandWay, Place, address_constant, draw_number, mask_of, masking, operand_ways,
 };
 use crate::repeats::{Repeat, draw_repeat, write_count, write_down};
+use crate::settled::settle_values;
 use crate::writes::{drop_values, write_else, write_end, write_opening, write_plain};
 use smith_body_choices::{choose_allowed, choose_ending, choose_statement};
 use smith_body_nodes::{
@@ -95,16 +97,18 @@ fn draw_node(
     ensures memory { IfErr result (λ e. e ≡ Error.Memory) }
     ensures left { KeepsPieces u.old u.new }
 {
+    draft.budget -= 1;
+    let spare = spare_of(alloc, scope, &node, draft)?;
     let Node {
         operands,
         head,
         sets,
         drops,
     } = node;
-    draft.budget -= 1;
     draw_operands(alloc, scope, &head, operands.as_slice(), depth, draft, u)?;
     draw_head(alloc, scope, head, sets, depth, draft, u)?;
-    drop_values(drops, draft)
+    settle_values(scope, spare.as_slice(), draft, u)?;
+    drop_values(drops.saturating_sub(spare.len()), draft)
 }
 
 /// Draws the operands of `head`, in order.
@@ -364,7 +368,7 @@ fn draw_enclosed(
     requires allowed { IsAllowedIn scope.now (opened opening ty) }
     requires drops { 0 < length sides.now.params → IsAllowedIn scope.now instr.Drop }
     ensures exact { OnOk result
-        (written instr.End (enclosed_at (drawing_at scope.now.config.now depth)
+        (written instr.End (enclosed_at scope.now.config.now (drawing_at scope.now.config.now depth)
         (label_of opening sides.now.params sides.now.results) sides.now
         (written (opened opening ty) (state_of scope.now draft.old u.old)))
         ≡ state_of scope.now draft.new u.new) }
@@ -486,8 +490,8 @@ fn draw_if(
     requires allowed { IsAllowedIn scope.now (instr.If ty) }
     requires drops { 0 < length sides.now.params → IsAllowedIn scope.now instr.Drop }
     ensures exact { OnOk result
-        (written instr.End (enclosed_at (drawing_at scope.now.config.now depth) sides.now.results
-        sides.now (written instr.Else (enclosed_at (drawing_at scope.now.config.now depth)
+        (written instr.End (enclosed_at scope.now.config.now (drawing_at scope.now.config.now depth) sides.now.results
+        sides.now (written instr.Else (enclosed_at scope.now.config.now (drawing_at scope.now.config.now depth)
         sides.now.results sides.now (written (instr.If ty) (state_of scope.now draft.old u.old)))))
         ≡ state_of scope.now draft.new u.new) }
     ensures drawn { (values : List Val)
@@ -525,7 +529,7 @@ fn draw_try(
     requires allowed { IsAllowedIn scope.now (instr.TryTable ty clauses) }
     requires drops { 0 < length sides.now.params → IsAllowedIn scope.now instr.Drop }
     ensures exact { OnOk result
-        (written instr.End (enclosed_at (drawing_at scope.now.config.now depth) sides.now.results
+        (written instr.End (enclosed_at scope.now.config.now (drawing_at scope.now.config.now depth) sides.now.results
         sides.now (written (instr.TryTable ty clauses) (state_of scope.now draft.old u.old)))
         ≡ state_of scope.now draft.new u.new) }
     ensures drawn { (values : List Val)
@@ -560,14 +564,14 @@ fn draw_inside(
     requires params { AreValid (bare scope.now) sides.now.params }
     requires results { AreValid (bare scope.now) sides.now.results }
     requires drops { 0 < length sides.now.params → IsAllowedIn scope.now instr.Drop }
-    ensures exact { OnOk result (inside_at (drawing_at scope.now.config.now depth) sides.now
+    ensures exact { OnOk result (inside_at scope.now.config.now (drawing_at scope.now.config.now depth) sides.now
         (state_of scope.now draft.old u.old) ≡ state_of scope.now draft.new u.new) }
     ensures drawn { OnOk result (IsDrawn scope.now sides.now.params sides.now.results
         (length sides.now.params + length sides.now.results) draft.old draft.new) }
     ensures memory { IfErr result (λ e. e ≡ Error.Memory) }
     ensures left { KeepsPieces u.old u.new }
 {
-    drop_values(sides.params.len(), draft)?;
+    settle_values(scope, sides.params.as_slice(), draft, u)?;
     draw_results(alloc, scope, sides.results.as_slice(), depth, draft, u)
 }
 

@@ -5,9 +5,11 @@ mod body;
 mod draws;
 pub mod laws;
 mod leaf;
+mod left;
 mod limits;
 mod operands;
 mod repeats;
+mod settled;
 mod writes;
 
 pub use body::draw_body;

@@ -5,6 +5,7 @@ ghost use Rattle.smith_syntax.specs.declared.value_type.ValType.TheVariants.{I32
 ghost use Rattle.smith_config.specs.Config.{default_config};
 ghost use Rattle.smith_instr.specs.declared.control.BlockType.TheVariants as block;
 ghost use Rattle.smith_instr.specs.declared.instr.Instr.TheVariants as instr;
+ghost use Rattle.smith_instr.specs.declared.numeric.NumericInstr.TheVariants as numeric;
 ghost use Rattle.smith_instr.specs.declared.reference.ReferenceInstr.TheVariants as reference;
 ghost use Rattle.smith_instr_examples.specs.ExampleBodies.{function_of, number, some_func};
 ghost use Rattle.smith_body.specs.Bodies.{body_at};
@@ -42,8 +43,8 @@ fn with_an_else()
     ensures else_for_other_results { body_at default_config (function_of [] []) 1
         (1 ∷ 7 ∷ 5 ∷ 1 ∷ narrow 1 ++ narrow 2)
         ≡ (
-          number 1 ∷ number 2 ∷ instr.If (block.Func 1) ∷ instr.Drop ∷ instr.Else ∷ instr.Drop
-              ∷ instr.End ∷ [],
+          number 1 ∷ number 2 ∷ instr.If (block.Func 1) ∷ instr.GlobalSet 1 ∷ instr.Else
+              ∷ instr.GlobalSet 1 ∷ instr.End ∷ [],
           [],
         ) }
 {}
@@ -57,13 +58,14 @@ fn alone()
     ensures what_it_takes_is_what_it_gives { body_at default_config (keeping []) 1
         (1 ∷ 7 ∷ 5 ∷ 0 ∷ wide 1 ++ narrow 2 ++ wide 3)
         ≡ (
-          wide_number 1 ∷ number 2 ∷ instr.If (block.Func 0) ∷ instr.Drop ∷ wide_number 3
-              ∷ instr.End ∷ instr.Drop ∷ [],
+          wide_number 1 ∷ number 2 ∷ instr.If (block.Func 0) ∷ instr.Numeric numeric.I64Eqz
+              ∷ instr.BrIf 1 ∷ wide_number 3 ∷ instr.End ∷ instr.Numeric numeric.I64Eqz ∷ instr.BrIf 0
+              ∷ [],
           [],
         ) }
     ensures alone_with_other_results { ¬ (body_at default_config (function_of [] []) 1
         (1 ∷ 7 ∷ 5 ∷ 1 ∷ narrow 1 ++ narrow 2)
-        ≡ (number 1 ∷ number 2 ∷ instr.If (block.Func 1) ∷ instr.Drop ∷ instr.End ∷ [], [])) }
+        ≡ (number 1 ∷ number 2 ∷ instr.If (block.Func 1) ∷ instr.GlobalSet 1 ∷ instr.End ∷ [], [])) }
     ensures else_for_a_value { body_at default_config
         (function_of [] (I32 ∷ [])) 1 (0 ∷ 10 ∷ 5 ∷ narrow 1 ++ narrow 2 ++ narrow 3)
         ≡ (
@@ -82,12 +84,12 @@ fn statements()
         ≡ (instr.Block (block.Func 0) ∷ instr.End ∷ [], []) }
     ensures of_no_function_type { body_at default_config (function_of [] []) 1 (1 ∷ 7 ∷ 0 ∷ 2 ∷ [])
         ≡ (instr.Block block.Empty ∷ instr.End ∷ [], []) }
-    ensures parameters_and_results_are_dropped { body_at default_config
+    ensures parameters_and_results_are_settled { body_at default_config
         (function_of [] []) 1 (1 ∷ 8 ∷ 0 ∷ 4 ∷ 4 ∷ 15 ∷ 4 ∷ 15 ∷ [])
         ≡ (
           instr.Unreachable ∷ instr.Block (block.Func 4) ∷ instr.Drop
               ∷ instr.Reference (reference.Null (Abstract false heap.Func)) ∷ instr.End
-              ∷ instr.Drop ∷ [],
+              ∷ instr.Reference reference.IsNull ∷ instr.BrIf 0 ∷ [],
           [],
         ) }
 {}

@@ -3,6 +3,7 @@ ghost use Rattle.smith_syntax.specs.declared.value_type.ValType.TheVariants.{I32
 ghost use Rattle.smith_config.specs.Config.{default_config};
 ghost use Rattle.smith_instr.specs.declared.control.BlockType.TheVariants as block;
 ghost use Rattle.smith_instr.specs.declared.instr.Instr.TheVariants as instr;
+ghost use Rattle.smith_instr.specs.declared.numeric.NumericInstr.TheVariants as numeric;
 ghost use Rattle.smith_instr_examples.specs.ExampleBodies.{function_of, number, some_func};
 ghost use Rattle.smith_body.specs.Bodies.{body_at};
 ghost use Rattle.smith_body_examples.specs.ExampleBytes.{calling, narrow, wide, wide_number};
@@ -23,7 +24,18 @@ fn statements()
     ensures variable_global { body_at default_config (function_of [] []) 1 (1 ∷ 3 ∷ narrow 5)
         ≡ (number 5 ∷ instr.GlobalSet 1 ∷ [], []) }
     ensures call { body_at default_config (calling []) 1 (1 ∷ 5 ∷ 1 ∷ wide 5)
-        ≡ (wide_number 5 ∷ instr.Call 1 ∷ instr.Drop ∷ instr.Drop ∷ [], []) }
+        ≡ (
+          wide_number 5 ∷ instr.Call 1 ∷ instr.Numeric numeric.I64Eqz ∷ instr.BrIf 0
+              ∷ instr.GlobalSet 1 ∷ [],
+          [],
+        ) }
+    ensures results_of_a_call_first_one_first { ¬ (body_at default_config (calling []) 1
+        (1 ∷ 5 ∷ 1 ∷ wide 5)
+        ≡ (
+          wide_number 5 ∷ instr.Call 1 ∷ instr.GlobalSet 1 ∷ instr.Numeric numeric.I64Eqz
+              ∷ instr.BrIf 0 ∷ [],
+          [],
+        )) }
     ensures before_the_results { body_at default_config
         (function_of [] (I32 ∷ [])) 2 (1 ∷ 0 ∷ 0 ∷ 0 ∷ 0 ∷ narrow 5)
         ≡ (instr.Nop ∷ number 5 ∷ [], []) }

@@ -1,8 +1,8 @@
-use Rattle.std.proofs.Common.{◌≡◌, ◌≤◌, refl, sym, arith, ◌-◌, [], length, ◌∙◌}
+use Rattle.std.proofs.Common.{◌≡◌, ◌≤◌, refl, sym, subst, arith, ◌-◌, [], length, ◌∙◌}
 use Rattle.smith_body_nodes.proofs.ResultLemmas.{ok_both}
 use Rattle.std.proofs.lemmas.Result.{on_ok_weaker}
 use Rattle.std.proofs.lemmas.List.{take_all}
-use Rattle.smith_body.proofs.DrawnLemmas.{paid_for, drawn_none, drawn_then, drawn_within, drawn_turn, dropped_drawn, plain_drawn, node_drawn, enclosed_drawn, if_drawn, labels_kept, try_drawn}
+use Rattle.smith_body.proofs.DrawnLemmas.{paid_for, drawn_none, drawn_then, drawn_within, drawn_turn, plain_drawn, enclosed_drawn, if_drawn, labels_kept, try_drawn}
 use Rattle.smith_body.specs.Bodies.{drawing_at, statement_at}
 use Rattle.smith_syntax.specs.FeatureBits.{features_in}
 use Rattle.smith_body.specs.DraftSteps.{state_of}
@@ -10,10 +10,12 @@ use Rattle.smith_body_nodes.proofs.StopLemmas.{node_goes_on}
 use Rattle.smith_body_nodes.specs.Nodes.{IsNode, label_of, opened}
 use Rattle.smith_body_nodes.specs.Scopes.{bare, where_stands, widest}
 use Rattle.smith_body.proofs.ExactLemmas.{all_left, chosen_ending, chosen_statement, chosen_value, deep_statements, drops_written, enclosed_exact, forbidden_ending, forbidden_statement, head_enclosed, head_if, head_try, if_exact, inside_exact, last_statements, last_value, next_value, no_ending, no_values, node_exact, none_left, one_less, opened_again, opened_once, other_value, plain_exact, results_dead, results_drawn, results_ended, results_still, stopped, unpaid_value}
+use Rattle.smith_instr.specs.Contexts.{AreValid}
 use Rattle.smith_instr.specs.declared.instr.Instr.TheVariants as instr
 use Rattle.smith_body_nodes.proofs.NodeLemmas.{no_valid}
 use Rattle.smith_body.proofs.draws.+body.Goals.{draw_value-then-depth-eq0-via-then-depth-eq0, draw_value-then-depth-eq0-via-else-depth-eq0+then-draft-eq0, draw_masked-then-draft-eq0-via-then-draft-eq0, draw_masked-then-draft-eq0-via-else-draft-eq0+then-not-is_allowed, draw_masked-then-draft-eq0-via-else-draft-eq0+else-not-is_allowed+then-not-is_allowed-2}
 use Rattle.smith_body.proofs.draws.+body.Goals as goal
+use Rattle.smith_body.proofs.LeftLemmas.{node_drawn, spare_few, spare_valid}
 use Rattle.smith_body.proofs.RepeatLemmas.{budget_less, inside_drawn, opened_drawn, repeated_drawn, repeated_exact, without_params}
 use Rattle.smith_body.proofs.OperandLemmas.{next_operand, by_way, constant_drawn, near_constant, near_value, written_state, masked_drawn, masked_value, masks_written, no_mask, no_masking, unpaid_masked}
 use Rattle.smith_body.specs.declared.operands.OperandWay.TheVariants as way
@@ -89,13 +91,33 @@ draw_if-returns-clause-left t c = λ whole h. c.draw_inside-2.ensures.left whole
 
 pub draw_inside-returns-clause-drawn : goal.draw_inside-returns-clause-drawn
 draw_inside-returns-clause-drawn t c =
-    let out = rw c.len.ensures at c.in_ok-drop_values.ensures.out in
-    let dropped = dropped_drawn {scope = c.args.scope.now} [] c.args.sides.now.params (no_valid (bare c.args.scope.now)) c.requires.params c.requires.drops out c.drop_values.ensures.set c.drop_values.ensures.same c.drop_values.ensures.budget in
-    on_ok_weaker c.draw_results.result (λ results. drawn_then dropped results) (rw c.as_slice.ensures at c.draw_results.ensures.drawn)
+    let settled = rw c.as_slice.ensures at c.in_ok-settle_values.ensures.drawn in
+    on_ok_weaker c.draw_results.result (λ results. drawn_then settled results) (rw c.as_slice-2.ensures at c.draw_results.ensures.drawn)
+
+pub draw_node-settle_values-requires-clause-values : goal.draw_node-settle_values-requires-clause-values
+draw_node-settle_values-requires-clause-values t c = rw (c.as_slice-2.ensures, c.in_ok-spare.ensures.exact)
+    (spare_valid c.args.scope.now c.args.draft.now.labels.items c.args.node.head c.args.node.drops c.requires.scope c.requires.labels
+    c.requires.inside)
+
+pub draw_node-settle_values-requires-clause-drops : goal.draw_node-settle_values-requires-clause-drops
+draw_node-settle_values-requires-clause-drops t c = rw (c.as_slice-2.ensures, c.in_ok-spare.ensures.exact)
+    (λ some.
+    let few = spare_few (where_stands c.args.scope.now c.args.draft.now) c.args.node.head c.args.node.drops in
+    c.requires.allowed.drops (omega arith))
 
 pub draw_node-returns-clause-drawn : goal.draw_node-returns-clause-drawn
 draw_node-returns-clause-drawn t c = λ values fits goes_on.
-    on_ok_weaker c.drop_values.result (λ out. node_drawn fits c.requires.allowed.drops goes_on c.requires.paid (rw c.as_slice.ensures at c.in_ok-draw_operands.ensures.drawn) c.in_ok-draw_head.ensures.drawn out c.drop_values.ensures.set c.drop_values.ensures.same c.drop_values.ensures.budget) c.drop_values.ensures.out
+    let spare = c.in_ok-spare.ensures.exact in
+    let valid = subst (AreValid (bare c.args.scope.now)) (sym spare) (spare_valid c.args.scope.now c.args.draft.now.labels.items c.args.node.head
+    c.args.node.drops c.requires.scope c.requires.labels c.requires.inside) in
+    let operands = rw c.as_slice.ensures at c.in_ok-draw_operands.ensures.drawn in
+    let settles = rw c.as_slice-2.ensures at c.in_ok-settle_values.ensures.drawn in
+    let out = rw (c.saturating_sub.ensures, c.len.ensures) at c.drop_values.ensures.out in
+    on_ok_weaker c.drop_values.result
+    (λ out. node_drawn fits c.requires.allowed.drops goes_on c.requires.paid operands
+    c.in_ok-draw_head.ensures.drawn _ spare valid settles out
+    c.drop_values.ensures.set c.drop_values.ensures.same c.drop_values.ensures.budget)
+    out
 
 pub draw_statement-returns-then-not-is_node_allowed-clause-drawn : goal.draw_statement-returns-then-not-is_node_allowed-clause-drawn
 draw_statement-returns-then-not-is_node_allowed-clause-drawn t c =
@@ -131,9 +153,14 @@ draw_statement-returns-clause-exact t c =
 
 pub draw_node-returns-clause-exact : goal.draw_node-returns-clause-exact
 draw_node-returns-clause-exact t c =
+    let settling = rw c.as_slice-2.ensures at c.in_ok-settle_values.ensures.exact in
+    let out = rw (c.saturating_sub.ensures, c.len.ensures) at c.drop_values.ensures.out in
     on_ok_weaker c.drop_values.result
-    (λ out. node_exact c.args.scope.now.config.now (drawing_at c.args.scope.now.config.now c.args.depth) c.args.node (state_of c.args.scope.now c.args.draft.now c.args.u.now) _ _ (rw c.as_slice.ensures at c.in_ok-draw_operands.ensures.exact) c.in_ok-draw_head.ensures.exact
-    ∙ drops_written c.args.scope.now c.args.node.drops c.draw_head.new.draft c.drop_values.new.draft c.draw_head.new.u out c.drop_values.ensures.set c.drop_values.ensures.same c.drop_values.ensures.budget) c.drop_values.ensures.out
+    (λ out. node_exact c.args.scope.now.config.now (drawing_at c.args.scope.now.config.now c.args.depth) c.args.node (state_of
+    c.args.scope.now c.args.draft.now c.args.u.now) _ _ _ _ (rw c.as_slice.ensures at c.in_ok-draw_operands.ensures.exact)
+    c.in_ok-draw_head.ensures.exact c.in_ok-spare.ensures.exact settling
+    ∙ drops_written c.args.scope.now _ c.settle_values.new.draft c.drop_values.new.draft c.settle_values.new.u out
+    c.drop_values.ensures.set c.drop_values.ensures.same c.drop_values.ensures.budget) out
 
 pub draw_head-returns-in-Plain-clause-exact : goal.draw_head-returns-in-Plain-clause-exact
 draw_head-returns-in-Plain-clause-exact t c =
@@ -261,9 +288,10 @@ draw_if-returns-clause-exact t c =
 
 pub draw_inside-returns-clause-exact : goal.draw_inside-returns-clause-exact
 draw_inside-returns-clause-exact t c =
-    let out = rw c.len.ensures at c.in_ok-drop_values.ensures.out in
-    let dropping = drops_written c.args.scope.now (length c.args.sides.now.params) c.args.draft.now c.drop_values.new.draft c.args.u.now out c.drop_values.ensures.set c.drop_values.ensures.same c.drop_values.ensures.budget in
-    on_ok_weaker c.draw_results.result (λ is. inside_exact (drawing_at c.args.scope.now.config.now c.args.depth) c.args.sides.now (state_of c.args.scope.now c.args.draft.now c.args.u.now) _ dropping ∙ is) (rw c.as_slice.ensures at c.draw_results.ensures.exact)
+    let settling = rw c.as_slice.ensures at c.in_ok-settle_values.ensures.exact in
+    on_ok_weaker c.draw_results.result
+    (λ is. inside_exact c.args.scope.now.config.now (drawing_at c.args.scope.now.config.now c.args.depth) c.args.sides.now (state_of
+    c.args.scope.now c.args.draft.now c.args.u.now) _ settling ∙ is) (rw c.as_slice-2.ensures at c.draw_results.ensures.exact)
 
 pub draw_head-returns-in-Try-clause-exact : goal.draw_head-returns-in-Try-clause-exact
 draw_head-returns-in-Try-clause-exact t c =
