@@ -1,2 +1,3 @@
 pub mod ValidLemmas
 pub mod FuelLemmas
+pub mod PlainLemmas

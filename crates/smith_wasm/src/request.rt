@@ -99,7 +99,7 @@ pub(crate) fn module_of(
     let config = config_of(alloc, asked, &mut u)?;
     let program = Program::new(alloc, config, &mut u)?;
     let counts = Counts::of(&program);
-    let bytes = write_program(alloc, program, asked.manner)?;
+    let bytes = write_program(alloc, program, asked.manner, &u)?;
     Ok(Made { bytes, counts })
 }
 
