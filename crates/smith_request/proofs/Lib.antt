@@ -1,2 +1,4 @@
 pub mod ValidLemmas
 pub mod FuelLemmas
+pub mod RequestLemmas
+mod ShapelessLemmas
