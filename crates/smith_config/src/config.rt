@@ -244,8 +244,8 @@ pub struct Config {
     /// Whether NaN results are made canonical. Defaults to `false`. Ignored: no result is changed.
     pub canonicalize_nans: bool,
 
-    /// Whether custom sections are generated. Defaults to `false`. A file of a program then has up to
-    /// eight, drawn from the bytes that its bodies leave. Ignored for a module, and for texts.
+    /// Whether custom sections are generated. Defaults to `false`. Ignored: modules here have no
+    /// custom sections.
     pub generate_custom_sections: bool,
 
     /// The minimum length of an encoded unsigned integer, in bytes, up to five. Defaults to 1. Only
