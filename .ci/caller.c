@@ -1,8 +1,9 @@
 /* Reads a configuration and inputs from standard input, each as its length in four bytes, least significant first, and then its bytes.
  * Writes for each input a status and the module, or the reason in words, in the same form.
  *
- * It also checks the buffer after each call, with too little room, with just enough, and with more. The exit status is 3 if the buffer is
- * not as smith.h says, and 4 if memory runs out, or a read or a write fails.
+ * It also checks the buffer after each call, with too little room, with just enough, and with more, and that the calls for a
+ * configuration that is read answer the same. The exit status is 3 if a buffer is not as smith.h says, 4 if memory runs out, or a read or
+ * a write fails, and 5 if answers differ.
  */
 #include "smith.h"
 
@@ -11,9 +12,22 @@ long read(int file, void *buffer, size_t length);
 long write(int file, const void *buffer, size_t length);
 void *malloc(size_t length);
 void *memset(void *bytes, int byte, size_t length);
+int memcmp(const void *one, const void *other, size_t length);
 void _exit(int status);
 
 typedef struct smith_answer call(const uint8_t *, size_t, const uint8_t *, size_t, uint8_t *, size_t);
+typedef struct smith_answer call_with(const struct smith_config *, const uint8_t *, size_t, uint8_t *, size_t);
+
+/* Each call, and the same for a configuration that is read. */
+static const struct {
+    call *of_text;
+    call_with *of_read;
+} PAIRS[] = {
+    {smith_binary, smith_binary_with},
+    {smith_text, smith_text_with},
+    {smith_wat, smith_wat_with},
+    {smith_refusal, smith_refusal_with},
+};
 
 enum { MARK = 0xA5, ROOM = 1 << 18, GIVEN = 64 << 20, BEYOND = 64 };
 
@@ -73,6 +87,35 @@ static struct smith_answer tried(call *make, struct bytes config, struct bytes i
     return just;
 }
 
+/* A configuration that is read, if it can be, with marks after it. */
+struct read {
+    struct smith_config config;
+    uint8_t marks[BEYOND];
+    uint32_t status;
+};
+
+static void read_config(struct bytes config, struct read *read) {
+    memset(read, MARK, sizeof *read);
+    struct smith_answer answer = smith_config_read(config.at, config.length, &read->config);
+    need(answer.length == 0, 3);
+    read->status = answer.status;
+    for (size_t i = 0; i < BEYOND; i++) need(read->marks[i] == MARK, 3);
+    const uint8_t *bytes = (const uint8_t *)&read->config;
+    for (size_t i = 0; answer.status != SMITH_MADE && i < sizeof read->config; i++) need(bytes[i] == MARK, 3);
+}
+
+/* Compares the answers of a text with those of what was read of it, or with the status if it wasn't read. */
+static void compare(struct bytes config, const struct read *read, struct bytes input, uint8_t *out, uint8_t *other) {
+    for (size_t i = 0; i < sizeof PAIRS / sizeof *PAIRS; i++) {
+        struct smith_answer one = PAIRS[i].of_text(config.at, config.length, input.at, input.length, out, ROOM);
+        need(read->status == SMITH_MADE || one.status == read->status, 5);
+        if (read->status != SMITH_MADE) continue;
+        struct smith_answer same = PAIRS[i].of_read(&read->config, input.at, input.length, other, ROOM);
+        need(one.status == same.status && one.length == same.length, 5);
+        need(one.status == SMITH_SHORT || memcmp(out, other, one.length) == 0, 5);
+    }
+}
+
 static void answer_record(struct bytes config, struct bytes input, uint8_t *out) {
     struct smith_answer answer = tried(smith_binary, config, input, out, SMITH_MADE);
     if (answer.status != SMITH_MADE) {
@@ -86,14 +129,20 @@ static void answer_record(struct bytes config, struct bytes input, uint8_t *out)
 }
 
 int main(void) {
-    uint8_t *buffer = malloc(GIVEN), *out = malloc(ROOM + BEYOND);
-    need(buffer && out, 4);
+    uint8_t *buffer = malloc(GIVEN), *out = malloc(ROOM + BEYOND), *other = malloc(ROOM);
+    need(buffer && out && other, 4);
     struct bytes given = {buffer, 0};
     for (long count; (count = read(0, buffer + given.length, GIVEN - given.length)) != 0;) {
         need(count > 0, 4);
         given.length += (size_t)count;
     }
     struct bytes config = record(&given);
-    while (given.length > 0) answer_record(config, record(&given), out);
+    struct read read;
+    read_config(config, &read);
+    while (given.length > 0) {
+        struct bytes input = record(&given);
+        compare(config, &read, input, out, other);
+        answer_record(config, input, out);
+    }
     return 0;
 }

@@ -12,19 +12,17 @@
 #include <stdlib.h>
 
 struct generator {
-    uint8_t config[1 << 16];
-    size_t config_length;
+    struct smith_config config;
     uint8_t *output;
     size_t room;
 };
 
-typedef struct smith_answer smith_call(const uint8_t *, size_t, const uint8_t *, size_t, uint8_t *, size_t);
+typedef struct smith_answer smith_call(const struct smith_config *, const uint8_t *, size_t, uint8_t *, size_t);
 
 /* Returns what `call` answers for the input. The output is at the front of `generator->output`. */
 static inline struct smith_answer generator_call(struct generator *generator, smith_call *call, const uint8_t *input, size_t length) {
     for (;;) {
-        struct smith_answer answer =
-            call(generator->config, generator->config_length, input, length, generator->output, generator->room);
+        struct smith_answer answer = call(&generator->config, input, length, generator->output, generator->room);
         if (answer.status != SMITH_SHORT) return answer;
         free(generator->output);
         generator->room = answer.length;
@@ -34,41 +32,51 @@ static inline struct smith_answer generator_call(struct generator *generator, sm
 
 /* Prints why there is no module of the input, after `name` and a colon. */
 static inline void generator_explain(struct generator *generator, const char *name, const uint8_t *input, size_t length) {
-    size_t words = generator_call(generator, smith_refusal, input, length).length;
+    size_t words = generator_call(generator, smith_refusal_with, input, length).length;
     fprintf(stderr, "%s: %.*s\n", name, (int)words, (const char *)generator->output);
 }
 
-static inline void generator_read_config(struct generator *generator, const char *name) {
+/* Returns the number of bytes of the file, which are put into `text`. */
+static inline size_t generator_read_file(const char *name, uint8_t *text, size_t room) {
     FILE *file = fopen(name, "rb");
     if (!file) {
         perror(name);
         abort();
     }
-    generator->config_length = fread(generator->config, 1, sizeof generator->config, file);
+    size_t length = fread(text, 1, room, file);
     int next = fgetc(file);
     if (ferror(file)) {
         perror(name);
         abort();
     }
     if (next != EOF) {
-        fprintf(stderr, "%s: more than %zu bytes\n", name, sizeof generator->config);
+        fprintf(stderr, "%s: more than %zu bytes\n", name, room);
         abort();
     }
     fclose(file);
+    return length;
+}
+
+/* Reads the configuration in the file `name`, or the default one without a name. A text that is none aborts. */
+static inline void generator_read_config(struct generator *generator, const char *name) {
+    static uint8_t text[1 << 16];
+    size_t length = name ? generator_read_file(name, text, sizeof text) : 0;
+    if (smith_config_read(text, length, &generator->config).status == SMITH_MADE) return;
+    size_t words = smith_refusal(text, length, text, 0, generator->output, generator->room).length;
+    fprintf(stderr, "%s: %.*s\n", name ? name : "SMITH_CONFIG", (int)words, (const char *)generator->output);
+    abort();
 }
 
 /* Returns a generator that is never freed. Only a wrong configuration aborts: other refusals may be of the empty input alone. */
 static inline struct generator *generator_new(void) {
     static const uint8_t no_input[1];
-    struct generator *generator = (struct generator *)calloc(1, sizeof *generator);
+    struct generator *generator = (struct generator *)malloc(sizeof *generator);
     if (!generator) abort();
     generator->room = 1 << 16;
     if (!(generator->output = (uint8_t *)malloc(generator->room))) abort();
     const char *name = getenv("SMITH_CONFIG");
-    if (!name) return generator;
     generator_read_config(generator, name);
-    uint32_t status = generator_call(generator, smith_binary, no_input, 0).status;
-    if (status != SMITH_CONFIG_TEXT && status != SMITH_CONFIG) return generator;
+    if (!name || generator_call(generator, smith_binary_with, no_input, 0).status != SMITH_CONFIG) return generator;
     generator_explain(generator, name, no_input, 0);
     abort();
 }

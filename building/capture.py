@@ -29,6 +29,15 @@ NO_HINTS = "#!/bin/sh\nexit 2\n"
 
 EXPORT = re.compile(r'#\[unsafe\(no_mangle\)\]\npub extern "C" fn (\w+)\((.*?),?\s*\) ->', re.S)
 VALUES = {"Global": "rt.alloc()", "&[u8]": 'b""', "&mut [u8]": "&mut out", "u32": "0", "usize": "0", "bool": "false"}
+VALUES |= {"&KeptConfig": "&kept", "&mut KeptConfig": "&mut kept"}
+
+# What the calls in `main` pass on.
+PASSED = """    let mut out = [0u8; 1];
+    let Ok(request) = Request::read(rt.alloc(), b"") else {
+        return;
+    };
+    let mut kept = KeptConfig::of(&request);
+"""
 
 
 @dataclasses.dataclass
@@ -94,7 +103,7 @@ def make_program(folder: pathlib.Path) -> list:
     if not exports or len(exports) != text.count("no_mangle"):
         raise Failed(f"{LIBRARY}: its exports don't have the form that building/capture.py reads")
     calls = "".join(call_of(*export) for export in exports)
-    main = f"/// Reaches each export.\nfn main(rt: HostRuntime) {{\n    let mut out = [0u8; 1];\n{calls}}}\n"
+    main = f"/// Reaches each export.\nfn main(rt: HostRuntime) {{\n{PASSED}{calls}}}\n"
     (source / "main.rt").write_text(f"{text}\n{main}")
     (source / "lib.rt").unlink()
     listed = folder / "crates.txt"

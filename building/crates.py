@@ -11,7 +11,8 @@ PLACE = "crates/smith_wasm/src/words.rt"
 VERSION = re.compile(r'(const VERSION: &str = ")(\d+\.\d+\.\d+)(";)')
 # The files that repeat it, since they are used as they are too.
 PYTHON = "bindings/python/smith.py"
-COPIES = {"bindings/rust/Cargo.toml": re.compile(r'^version = "(.*)"$', re.M), PYTHON: re.compile(r'^__version__ = "(.*)"$', re.M)}
+CARGO = re.compile(r'^version = "(.*)"$', re.M)
+COPIES = {"bindings/rust/Cargo.toml": CARGO, "bindings/rust/drop_in/Cargo.toml": CARGO, PYTHON: re.compile(r'^__version__ = "(.*)"$', re.M)}
 
 
 def dependencies() -> dict:

@@ -10,6 +10,7 @@ from building.manual import page
 
 DIST = ROOT / "dist"
 SUMS = "SHA256SUMS"
+COMMANDS = ("print",)
 DOES = "make valid WebAssembly modules from bytes"
 
 # The places of the files in an installation.
@@ -90,7 +91,8 @@ def add_files(folder: pathlib.Path, build: Build) -> None:
     said = run(program, "--version").strip()
     if said != f"{PROGRAM} {build.full_version()}":
         raise Failed(f"`{PROGRAM} --version` says `{said}`, and this build is {build.full_version()}")
-    (folder / f"{PROGRAM}.1").write_text(page(run(program, "--help"), PROGRAM, build.full_version(), DOES))
+    commands = {command: run(program, command, "--help") for command in COMMANDS}
+    (folder / f"{PROGRAM}.1").write_text(page(run(program, "--help"), commands, PROGRAM, build.full_version(), DOES))
     (folder / "VERSION").write_text(version_text(build))
     (folder / "smith.h").write_text(header_text(build))
     (folder / "smith.pc").write_text(package_text(build))

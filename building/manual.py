@@ -36,8 +36,16 @@ def section(title: str, lines: list) -> str:
     return f".SH {escape(title.upper())}\n{''.join(texts)}"
 
 
-def page(help_text: str, name: str, version: str, about: str) -> str:
-    """Returns the page of a program with this help. `about` says what it does in a few words."""
+def command_section(help_text: str, name: str) -> str:
+    """Returns the section of a command with this help, whose entries follow each other without a heading."""
+    front, *rest = re.split(r"^(\S[^\n]*):$", help_text, flags=re.M)
+    lines = [line for text in (front, *rest[1::2]) for line in text.splitlines() if not line.startswith("Usage:")]
+    return section(name, lines)
+
+
+def page(help_text: str, commands: dict, name: str, version: str, about: str) -> str:
+    """Returns the page of a program with this help and these commands, the help of each by its name. `about` says what the program does in a
+    few words."""
     front, *rest = re.split(r"^(\S[^\n]*):$", help_text, flags=re.M)
     lines = front.splitlines()
     usage = [line.removeprefix("Usage:").strip() for line in lines if line.startswith(("Usage:", "       "))]
@@ -45,4 +53,5 @@ def page(help_text: str, name: str, version: str, about: str) -> str:
     head = f'.TH {name.upper()} 1 "" "{name} {version}" "User Commands"\n.SH NAME\n{name} \\- {about}\n'
     calls = "\n.br\n".join(f"\\fB{name}\\fR {escape(call.removeprefix(name).strip())}" for call in usage)
     sections = "".join(section(title, text.splitlines()) for title, text in zip(rest[::2], rest[1::2]))
+    sections += "".join(command_section(text, f"The command {command}") for command, text in commands.items())
     return f"{head}.SH SYNOPSIS\n{calls}\n.SH DESCRIPTION\n{escape(does)}\n{sections}"

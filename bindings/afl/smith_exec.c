@@ -82,7 +82,7 @@ static void read_test_case(struct wrapper *wrapper) {
 /* Writes the module of the test case to the file in memory. Returns whether there is one. */
 static int write_module(struct wrapper *wrapper) {
     read_test_case(wrapper);
-    struct smith_answer answer = generator_call(wrapper->generator, smith_binary, wrapper->input, wrapper->length);
+    struct smith_answer answer = generator_call(wrapper->generator, smith_binary_with, wrapper->input, wrapper->length);
     if (answer.status != SMITH_MADE) return 0;
     if (ftruncate(wrapper->module, 0) || lseek(wrapper->module, 0, SEEK_SET)) fail_at("the module");
     if (write(wrapper->module, wrapper->generator->output, answer.length) != (ssize_t)answer.length) fail_at("the module");

@@ -7,8 +7,12 @@ import (
 
 // FuzzModule is an example of a fuzz target: each input becomes a module. Replace the condition with the code under test.
 func FuzzModule(f *testing.F) {
+	config, err := NewConfig("")
+	if err != nil {
+		f.Fatal(err)
+	}
 	f.Fuzz(func(t *testing.T, input []byte) {
-		module, err := Module("", input)
+		module, err := config.Module(input)
 		if err != nil {
 			t.Skip(err)
 		}

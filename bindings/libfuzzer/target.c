@@ -25,7 +25,7 @@ int LLVMFuzzerInitialize(int *count, char ***words) {
 
 /* Returns -1 for a refused input, so that the fuzzer doesn't keep it. */
 int LLVMFuzzerTestOneInput(const uint8_t *input, size_t length) {
-    struct smith_answer answer = generator_call(generator, smith_binary, input, length);
+    struct smith_answer answer = generator_call(generator, smith_binary_with, input, length);
     if (answer.status != SMITH_MADE) return -1;
     uint8_t *module = malloc(answer.length);
     if (!module) return -1;

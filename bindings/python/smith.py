@@ -42,19 +42,28 @@ def _path() -> str:
     )
 
 
+class _Kept(ctypes.Structure):
+    """A configuration that is read, as in smith.h: plain memory."""
+
+    _fields_ = [("words", ctypes.c_uint64 * 48)]
+
+
 _MADE, _SHORT = 0, 1
 _LIBRARY = ctypes.CDLL(_path())
-for _name in ("smith_binary", "smith_text", "smith_wat", "smith_refusal"):
+_BYTES = [ctypes.c_char_p, ctypes.c_size_t]
+_TAKES = {"smith_config_read": _BYTES + [ctypes.POINTER(_Kept)], "smith_refusal": _BYTES * 3}
+_TAKES |= {f"smith_{name}_with": [ctypes.POINTER(_Kept)] + _BYTES * 2 for name in ("binary", "text", "wat", "refusal")}
+for _name, _kinds in _TAKES.items():
     getattr(_LIBRARY, _name).restype = Answer
-    getattr(_LIBRARY, _name).argtypes = [ctypes.c_char_p, ctypes.c_size_t] * 3
+    getattr(_LIBRARY, _name).argtypes = _kinds
 
 
-def _output(call, config: bytes, given: bytes) -> tuple:
+def _output(call, *given) -> tuple:
     """Returns the status and the output of a call, from a buffer that is enlarged once if necessary."""
     room = 1 << 16
     while True:
         buffer = ctypes.create_string_buffer(room)
-        answer = call(config, len(config), given, len(given), buffer, room)
+        answer = call(*given, buffer, room)
         if answer.status != _SHORT:
             return answer.status, buffer[: answer.length]
         room = answer.length
@@ -66,30 +75,42 @@ def _text_of(config: str | dict) -> bytes:
         return json.dumps(config).encode()
     if isinstance(config, str):
         return config.encode()
-    raise TypeError(f"a configuration must be a str or a dict, not {type(config).__name__}")
+    raise TypeError(f"a configuration must be a Config, a str or a dict, not {type(config).__name__}")
 
 
-def _made(call, config: str | dict, given: bytes | bytearray | memoryview) -> bytes:
-    words, data = _text_of(config), bytes(memoryview(given))
-    status, output = _output(call, words, data)
+class Config:
+    """A configuration that is read once, for any number of modules. Any number of threads may use it at the same time."""
+
+    def __init__(self, config: str | dict = ""):
+        """Reads a JSON object, as text or as a dictionary, or empty for the default. Raises `Refused` if it is none."""
+        words = _text_of(config)
+        self._kept = _Kept()
+        status = _LIBRARY.smith_config_read(words, len(words), self._kept).status
+        if status != _MADE:
+            raise Refused(status, _output(_LIBRARY.smith_refusal, words, len(words), b"", 0)[1].decode())
+
+
+def _made(call, config: Config | str | dict, given: bytes | bytearray | memoryview) -> bytes:
+    kept, data = (config if isinstance(config, Config) else Config(config))._kept, bytes(memoryview(given))
+    status, output = _output(call, kept, data, len(data))
     if status != _MADE:
-        raise Refused(status, _output(_LIBRARY.smith_refusal, words, data)[1].decode())
+        raise Refused(status, _output(_LIBRARY.smith_refusal_with, kept, data, len(data))[1].decode())
     return output
 
 
-def module(given: bytes | bytearray | memoryview, config: str | dict = "") -> bytes:
+def module(given: bytes | bytearray | memoryview, config: Config | str | dict = "") -> bytes:
     """Returns the module of `given`, with bodies of instructions, in the binary format.
 
-    `config` is a JSON object, as text or as a dictionary, or empty for the default. Raises `Refused` if there is no module.
+    `config` is a `Config`, or what it is made of, which is then read for this module alone. Raises `Refused` if there is no module.
     """
-    return _made(_LIBRARY.smith_binary, config, given)
+    return _made(_LIBRARY.smith_binary_with, config, given)
 
 
-def text(given: bytes | bytearray | memoryview, config: str | dict = "") -> str:
+def text(given: bytes | bytearray | memoryview, config: Config | str | dict = "") -> str:
     """Returns the same module in the text format, and after it comments with values that the format cannot express."""
-    return _made(_LIBRARY.smith_text, config, given).decode()
+    return _made(_LIBRARY.smith_text_with, config, given).decode()
 
 
-def wat(given: bytes | bytearray | memoryview, config: str | dict = "") -> str:
+def wat(given: bytes | bytearray | memoryview, config: Config | str | dict = "") -> str:
     """Returns the same module in the text format, for readers: with the parameters and results of each function type that is used."""
-    return _made(_LIBRARY.smith_wat, config, given).decode()
+    return _made(_LIBRARY.smith_wat_with, config, given).decode()

@@ -1,1 +1,2 @@
 pub mod CallAnswers
+pub mod KeptConfigs

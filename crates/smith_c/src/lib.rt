@@ -3,18 +3,23 @@
 #![tactic(auto)]
 
 ghost use Rattle.smith_c.specs.CallAnswers.{IsAnswered, IsExplained};
+ghost use Rattle.smith_c.specs.KeptConfigs.{IsRead, request_of};
 ghost use Rattle.smith_request.specs.Requests.{IsBinary, HasBinary, IsTextOf};
-ghost use Rattle.smith_request.specs.Refusals.{IsRefusal};
+ghost use Rattle.smith_request.specs.Requests.{IsBinaryFor, HasBinaryFor, IsTextFor};
+ghost use Rattle.smith_request.specs.Refusals.{IsRefusal, IsRefusalFor};
 ghost use Rattle.smith_request.specs.declared.manner.Form.TheVariants.{Binary, Text};
 ghost use Rattle.smith_text.specs.declared.module.Layout.TheVariants.{Notes, Signatures};
 
 mod answer;
 mod explanation;
+mod kept;
 mod laws;
 
 pub use crate::answer::Answer;
 use crate::answer::put;
 use crate::explanation::explain;
+pub use crate::kept::KeptConfig;
+use smith_request::{Form, Layout, Request};
 use std::alloc::Global;
 
 /// Writes the module of a configuration and of `input`, with a body for each function that it
@@ -72,6 +77,95 @@ pub extern "C" fn smith_refusal(
         (IsRefusal Binary config.now input.now) out.old out.new result }
 {
     match smith_request::binary(alloc, config, input) {
+        Ok(_) => Answer::without_output(answer::MADE),
+        Err(refusal) => explain(alloc, &refusal, out),
+    }
+}
+
+/// Reads `text`, a JSON object or empty for the default configuration, into `config`, for the calls
+/// whose names end in `_with`. Leaves `config` as it is if the text is refused.
+#[unsafe(no_mangle)]
+pub extern "C" fn smith_config_read(alloc: Global, text: &[u8], config: &mut KeptConfig) -> Answer
+    ensures { IsRead text.now config.old config.new result }
+{
+    match Request::read(alloc, text) {
+        Ok(request) => {
+            *config = KeptConfig::of(&request);
+            Answer::without_output(answer::MADE)
+        }
+        Err(refusal) => Answer::without_output(refusal.status()),
+    }
+}
+
+/// Does what [`smith_binary`] does, for a configuration that is read.
+#[unsafe(no_mangle)]
+pub extern "C" fn smith_binary_with(
+    alloc: Global,
+    config: &KeptConfig,
+    input: &[u8],
+    out: &mut [u8],
+) -> Answer
+    ensures { IsAnswered (IsBinaryFor (request_of config.now) input.now)
+        (IsRefusalFor Binary (request_of config.now) input.now) out.old out.new result }
+{
+    match config.request().write(alloc, input, Form::Binary) {
+        Ok(bytes) => put(answer::MADE, bytes.as_slice(), out),
+        Err(refusal) => Answer::without_output(refusal.status()),
+    }
+}
+
+/// Does what [`smith_text`] does, for a configuration that is read.
+#[unsafe(no_mangle)]
+pub extern "C" fn smith_text_with(
+    alloc: Global,
+    config: &KeptConfig,
+    input: &[u8],
+    out: &mut [u8],
+) -> Answer
+    ensures { IsAnswered (IsTextFor (request_of config.now) input.now)
+        (IsRefusalFor (Text Notes) (request_of config.now) input.now) out.old out.new result }
+{
+    match config
+        .request()
+        .write(alloc, input, Form::Text(Layout::Notes))
+    {
+        Ok(text) => put(answer::MADE, text.as_slice(), out),
+        Err(refusal) => Answer::without_output(refusal.status()),
+    }
+}
+
+/// Does what [`smith_wat`] does, for a configuration that is read.
+#[unsafe(no_mangle)]
+pub extern "C" fn smith_wat_with(
+    alloc: Global,
+    config: &KeptConfig,
+    input: &[u8],
+    out: &mut [u8],
+) -> Answer
+    ensures { IsAnswered (IsTextFor (request_of config.now) input.now)
+        (IsRefusalFor (Text Signatures) (request_of config.now) input.now) out.old out.new result }
+{
+    match config
+        .request()
+        .write(alloc, input, Form::Text(Layout::Signatures))
+    {
+        Ok(text) => put(answer::MADE, text.as_slice(), out),
+        Err(refusal) => Answer::without_output(refusal.status()),
+    }
+}
+
+/// Does what [`smith_refusal`] does, for a configuration that is read.
+#[unsafe(no_mangle)]
+pub extern "C" fn smith_refusal_with(
+    alloc: Global,
+    config: &KeptConfig,
+    input: &[u8],
+    out: &mut [u8],
+) -> Answer
+    ensures { IsExplained (HasBinaryFor (request_of config.now) input.now)
+        (IsRefusalFor Binary (request_of config.now) input.now) out.old out.new result }
+{
+    match config.request().write(alloc, input, Form::Binary) {
         Ok(_) => Answer::without_output(answer::MADE),
         Err(refusal) => explain(alloc, &refusal, out),
     }

@@ -21,6 +21,8 @@ pub enum Call {
     Parser(ParserCall),
     /// `config`.
     ReadConfig,
+    /// `decode`.
+    Decode,
     /// A call on a type space.
     Space(SpaceCall),
     /// The recorded form of a set of answers.
@@ -572,6 +574,7 @@ static CALLS: [(&str, Call, usize); 82] = [
         0,
     ),
     ("config", Call::ReadConfig, ANY),
+    ("decode", Call::Decode, 0),
     (
         "TypeSpace::heap_type_is_sub_type",
         Call::Space(SpaceCall::Subtype(SubtypeCall::HeapType)),

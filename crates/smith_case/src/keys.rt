@@ -75,6 +75,10 @@ fn keys_of(call: Call) -> Keys {
             ..NONE
         },
         Call::Parser(_) | Call::ReadConfig => Keys { args: true, ..NONE },
+        Call::Decode => Keys {
+            input: true,
+            ..NONE
+        },
         Call::Space(_) => Keys {
             types: true,
             args: true,

@@ -7,8 +7,9 @@
 //!   `call.rt` lists them. `Module::new of Config::arbitrary` draws the configuration first and the
 //!   module from the bytes left. `encode` adds fuel to the module of `Module::new` for each
 //!   argument and encodes it. `Program::new` adds fuel to the program likewise and answers its text,
-//!   `encode of Program::new` its binary; both report the bytes of the input left. `recorded` makes
-//!   checksums of the results for generated inputs.
+//!   `encode of Program::new` its binary; both report the bytes of the input left. `decode` answers
+//!   the text of the module that the input is, or its first fault. `recorded` makes checksums of the
+//!   results for generated inputs.
 //! - `args` lists the arguments of the call: numbers in decimal, types and heap types as the text
 //!   format writes them without its abbreviations, function types and entities as shapes write
 //!   them, `true` and `false`, names. The functions of `smith_case_answers` that make the calls describe
@@ -23,8 +24,8 @@
 //!   half of them, or `each cut` for each prefix of `input`. The case then wants the same of each
 //!   answer.
 //!
-//! An answer is text: the text of a module as `smith_text` writes it, or of a program as
-//! `smith_text_program` does; for encoded ones the line `8 bytes, SHA-256 93a4..`, and the bytes
+//! An answer is text: the text of a module as `smith_text` writes it, of a program as
+//! `smith_text_program` does, or of a decoded file as `smith_text_file` does; for encoded ones the line `8 bytes, SHA-256 93a4..`, and the bytes
 //! after the word `binary` if there are at most 200; else a line for each value. A refusal is a
 //! line such as `refused: IncorrectFormat(TypeSize)`. After a draw, `left 2` is the number of bytes
 //! left, and `next 0102` the first of them.

@@ -10,7 +10,12 @@ use Rattle.smith_program.specs.declared.program.Body.{Body}
 use Rattle.smith_program.proofs.ValidLemmas.{counted_valid, exported_program_valid}
 use Rattle.smith_binary_program.specs.Valid.{IsValidBinary}
 use Rattle.smith_binary_program.proofs.ValidLemmas.{encoded_valid}
-use Rattle.smith_request.specs.Output.{IsBinaryOf, IsBinaryWith, IsCounted, IsExporting, IsFuelled}
+use Rattle.smith_custom_sections.specs.CustomSections.{IsPlain}
+use Rattle.smith_custom_sections.specs.WithoutCustoms.{IsWithoutCustoms}
+use Rattle.smith_custom_sections.proofs.LeftLemmas.{plain_left}
+use Rattle.smith_request.specs.Output.{IsBinaryOf, IsBinaryWith, IsCounted, IsExporting, IsFileOf, IsFinished, IsFuelled}
+use Rattle.smith_request.specs.ValidFiles.{IsValidFile}
+use Rattle.smith_request.proofs.PlainLemmas.{binary_plain}
 use Rattle.smith_request.specs.declared.manner.Fuel.{Fuel}
 
 -- a valid program is valid with a counter
@@ -47,5 +52,29 @@ written_valid None program bytes encoded valid = encoded_valid program.«module�
 written_valid (Some fuel) program bytes h valid =
     encoded_valid h.counted.«module» h.counted.bodies bytes h.encoded (with_fuel fuel program h.counted h.has_counter valid)
 
-pub binary_valid : (config : Config) (fuel : Option Fuel) (input bytes left : List ℕ) → IsBinaryOf config fuel input bytes left → IsValidBinary bytes
-binary_valid config fuel input bytes left h = written_valid fuel h.program bytes h.encoded h.drawn.valid
+-- a file without custom sections is left as it is
+finished_without : (b : Bool) (least : ℕ) (left file bytes : List ℕ) → IsPlain file → IsFinished b least left file bytes → IsWithoutCustoms bytes file
+finished_without true least left file bytes plain h = h.without
+finished_without false least left file bytes plain h = subst (λ (whole : List ℕ). IsWithoutCustoms whole file) (sym h) (plain_left plain)
+
+-- the file of a program is valid
+file_valid : {config : Config} {fuel : Option Fuel} {input bytes left : List ℕ} (h : IsBinaryOf config fuel input bytes left) → IsValidBinary h.written.file
+file_valid {fuel = fuel} h = written_valid fuel h.program h.written.file h.written.encoded h.drawn.valid
+
+-- what is left of it without its custom sections
+without : {config : Config} {fuel : Option Fuel} {program : ProgramParts} {left bytes : List ℕ} (h : IsFileOf config fuel program left bytes) → IsWithoutCustoms bytes h.file
+without {config = config} {fuel = fuel} {program = program} {left = left} {bytes = bytes} h =
+    finished_without config.generate_custom_sections config.min_uleb_size left h.file bytes (binary_plain fuel program h.file h.encoded) h.finished
+
+pub binary_valid : (config : Config) (fuel : Option Fuel) (input bytes left : List ℕ) → IsBinaryOf config fuel input bytes left → IsValidFile bytes
+binary_valid config fuel input bytes left h = record { file = h.written.file; without = without h.written; valid = file_valid h }
+
+-- a file is what is written without custom sections
+same_file : (b : Bool) (least : ℕ) (left file bytes : List ℕ) → b ≡ false → IsFinished b least left file bytes → bytes ≡ file
+same_file false least left file bytes off h = h
+same_file true least left file bytes off h = absurd cc
+
+pub plain_valid : (config : Config) (fuel : Option Fuel) (input bytes left : List ℕ) → config.generate_custom_sections ≡ false
+    → IsBinaryOf config fuel input bytes left → IsValidBinary bytes
+plain_valid config fuel input bytes left off h =
+    subst IsValidBinary (sym (same_file config.generate_custom_sections config.min_uleb_size left h.written.file bytes off h.written.finished)) (file_valid h)

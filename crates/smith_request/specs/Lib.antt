@@ -1,3 +1,4 @@
 pub mod Output
 pub mod Refusals
 pub mod Requests
+pub mod ValidFiles

@@ -1,5 +1,5 @@
 -- The bytes that are written for a configuration, a fuel and an input.
-use Rattle.std.specs.Prelude.{◌≡◌, ◌≤◌, ◌-◌, ◌^◌, ℕ, Bool, Option, Some, None, List, Ok, Err, length, if◌then◌else◌}
+use Rattle.std.specs.Prelude.{◌≡◌, ◌≤◌, ◌-◌, ◌^◌, ℕ, Bool, true, false, Option, Some, None, List, Ok, Err, length, if◌then◌else◌}
 use Rattle.std.specs.Str.{IsUtf8}
 use Rattle.smith_binary.specs.Faults.{IsFault}
 use Rattle.smith_binary.specs.declared.error.EncodeError.TheVariants.{Memory, TooLong}
@@ -11,6 +11,8 @@ use Rattle.smith_program.specs.Generated.{IsProgram}
 use Rattle.smith_program.specs.Parts.{ProgramParts as Program}
 use Rattle.smith_binary_program.specs.Long.{IsLongProgram}
 use Rattle.smith_binary_program.specs.Programs.{IsEncoded}
+use Rattle.smith_custom_sections.specs.Additions.{IsAdded}
+use Rattle.smith_custom_sections.specs.CustomDraws.{custom_sections_at}
 use Rattle.smith_request.specs.declared.manner.Form.{Form}
 use Rattle.smith_request.specs.declared.manner.Fuel.{Fuel}
 use Rattle.smith_request.specs.declared.manner.Form.TheVariants.{Binary, Text}
@@ -45,6 +47,19 @@ abbrev pub IsBinaryWith : Option Fuel → Program → List ℕ → Type 0
 IsBinaryWith None program bytes = IsEncoded program.«module» program.bodies bytes
 IsBinaryWith (Some fuel) program bytes = IsCountedBinary fuel program bytes
 
+-- the bytes are a file, with custom sections if there are to be any: those that are drawn from the
+-- bytes of the input that the program left
+abbrev pub IsFinished : Bool → ℕ → List ℕ → List ℕ → List ℕ → Type 0
+IsFinished true least left file bytes = IsAdded least (custom_sections_at left).0 file bytes
+IsFinished false least left file bytes = bytes ≡ file
+
+-- the bytes are written for a program: its file, with drawn custom sections if its configuration has
+-- them
+pub record IsFileOf (config : Config) (fuel : Option Fuel) (program : Program) (left bytes : List ℕ) : Type 0 where
+  pub file : List ℕ
+  pub encoded : IsBinaryWith fuel program file
+  pub finished : IsFinished config.generate_custom_sections config.min_uleb_size left file bytes
+
 -- a program is not written for lack of memory, or because it is too long for the binary format
 abbrev pub IsUnwritten : Form → Program → Refusal → Type 0
 IsUnwritten Binary program (Encoding e) = IsFault (IsLongProgram program.«module» program.bodies) e
@@ -66,11 +81,11 @@ IsUnwrittenWith form None program refusal = IsUnwritten form program refusal
 IsUnwrittenWith form (Some fuel) program refusal = IsUncounted form fuel program refusal
 
 -- the bytes are written for a program that the generator draws from the configuration and the
--- input, with these bytes of the input left
+-- input, with these bytes of the input left, from which its custom sections are drawn
 pub record IsBinaryOf (config : Config) (fuel : Option Fuel) (input bytes left : List ℕ) : Type 0 where
   pub program : Program
   pub drawn : IsProgram config input (Ok program) left
-  pub encoded : IsBinaryWith fuel program bytes
+  pub written : IsFileOf config fuel program left bytes
 
 -- a refusal is the generator's for the configuration and the input; or the drawn program is not
 -- written

@@ -15,6 +15,7 @@ use Rattle.smith_request.specs.Requests.{IsConfigured, fuel_of}
 use Rattle.smith_request.specs.declared.manner.Form.{Form}
 use Rattle.smith_request.specs.declared.refusal.Refusal.{Refusal}
 use Rattle.smith_request.specs.declared.refusal.Refusal.TheVariants.{NotUtf8, Config, Module, Encoding}
+use Rattle.smith_request.specs.declared.request.Request.{Request}
 
 -- a text of UTF-8 that is not empty is refused for its first fault, or for lack of memory
 pub record IsUnparsed (text : List ℕ) (refusal : ConfigRefusal) : Type 0 where
@@ -34,6 +35,11 @@ pub data IsRefusal (form : Form) (text input : List ℕ) (refusal : Refusal) : T
   not_read : IsUnread text refusal → IsRefusal form text input refusal
   not_made : {config : Configuration} {left : List ℕ} → IsConfigured text config → IsRefusedFor form config (fuel_of text) input left refusal →
       IsRefusal form text input refusal
+
+-- a possible refusal of a request and an input, for a form
+pub record IsRefusalFor (form : Form) (request : Request) (input : List ℕ) (refusal : Refusal) : Type 0 where
+  pub left : List ℕ
+  pub unmade : IsRefusedFor form request.config request.fuel input left refusal
 
 -- the number of a fault of a configuration's text
 abbrev pub fault_status : Fault → ℕ

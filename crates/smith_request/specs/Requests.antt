@@ -46,3 +46,17 @@ pub record IsTextOf (text input bytes : List ℕ) : Type 0 where
   pub configured : IsConfigured text config
   pub left : List ℕ
   pub written : IsWrittenText config input bytes left
+
+-- the bytes are written for a program of a request and an input
+pub record IsBinaryFor (request : Request) (input bytes : List ℕ) : Type 0 where
+  pub left : List ℕ
+  pub binary : IsBinaryOf request.config request.fuel input bytes left
+
+-- there is such a program, and it has a binary format
+abbrev pub HasBinaryFor : Request → List ℕ → Type 0
+HasBinaryFor request input = (bytes : List ℕ) × IsBinaryFor request input bytes
+
+-- there is such a program, and the bytes are a text
+pub record IsTextFor (request : Request) (input bytes : List ℕ) : Type 0 where
+  pub left : List ℕ
+  pub written : IsWrittenText request.config input bytes left

@@ -5,6 +5,7 @@
 //! The text of a configuration is a JSON object in UTF-8, or empty for the default configuration.
 #![tactic(auto)]
 
+mod customs;
 /// Laws: functions with empty bodies whose clauses state theorems.
 pub mod laws;
 mod manner;

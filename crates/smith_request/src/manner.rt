@@ -1,12 +1,13 @@
 ghost use Rattle.std.specs.Prelude.{◌≡◌, ◌<◌, ◌-◌, ◌^◌, IfOk, IfErr, OnOk, length};
 ghost use Rattle.wasm_smith.specs.Termination.{MayAddNone};
 ghost use Rattle.smith_binary_program.specs.Programs.{IsEncoded};
-ghost use Rattle.smith_request.specs.Output.{IsBinaryOf, IsBinaryWith, IsRefusedFor};
+ghost use Rattle.smith_request.specs.Output.{IsBinaryOf, IsBinaryWith, IsFileOf, IsRefusedFor};
 ghost use Rattle.smith_request.specs.Output.{IsFuelled, IsCountedBinary, IsText, IsWrittenText};
 ghost use Rattle.smith_request.specs.Output.{IsUncounted, IsUnwritten, IsUnwrittenWith};
 ghost use Rattle.smith_request.specs.declared.manner.Form.TheVariants.{Binary, Text};
 ghost use Rattle.smith_text.specs.declared.module.Layout.{Layout as TextLayout};
 
+use crate::customs::{finish, has_customs, least_length};
 use crate::refusal::Refusal;
 use crate::writers::{write_binary, write_text};
 use smith_binary::EncodeError;
@@ -45,7 +46,8 @@ pub struct Manner {
 
 /// Draws a program from the bytes of `u` under `config`, as [`Program::new`] does, adds a count of
 /// its calls and of its iterations of loops if `manner` has one, and writes it in the form of
-/// `manner`.
+/// `manner`. If `config` has custom sections, the binary format has some, drawn from the bytes of `u`
+/// that the program leaves; these stay in `u`.
 ///
 /// # Errors
 ///
@@ -67,18 +69,67 @@ pub fn output(
     ensures refused { IfErr result (IsRefusedFor manner.form config manner.fuel u.old u.new) }
 {
     match Program::new(alloc, config, u) {
-        Ok(program) => write_program(alloc, program, manner),
+        Ok(program) => write_program(alloc, program, manner, u),
         Err(refusal) => Err(Refusal::Module(refusal)),
     }
 }
 
 /// Writes `program` in the form of `manner`, with a count of its calls and of its iterations of
-/// loops if `manner` has one.
+/// loops if `manner` has one. If the configuration of `program` has custom sections, they are drawn
+/// from the bytes of `u`, which stay in `u`, and are written in the binary format alone.
 ///
 /// # Errors
 ///
 /// Those of [`output`] for a program that is drawn.
-pub fn write_program(alloc: Global, program: Program, manner: Manner) -> Result<Vec<u8>, Refusal>
+pub fn write_program(
+    alloc: Global,
+    program: Program,
+    manner: Manner,
+    u: &Unstructured<'_>,
+) -> Result<Vec<u8>, Refusal>
+    ensures binary { manner.form ≡ Binary → IfOk result (λ bytes.
+        IsFileOf program.«module».config manner.fuel program u.now bytes.items) }
+    ensures text { (layout : TextLayout) → manner.form ≡ Text layout
+        → IfOk result (λ bytes. IsText bytes.items) }
+    ensures refused { IfErr result (IsUnwrittenWith manner.form manner.fuel program) }
+{
+    match manner.form {
+        Form::Binary => write_file(alloc, program, manner.fuel, u),
+        Form::Text(_) => write_without_customs(alloc, program, manner),
+    }
+}
+
+/// Writes `program` in the binary format, with a count if there is a `fuel`, and with custom sections
+/// drawn from the bytes of `u` if its configuration has them.
+fn write_file(
+    alloc: Global,
+    program: Program,
+    fuel: Option<Fuel>,
+    u: &Unstructured<'_>,
+) -> Result<Vec<u8>, Refusal>
+    ensures binary { IfOk result (λ bytes.
+        IsFileOf program.«module».config fuel program u.now bytes.items) }
+    ensures refused { IfErr result (IsUnwrittenWith Binary fuel program) }
+{
+    let is_on = has_customs(&program);
+    let least = least_length(&program);
+    let manner = Manner {
+        form: Form::Binary,
+        fuel,
+    };
+    match write_without_customs(alloc, program, manner) {
+        Ok(file) => finish(alloc, is_on, least, file, u),
+        Err(refusal) => Err(refusal),
+    }
+}
+
+/// Writes `program` in the form of `manner`, with a count of its calls and of its iterations of
+/// loops if `manner` has one, and without custom sections.
+fn write_without_customs(
+    alloc: Global,
+    program: Program,
+    manner: Manner,
+) -> Result<Vec<u8>, Refusal>
     ensures binary { manner.form ≡ Binary
         → IfOk result (λ bytes. IsBinaryWith manner.fuel program bytes.items) }
     ensures text { (layout : TextLayout) → manner.form ≡ Text layout

@@ -1,8 +1,10 @@
 ghost use Rattle.std.specs.Prelude.{◌≡◌, ◌≢◌, [], IfOk, IfErr};
+ghost use Rattle.smith_config.specs.InUse.{HasNoShapes};
 ghost use Rattle.smith_config_json.specs.declared.fault.Fault.TheVariants.{OutOfMemory};
-ghost use Rattle.smith_request.specs.Requests.{IsBinary, IsRequest, IsTextOf, fuel_of_tokens};
+ghost use Rattle.smith_request.specs.Requests.{IsBinary, IsBinaryFor, IsRequest, IsTextFor, IsTextOf};
+ghost use Rattle.smith_request.specs.Requests.{fuel_of_tokens};
 ghost use Rattle.json.specs.Lex.{tokens};
-ghost use Rattle.smith_request.specs.Refusals.{IsRefusal, IsUnread};
+ghost use Rattle.smith_request.specs.Refusals.{IsRefusal, IsRefusalFor, IsUnread};
 ghost use Rattle.smith_request.specs.declared.manner.Form.TheVariants.{Binary, Text};
 ghost use Rattle.smith_text.specs.declared.module.Layout.{Layout as TextLayout};
 ghost use Rattle.smith_text.specs.declared.module.Layout.TheVariants.{Notes, Signatures};
@@ -66,20 +68,43 @@ fn parse(alloc: Global, text: &str) -> Result<Request, Refusal>
     }
 }
 
-/// Reads what `text` requests. An empty text requests the default configuration.
-fn read(alloc: Global, text: &[u8]) -> Result<Request, Refusal>
-    ensures ok { IfOk result (IsRequest text.now) }
-    ensures refused { IfErr result (IsUnread text.now) }
-{
-    if text.is_empty() {
-        return Ok(Request {
-            config: Config::default(),
-            fuel: None,
-        });
+impl Request {
+    /// Reads what `text` requests. An empty text requests the default configuration.
+    ///
+    /// # Errors
+    ///
+    /// Refuses a text that is not UTF-8 or no configuration, and for lack of memory.
+    pub fn read(alloc: Global, text: &[u8]) -> Result<Request, Refusal>
+        ensures ok { IfOk result (IsRequest text.now) }
+        ensures shapeless { IfOk result (λ request. HasNoShapes request.config) }
+        ensures refused { IfErr result (IsUnread text.now) }
+    {
+        if text.is_empty() {
+            return Ok(Request {
+                config: Config::default(),
+                fuel: None,
+            });
+        }
+        match str::from_utf8(text) {
+            Ok(text) => parse(alloc, text),
+            Err(_) => Err(Refusal::NotUtf8),
+        }
     }
-    match str::from_utf8(text) {
-        Ok(text) => parse(alloc, text),
-        Err(_) => Err(Refusal::NotUtf8),
+
+    /// Draws a program from `input` for the request, and writes it in the form `form`.
+    ///
+    /// # Errors
+    ///
+    /// Those of [`output`].
+    pub fn write(self, alloc: Global, input: &[u8], form: Form) -> Result<Vec<u8>, Refusal>
+        ensures binary { form ≡ Binary → IfOk result (λ bytes. IsBinaryFor self input.now bytes.items) }
+        ensures text { (layout : TextLayout) → form ≡ Text layout
+            → IfOk result (λ bytes. IsTextFor self input.now bytes.items) }
+        ensures refused { IfErr result (IsRefusalFor form self input.now) }
+    {
+        let Request { config, fuel } = self;
+        let mut u = Unstructured::new(input);
+        output(alloc, config, Manner { form, fuel }, &mut u)
     }
 }
 
@@ -91,11 +116,8 @@ fn write(alloc: Global, text: &[u8], input: &[u8], form: Form) -> Result<Vec<u8>
         → IfOk result (λ bytes. IsTextOf text.now input.now bytes.items) }
     ensures refused { IfErr result (IsRefusal form text.now input.now) }
 {
-    match read(alloc, text) {
-        Ok(Request { config, fuel }) => {
-            let mut u = Unstructured::new(input);
-            output(alloc, config, Manner { form, fuel }, &mut u)
-        }
+    match Request::read(alloc, text) {
+        Ok(request) => request.write(alloc, input, form),
         Err(refusal) => Err(refusal),
     }
 }

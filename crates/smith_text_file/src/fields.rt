@@ -2,9 +2,11 @@ ghost use Rattle.std.specs.Prelude.{◌≡◌, ◌≤◌, false, is_err, length,
 ghost use Rattle.std.specs.String.{string_bytes};
 ghost use Rattle.smith_text.specs.Written.{Keeps, Writes};
 
+use crate::comments::NameComment;
 use crate::expressions::Expression;
 use crate::functions::write_functions;
 use crate::imported::Imported;
+use crate::names::Names;
 use crate::segments::{write_datas, write_elements};
 use smith_binary_read::{Export, TagDefinition};
 use smith_bytes::Error;
@@ -19,11 +21,12 @@ use std::alloc::Global;
 use std::ops::Range;
 use std::{fmt, mem};
 
-/// A decoded module whose types are in one list, so that an index gives its type.
+/// A decoded module whose types are in one list, so that an index gives its type, with its names.
 #[derive(Drop)]
 pub struct File {
     types: Vec<SubType>,
     groups: Vec<Range<usize>>,
+    names: Names,
     // The module without its types.
     module: Module,
 }
@@ -37,11 +40,13 @@ impl File {
     pub fn new(alloc: Global, mut module: Module) -> Result<File, Error>
         ensures memory { IfErr result (λ e. e ≡ Error.Memory) }
     {
+        let names = Names::of(alloc, module.customs.as_slice())?;
         let nested = mem::replace(&mut module.types, Items::new(alloc));
         let (types, groups) = flatten(alloc, nested)?;
         Ok(File {
             types,
             groups,
+            names,
             module,
         })
     }
@@ -189,7 +194,7 @@ fn write_definitions<S: Sink>(
 
 // Writes what follows the definitions of a module.
 fn write_contents<S: Sink>(
-    module: &Module,
+    file: &File,
     signatures: &[SubType],
     imported: Imported,
     sink: &mut S,
@@ -198,17 +203,31 @@ fn write_contents<S: Sink>(
     ensures fault { S.failed sink.new ≡ is_err result }
     ensures keeps { OnOk result (Keeps S.has sink.old sink.new) }
 {
+    let module = &file.module;
     write_exports(module.exports.as_slice(), sink)?;
     write_start(module.start, sink)?;
     write_elements(module.elements.as_slice(), signatures, sink)?;
     let (types, bodies) = (module.functions.as_slice(), module.bodies.as_slice());
-    write_functions(types, bodies, imported.funcs, signatures, sink)?;
+    write_functions(types, bodies, imported.funcs, &file.names, signatures, sink)?;
     write_datas(module.datas.as_slice(), signatures, sink)
+}
+
+// Writes the name of a module as a comment, if it has one.
+fn write_module_name<S: Sink>(names: &Names, sink: &mut S) -> fmt::Result
+    requires open { S.failed sink.old ≡ false }
+    ensures fault { S.failed sink.new ≡ is_err result }
+    ensures keeps { OnOk result (Keeps S.has sink.old sink.new) }
+{
+    match &names.module {
+        Some(name) => NameComment(name).write_text(sink),
+        None => Ok(()),
+    }
 }
 
 /// Writes `file` to `sink`, one field per line, in the order of the sections of the binary format, with
 /// functions in the place of their bodies: function types by their indices, with their parameters and
-/// their results. Custom sections are left out. Requires that no write to `sink` has failed.
+/// their results. The names of the module, of the functions that it defines and of their locals are comments;
+/// other custom sections are left out. Requires that no write to `sink` has failed.
 ///
 /// # Errors
 ///
@@ -222,10 +241,11 @@ pub fn write_file<S: Sink>(file: &File, sink: &mut S) -> fmt::Result
     let imports = file.module.imports.as_slice();
     let imported = Imported::of(imports);
     sink.write_str("(module\n")?;
+    write_module_name(&file.names, sink)?;
     write_types(types, groups, sink)?;
     write_imports(imports, types, sink)?;
     write_definitions(&file.module, types, imported, sink)?;
-    write_contents(&file.module, types, imported, sink)?;
+    write_contents(file, types, imported, sink)?;
     sink.write_str(")\n")
 }
 

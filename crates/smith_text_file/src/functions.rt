@@ -1,6 +1,8 @@
 ghost use Rattle.std.specs.Prelude.{◌≡◌, false, is_err, OnOk};
 ghost use Rattle.smith_text.specs.Written.{Keeps};
 
+use crate::comments::FunctionNames;
+use crate::names::Names;
 use smith_decode::{Body, LocalRun};
 use smith_text::{Sink, TextForm, TypeUse, write_function_start};
 use smith_text_program::write_instrs;
@@ -58,12 +60,12 @@ fn type_use<'a>(types: &[u32], place: usize, signatures: &'a [SubType]) -> Optio
     Some(TypeUse { index, signatures })
 }
 
-/// Writes functions of these types and bodies, of which the first has the index `start`. The function
-/// types among `signatures` are written with their parameters and results.
-pub(crate) fn write_functions<S: Sink>(
-    types: &[u32],
-    bodies: &[Body],
-    start: usize,
+// Writes the function `index` with the names that `names` begins with.
+fn write_function<S: Sink>(
+    index: usize,
+    ty: Option<TypeUse<'_>>,
+    body: &Body,
+    names: FunctionNames<'_>,
     signatures: &[SubType],
     sink: &mut S,
 ) -> fmt::Result
@@ -71,12 +73,33 @@ pub(crate) fn write_functions<S: Sink>(
     ensures fault { S.failed sink.new ≡ is_err result }
     ensures keeps { OnOk result (Keeps S.has sink.old sink.new) }
 {
+    names.comment(index).write_text(sink)?;
+    let locals = (names.locals_comment(index), Locals(body.locals.as_slice()));
+    write_function_start(index, &ty, &locals, sink)?;
+    write_instrs(body.instructions.as_slice(), signatures, DEPTH, sink)?;
+    sink.write_str("  )\n")
+}
+
+/// Writes functions of these types and bodies, of which the first has the index `start`, after comments
+/// with their names. The function types among `signatures` are written with their parameters and results.
+pub(crate) fn write_functions<S: Sink>(
+    types: &[u32],
+    bodies: &[Body],
+    start: usize,
+    names: &Names,
+    signatures: &[SubType],
+    sink: &mut S,
+) -> fmt::Result
+    requires open { S.failed sink.old ≡ false }
+    ensures fault { S.failed sink.new ≡ is_err result }
+    ensures keeps { OnOk result (Keeps S.has sink.old sink.new) }
+{
+    let mut left = FunctionNames::of(names);
     for (place, body) in bodies.iter().enumerate() {
+        let index = start.saturating_add(place);
+        left = left.starting_at(index);
         let ty = type_use(types, place, signatures);
-        let locals = Locals(body.locals.as_slice());
-        write_function_start(start.saturating_add(place), &ty, &locals, sink)?;
-        write_instrs(body.instructions.as_slice(), signatures, DEPTH, sink)?;
-        sink.write_str("  )\n")?;
+        write_function(index, ty, body, left, signatures, sink)?;
     }
     Ok(())
 }

@@ -3,10 +3,12 @@
 //! generated modules are.
 #![tactic(auto)]
 
+mod comments;
 mod expressions;
 mod fields;
 mod functions;
 mod imported;
+mod names;
 mod segments;
 
 pub use fields::{File, text, write_file};

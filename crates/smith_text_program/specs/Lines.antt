@@ -18,9 +18,9 @@ depth_after_line Else depth = min (depth + 1) (2 ^ 64 - 1)
 depth_after_line (TryTable _ _) depth = min (depth + 1) (2 ^ 64 - 1)
 depth_after_line _ depth = depth
 
--- two bytes for each level of a line, one for its instruction, and one for its end
+-- two bytes for each level of a line up to the 64th, one for its instruction, and one for its end
 abbrev pub line_size : Instr → ℕ → ℕ
-line_size instruction depth = 2 * depth_of_line instruction depth + 2
+line_size instruction depth = 2 * min (depth_of_line instruction depth) 64 + 2
 
 -- the checks of counters of fuel: nine lines each
 abbrev pub checks_size : ℕ → ℕ

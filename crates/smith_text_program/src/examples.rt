@@ -11,6 +11,8 @@ ghost use Rattle.smith_syntax.specs.declared.code.Instructions.TheVariants.{Arbi
 fn lines()
     ensures none { lines_size [] 1 3 ≡ 0 }
     ensures block { lines_size (instr.Block block.Empty ∷ instr.Nop ∷ instr.End ∷ []) 1 0 ≡ 2 + 4 + 2 }
+    ensures deep { lines_size (instr.Nop ∷ []) 0 63 + 2 ≡ lines_size (instr.Nop ∷ []) 0 64 }
+    ensures deepest { lines_size (instr.Nop ∷ []) 0 65 ≡ lines_size (instr.Nop ∷ []) 0 64 }
     ensures counted { lines_size (instr.Loop block.Empty ∷ instr.End ∷ []) 2 3 ≡ 8 + 36 + 8 }
 {}
 

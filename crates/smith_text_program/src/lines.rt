@@ -1,4 +1,4 @@
-ghost use Rattle.std.specs.Prelude.{◌≡◌, ◌*◌, ◌+◌, false, is_err, length, IfOk, OnOk};
+ghost use Rattle.std.specs.Prelude.{◌≡◌, ◌*◌, ◌+◌, false, is_err, length, min, IfOk, OnOk};
 ghost use Rattle.smith_text_program.specs.Lines.{
   checks_after,
   checks_size,
@@ -14,6 +14,9 @@ use smith_instr::{BlockType, Instr, IntBinary, NumericInstr};
 use smith_text::Sink;
 use smith_types::SubType;
 use std::fmt;
+
+// The depth of the deepest indentation, so that the text of nested blocks is linear in their number.
+const DEEPEST: usize = 64;
 
 // Returns the depth at which `instruction` is written, if the instructions before it are at the
 // depth `depth`.
@@ -38,13 +41,13 @@ fn depth_after(instruction: &Instr, depth: usize) -> usize
     }
 }
 
-// Writes two spaces for each level of `depth`.
+// Writes two spaces for each level of `depth`, up to the deepest indentation.
 fn write_indent<S: Sink>(depth: usize, sink: &mut S) -> fmt::Result
     requires open { S.failed sink.old ≡ false }
     ensures fault { S.failed sink.new ≡ is_err result }
-    ensures writes { OnOk result (Writes S.has sink.old (2 * depth) sink.new) }
+    ensures writes { OnOk result (Writes S.has sink.old (2 * min depth 64) sink.new) }
 {
-    for _ in 0..depth {
+    for _ in 0..depth.min(DEEPEST) {
         sink.write_str("  ")?;
     }
     Ok(())
@@ -71,9 +74,9 @@ fn write_line<S: Sink>(
 }
 
 /// Writes `instructions` in their plain form, one line each. The first is at the depth `depth`, at
-/// two spaces per level, and those of a block are one level deeper than its start and its end. The
-/// function types among `signatures` are written with their parameters and results. No write to
-/// `sink` may have failed before.
+/// two spaces per level, and those of a block are one level deeper than its start and its end. Levels
+/// past the 64th are not indented further. The function types among `signatures` are written with their
+/// parameters and results. No write to `sink` may have failed before.
 ///
 /// # Errors
 ///

@@ -1,3 +1,4 @@
+use crate::malformed::Malformed;
 use smith_bytes::Error;
 use smith_config_json::ConfigRefusal;
 use smith_request::Refusal;
@@ -19,6 +20,8 @@ pub(crate) enum Failure {
     Refused(Refusal),
     /// A binary is not written to a terminal.
     Terminal,
+    /// A file is no module.
+    Malformed(Malformed),
 }
 
 impl Failure {
@@ -45,6 +48,7 @@ impl fmt::Display for Failure {
             Failure::Word(sentence) => f.write_str(sentence.as_str()),
             Failure::Refused(refusal) => write!(f, "refused: {refusal}"),
             Failure::Terminal => f.write_str(TERMINAL),
+            Failure::Malformed(malformed) => write!(f, "{malformed}"),
         }
     }
 }

@@ -2,9 +2,15 @@ use crate::failure::Failure;
 use std::io::{IsTerminal, Read, Write};
 use std::{fs, io};
 
-/// Reads the file at `path` whole.
-pub(crate) fn read_file(rt: &HostRuntime, path: &str) -> Result<Vec<u8>, Failure> {
-    with_path(rt, path, fs::read(rt, path))
+/// The name of standard input in messages.
+pub(crate) const STANDARD_INPUT: &str = "standard input";
+
+/// Reads the file at `path` whole, or standard input to its end if there is no path.
+pub(crate) fn read_from(rt: &HostRuntime, path: Option<&str>) -> Result<Vec<u8>, Failure> {
+    match path {
+        Some(path) => with_path(rt, path, fs::read(rt, path)),
+        None => read_input(rt),
+    }
 }
 
 /// Reads the text of the file at `path`.
@@ -12,17 +18,20 @@ pub(crate) fn read_text(rt: &HostRuntime, path: &str) -> Result<String, Failure>
     with_path(rt, path, fs::read_to_string(rt, path))
 }
 
-/// Reads standard input to its end.
-pub(crate) fn read_input(rt: &HostRuntime) -> Result<Vec<u8>, Failure> {
+fn read_input(rt: &HostRuntime) -> Result<Vec<u8>, Failure> {
     let mut bytes = Vec::new(rt.alloc());
     let read = rt.stdin().read_to_end(&mut bytes);
-    let _length = with_path(rt, "standard input", read)?;
+    let _length = with_path(rt, STANDARD_INPUT, read)?;
     Ok(bytes)
 }
 
-/// Writes `bytes` to the file at `path`, which is created or replaced.
-pub(crate) fn write_file(rt: &HostRuntime, path: &str, bytes: &[u8]) -> Result<(), Failure> {
-    with_path(rt, path, fs::write(rt, path, bytes))
+/// Writes `bytes` to the file at `path`, which is created or replaced, or to standard output if there is
+/// no path.
+pub(crate) fn write_to(rt: &HostRuntime, path: Option<&str>, bytes: &[u8]) -> Result<(), Failure> {
+    match path {
+        Some(path) => with_path(rt, path, fs::write(rt, path, bytes)),
+        None => with_path(rt, "standard output", put(rt, bytes)),
+    }
 }
 
 /// Writes `bytes` to the file at `path`, which is created or replaced. If not all are written, the
@@ -40,11 +49,6 @@ pub(crate) fn write_whole_file(rt: &HostRuntime, path: &str, bytes: &[u8]) -> Re
 /// Creates the folder at `path`, and those above it, if they do not exist.
 pub(crate) fn make_folder(rt: &HostRuntime, path: &str) -> Result<(), Failure> {
     with_path(rt, path, fs::create_dir_all(rt, path))
-}
-
-/// Writes `bytes` to standard output.
-pub(crate) fn write_output(rt: &HostRuntime, bytes: &[u8]) -> Result<(), Failure> {
-    with_path(rt, "standard output", put(rt, bytes))
 }
 
 fn put(rt: &HostRuntime, bytes: &[u8]) -> io::Result<()> {

@@ -1,5 +1,5 @@
 //! Makes a WebAssembly module from the bytes of a file or of standard input, and writes it in the
-//! binary or the text format.
+//! binary or the text format. The command `print` writes the module of a binary file as text.
 //!
 //! `smith_wasm --help` lists the words. Each field of the configuration but the three shapes is a
 //! word of its own, named as in a configuration file.
@@ -12,13 +12,17 @@ mod failure;
 mod fields;
 mod files;
 mod help;
+mod malformed;
+mod print;
 mod request;
 mod warnings;
 mod words;
 
 use crate::failure::Failure;
+use crate::print::print_file;
 use crate::request::answer;
-use crate::words::command;
+use crate::words::{PRINT, command};
+use clap::ArgMatches;
 use std::env;
 use std::process::ExitCode;
 
@@ -38,7 +42,7 @@ fn run(rt: &HostRuntime) -> Result<u8, Failure> {
     let command = command(rt.alloc())?;
     match command.try_get_matches_from(words.as_slice()) {
         Ok(matches) => {
-            let answered = answer(rt, &matches);
+            let answered = answer_command(rt, &matches);
             drop(matches);
             answered.and(Ok(0))
         }
@@ -49,5 +53,13 @@ fn run(rt: &HostRuntime) -> Result<u8, Failure> {
             printed?;
             Ok(status)
         }
+    }
+}
+
+/// Does what the words of the command line request.
+fn answer_command(rt: &HostRuntime, matches: &ArgMatches<'_>) -> Result<(), Failure> {
+    match matches.subcommand_matches(PRINT) {
+        Some(words) => print_file(rt, words),
+        None => answer(rt, matches),
     }
 }

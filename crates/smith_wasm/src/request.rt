@@ -2,7 +2,7 @@ use crate::configuration::config_of;
 use crate::corpus::make_corpus;
 use crate::counts::Counts;
 use crate::failure::Failure;
-use crate::files::{read_file, read_input, read_text, shows_output, write_file, write_output};
+use crate::files::{read_from, read_text, shows_output, write_to};
 use crate::warnings::warn;
 use crate::words::{
     CONFIG, ENSURE_TERMINATION, FUEL, FUEL_EXPORT, INPUT, NOTES, OUTPUT, OUTPUT_DIR, WAT,
@@ -65,19 +65,13 @@ fn make(rt: &HostRuntime, asked: &Request<'_, '_>) -> Result<(), Failure> {
 
 /// Makes the module of the input, and writes it.
 fn make_one(rt: &HostRuntime, asked: &Request<'_, '_>) -> Result<(), Failure> {
-    let path = match asked.matches.get_str(OUTPUT) {
-        Some("-") => None,
-        path => path,
-    };
+    let path = path_of(asked.matches, OUTPUT);
     if asked.manner.form == Form::Binary && path.is_none() && shows_output(rt) {
         return Err(Failure::Terminal);
     }
-    let input = input_of(rt, asked.matches.get_str(INPUT))?;
+    let input = read_from(rt, path_of(asked.matches, INPUT))?;
     let Made { bytes, counts: _ } = module_of(rt.alloc(), asked, input.as_slice())?;
-    match path {
-        Some(path) => write_file(rt, path, bytes.as_slice()),
-        None => write_output(rt, bytes.as_slice()),
-    }
+    write_to(rt, path, bytes.as_slice())
 }
 
 /// A module that was made.
@@ -99,14 +93,15 @@ pub(crate) fn module_of(
     let config = config_of(alloc, asked, &mut u)?;
     let program = Program::new(alloc, config, &mut u)?;
     let counts = Counts::of(&program);
-    let bytes = write_program(alloc, program, asked.manner)?;
+    let bytes = write_program(alloc, program, asked.manner, &u)?;
     Ok(Made { bytes, counts })
 }
 
-fn input_of(rt: &HostRuntime, path: Option<&str>) -> Result<Vec<u8>, Failure> {
-    match path {
-        None | Some("-") => read_input(rt),
-        Some(path) => read_file(rt, path),
+/// Returns the path that the word `name` is, unless it is a dash or omitted.
+pub(crate) fn path_of<'w>(matches: &ArgMatches<'w>, name: &str) -> Option<&'w str> {
+    match matches.get_str(name) {
+        Some("-") => None,
+        path => path,
     }
 }
 

@@ -4,12 +4,11 @@ use crate::request::Request;
 use smith_config::Config;
 
 // The fields for two features without instructions here, and the fields of the Rust crate for NaNs
-// in bodies, for custom sections and for components, none of which exist here.
-const WITHOUT_EFFECT: [&str; 10] = [
+// in bodies and for components, neither of which exist here.
+const WITHOUT_EFFECT: [&str; 9] = [
     "acquire-release-atomics-enabled",
     "multibyte-array-access-enabled",
     "canonicalize-nans",
-    "generate-custom-sections",
     "max-aliases",
     "max-components",
     "max-instances",
@@ -39,12 +38,11 @@ pub(crate) fn warn(rt: &HostRuntime, asked: &Request<'_, '_>) -> Result<(), Fail
 
 /// Returns of each field without effect, in their order, whether `config` has another value than the
 /// default.
-fn are_changed(config: &Config) -> [bool; 10] {
+fn are_changed(config: &Config) -> [bool; 9] {
     [
         config.acquire_release_atomics_enabled,
         config.multibyte_array_access_enabled,
         config.canonicalize_nans,
-        config.generate_custom_sections,
         config.max_aliases != 1000,
         config.max_components != 10,
         config.max_instances != 10,

@@ -9,6 +9,10 @@ use std::alloc::Global;
 /// number produce the same file of the same configuration and bytes.
 const VERSION: &str = "0.7.0";
 
+/// The command that prints a file.
+pub(crate) const PRINT: &str = "print";
+/// The word of the file that is printed.
+pub(crate) const FILE: &str = "file";
 /// The word of the input.
 pub(crate) const INPUT: &str = "input";
 /// The word of the file that is written.
@@ -67,6 +71,12 @@ struct Word {
     about: &'static str,
 }
 
+/// What the file that is written is.
+const OUTPUT_ABOUT: &str = "Writes to this file; to standard output if it is - or omitted.";
+
+/// What the command prints.
+const PRINT_ABOUT: &str = "Prints the module of a file in the binary format as text.";
+
 /// What a preset is, and the names of all.
 const PRESET_ABOUT: &str =
     "Begins with a preset, before the configuration file and the fields below: \
@@ -85,7 +95,7 @@ static WORDS: [Word; 16] = [
         takes: Takes::Text("FILE"),
         needs: None,
         excludes: &[],
-        about: "Writes to this file; to standard output if it is - or omitted.",
+        about: OUTPUT_ABOUT,
     },
     Word {
         name: WAT,
@@ -213,18 +223,50 @@ static WORDS: [Word; 16] = [
 const EXAMPLES: &str = "Examples:
   head -c 4096 /dev/urandom | smith_wasm --preset run --wat
   smith_wasm input.bin -o module.wasm --preset v8 --max-memories 1
-  smith_wasm --output-dir corpus --until 1000 --preset wabt --seed 7";
+  smith_wasm --output-dir corpus --until 1000 --preset wabt --seed 7
+  smith_wasm print module.wasm";
 
 /// Creates the command line of the program.
 pub(crate) fn command<'a>(alloc: Global) -> Result<Command<'a>, Failure> {
     let command = Command::new(alloc, "smith_wasm").version(VERSION).about(
         "Makes a valid WebAssembly module from the bytes of a file or of standard input.",
     );
-    let command = command.after_help(EXAMPLES);
+    let command = command
+        .after_help(EXAMPLES)
+        .args_conflicts_with_subcommands(true)
+        .disable_help_subcommand(true);
     let input = Arg::new(alloc, INPUT)
         .value_name("INPUT")
         .help("The input file; standard input if it is - or omitted.");
-    with_fields(alloc, with_words(alloc, command.arg(input)?)?)
+    let command = with_fields(alloc, with_words(alloc, command.arg(input)?)?)?;
+    with_print(alloc, command)
+}
+
+/// Adds the command that prints a file.
+fn with_print<'a>(alloc: Global, command: Command<'a>) -> Result<Command<'a>, Failure> {
+    match print_command(alloc) {
+        Ok(print) => Ok(command.subcommand(print)?),
+        Err(failure) => {
+            drop(command);
+            Err(failure)
+        }
+    }
+}
+
+/// Creates the command that prints a file.
+fn print_command<'a>(alloc: Global) -> Result<Command<'a>, Failure> {
+    let file = Arg::new(alloc, FILE)
+        .value_name("FILE")
+        .required(true)
+        .help("The file; standard input if it is -.");
+    let output = Arg::new(alloc, OUTPUT)
+        .short('o')
+        .long(OUTPUT)
+        .value_name("FILE")
+        .action(ArgAction::Set)
+        .help(OUTPUT_ABOUT);
+    let command = Command::new(alloc, PRINT).about(PRINT_ABOUT);
+    Ok(command.arg(file)?.arg(output)?)
 }
 
 /// Adds the words that are not fields.

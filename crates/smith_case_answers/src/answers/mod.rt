@@ -4,6 +4,7 @@ mod case_config;
 mod configs;
 mod constants;
 mod copies;
+mod decoded;
 mod draws;
 mod entities;
 mod free_types;
@@ -23,6 +24,7 @@ mod types;
 
 use crate::answers::case_config::{answer_read_config, set_config};
 use crate::answers::configs::{answer_config, answer_drawn_config};
+use crate::answers::decoded::answer_decode;
 use crate::answers::draws::answer_draw;
 use crate::answers::modules::answer_module;
 use crate::answers::names::answer_name;
@@ -66,6 +68,7 @@ fn append_answer(
         Call::Name(call) => answer_name(alloc, case, call, input, answer),
         Call::Parser(call) => answer_parser(case, call, answer),
         Call::ReadConfig => answer_read_config(alloc, case, answer),
+        Call::Decode => answer_decode(alloc, input, answer),
         Call::Space(call) => answer_space(alloc, case, call, answer),
         Call::Config(ConfigCall::Arbitrary) => answer_drawn_config(input, answer),
         _ => answer_configured(alloc, line, case, call, input, answer),

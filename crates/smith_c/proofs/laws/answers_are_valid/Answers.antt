@@ -8,10 +8,11 @@ use Rattle.smith_config_json.specs.declared.fault.Fault.TheVariants as faults
 use Rattle.smith_binary_program.specs.Valid.{IsValidBinary}
 use Rattle.smith_request.specs.Refusals.{IsRefusal, error_status, fault_status, status_of}
 use Rattle.smith_request.specs.Requests.{IsBinary}
+use Rattle.smith_request.specs.ValidFiles.{IsValidFile}
 use Rattle.smith_request.specs.declared.manner.Form.TheVariants.{Binary}
 use Rattle.smith_request.specs.declared.refusal.Refusal.{Refusal}
 use Rattle.smith_request.specs.declared.refusal.Refusal.TheVariants.{NotUtf8, Config, Module, Encoding}
-use Rattle.smith_request.proofs.ValidLemmas.{binary_valid}
+use Rattle.smith_request.proofs.ValidLemmas.{binary_valid, plain_valid}
 use Rattle.smith_request.specs.Requests.{fuel_of}
 use Rattle.smith_c.specs.CallAnswers.{IsAnswered, IsPut}
 use Rattle.smith_c.specs.declared.answer.Answer.{Answer}
@@ -37,18 +38,30 @@ numbered (Encoding encoding.TooLong) none = omega (arith, none)
 front : (bytes rest : List ℕ) → take (length bytes) (bytes ++ rest) ≡ bytes
 front bytes rest = take-append-le (length bytes) bytes rest (omega arith) ∙ take_all (length bytes) bytes (omega arith)
 
-put_valid : (bytes before after : List ℕ) (answer : Answer) → IsValidBinary bytes → IsPut 0 bytes before after answer → answer.status ≡ 0 → IsValidBinary (take answer.length after)
-put_valid bytes before after answer valid (IsPut.written fits is same) done =
+put_holds : (P : List ℕ → Type 0) (bytes before after : List ℕ) (answer : Answer) → P bytes → IsPut 0 bytes before after answer
+    → answer.status ≡ 0 → P (take answer.length after)
+put_holds P bytes before after answer holds (IsPut.written fits is same) done =
     let all : take answer.length after ≡ bytes =
     ap (λ (a : Answer). take a.length after) same ∙ ap (take (length bytes)) is ∙ front bytes (drop (length bytes) before) in
-    subst IsValidBinary (sym all) valid
-put_valid bytes before after answer valid (IsPut.short long is same) done = absurd (omega (arith, sym (ap (λ (a : Answer). a.status) same) ∙ done))
+    subst P (sym all) holds
+put_holds P bytes before after answer holds (IsPut.short long is same) done =
+    absurd (omega (arith, sym (ap (λ (a : Answer). a.status) same) ∙ done))
 
-answered_valid : (config input before after : List ℕ) (answer : Answer) → IsAnswered (IsBinary config input) (IsRefusal Binary config input) before after answer → answer.status ≡ 0 → IsValidBinary (take answer.length after)
-answered_valid config input before after answer (IsAnswered.made {bytes = bytes} h put) done =
-    put_valid bytes before after answer (binary_valid h.config (fuel_of config) input bytes h.left h.binary) put done
-answered_valid config input before after answer (IsAnswered.refused {refusal = refusal} may kept is) done =
+answered_holds : (P : List ℕ → Type 0) (config input before after : List ℕ) (answer : Answer)
+    → ((bytes : List ℕ) → IsBinary config input bytes → P bytes)
+    → IsAnswered (IsBinary config input) (IsRefusal Binary config input) before after answer → answer.status ≡ 0
+    → P (take answer.length after)
+answered_holds P config input before after answer holds (IsAnswered.made {bytes = bytes} h put) done =
+    put_holds P bytes before after answer (holds bytes h) put done
+answered_holds P config input before after answer holds (IsAnswered.refused {refusal = refusal} may kept is) done =
     absurd (numbered refusal (sym (ap (λ (a : Answer). a.status) is) ∙ done))
 
-pub returns : goal.returns
-returns c = answered_valid
+pub returns-clause-valid : goal.returns-clause-valid
+returns-clause-valid c =
+    λ config input before after answer. answered_holds IsValidFile config input before after answer
+    (λ bytes h. binary_valid h.config (fuel_of config) input bytes h.left h.binary)
+
+pub returns-clause-without_customs : goal.returns-clause-without_customs
+returns-clause-without_customs c =
+    λ config input before after answer off. answered_holds IsValidBinary config input before after answer
+    (λ bytes h. plain_valid h.config (fuel_of config) input bytes h.left (off h.config h.configured) h.binary)

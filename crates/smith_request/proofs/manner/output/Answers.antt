@@ -1,11 +1,12 @@
 use Rattle.std.proofs.Common.{refl}
 use Rattle.std.proofs.lemmas.Result.{IfOk-weaker, IfErr-weaker}
 use Rattle.smith_request.specs.Output.{IsRefusedFor}
+use Rattle.smith_request.proofs.PlainLemmas.{file_of}
 use Rattle.smith_request.proofs.manner.output.Goals as goal
 
 pub returns-in-Ok-clause-binary : goal.returns-in-Ok-clause-binary
 returns-in-Ok-clause-binary c = λ is.
-    IfOk-weaker c.write_program.result _ _ (λ bytes encoded. record { program = _; drawn = c.in-Ok.ensures; encoded = encoded })
+    IfOk-weaker c.write_program.result _ _ (λ bytes written. record { program = _; drawn = c.in-Ok.ensures; written = file_of c.in-Ok.ensures written })
     (c.write_program.ensures.binary is)
 
 pub returns-in-Ok-clause-text : goal.returns-in-Ok-clause-text

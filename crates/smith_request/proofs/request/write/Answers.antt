@@ -1,17 +1,14 @@
-use Rattle.std.specs.Prelude.{Option}
-use Rattle.std.proofs.Common.{subst}
-use Rattle.std.proofs.lemmas.Result.{IfErr-weaker}
-use Rattle.smith_request.specs.Output.{IsRefusedFor}
-use Rattle.smith_request.specs.Refusals.{IsRefusal}
-use Rattle.smith_request.specs.declared.manner.Fuel.{Fuel}
+use Rattle.std.proofs.lemmas.Result.{IfErr-weaker, IfOk-weaker}
+use Rattle.smith_request.proofs.RequestLemmas.{binary_of, refusal_of, text_of}
 use Rattle.smith_request.proofs.request.write.Goals as goal
 
 pub returns-in-Ok-clause-refused : goal.returns-in-Ok-clause-refused
-returns-in-Ok-clause-refused c =
-    let request = c.in-Ok.ensures.ok in
-    let config = c.in-Ok.field-0.config in
-    let left = c.output.new.u in
-    IfErr-weaker c.output.result _ _
-    (λ refusal unmade. IsRefusal.not_made request.configured
-    (subst (λ (fuel : Option Fuel). IsRefusedFor c.args.form config fuel c.args.input.now left refusal) request.fuel unmade))
-    (rw c.new-u.ensures at c.output.ensures.refused)
+returns-in-Ok-clause-refused c = IfErr-weaker c.write.result _ _ (refusal_of c.args.form c.in-Ok.ensures.ok) c.write.ensures.refused
+
+pub returns-in-Ok-clause-binary : goal.returns-in-Ok-clause-binary
+returns-in-Ok-clause-binary c = λ is.
+    IfOk-weaker c.write.result _ _ (λ bytes made. binary_of c.in-Ok.ensures.ok bytes.items made) (c.write.ensures.binary is)
+
+pub returns-in-Ok-clause-text : goal.returns-in-Ok-clause-text
+returns-in-Ok-clause-text c = λ layout is.
+    IfOk-weaker c.write.result _ _ (λ bytes made. text_of c.in-Ok.ensures.ok bytes.items made) (c.write.ensures.text layout is)

@@ -10,6 +10,7 @@ returns-clause-writes g c = on_ok_weaker c.write_str-2.result
     c.in_ok-write_definitions.ensures.keeps after (
     c.in_ok-write_imports.ensures.keeps after (
     c.in_ok-write_types.ensures.keeps after (
-    c.in_ok-write_str.ensures.writes before after held low (omega arith))))))
+    c.in_ok-write_module_name.ensures.keeps after (
+    c.in_ok-write_str.ensures.writes before after held low (omega arith)))))))
     (omega arith) (omega arith))
     c.write_str-2.ensures.writes

@@ -1,0 +1,78 @@
+//! The calls of `smith.h`.
+use crate::Refused;
+
+const MADE: u32 = 0;
+const SHORT: u32 = 1;
+
+#[repr(C)]
+pub struct Answer {
+    status: u32,
+    length: usize,
+}
+
+/// A configuration that is read, `struct smith_config`: plain memory, which any number of threads may share.
+#[repr(C)]
+#[derive(Clone, Copy, Debug)]
+pub struct Kept([u64; 48]);
+
+/// A call that makes an output of a configuration that is read, an input and a buffer.
+pub type Call = unsafe extern "C" fn(*const Kept, *const u8, usize, *mut u8, usize) -> Answer;
+
+extern "C" {
+    fn smith_config_read(config: *const u8, config_length: usize, read: *mut Kept) -> Answer;
+    fn smith_refusal(config: *const u8, config_length: usize, input: *const u8, length: usize, out: *mut u8, out_length: usize) -> Answer;
+    pub fn smith_binary_with(config: *const Kept, input: *const u8, input_length: usize, out: *mut u8, out_length: usize) -> Answer;
+    pub fn smith_text_with(config: *const Kept, input: *const u8, input_length: usize, out: *mut u8, out_length: usize) -> Answer;
+    pub fn smith_wat_with(config: *const Kept, input: *const u8, input_length: usize, out: *mut u8, out_length: usize) -> Answer;
+    fn smith_refusal_with(config: *const Kept, input: *const u8, input_length: usize, out: *mut u8, out_length: usize) -> Answer;
+}
+
+/// Returns the status and the output of `call`, which fills a buffer, from one that is enlarged once if necessary.
+fn output(call: impl Fn(&mut [u8]) -> Answer) -> (u32, Vec<u8>) {
+    let mut out = vec![0; 1 << 16];
+    loop {
+        let answer = call(&mut out);
+        if answer.status != SHORT {
+            out.truncate(answer.length);
+            return (answer.status, out);
+        }
+        out.resize(answer.length, 0);
+    }
+}
+
+/// Returns why there is no module, from a call that puts the reason into a buffer in words.
+fn refused(status: u32, explain: impl Fn(&mut [u8]) -> Answer) -> Refused {
+    let words = utf8(output(explain).1);
+    Refused { status, words }
+}
+
+/// Converts text that the library wrote, which is always UTF-8.
+pub fn utf8(text: Vec<u8>) -> String {
+    String::from_utf8(text).expect("the library should write UTF-8")
+}
+
+impl Kept {
+    /// Reads the JSON object in `text`. An empty text is the default configuration.
+    pub fn read(text: &str) -> Result<Kept, Refused> {
+        let mut kept = Kept([0; 48]);
+        // SAFETY: the text is a pointer and its length, and `kept` is borrowed exclusively.
+        let answer = unsafe { smith_config_read(text.as_ptr(), text.len(), &mut kept) };
+        if answer.status == MADE {
+            return Ok(kept);
+        }
+        Err(refused(answer.status, |out| {
+            // SAFETY: each pointer is that of a slice with its length, and `out` is borrowed exclusively.
+            unsafe { smith_refusal(text.as_ptr(), text.len(), text.as_ptr(), 0, out.as_mut_ptr(), out.len()) }
+        }))
+    }
+
+    /// Returns the output of `call` for `input`.
+    pub fn made(&self, call: Call, input: &[u8]) -> Result<Vec<u8>, Refused> {
+        // SAFETY: `self` was read, each other pointer is that of a slice with its length, and `out` is borrowed exclusively.
+        let with = |call: Call, out: &mut [u8]| unsafe { call(self, input.as_ptr(), input.len(), out.as_mut_ptr(), out.len()) };
+        match output(|out| with(call, out)) {
+            (MADE, bytes) => Ok(bytes),
+            (status, _) => Err(refused(status, |out| with(smith_refusal_with, out))),
+        }
+    }
+}
