@@ -290,7 +290,7 @@ pub const RECORDED: &str = "recorded";
 const ANY: usize = usize::MAX;
 
 // Each call by its name, with the greatest number of its arguments.
-static CALLS: [(&str, Call, usize); 82] = [
+static CALLS: [(&str, Call, usize); 83] = [
     ("Module::new", Call::Module(ModuleCall::New), ANY),
     (
         "Module::new_internal",
