@@ -6,6 +6,7 @@ use Rattle.std.specs.Prelude.{IfOk, IfSome}
 use Rattle.std.proofs.lemmas.Bool.{eqb-true, eq-eqb, and_parts}
 use Rattle.std.proofs.lemmas.List.{length-map}
 use Rattle.smith_binary.specs.Pieces.{IsList}
+use Rattle.smith_syntax.specs.Features.{Features}
 use Rattle.smith_syntax.specs.declared.composite_type.SubType.{SubType}
 use Rattle.smith_syntax.specs.declared.entity_type.ExportKind.{ExportKind}
 use Rattle.smith_syntax.specs.declared.entity_type.GlobalType.{GlobalType}
@@ -23,7 +24,7 @@ use Rattle.smith_instr.specs.declared.instr.Instr.{Instr}
 use Rattle.smith_binary_read.specs.Views.{Viewed}
 use Rattle.smith_binary_read.proofs.ViewLemmas.{list_viewed}
 use Rattle.smith_decode.specs.declared.error.DecodeError.{DecodeError}
-use Rattle.smith_decode.specs.declared.error.DecodeError.TheVariants.{Memory, Malformed}
+use Rattle.smith_decode.specs.declared.error.DecodeError.TheVariants.{Memory, Malformed, FeatureOff}
 use Rattle.smith_decode.specs.declared.bodies.Body.{Body}
 use Rattle.smith_decode.specs.declared.customs.Custom.{Custom}
 use Rattle.smith_decode.specs.declared.modules.Module.{Module}
@@ -33,10 +34,13 @@ use Rattle.smith_decode.specs.DataReadings.{segment_view}
 use Rattle.smith_decode.specs.Definitions.{IsTable, IsGlobal}
 use Rattle.smith_decode.specs.ElementReadings.{element_view}
 use Rattle.smith_decode.specs.Elements.{Elem, IsElem}
-use Rattle.smith_decode.specs.ModuleReadings.{Parts, module_of, with_customs, is_number, is_stated_if, module_at, Locates}
-use Rattle.smith_decode.specs.Modules.{Syntax, IsFunctionBody, IsStated, IsModuleBinary, syntax_of, Returns}
+use Rattle.smith_decode.specs.ModuleReadings.{Parts, module_of, with_customs, is_number, is_stated_if, module_at}
+use Rattle.smith_decode.specs.Modules.{Syntax, IsFunctionBody, IsStated, IsModuleBinary, syntax_of}
+use Rattle.smith_decode.specs.Forms.{AreFormsEnabled}
+use Rattle.smith_decode.specs.Results.{Locates, Returns}
 use Rattle.smith_decode.specs.Modules.{table_pair, tag_index, global_pair, export_triple, body_names_data}
 use Rattle.smith_decode.proofs.ElementLemmas.{segment_viewed}
+use Rattle.smith_decode.proofs.FormLemmas.{off_disabled}
 use Rattle.smith_decode.proofs.CustomLemmas.{IsMore, IsEnd}
 use Rattle.smith_decode.proofs.ModuleLemmas.{AreParts, parts_of, IsDecodedBinary, module_decodes}
 use Rattle.smith_decode.proofs.ViewLemmas.{same_viewed, table_viewed, tag_viewed, global_viewed, export_viewed, imports_viewed, data_viewed}
@@ -218,18 +222,27 @@ module_back m bytes h =
     }
 
 -- what a call returned
-pub is_sound : (bytes : List ℕ) (r : Result Module DecodeError) → Locates r bytes (module_at bytes)
+pub is_sound : (features : Features) (bytes : List ℕ) (r : Result Module DecodeError) → Locates features r bytes (module_at bytes)
     → IfOk r (λ m. IsModuleBinary (syntax_of m) bytes)
-is_sound bytes (Ok m) read = module_forth m bytes (module_decodes.sound bytes m read)
-is_sound bytes (Err e) read = tt
+is_sound features bytes (Ok m) read = module_forth m bytes (module_decodes.sound bytes m read.0)
+is_sound features bytes (Err e) read = tt
 
-pub is_complete : (bytes : List ℕ) (r : Result Module DecodeError) (m : Syntax) → Locates r bytes (module_at bytes)
-    → IsModuleBinary m bytes → Returns m r
-is_complete bytes (Ok x) m read h =
+pub is_enabled : (features : Features) (bytes : List ℕ) (r : Result Module DecodeError) → Locates features r bytes (module_at bytes)
+    → IfOk r (λ m. AreFormsEnabled features m)
+is_enabled features bytes (Ok m) read = read.1
+is_enabled features bytes (Err e) read = tt
+
+pub is_complete : (features : Features) (bytes : List ℕ) (r : Result Module DecodeError) (m : Syntax)
+    → Locates features r bytes (module_at bytes) → IsModuleBinary m bytes → Returns features m r
+is_complete features bytes (Ok x) m read h =
     let one = module_back m bytes h in
-    let same : one.decoded ≡ x = let e = sym (module_decodes.complete one.decoded bytes one.form) ∙ read in cc in
+    let same : one.decoded ≡ x = let e = sym (module_decodes.complete one.decoded bytes one.form) ∙ read.0 in cc in
     ap syntax_of (sym same) ∙ one.is
-is_complete bytes (Err Memory) m read h = tt
-is_complete bytes (Err (Malformed offset reason)) m read h =
+is_complete features bytes (Err Memory) m read h = tt
+is_complete features bytes (Err (Malformed offset reason)) m read h =
     let one = module_back m bytes h in
     absurd (let never = sym (module_decodes.complete one.decoded bytes one.form) ∙ read.1 in cc)
+is_complete features bytes (Err (FeatureOff offset)) m (x, read, place, off, at) h =
+    let one = module_back m bytes h in
+    let same : one.decoded ≡ x = let e = sym (module_decodes.complete one.decoded bytes one.form) ∙ read in cc in
+    (x, ap syntax_of (sym same) ∙ one.is, off_disabled features x place off)

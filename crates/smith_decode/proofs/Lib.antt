@@ -1,3 +1,4 @@
+pub mod FormLemmas
 pub mod LocationLemmas
 pub mod DefinitionLemmas
 pub mod ElementLemmas

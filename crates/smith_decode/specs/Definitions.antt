@@ -1,9 +1,10 @@
 -- Definitions of tables and globals, whose initialisers are any expressions: the section Binary
 -- Format, Modules, Table Section and Global Section, of the WebAssembly Core Specification 3.0.
-use Rattle.std.specs.Prelude.{◌≡◌, ℕ, List, [], ◌∷◌}
+use Rattle.std.specs.Prelude.{◌≡◌, ℕ, Option, Some, None, List, [], ◌∷◌}
 use Rattle.smith_binary.specs.Pieces.{Is, Joined}
 use Rattle.smith_syntax.specs.declared.entity_type.GlobalType.{GlobalType}
 use Rattle.smith_syntax.specs.declared.entity_type.TableType.{TableType}
+use Rattle.smith_syntax.specs.declared.value_type.HeapType.{HeapType}
 use Rattle.smith_syntax.specs.declared.value_type.RefType.{RefType}
 use Rattle.smith_binary_sections.specs.Entities.{IsGlobalType, IsTableType}
 use Rattle.smith_instr.specs.declared.instr.Instr.{Instr}
@@ -14,6 +15,11 @@ use Rattle.smith_binary_read_instr.specs.Expressions.{IsNestedExpr}
 -- the expression of the null reference of a type (Table Section)
 abbrev pub null_of : RefType → List Instr
 null_of reference = Reference (Null reference.heap_type) ∷ []
+
+-- the heap type of the null that an instruction produces, if it is one (Structure, Instructions)
+abbrev pub null_type : Instr → Option HeapType
+null_type (Reference (Null heap_type)) = Some heap_type
+null_type _ = None
 
 -- the type of a table, then the expression of its elements (Table Section)
 abbrev pub IsTypedTable : TableType → List Instr → List ℕ → Type 0

@@ -1,5 +1,6 @@
 -- Modules of the examples.
-use Rattle.std.specs.Prelude.{List, [], ◌∷◌, ℕ, Some, None, pos}
+use Rattle.std.specs.Prelude.{List, [], ◌∷◌, ℕ, true, false, Some, None, pos}
+use Rattle.smith_syntax.specs.declared.entity_type.MemoryType.{MemoryType}
 use Rattle.smith_instr.specs.declared.instr.Instr.{Instr}
 use Rattle.smith_instr.specs.declared.instr.Instr.TheVariants as instr
 use Rattle.smith_instr.specs.declared.memory.MemoryInstr.TheVariants.{DataDrop}
@@ -50,3 +51,10 @@ dropping = record no_item {
 -- the bytes of that module
 abbrev pub dropping_bytes : List ℕ
 dropping_bytes = after_preamble (0x03 ∷ 0x02 ∷ 0x01 ∷ 0x00 ∷ 0x0C ∷ 0x01 ∷ 0x00 ∷ one_drop)
+
+-- a memory with 64-bit addresses, and a module of it
+abbrev pub wide_memory : MemoryType
+wide_memory = record { minimum = 0; maximum = None; memory64 = true; shared = false; page_size_log2 = None }
+
+abbrev pub of_wide_memory : Module
+of_wide_memory = record no_item { memories = wide_memory ∷ [] }

@@ -11,4 +11,7 @@ pub mod ModuleReadings
 pub mod Modules
 pub mod Constants
 pub mod Locations
+pub mod TypeForms
+pub mod Forms
+pub mod Results
 pub mod ExampleModules

@@ -1,6 +1,6 @@
 -- The offsets at which the items of a module begin: each begins where what is before it ends, as it is
 -- read. The section Binary Format, Modules, of the WebAssembly Core Specification 3.0.
-use Rattle.std.specs.Prelude.{ℕ, zero, suc, ◌-◌, ◌==◌, nat_lt, if◌then◌else◌, List, length, drop, Option, Some, None, Result, Ok, Err}
+use Rattle.std.specs.Prelude.{ℕ, zero, suc, ◌-◌, ◌==◌, nat_lt, if◌then◌else◌, List, length, Option, Some, None, Result, Ok, Err}
 use Rattle.smith_binary_read.specs.declared.error.Fault.{Fault}
 use Rattle.smith_binary_read.specs.declared.error.Reason.TheVariants.{UnexpectedEnd}
 use Rattle.smith_binary_read.specs.Readings.{Reading, ◌>>=◌, fault_at, byte_at}

@@ -1,5 +1,5 @@
 -- Readings of modules: the section Binary Format, Modules, of the WebAssembly Core Specification 3.0.
-use Rattle.std.specs.Prelude.{◌≡◌, ◌-◌, ◌==◌, ◌&&◌, ℕ, Bool, true, not, if◌then◌else◌, List, [], ◌∷◌, length, Option, Some, None}
+use Rattle.std.specs.Prelude.{◌==◌, ◌&&◌, ℕ, Bool, true, not, if◌then◌else◌, List, [], ◌∷◌, length, Option, Some, None}
 use Rattle.std.specs.Prelude.{Result, Ok, Err}
 use Rattle.smith_syntax.specs.declared.composite_type.SubType.{SubType}
 use Rattle.smith_syntax.specs.declared.entity_type.MemoryType.{MemoryType}
@@ -21,8 +21,6 @@ use Rattle.smith_decode.specs.declared.data.DataSegment.{DataSegment}
 use Rattle.smith_decode.specs.declared.definitions.GlobalDefinition.{GlobalDefinition}
 use Rattle.smith_decode.specs.declared.definitions.TableDefinition.{TableDefinition}
 use Rattle.smith_decode.specs.declared.elements.ElementSegment.{ElementSegment}
-use Rattle.smith_decode.specs.declared.error.DecodeError.{DecodeError}
-use Rattle.smith_decode.specs.declared.error.DecodeError.TheVariants.{Memory, Malformed}
 use Rattle.smith_decode.specs.declared.modules.Module.{Module}
 use Rattle.smith_decode.specs.BodyReadings.{body_at, name_data}
 use Rattle.smith_decode.specs.CustomReadings.{customs_at, end_at, more_at, kept_at}
@@ -149,11 +147,3 @@ checked_at bytes = customs_at bytes >>= (λ settled. sections_at settled >>= (λ
 unfoldable pub module_at : List ℕ → Result Module Fault
 module_at bytes =
     preamble_at bytes >>= (λ rest. checked_at rest >>= (λ m. kept_at rest >>= (λ customs. Ok (with_customs m customs))))
-
--- a call returned what is read of bytes, or the fault with its offset in them, unless memory was
--- refused
-abbrev pub Locates : Result Module DecodeError → List ℕ → Result Module Fault → Type 0
-Locates (Ok m) bytes reading = reading ≡ Ok m
-Locates (Err Memory) bytes reading = Unit {0}
-Locates (Err (Malformed offset reason)) bytes reading =
-    (left : ℕ) × (reading ≡ Err (record { left = left; reason = reason })) × (offset ≡ length bytes - left)

@@ -1,6 +1,6 @@
 -- Modules with custom sections: the section Binary Format, Modules, of the WebAssembly Core
 -- Specification 3.0.
-use Rattle.std.specs.Prelude.{◌≡◌, ℕ, Bool, false, Option, Some, None, List, [], ◌∷◌, length, map, IfSome, Result, Ok, Err}
+use Rattle.std.specs.Prelude.{◌≡◌, ℕ, Bool, false, Option, Some, None, List, [], ◌∷◌, length, map, IfSome}
 use Rattle.std.specs.List.{list_any}
 use Rattle.smith_binary.specs.Numbers.{IsUnsigned}
 use Rattle.smith_binary.specs.Pieces.{Joined, IsList, IsSized}
@@ -27,8 +27,6 @@ use Rattle.smith_binary_read_instr.specs.Expressions.{IsNestedExpr}
 use Rattle.smith_decode.specs.declared.customs.Custom.{Custom}
 use Rattle.smith_decode.specs.declared.definitions.GlobalDefinition.{GlobalDefinition}
 use Rattle.smith_decode.specs.declared.definitions.TableDefinition.{TableDefinition}
-use Rattle.smith_decode.specs.declared.error.DecodeError.{DecodeError}
-use Rattle.smith_decode.specs.declared.error.DecodeError.TheVariants.{Memory, Malformed}
 use Rattle.smith_decode.specs.declared.modules.Module.{Module}
 use Rattle.smith_decode.specs.BodyReadings.{body_view}
 use Rattle.smith_decode.specs.Data.{Data, IsData}
@@ -129,12 +127,6 @@ syntax_of m = record {
   datas = map segment_view m.datas;
   customs = m.customs;
 }
-
--- a call returned this module, or memory was refused
-abbrev pub Returns : Syntax → Result Module DecodeError → Type 0
-Returns m (Ok decoded) = syntax_of decoded ≡ m
-Returns m (Err Memory) = Unit {0}
-Returns m (Err (Malformed offset reason)) = ⊥
 
 -- bodies whose locals are those of bodies with bytes, and whose expressions are these bytes (Code
 -- Section)

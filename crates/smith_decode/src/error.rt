@@ -12,4 +12,8 @@ pub enum DecodeError {
     /// are a fault at the end.
     #[error("malformed at byte {offset}: {reason}")]
     Malformed { offset: usize, reason: Reason },
+    /// A form of the module is of a feature that is off, so the bytes are no module of these features.
+    /// The first item with such a form begins at the byte `offset`, counted from 0.
+    #[error("feature is off at byte {offset}")]
+    FeatureOff { offset: usize },
 }

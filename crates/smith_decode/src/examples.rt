@@ -1,14 +1,19 @@
-ghost use Rattle.std.specs.Prelude.{◌≡◌, false, Some, None, Ok, Err, [], ◌∷◌};
-ghost use Rattle.smith_syntax.specs.declared.value_type.ValType.TheVariants.{I32};
+ghost use Rattle.std.specs.Prelude.{◌≡◌, false, Some, None, Ok, Err, [], ◌∷◌, pos};
+ghost use Rattle.smith_syntax.specs.Features.{Features, every_feature};
+ghost use Rattle.smith_syntax.specs.declared.value_type.ValType.TheVariants.{I32, V128};
 ghost use Rattle.smith_instr.specs.declared.instr.Instr.TheVariants as instr;
+ghost use Rattle.smith_instr.specs.declared.numeric.IntBinary.TheVariants.{Add};
+ghost use Rattle.smith_instr.specs.declared.numeric.NumericInstr.TheVariants.{I32Binary};
 ghost use Rattle.smith_binary_read.specs.declared.error.Reason.TheVariants as reason;
 ghost use Rattle.smith_decode.specs.declared.data.DataMode.TheVariants as mode;
 ghost use Rattle.smith_decode.specs.BodyReadings.{body_at, body_of};
 ghost use Rattle.smith_decode.specs.DataReadings as data_segment;
 ghost use Rattle.smith_decode.specs.DefinitionReadings.{global_at, global_of};
 ghost use Rattle.smith_decode.specs.ExampleModules.{no_item, after_preamble, ctz, one_drop, dropping};
-ghost use Rattle.smith_decode.specs.ExampleModules.{dropping_bytes};
+ghost use Rattle.smith_decode.specs.ExampleModules.{of_wide_memory, dropping_bytes};
 ghost use Rattle.smith_decode.specs.declared.locations.Place.TheVariants as place;
+ghost use Rattle.smith_decode.specs.Forms.{AreFormsEnabled, IsOffAt, IsInstrEnabled};
+ghost use Rattle.smith_decode.specs.Forms.{IsConstantEnabled, IsDataEnabled};
 ghost use Rattle.smith_decode.specs.Locations.{located};
 ghost use Rattle.smith_decode.specs.CustomReadings.{custom};
 ghost use Rattle.smith_decode.specs.ModuleReadings.{module_at, with_customs};
@@ -75,6 +80,24 @@ fn modules_in_the_abstract_syntax()
         → ¬ IsModuleBinary m (after_preamble (0x03 ∷ 0x02 ∷ 0x01 ∷ 0x00 ∷ [])) }
     ensures out_of_order { (m : Syntax)
         → ¬ IsModuleBinary m (after_preamble (0x0A ∷ 0x01 ∷ 0x00 ∷ 0x01 ∷ 0x01 ∷ 0x00 ∷ [])) }
+{}
+
+fn forms()
+    ensures no_item { (features : Features) → AreFormsEnabled features no_item }
+    ensures wide_memory { ¬ AreFormsEnabled (record every_feature { memory64 = false }) of_wide_memory }
+    ensures at_the_memory { IsOffAt (record every_feature { memory64 = false }) of_wide_memory
+        (place.Memory 0) }
+    ensures call { IsInstrEnabled (record every_feature { tail_call = false }) (instr.Call 0) }
+    ensures tail_call { ¬ IsInstrEnabled (record every_feature { tail_call = false })
+        (instr.ReturnCall 0) }
+    ensures stated_type { ¬ IsInstrEnabled (record every_feature { simd = false })
+        (instr.SelectTyped (V128 ∷ [])) }
+    ensures sum { IsInstrEnabled (record every_feature { extended_const = false })
+        (instr.Numeric (I32Binary Add)) }
+    ensures constant_sum { ¬ IsConstantEnabled (record every_feature { extended_const = false })
+        (instr.Numeric (I32Binary Add)) }
+    ensures passive { ¬ IsDataEnabled (record every_feature { bulk_memory = false })
+        (data_segment.segment mode.Passive []) }
 {}
 
 fn locations()

@@ -9,11 +9,13 @@ mod definitions;
 mod elements;
 mod error;
 mod examples;
+mod forms;
 /// Laws: functions without effect, whose clauses state properties.
 pub mod laws;
 mod locations;
 mod modules;
 mod sections;
+mod type_forms;
 
 pub use bodies::{Body, LocalRun};
 pub use customs::Custom;

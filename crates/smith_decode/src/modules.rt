@@ -1,12 +1,16 @@
-ghost use Rattle.std.specs.Prelude.{◌≡◌, [], ◌∷◌, IfOk, List};
+ghost use Rattle.std.specs.Prelude.{◌≡◌, [], ◌∷◌, IfOk, List, Ok};
 ghost use Rattle.smith_binary_read.specs.declared.error.ReadError.TheVariants as error;
 ghost use Rattle.smith_binary_read.specs.Readings.{GivesWhole};
 ghost use Rattle.smith_decode.specs.CustomReadings.{GivesRest, end_at};
 ghost use Rattle.smith_decode.specs.ModuleReadings.{literal_at, preamble_at, bodies_at, counts_at};
 ghost use Rattle.smith_decode.specs.ModuleReadings.{starts_at, globals_at, memories_at};
 ghost use Rattle.smith_decode.specs.ModuleReadings.{functions_at, sections_at, checked_at, module_at};
-ghost use Rattle.smith_decode.specs.ModuleReadings.{counts_agree, count_suffices, Locates};
-ghost use Rattle.smith_decode.specs.Modules.{Syntax, IsModuleBinary, syntax_of, Returns};
+ghost use Rattle.smith_decode.specs.ModuleReadings.{counts_agree, count_suffices};
+ghost use Rattle.smith_decode.specs.Modules.{Syntax, IsModuleBinary, syntax_of};
+ghost use Rattle.smith_decode.specs.Forms.{AreFormsEnabled};
+ghost use Rattle.smith_decode.specs.Locations.{located};
+ghost use Rattle.smith_decode.specs.Results.{Locates, Returns, offset_in};
+ghost use Rattle.smith_syntax.specs.FeatureBits.{features_in};
 
 use crate::bodies::{Body, name_data};
 use crate::customs::{Custom, read_customs};
@@ -14,10 +18,12 @@ use crate::data::DataSegment;
 use crate::definitions::{GlobalDefinition, TableDefinition};
 use crate::elements::ElementSegment;
 use crate::error::DecodeError;
+use crate::forms::find_off;
+use crate::locations::{Place, locate};
 use crate::sections::{read_section, skip_customs};
 use smith_binary_read::{Export, Fault, ReadError, Reader, Reason, TagDefinition};
-use smith_types::{Imports, Items, MemoryType, SubType};
-use std::alloc::Global;
+use smith_types::{Imports, Items, MemoryType, SubType, WasmFeatures};
+use std::alloc::{AllocError, Global};
 
 /// A module as it is in the bytes: what [`decode`] returns. Types, functions and other entities are named
 /// by their indices.
@@ -261,12 +267,41 @@ fn read_module(alloc: Global, bytes: &[u8]) -> Result<Module, ReadError>
     Ok(m)
 }
 
-// Reads a module, and counts the offset of a fault from the start.
-fn read_located(alloc: Global, bytes: &[u8]) -> Result<Module, DecodeError>
-    ensures { Locates result bytes.now (module_at bytes.now) }
+// Returns the offset of `place` in `bytes`, or of their end if there is no such place.
+fn offset_in(alloc: Global, bytes: &[u8], place: Place) -> Result<usize, AllocError>
+    ensures { IfOk result (λ offset. offset ≡ offset_in bytes.now place) }
+{
+    match locate(alloc, bytes, place)? {
+        Some(offset) => Ok(offset),
+        None => Ok(bytes.len()),
+    }
+}
+
+// Returns `m`, which `bytes` are, if `features` enable its forms.
+fn keep_enabled(
+    alloc: Global,
+    bytes: &[u8],
+    features: WasmFeatures,
+    m: Module,
+) -> Result<Module, DecodeError>
+    requires { module_at bytes.now ≡ Ok m }
+    ensures { Locates (features_in features) result bytes.now (module_at bytes.now) }
+{
+    match find_off(features, &m) {
+        None => Ok(m),
+        Some(place) => match offset_in(alloc, bytes, place) {
+            Ok(offset) => Err(DecodeError::FeatureOff { offset }),
+            Err(_) => Err(DecodeError::Memory),
+        },
+    }
+}
+
+// Reads a module of `features`, and counts the offset of a fault from the start.
+fn read_located(alloc: Global, bytes: &[u8], features: WasmFeatures) -> Result<Module, DecodeError>
+    ensures { Locates (features_in features) result bytes.now (module_at bytes.now) }
 {
     match read_module(alloc, bytes) {
-        Ok(m) => Ok(m),
+        Ok(m) => keep_enabled(alloc, bytes, features, m),
         Err(ReadError::Memory) => Err(DecodeError::Memory),
         Err(ReadError::Malformed(fault)) => Err(DecodeError::Malformed {
             offset: bytes.len().saturating_sub(fault.left),
@@ -275,19 +310,24 @@ fn read_located(alloc: Global, bytes: &[u8]) -> Result<Module, DecodeError>
     }
 }
 
-/// Decodes the module that `bytes` are. Custom sections are kept as bytes. `alloc` allocates the module.
+/// Decodes the module that `bytes` are, whose forms may be of `features` alone. Custom sections are kept
+/// as bytes. `alloc` allocates the module.
 ///
 /// # Errors
 ///
-/// Returns [`DecodeError::Malformed`] if the bytes are no module. The standard says whether the module
-/// is valid; this call does not.
-pub fn decode(alloc: Global, bytes: &[u8]) -> Result<Module, DecodeError>
+/// Returns [`DecodeError::Malformed`] if the bytes are no module, and [`DecodeError::FeatureOff`] if they
+/// are one with a form of another feature. The standard says whether the module is valid; this call does
+/// not.
+pub fn decode(alloc: Global, bytes: &[u8], features: WasmFeatures) -> Result<Module, DecodeError>
     // The bytes are that module.
     ensures sound { IfOk result (λ m. IsModuleBinary (syntax_of m) bytes.now) }
-    // If the bytes are a module, it is returned, unless memory was refused.
-    ensures complete { (m : Syntax) → IsModuleBinary m bytes.now → Returns m result }
+    // Its forms are of these features.
+    ensures enabled { IfOk result (λ m. AreFormsEnabled (features_in features) m) }
+    // If the bytes are a module of these features, it is returned, unless memory was refused.
+    ensures complete { (m : Syntax) → IsModuleBinary m bytes.now
+        → Returns (features_in features) m result }
     // Which fault it is, and where.
-    ensures exact { Locates result bytes.now (module_at bytes.now) }
+    ensures exact { Locates (features_in features) result bytes.now (module_at bytes.now) }
 {
-    read_located(alloc, bytes)
+    read_located(alloc, bytes, features)
 }

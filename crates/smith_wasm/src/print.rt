@@ -4,9 +4,11 @@ use crate::malformed::Malformed;
 use crate::request::path_of;
 use crate::words::{FILE, OUTPUT};
 use clap::ArgMatches;
+use smith_binary_read::Reason;
 use smith_bytes::Error;
 use smith_decode::{DecodeError, Module, decode};
 use smith_text_file::text;
+use smith_types::WasmFeatures;
 use std::alloc::Global;
 
 /// Writes the module of the binary file that `matches` names as text. Nothing is written unless the
@@ -22,12 +24,13 @@ pub(crate) fn print_file(rt: &HostRuntime, matches: &ArgMatches<'_>) -> Result<(
 
 /// Returns the module that `bytes` are, the contents of the file at `path`.
 fn module_in(alloc: Global, path: &str, bytes: &[u8]) -> Result<Module, Failure> {
-    match decode(alloc, bytes) {
-        Ok(module) => Ok(module),
-        Err(DecodeError::Memory) => Err(Failure::from(Error::Memory)),
-        Err(DecodeError::Malformed { offset, reason }) => {
-            let malformed = Malformed::new(alloc, path, bytes, offset, reason)?;
-            Err(Failure::Malformed(malformed))
-        }
-    }
+    let (offset, reason) = match decode(alloc, bytes, WasmFeatures::every()) {
+        Ok(module) => return Ok(module),
+        Err(DecodeError::Memory) => return Err(Failure::from(Error::Memory)),
+        Err(DecodeError::Malformed { offset, reason }) => (offset, reason),
+        // Each feature is on, so no form is of another one.
+        Err(DecodeError::FeatureOff { offset }) => (offset, Reason::UnknownByte),
+    };
+    let malformed = Malformed::new(alloc, path, bytes, offset, reason)?;
+    Err(Failure::Malformed(malformed))
 }

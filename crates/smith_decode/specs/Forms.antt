@@ -1,0 +1,235 @@
+-- The features that the forms of a module require: its types, instructions, definitions and segments.
+-- That a module may have a form only if its feature is on is a rule of this project; the standard has
+-- one language.
+use Rattle.std.specs.Prelude.{◌≡◌, ◌≤◌, ◌^◌, ℕ, ◌⊎◌, IsTrue, IsSome, Option, Some, List, [], ◌∷◌, All, slice_get, take}
+use Rattle.smith_syntax.specs.Features.{Features}
+use Rattle.smith_syntax.specs.declared.entity_type.ExportKind.{ExportKind}
+use Rattle.smith_syntax.specs.declared.entity_type.ExportKind.TheVariants as kind
+use Rattle.smith_types.specs.Flags.{IsElementTypeEnabled, IsHeapTypeEnabled}
+use Rattle.smith_instr.specs.Enabled.{has_features}
+use Rattle.smith_instr.specs.declared.control.BlockType.{BlockType}
+use Rattle.smith_instr.specs.declared.control.BlockType.TheVariants as block
+use Rattle.smith_instr.specs.declared.control.BranchCast.{BranchCast}
+use Rattle.smith_instr.specs.declared.instr.Instr.{Instr}
+use Rattle.smith_instr.specs.declared.instr.Instr.TheVariants as instr
+use Rattle.smith_instr.specs.declared.memory.MemArg.{MemArg}
+use Rattle.smith_instr.specs.declared.memory.MemoryInstr.{MemoryInstr}
+use Rattle.smith_instr.specs.declared.memory.MemoryInstr.TheVariants as memory
+use Rattle.smith_instr.specs.declared.reference.ReferenceInstr.{ReferenceInstr}
+use Rattle.smith_instr.specs.declared.reference.ReferenceInstr.TheVariants as reference
+use Rattle.smith_instr.specs.declared.table.TableInstr.{TableInstr}
+use Rattle.smith_instr.specs.declared.table.TableInstr.TheVariants as table
+use Rattle.smith_binary_read.specs.declared.exports.Export.{Export}
+use Rattle.smith_binary_read.specs.declared.tags.TagDefinition.{TagDefinition}
+use Rattle.smith_decode.specs.declared.bodies.Body.{Body}
+use Rattle.smith_decode.specs.declared.bodies.LocalRun.{LocalRun}
+use Rattle.smith_decode.specs.declared.data.DataMode.{DataMode}
+use Rattle.smith_decode.specs.declared.data.DataMode.TheVariants as data_mode
+use Rattle.smith_decode.specs.declared.data.DataSegment.{DataSegment}
+use Rattle.smith_decode.specs.declared.definitions.GlobalDefinition.{GlobalDefinition}
+use Rattle.smith_decode.specs.declared.definitions.TableDefinition.{TableDefinition}
+use Rattle.smith_decode.specs.declared.elements.ElementItems.{ElementItems}
+use Rattle.smith_decode.specs.declared.elements.ElementItems.TheVariants as element_items
+use Rattle.smith_decode.specs.declared.elements.ElementMode.{ElementMode}
+use Rattle.smith_decode.specs.declared.elements.ElementMode.TheVariants as element_mode
+use Rattle.smith_decode.specs.declared.elements.ElementSegment.{ElementSegment}
+use Rattle.smith_decode.specs.declared.locations.Place.{Place}
+use Rattle.smith_decode.specs.declared.locations.Place.TheVariants as place
+use Rattle.smith_decode.specs.declared.modules.Module.{Module}
+use Rattle.smith_decode.specs.Definitions.{null_of}
+use Rattle.smith_decode.specs.TypeForms.{IsGlobalTypeEnabled, IsGroupEnabled, IsImportGroupEnabled, IsMemoryTypeEnabled}
+use Rattle.smith_decode.specs.TypeForms.{IsRefTypeEnabled, IsTableTypeEnabled, IsValTypeEnabled}
+
+-- the types that an instruction states (Control Instructions; Reference Instructions; Parametric
+-- Instructions)
+abbrev pub IsBlockTypeEnabled : Features → BlockType → Type 0
+IsBlockTypeEnabled features (block.Value value) = IsValTypeEnabled features value
+IsBlockTypeEnabled features _ = Unit {0}
+
+abbrev pub IsCastEnabled : Features → BranchCast → Type 0
+IsCastEnabled features cast = IsRefTypeEnabled features cast.from × IsRefTypeEnabled features cast.to
+
+abbrev pub AreReferencesEnabled : Features → ReferenceInstr → Type 0
+AreReferencesEnabled features (reference.Null heap_type) = IsHeapTypeEnabled features heap_type
+AreReferencesEnabled features (reference.Test to) = IsRefTypeEnabled features to
+AreReferencesEnabled features (reference.Cast to) = IsRefTypeEnabled features to
+AreReferencesEnabled features _ = Unit {0}
+
+abbrev pub AreStatedEnabled : Features → Instr → Type 0
+AreStatedEnabled features (instr.Block ty) = IsBlockTypeEnabled features ty
+AreStatedEnabled features (instr.Loop ty) = IsBlockTypeEnabled features ty
+AreStatedEnabled features (instr.If ty) = IsBlockTypeEnabled features ty
+AreStatedEnabled features (instr.TryTable ty clauses) = IsBlockTypeEnabled features ty
+AreStatedEnabled features (instr.BrOnCast cast) = IsCastEnabled features cast
+AreStatedEnabled features (instr.BrOnCastFail cast) = IsCastEnabled features cast
+AreStatedEnabled features (instr.SelectTyped values) = All (IsValTypeEnabled features) values
+AreStatedEnabled features (instr.Reference op) = AreReferencesEnabled features op
+AreStatedEnabled features _ = Unit {0}
+
+-- a memory and a table that are named: one other than the first requires several memories, and
+-- reference types (Indices)
+abbrev pub IsMemoryNameEnabled : Features → ℕ → Type 0
+IsMemoryNameEnabled features index = (index ≡ 0 → ⊥) → IsTrue features.multi_memory
+
+abbrev pub IsTableNameEnabled : Features → ℕ → Type 0
+IsTableNameEnabled features index = (index ≡ 0 → ⊥) → IsTrue features.reference_types
+
+-- the place of an access, whose offset requires 64-bit memories if it has more than 32 bits (Memory
+-- Instructions)
+pub record IsMemArgEnabled (features : Features) (at : MemArg) : Type 0 where
+  pub memory : IsMemoryNameEnabled features at.memory
+  pub offset : 2 ^ 32 ≤ at.offset → IsTrue features.memory64
+
+-- the memories and tables that an instruction names (Instructions)
+abbrev pub AreMemoriesEnabled : Features → MemoryInstr → Type 0
+AreMemoriesEnabled features (memory.Size index) = IsMemoryNameEnabled features index
+AreMemoriesEnabled features (memory.Grow index) = IsMemoryNameEnabled features index
+AreMemoriesEnabled features (memory.Fill index) = IsMemoryNameEnabled features index
+AreMemoriesEnabled features (memory.Copy to from) = IsMemoryNameEnabled features to × IsMemoryNameEnabled features from
+AreMemoriesEnabled features (memory.Init index segment) = IsMemoryNameEnabled features index
+AreMemoriesEnabled features (memory.DataDrop segment) = Unit {0}
+
+abbrev pub AreTablesEnabled : Features → TableInstr → Type 0
+AreTablesEnabled features (table.Copy to from) = IsTableNameEnabled features to × IsTableNameEnabled features from
+AreTablesEnabled features (table.Init index segment) = IsTableNameEnabled features index
+AreTablesEnabled features _ = Unit {0}
+
+abbrev pub AreNamedEnabled : Features → Instr → Type 0
+AreNamedEnabled features (instr.CallIndirect table ty) = IsTableNameEnabled features table
+AreNamedEnabled features (instr.ReturnCallIndirect table ty) = IsTableNameEnabled features table
+AreNamedEnabled features (instr.Table op) = AreTablesEnabled features op
+AreNamedEnabled features (instr.Memory op) = AreMemoriesEnabled features op
+AreNamedEnabled features (instr.Load op at) = IsMemArgEnabled features at
+AreNamedEnabled features (instr.Store op at) = IsMemArgEnabled features at
+AreNamedEnabled features (instr.VectorLoad op at) = IsMemArgEnabled features at
+AreNamedEnabled features (instr.VectorStore at) = IsMemArgEnabled features at
+AreNamedEnabled features (instr.VectorLoadLane log2_bytes at lane) = IsMemArgEnabled features at
+AreNamedEnabled features (instr.VectorStoreLane log2_bytes at lane) = IsMemArgEnabled features at
+AreNamedEnabled features (instr.Atomic access at) = IsMemArgEnabled features at
+AreNamedEnabled features _ = Unit {0}
+
+-- an instruction, with the types that it states and the memories and tables that it names
+-- (Instructions)
+pub record IsInstrEnabled (features : Features) (instruction : Instr) : Type 0 where
+  pub own : IsTrue (has_features features instruction)
+  pub stated : AreStatedEnabled features instruction
+  pub named : AreNamedEnabled features instruction
+
+-- an instruction of an expression of constants, in which numeric instructions are extended constants
+-- (Expressions)
+abbrev pub IsExtendedEnabled : Features → Instr → Type 0
+IsExtendedEnabled features (instr.Numeric op) = IsTrue features.extended_const
+IsExtendedEnabled features _ = Unit {0}
+
+pub record IsConstantEnabled (features : Features) (instruction : Instr) : Type 0 where
+  pub form : IsInstrEnabled features instruction
+  pub extended : IsExtendedEnabled features instruction
+
+abbrev pub IsExprEnabled : Features → List Instr → Type 0
+IsExprEnabled features expression = All (IsConstantEnabled features) expression
+
+-- a table: an expression of its elements requires garbage collection, unless it is the null of the
+-- table's type (Table Section)
+pub record IsTableEnabled (features : Features) (table : TableDefinition) : Type 0 where
+  pub ty : IsTableTypeEnabled features table.ty
+  pub initial : (table.initial ≡ null_of table.ty.element_type) ⊎ (IsTrue features.gc × IsExprEnabled features table.initial)
+
+-- a tag (Tag Section)
+abbrev pub IsTagEnabled : Features → TagDefinition → Type 0
+IsTagEnabled features tag = IsTrue features.exceptions
+
+-- a global (Global Section)
+pub record IsGlobalEnabled (features : Features) (global : GlobalDefinition) : Type 0 where
+  pub ty : IsGlobalTypeEnabled features global.ty
+  pub initial : IsExprEnabled features global.initial
+
+-- an export (Export Section)
+abbrev pub IsKindEnabled : Features → ExportKind → Type 0
+IsKindEnabled features kind.Tag = IsTrue features.exceptions
+IsKindEnabled features _ = Unit {0}
+
+abbrev pub IsExportEnabled : Features → Export → Type 0
+IsExportEnabled features item = IsKindEnabled features item.kind
+
+-- an element segment: expressions as items and a table other than the first require reference types,
+-- and segments that are not copied into a table require bulk memory (Element Section)
+abbrev pub AreItemsEnabled : Features → ElementItems → Type 0
+AreItemsEnabled features (element_items.Functions functions) = Unit {0}
+AreItemsEnabled features (element_items.Expressions expressions) =
+    IsTrue features.reference_types × All (IsExprEnabled features) expressions
+
+abbrev pub IsElementModeEnabled : Features → ElementMode → Type 0
+IsElementModeEnabled features element_mode.Passive = IsTrue features.bulk_memory
+IsElementModeEnabled features element_mode.Declared = IsTrue features.bulk_memory
+IsElementModeEnabled features (element_mode.Active table offset) =
+    IsTableNameEnabled features table × IsExprEnabled features offset
+
+pub record IsElementEnabled (features : Features) (segment : ElementSegment) : Type 0 where
+  pub ty : IsRefTypeEnabled features segment.ty
+  pub ty_enabled : IsElementTypeEnabled features segment.ty
+  pub items : AreItemsEnabled features segment.items
+  pub mode : IsElementModeEnabled features segment.mode
+
+-- a data segment: a memory other than the first requires several memories, and segments that are not
+-- copied into a memory require bulk memory (Data Section)
+abbrev pub IsDataModeEnabled : Features → DataMode → Type 0
+IsDataModeEnabled features data_mode.Passive = IsTrue features.bulk_memory
+IsDataModeEnabled features (data_mode.Active memory offset) =
+    IsMemoryNameEnabled features memory × IsExprEnabled features offset
+
+abbrev pub IsDataEnabled : Features → DataSegment → Type 0
+IsDataEnabled features segment = IsDataModeEnabled features segment.mode
+
+-- a body (Code Section)
+pub record IsBodyEnabled (features : Features) (body : Body) : Type 0 where
+  pub locals : All (λ (run : LocalRun). IsValTypeEnabled features run.ty) body.locals
+  pub instructions : All (IsInstrEnabled features) body.instructions
+
+-- the number of data segments (Data Count Section)
+abbrev pub IsCountEnabled : Features → Option ℕ → Type 0
+IsCountEnabled features count = IsSome count → IsTrue features.bulk_memory
+
+-- that the forms of each section are enabled, in the order of the sections (Modules)
+abbrev pub forms_of : Features → Module → List (Type 0)
+forms_of features m =
+    All (IsGroupEnabled features) m.types
+    ∷ All (IsImportGroupEnabled features) m.imports
+    ∷ All (IsTableEnabled features) m.tables
+    ∷ All (IsMemoryTypeEnabled features) m.memories
+    ∷ All (IsTagEnabled features) m.tags
+    ∷ All (IsGlobalEnabled features) m.globals
+    ∷ All (IsExportEnabled features) m.exports
+    ∷ All (IsElementEnabled features) m.elements
+    ∷ IsCountEnabled features m.data_count
+    ∷ All (IsBodyEnabled features) m.bodies
+    ∷ All (IsDataEnabled features) m.datas ∷ []
+
+abbrev pub Each : List (Type 0) → Type 0
+Each [] = Unit {0}
+Each (P ∷ properties) = P × Each properties
+
+-- the forms of a module (Modules)
+abbrev pub AreFormsEnabled : Features → Module → Type 0
+AreFormsEnabled features m = Each (forms_of features m)
+
+-- the first item that lacks a property
+pub record IsFirstOff {A : Type 0} (P : A → Type 0) (items : List A) (index : ℕ) : Type 0 where
+  pub item : A
+  pub stands : slice_get items index ≡ Some item
+  pub off : P item → ⊥
+  pub before : All P (take index items)
+
+-- the first place whose form is off: the forms of the sections before it are on
+abbrev pub IsOffAt : Features → Module → Place → Type 0
+IsOffAt features m (place.Types index) = IsFirstOff (IsGroupEnabled features) m.types index
+IsOffAt features m (place.Imports index) = Each (take 1 (forms_of features m)) × IsFirstOff (IsImportGroupEnabled features) m.imports index
+IsOffAt features m (place.Table index) = Each (take 2 (forms_of features m)) × IsFirstOff (IsTableEnabled features) m.tables index
+IsOffAt features m (place.Memory index) = Each (take 3 (forms_of features m)) × IsFirstOff (IsMemoryTypeEnabled features) m.memories index
+IsOffAt features m (place.Tag index) = Each (take 4 (forms_of features m)) × IsFirstOff (IsTagEnabled features) m.tags index
+IsOffAt features m (place.Global index) = Each (take 5 (forms_of features m)) × IsFirstOff (IsGlobalEnabled features) m.globals index
+IsOffAt features m (place.Export index) = Each (take 6 (forms_of features m)) × IsFirstOff (IsExportEnabled features) m.exports index
+IsOffAt features m (place.Element index) = Each (take 7 (forms_of features m)) × IsFirstOff (IsElementEnabled features) m.elements index
+IsOffAt features m place.DataCount = Each (take 8 (forms_of features m)) × (IsCountEnabled features m.data_count → ⊥)
+IsOffAt features m (place.Body index) = Each (take 9 (forms_of features m)) × IsFirstOff (IsBodyEnabled features) m.bodies index
+IsOffAt features m (place.Data index) = Each (take 10 (forms_of features m)) × IsFirstOff (IsDataEnabled features) m.datas index
+IsOffAt features m _ = ⊥
