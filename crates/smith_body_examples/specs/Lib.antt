@@ -1,3 +1,4 @@
 pub mod ExampleBytes
 pub mod ExampleContexts
 pub mod ExampleAggregates
+pub mod ExampleSettled

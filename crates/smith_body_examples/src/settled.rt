@@ -11,44 +11,43 @@ ghost use Rattle.smith_instr.specs.declared.numeric.WideArithmetic.TheVariants.{
 ghost use Rattle.smith_instr.specs.declared.reference.ReferenceInstr.TheVariants as reference;
 ghost use Rattle.smith_instr_examples.specs.ExampleBodies.{function_of, kinds_of, some_func};
 ghost use Rattle.smith_body.specs.Left.{spare_of};
-ghost use Rattle.smith_body.specs.Settled.{settling_at};
-ghost use Rattle.smith_body.specs.declared.settled.Settling.TheVariants as settling;
 ghost use Rattle.smith_body_nodes.specs.declared.node.Head.TheVariants as head;
 ghost use Rattle.smith_body_nodes.specs.declared.node.Opening.TheVariants as opening;
 ghost use Rattle.smith_body_examples.specs.ExampleBytes.{calling};
 ghost use Rattle.smith_body_examples.specs.ExampleContexts.{among};
+ghost use Rattle.smith_body_examples.specs.ExampleSettled.{settled_by};
 
 fn stored()
-    ensures local { settling_at default_config (function_of (I64 ∷ I32 ∷ []) []) I32 []
-        ≡ (settling.Local 1, []) }
-    ensures variable_global { settling_at default_config (function_of (I64 ∷ I32 ∷ []) []) I32
+    ensures local { settled_by default_config (function_of (I64 ∷ I32 ∷ []) []) I32 []
+        ≡ (instr.LocalSet 1 ∷ [], []) }
+    ensures variable_global { settled_by default_config (function_of (I64 ∷ I32 ∷ []) []) I32
         (1 ∷ 9 ∷ [])
-        ≡ (settling.Global 1, 9 ∷ []) }
-    ensures constant_global { ¬ (settling_at default_config (function_of [] []) I32 []
-        ≡ (settling.Global 0, [])) }
-    ensures not_of_another_type { settling_at default_config (function_of (Ref funcref ∷ []) [])
+        ≡ (instr.GlobalSet 1 ∷ [], 9 ∷ []) }
+    ensures constant_global { ¬ (settled_by default_config (function_of [] []) I32 []
+        ≡ (instr.GlobalSet 0 ∷ [], [])) }
+    ensures not_of_another_type { settled_by default_config (function_of (Ref funcref ∷ []) [])
         some_func []
-        ≡ (settling.Dropped, []) }
-    ensures not_if_forbidden { settling_at
+        ≡ (instr.Drop ∷ [], []) }
+    ensures not_if_forbidden { settled_by
         (record default_config { allowed_instructions = kinds_of kind.Numeric })
         (function_of (I32 ∷ []) []) I32 []
-        ≡ (settling.Dropped, []) }
+        ≡ (instr.Drop ∷ [], []) }
 {}
 
 fn tested()
-    ensures number { settling_at default_config (among ([] ∷ (I64 ∷ []) ∷ [] ∷ [])) I64
+    ensures number { settled_by default_config (among ([] ∷ (I64 ∷ []) ∷ [] ∷ [])) I64
         (1 ∷ 9 ∷ [])
-        ≡ (settling.Tested (instr.Numeric numeric.I64Eqz) 2, 9 ∷ []) }
-    ensures only_labels_without_values { settling_at default_config (among ((I64 ∷ []) ∷ [])) I64 []
-        ≡ (settling.Dropped, []) }
-    ensures nullable { settling_at default_config (among ([] ∷ [])) (Ref funcref) []
-        ≡ (settling.Tested (instr.Reference reference.IsNull) 0, []) }
-    ensures never_null { settling_at default_config (among ([] ∷ [])) some_func []
-        ≡ (settling.Dropped, []) }
-    ensures without_the_feature { settling_at default_config (record (among ([] ∷ [])) {
+        ≡ ((instr.Numeric numeric.I64Eqz) ∷ instr.BrIf 2 ∷ [], 9 ∷ []) }
+    ensures only_labels_without_values { settled_by default_config (among ((I64 ∷ []) ∷ [])) I64 []
+        ≡ (instr.Drop ∷ [], []) }
+    ensures nullable { settled_by default_config (among ([] ∷ [])) (Ref funcref) []
+        ≡ ((instr.Reference reference.IsNull) ∷ instr.BrIf 0 ∷ [], []) }
+    ensures never_null { settled_by default_config (among ([] ∷ [])) some_func []
+        ≡ (instr.Drop ∷ [], []) }
+    ensures without_the_feature { settled_by default_config (record (among ([] ∷ [])) {
       features = record usual_features { saturating_float_to_int = false };
     }) F32 []
-        ≡ (settling.Dropped, []) }
+        ≡ (instr.Drop ∷ [], []) }
 {}
 
 fn spare()
