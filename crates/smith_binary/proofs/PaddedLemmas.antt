@@ -1,5 +1,6 @@
 -- Unsigned integers that are written in a number of bytes at least.
-use Rattle.std.proofs.Common.{◌≡◌, ℕ, suc, ◌+◌, ◌-◌, ◌*◌, ◌/◌, ◌%◌, ◌^◌, ◌<◌, ◌≤◌, ◌⊎◌, inl, inr, List, [], ◌∷◌, ◌++◌, length, arith, subst, min}
+use Rattle.std.proofs.Common.{◌≡◌, ℕ, suc, ◌+◌, ◌-◌, ◌*◌, ◌/◌, ◌%◌, ◌^◌, ◌<◌, ◌≤◌, ◌⊎◌, inl, inr, List, [], ◌∷◌, ◌++◌, length, arith, subst}
+use Rattle.std.proofs.Common.{min}
 use Rattle.std.proofs.lemmas.Bool.{cases_lt}
 use Rattle.std.proofs.Math.Pow.{pow_pos}
 use Rattle.smith_binary.specs.Numbers.{IsUnsigned, shortest_bytes}
@@ -16,7 +17,8 @@ padded_last bits n least low one fits = record {
   least = λ other h. unsigned_has bits n other h.spelled;
 }
 
-pub padded_end : {old new : Output} (bits n least : ℕ) → n < 128 → least ≤ 1 → n < 2 ^ bits → new ≡ record old { bytes = old.bytes ++ n ∷ [] } → Writes (λ _. Shortest (IsPadded least bits n)) old new
+pub padded_end : {old new : Output} (bits n least : ℕ) → n < 128 → least ≤ 1 → n < 2 ^ bits
+    → new ≡ record old { bytes = old.bytes ++ n ∷ [] } → Writes (λ _. Shortest (IsPadded least bits n)) old new
 padded_end bits n least low one fits pushed = piece_written (n ∷ []) (λ s. padded_last bits n least low one fits) pushed
 
 -- an integer that continues after a byte
@@ -36,7 +38,8 @@ rest_fits bits n fits =
     ]
 
 -- no shorter piece spells an integer that continues
-padded_least : (bits n least : ℕ) (piece : List ℕ) → Continues n least → ((other : List ℕ) → IsPadded (least - 1) (bits - 7) (n / 128) other → length piece ≤ length other)
+padded_least : (bits n least : ℕ) (piece : List ℕ) → Continues n least → ((other : List ℕ) → IsPadded (least - 1) (bits - 7) (n / 128) other
+    → length piece ≤ length other)
     → (other : List ℕ) → IsPadded least bits n other → suc (length piece) ≤ length other
 unfolding IsUnsigned
 padded_least bits n least piece on shorter [] h = absurd h.spelled
@@ -53,12 +56,15 @@ padded_least bits n least piece on shorter (byte ∷ next ∷ other) h =
     omega arith
 
 -- a byte, then the rest
-pub padded_more : {old between new : Output} (bits n least : ℕ) → Continues n least → n < 2 ^ bits → 7 * least < bits + 7 → between ≡ record old { bytes = old.bytes ++ (n % 128 + 128) ∷ [] }
-    → ((bits : ℕ) → n / 128 < 2 ^ bits → 7 * (least - 1) < bits + 7 → Writes (λ _. Shortest (IsPadded (least - 1) bits (n / 128))) between new)
+pub padded_more : {old between new : Output} (bits n least : ℕ) → Continues n least → n < 2 ^ bits → 7 * least < bits + 7
+    → between ≡ record old { bytes = old.bytes ++ (n % 128 + 128) ∷ [] }
+    → ((bits : ℕ) → n / 128 < 2 ^ bits → 7 * (least - 1) < bits + 7 → Writes (λ _. Shortest (IsPadded (least - 1) bits (n / 128))) between
+    new)
     → Writes (λ _. Shortest (IsPadded least bits n)) old new
 padded_more {between = between} {new = new} bits n least on fits wide pushed after =
     let room : 7 < bits = padded_room bits n least on fits wide in
-    let rest : Writes (λ _. Shortest (IsPadded (least - 1) (bits - 7) (n / 128))) between new = after (bits - 7) (rest_fits bits n fits) (omega arith) in
+    let rest : Writes (λ _. Shortest (IsPadded (least - 1) (bits - 7) (n / 128))) between new = after (bits - 7) (rest_fits bits n fits)
+    (omega arith) in
     let first = rest.spelled in
     byte_written (Shortest (IsPadded least bits n)) (n % 128 + 128) pushed rest
     (record {
@@ -73,7 +79,8 @@ pub unsigned_written : {old new : Output} (bits n wide least : ℕ) → wide ≡
 unsigned_written {old = old} {new = new} bits n wide least same is fits room after =
     let one : Writes (λ _. Shortest (IsPadded least bits wide)) old new = after bits (omega arith) (omega arith) in
     let here : Shortest (IsPadded (min old.least 5) bits n) one.piece =
-    subst (λ (k : ℕ). Shortest (IsPadded k bits n) one.piece) is (subst (λ (k : ℕ). Shortest (IsPadded least bits k) one.piece) same one.spelled) in
+    subst (λ (k : ℕ). Shortest (IsPadded k bits n) one.piece) is (subst (λ (k : ℕ). Shortest (IsPadded least bits k) one.piece) same
+    one.spelled) in
     record { piece = one.piece; spelled = here.spelled.spelled; kept = here; whole = one.whole; same = one.same }
 
 -- an integer of 32 bits in as few bytes as possible
@@ -85,5 +92,9 @@ shortest_unsigned n wide same fits after =
     (λ s piece h.
     subst (λ (k : ℕ). piece ≡ shortest_bytes 5 k) same
     (shortest_is 4 32 wide piece (omega arith) (omega arith)
-    (record { spelled = h.spelled.spelled; least = λ other k. h.least other (record { spelled = k; enough = unsigned_has 32 wide other k }) })))
+    (record {
+      spelled = h.spelled.spelled;
+      least = λ other k. h.least other
+          (record { spelled = k; enough = unsigned_has 32 wide other k });
+    })))
     (after 32 (omega arith) (omega arith))

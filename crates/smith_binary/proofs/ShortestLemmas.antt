@@ -1,5 +1,6 @@
 -- The shortest spelling of an unsigned integer.
-use Rattle.std.proofs.Common.{◌≡◌, ℕ, zero, suc, ◌+◌, ◌-◌, ◌*◌, ◌/◌, ◌%◌, ◌^◌, ◌<◌, ◌≤◌, ◌⊎◌, List, [], ◌∷◌, length, refl, arith, ◌∙◌, ap, subst, sym, inl, inr}
+use Rattle.std.proofs.Common.{◌≡◌, ℕ, zero, suc, ◌+◌, ◌-◌, ◌*◌, ◌/◌, ◌%◌, ◌^◌, ◌<◌, ◌≤◌, ◌⊎◌, List, [], ◌∷◌, length, refl, arith, ◌∙◌, ap}
+use Rattle.std.proofs.Common.{subst, sym, inl, inr}
 use Rattle.std.proofs.lemmas.Bool.{cases_lt, lt-ltb, le-ltb}
 use Rattle.std.proofs.lemmas.Nat.{pow-add}
 use Rattle.smith_binary.specs.Numbers.{IsUnsigned, shortest_bytes}
@@ -33,7 +34,8 @@ shortest_spelled (suc most) bits n fits room =
       | inl small ↦ subst (IsUnsigned bits n) (sym (small_bytes (suc most) n small)) (unsigned_last bits n small room).spelled
       | inr large ↦
           subst (IsUnsigned bits n) (sym (large_bytes (suc most) n large))
-          (unsigned_front bits n (shortest_bytes (suc most) (n / 128)) large room (shortest_spelled most (bits - 7) (n / 128) (byte_less most n fits) (bits_left bits n large room).1))
+          (unsigned_front bits n (shortest_bytes (suc most) (n / 128)) large room
+          (shortest_spelled most (bits - 7) (n / 128) (byte_less most n fits) (bits_left bits n large room).1))
     ]
 
 -- the parts of a spelling of a large integer
@@ -41,7 +43,8 @@ large_parts : (n m byte : ℕ) → 128 ≤ n → n + 128 ≡ 128 * m + byte → 
 large_parts n m byte large sum low high = (omega arith, omega arith)
 
 -- a spelling is the shortest bytes, or longer
-shortest_or_longer : (most bits n : ℕ) (piece : List ℕ) → n < 128 ^ suc most → IsUnsigned bits n piece → (piece ≡ shortest_bytes (suc most) n) ⊎ (length (shortest_bytes (suc most) n) < length piece)
+shortest_or_longer : (most bits n : ℕ) (piece : List ℕ) → n < 128 ^ suc most → IsUnsigned bits n piece
+    → (piece ≡ shortest_bytes (suc most) n) ⊎ (length (shortest_bytes (suc most) n) < length piece)
 unfolding IsUnsigned
 shortest_or_longer most bits n [] fits h = absurd h
 shortest_or_longer most bits n (byte ∷ []) fits h =
@@ -55,17 +58,21 @@ shortest_or_longer (suc most) bits n (byte ∷ next ∷ piece) fits h =
       | inl small ↦ inr (rw (small_bytes (suc most) n small) (omega arith))
       | inr large ↦
           let parts = large_parts n h.0 byte large h.2 h.3 h.4 in
-          let left : IsUnsigned (bits - 7) (n / 128) (next ∷ piece) = subst (λ (m : ℕ). IsUnsigned (bits - 7) m (next ∷ piece)) parts.0 h.1 in
+          let left : IsUnsigned (bits - 7) (n / 128) (next ∷ piece) = subst (λ (m : ℕ). IsUnsigned (bits - 7) m (next ∷ piece)) parts.0
+          h.1 in
           elim (shortest_or_longer most (bits - 7) (n / 128) (next ∷ piece) (byte_less most n fits) left) [
-            | inl same ↦ inl (ap (λ (b : ℕ). b ∷ next ∷ piece) parts.1 ∙ ap (λ (bytes : List ℕ). (n % 128 + 128) ∷ bytes) same ∙ sym (large_bytes (suc most) n large))
+            | inl same ↦ inl (ap (λ (b : ℕ). b ∷ next ∷ piece) parts.1 ∙ ap (λ (bytes : List ℕ). (n % 128 + 128) ∷ bytes) same
+                ∙ sym (large_bytes (suc most) n large))
             | inr longer ↦ inr (rw (large_bytes (suc most) n large) (omega arith))
           ]
     ]
 
 -- a shortest spelling is the shortest bytes
-pub shortest_is : (most bits n : ℕ) (piece : List ℕ) → n < 128 ^ suc most → n < 2 ^ bits → Shortest (IsUnsigned bits n) piece → piece ≡ shortest_bytes (suc most) n
+pub shortest_is : (most bits n : ℕ) (piece : List ℕ) → n < 128 ^ suc most → n < 2 ^ bits → Shortest (IsUnsigned bits n) piece
+    → piece ≡ shortest_bytes (suc most) n
 shortest_is most bits n piece fits room h =
     elim (shortest_or_longer most bits n piece fits h.spelled) [
       | inl same ↦ same
-      | inr longer ↦ absurd (let least : length piece ≤ length (shortest_bytes (suc most) n) = h.least _ (shortest_spelled most bits n fits room) in omega arith)
+      | inr longer ↦ absurd (let least : length piece ≤ length (shortest_bytes (suc most) n) = h.least _
+          (shortest_spelled most bits n fits room) in omega arith)
     ]

@@ -1,6 +1,7 @@
 -- Numbers: the sections Binary Format, Values, Integers and Floating-Point, of the WebAssembly Core
 -- Specification 3.0. A number may have several spellings.
-use Rattle.std.specs.Prelude.{◌≡◌, ℕ, zero, suc, ◌+◌, ◌-◌, ◌*◌, ◌/◌, ◌%◌, ◌^◌, ◌<◌, ◌≤◌, ◌⊎◌, List, [], ◌∷◌, nat_lt, if◌then◌else◌, ℤ, pos, negsuc, ◌+ℤ◌, ◌*ℤ◌}
+use Rattle.std.specs.Prelude.{◌≡◌, ℕ, zero, suc, ◌+◌, ◌-◌, ◌*◌, ◌/◌, ◌%◌, ◌^◌, ◌<◌, ◌≤◌, ◌⊎◌, List, [], ◌∷◌, nat_lt, if◌then◌else◌, ℤ, pos}
+use Rattle.std.specs.Prelude.{negsuc, ◌+ℤ◌, ◌*ℤ◌}
 
 -- an unsigned integer uN of N bits in LEB128: a byte below 2^7 is the integer; a byte from 2^7 on
 -- holds its seven lowest bits, and the bytes after it spell the others, an integer of N - 7 bits
@@ -35,7 +36,8 @@ unfoldable pub IsSigned : ℕ → ℤ → List ℕ → Type 0
 IsSigned bits z [] = ⊥
 IsSigned bits z (byte ∷ []) = IsLastPositive bits z byte ⊎ IsLastNegative bits z byte
 IsSigned bits z (byte ∷ next ∷ piece) =
-    (m : ℤ) × IsSigned (bits - 7) m (next ∷ piece) × (z +ℤ pos (2 ^ 7) ≡ pos (2 ^ 7) *ℤ m +ℤ pos byte) × (2 ^ 7 ≤ byte) × (byte < 2 ^ 8) × (7 < bits)
+    (m : ℤ) × IsSigned (bits - 7) m (next ∷ piece) × (z +ℤ pos (2 ^ 7) ≡ pos (2 ^ 7) *ℤ m +ℤ pos byte) × (2 ^ 7 ≤ byte) × (byte < 2 ^ 8)
+    × (7 < bits)
 
 -- an integer that is at least - 2 ^ (N - 1) and below 2 ^ (N - 1) (Integers)
 abbrev pub FitsBits : ℕ → ℤ → Type 0

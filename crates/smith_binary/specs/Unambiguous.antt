@@ -8,7 +8,8 @@ pub record Same {A : Type 0} (x y : A) (rest other : List ℕ) : Type 0 where
 
 -- bytes begin with the spelling of at most one item, which ends in one place
 pub record IsUnambiguous {A : Type 0} (Spells : A → List ℕ → Type 0) : Type 0 where
-  pub one : (x y : A) (piece more rest other : List ℕ) → Spells x piece → Spells y more → piece ++ rest ≡ more ++ other → Same x y rest other
+  pub one : (x y : A) (piece more rest other : List ℕ) → Spells x piece → Spells y more → piece ++ rest ≡ more ++ other
+      → Same x y rest other
 
 -- bytes as a whole are the spelling of at most one item
 pub record IsUnambiguousWhole {A : Type 0} (Spells : A → List ℕ → Type 0) : Type 0 where

@@ -15,7 +15,8 @@ use Rattle.smith_binary_instr.specs.Instructions.{IsExprIn, IsExprWrittenIn, IsI
 use Rattle.smith_binary_instr.specs.Memory.{IsLaneAccessIn, IsLaneAccessWrittenIn, IsMemArg, IsMemArgIn, IsMemArgWrittenIn}
 
 -- the place of an access to the first memory, and to another
-pub first_arg_written : {old between new : Output} (at : MemArg) → at.memory ≡ 0 → at.align < 2 ^ 6 → Writes (λ s. IsUnsignedIn s 32 at.align) old between → Writes (λ s. IsUnsignedIn s 64 at.offset) between new
+pub first_arg_written : {old between new : Output} (at : MemArg) → at.memory ≡ 0 → at.align < 2 ^ 6
+    → Writes (λ s. IsUnsignedIn s 32 at.align) old between → Writes (λ s. IsUnsignedIn s 64 at.offset) between new
     → Writes (λ s. IsMemArgWrittenIn s at) old new
 first_arg_written at first small align offset =
     let both = joined_written align offset in
@@ -28,7 +29,9 @@ first_arg_written at first small align offset =
       same = both.same;
     }
 
-pub named_arg_written : {a b c d : Output} (at : MemArg) → (at.memory ≡ 0 → ⊥) → at.align < 2 ^ 6 → Writes (λ s. IsUnsignedIn s 32 (at.align + 2 ^ 6)) a b → Writes (λ s. IsIndexIn s at.memory) b c → Writes (λ s. IsUnsignedIn s 64 at.offset) c d
+pub named_arg_written : {a b c d : Output} (at : MemArg) → (at.memory ≡ 0 → ⊥) → at.align < 2 ^ 6
+    → Writes (λ s. IsUnsignedIn s 32 (at.align + 2 ^ 6)) a b → Writes (λ s. IsIndexIn s at.memory) b c
+    → Writes (λ s. IsUnsignedIn s 64 at.offset) c d
     → Writes (λ s. IsMemArgWrittenIn s at) a d
 named_arg_written at other small align memory offset =
     let all = joined_written align (joined_written memory offset) in
@@ -45,10 +48,19 @@ mem_arg_is : (s : Spelling) (at : MemArg) (piece : List ℕ) → IsMemArgWritten
 mem_arg_is any at piece h = h.form
 mem_arg_is (written least) at piece h = h
 
-access_is : {Opcode : List ℕ → Type 0} (s : Spelling) (at : MemArg) (piece : List ℕ) → Joined Opcode (IsMemArgWrittenIn s at) piece → Joined Opcode (IsMemArgIn s at) piece
-access_is s at piece h = record { first = h.first; second = h.second; is_first = h.is_first; is_second = mem_arg_is s at h.second h.is_second; whole = h.whole }
+access_is : {Opcode : List ℕ → Type 0} (s : Spelling) (at : MemArg) (piece : List ℕ) → Joined Opcode (IsMemArgWrittenIn s at) piece
+    → Joined Opcode (IsMemArgIn s at) piece
+access_is s at piece h = record {
+  first = h.first;
+  second = h.second;
+  is_first = h.is_first;
+  is_second = mem_arg_is s at h.second
+      h.is_second;
+  whole = h.whole;
+}
 
-lane_access_is : (s : Spelling) (first log2_bytes : ℕ) (at : MemArg) (lane : ℕ) (piece : List ℕ) → IsLaneAccessWrittenIn s first log2_bytes at lane piece → IsLaneAccessIn s first log2_bytes at lane piece
+lane_access_is : (s : Spelling) (first log2_bytes : ℕ) (at : MemArg) (lane : ℕ) (piece : List ℕ)
+    → IsLaneAccessWrittenIn s first log2_bytes at lane piece → IsLaneAccessIn s first log2_bytes at lane piece
 lane_access_is s first log2_bytes at lane piece (small, h) =
     let rest = h.is_second in (
       small,
@@ -56,7 +68,13 @@ lane_access_is s first log2_bytes at lane piece (small, h) =
         first = h.first;
         second = h.second;
         is_first = h.is_first;
-        is_second = record { first = rest.first; second = rest.second; is_first = mem_arg_is s at rest.first rest.is_first; is_second = rest.is_second; whole = rest.whole };
+        is_second = record {
+          first = rest.first;
+          second = rest.second;
+          is_first = mem_arg_is s at rest.first rest.is_first;
+          is_second = rest.is_second;
+          whole = rest.whole;
+        };
         whole = h.whole;
       },
     )
@@ -71,7 +89,8 @@ instr_is s (instr.VectorStoreLane log2_bytes at lane) piece h = lane_access_is s
 instr_is s (instr.Atomic access at) piece h = access_is s at piece h
 instr_is s _ piece h = h
 
-pub instrs_are : (s : Spelling) (instructions : List Instr) (piece : List ℕ) → IsInstrsWrittenIn s instructions piece → IsInstrsIn s instructions piece
+pub instrs_are : (s : Spelling) (instructions : List Instr) (piece : List ℕ) → IsInstrsWrittenIn s instructions piece
+    → IsInstrsIn s instructions piece
 unfolding Each
 instrs_are s [] piece h = h
 instrs_are s (instruction ∷ more) piece h = record {
@@ -82,10 +101,18 @@ instrs_are s (instruction ∷ more) piece h = record {
   whole = h.whole;
 }
 
-pub expr_is : (s : Spelling) (instructions : List Instr) (piece : List ℕ) → IsExprWrittenIn s instructions piece → IsExprIn s instructions piece
-expr_is s instructions piece h = record { first = h.first; second = h.second; is_first = instrs_are s instructions h.first h.is_first; is_second = h.is_second; whole = h.whole }
+pub expr_is : (s : Spelling) (instructions : List Instr) (piece : List ℕ) → IsExprWrittenIn s instructions piece
+    → IsExprIn s instructions piece
+expr_is s instructions piece h = record {
+  first = h.first;
+  second = h.second;
+  is_first = instrs_are s instructions h.first h.is_first;
+  is_second = h.is_second;
+  whole = h.whole;
+}
 
-pub func_body_is : (locals : List ValType) (instructions : List Instr) (piece : List ℕ) → IsFuncBodyWritten locals instructions piece → IsFuncBody locals instructions piece
+pub func_body_is : (locals : List ValType) (instructions : List Instr) (piece : List ℕ) → IsFuncBodyWritten locals instructions piece
+    → IsFuncBody locals instructions piece
 func_body_is locals instructions piece h =
     let content = h.is_content in
     record {

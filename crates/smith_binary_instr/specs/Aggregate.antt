@@ -20,7 +20,8 @@ get_number first extension.Unsigned = first + 2
 
 -- two indices after a number and the prefix of aggregates (Aggregate Instructions)
 abbrev pub IsOnTwoIn : Spelling → ℕ → ℕ → ℕ → List ℕ → Type 0
-IsOnTwoIn spelling number first second = Joined (IsPrefixedIn spelling 0xFB number) (Joined (IsIndexIn spelling first) (IsIndexIn spelling second))
+IsOnTwoIn spelling number first second = Joined (IsPrefixedIn spelling 0xFB number)
+    (Joined (IsIndexIn spelling first) (IsIndexIn spelling second))
 
 abbrev pub IsOnTwo : ℕ → ℕ → ℕ → List ℕ → Type 0
 IsOnTwo = IsOnTwoIn any

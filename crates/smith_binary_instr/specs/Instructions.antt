@@ -15,7 +15,8 @@ use Rattle.smith_binary_instr.specs.Numeric.{IsNumericIn}
 use Rattle.smith_binary_instr.specs.Aggregate.{IsAggregateIn}
 use Rattle.smith_binary_instr.specs.Atomic.{atomic_number}
 use Rattle.smith_binary_instr.specs.Control.{IsBlockTypeIn, IsBranchCastIn, IsCatchIn}
-use Rattle.smith_binary_instr.specs.Memory.{load_opcode, store_opcode, vector_load_number, IsLaneAccessIn, IsLaneAccessWrittenIn, IsMemArgIn, IsMemArgWrittenIn, IsMemoryIn}
+use Rattle.smith_binary_instr.specs.Memory.{load_opcode, store_opcode, vector_load_number, IsLaneAccessIn, IsLaneAccessWrittenIn}
+use Rattle.smith_binary_instr.specs.Memory.{IsMemArgIn, IsMemArgWrittenIn, IsMemoryIn}
 use Rattle.smith_binary_instr.specs.References.{IsReferenceIn, IsTableIn}
 use Rattle.smith_binary_instr.specs.Vector.{IsVectorInstrIn}
 
@@ -30,17 +31,21 @@ IsInstrIn spelling (instr.Loop ty) piece = Joined (IsByte 0x03) (IsBlockTypeIn s
 IsInstrIn spelling (instr.If ty) piece = Joined (IsByte 0x04) (IsBlockTypeIn spelling ty) piece
 IsInstrIn spelling instr.Else piece = IsByte 0x05 piece
 IsInstrIn spelling instr.End piece = IsByte 0x0B piece
-IsInstrIn spelling (instr.TryTable ty clauses) piece = Joined (IsByte 0x1F) (Joined (IsBlockTypeIn spelling ty) (IsListIn spelling (IsCatchIn spelling) clauses)) piece
+IsInstrIn spelling (instr.TryTable ty clauses) piece =
+    Joined (IsByte 0x1F) (Joined (IsBlockTypeIn spelling ty) (IsListIn spelling (IsCatchIn spelling) clauses)) piece
 IsInstrIn spelling (instr.Throw tag) piece = Joined (IsByte 0x08) (IsIndexIn spelling tag) piece
 IsInstrIn spelling instr.ThrowRef piece = IsByte 0x0A piece
 IsInstrIn spelling (instr.Br label) piece = Joined (IsByte 0x0C) (IsIndexIn spelling label) piece
 IsInstrIn spelling (instr.BrIf label) piece = Joined (IsByte 0x0D) (IsIndexIn spelling label) piece
-IsInstrIn spelling (instr.BrTable labels last) piece = Joined (IsByte 0x0E) (Joined (IsListIn spelling (IsIndexIn spelling) labels) (IsIndexIn spelling last)) piece
+IsInstrIn spelling (instr.BrTable labels last) piece =
+    Joined (IsByte 0x0E) (Joined (IsListIn spelling (IsIndexIn spelling) labels) (IsIndexIn spelling last)) piece
 IsInstrIn spelling instr.Return piece = IsByte 0x0F piece
 IsInstrIn spelling (instr.Call function) piece = Joined (IsByte 0x10) (IsIndexIn spelling function) piece
-IsInstrIn spelling (instr.CallIndirect table ty) piece = Joined (IsByte 0x11) (Joined (IsIndexIn spelling ty) (IsIndexIn spelling table)) piece
+IsInstrIn spelling (instr.CallIndirect table ty) piece = Joined (IsByte 0x11) (Joined (IsIndexIn spelling ty) (IsIndexIn spelling table))
+    piece
 IsInstrIn spelling (instr.ReturnCall function) piece = Joined (IsByte 0x12) (IsIndexIn spelling function) piece
-IsInstrIn spelling (instr.ReturnCallIndirect table ty) piece = Joined (IsByte 0x13) (Joined (IsIndexIn spelling ty) (IsIndexIn spelling table)) piece
+IsInstrIn spelling (instr.ReturnCallIndirect table ty) piece =
+    Joined (IsByte 0x13) (Joined (IsIndexIn spelling ty) (IsIndexIn spelling table)) piece
 IsInstrIn spelling (instr.CallRef ty) piece = Joined (IsByte 0x14) (IsIndexIn spelling ty) piece
 IsInstrIn spelling (instr.ReturnCallRef ty) piece = Joined (IsByte 0x15) (IsIndexIn spelling ty) piece
 IsInstrIn spelling (instr.BrOnNull label) piece = Joined (IsByte 0xD5) (IsIndexIn spelling label) piece
@@ -73,14 +78,16 @@ IsInstrIn spelling (instr.Numeric op) piece = IsNumericIn spelling op piece
 -- Aggregate Instructions
 IsInstrIn spelling (instr.Aggregate op) piece = IsAggregateIn spelling op piece
 -- Vector Instructions, and Memory Instructions on vectors
-IsInstrIn spelling (instr.VectorLoad op at) piece = Joined (IsPrefixedIn spelling 0xFD (vector_load_number op)) (IsMemArgIn spelling at) piece
+IsInstrIn spelling (instr.VectorLoad op at) piece = Joined (IsPrefixedIn spelling 0xFD (vector_load_number op)) (IsMemArgIn spelling at)
+    piece
 IsInstrIn spelling (instr.VectorStore at) piece = Joined (IsPrefixedIn spelling 0xFD 11) (IsMemArgIn spelling at) piece
 IsInstrIn spelling (instr.V128Const value) piece = Joined (IsPrefixedIn spelling 0xFD 12) (IsVector value) piece
 IsInstrIn spelling (instr.VectorLoadLane log2_bytes at lane) piece = IsLaneAccessIn spelling 84 log2_bytes at lane piece
 IsInstrIn spelling (instr.VectorStoreLane log2_bytes at lane) piece = IsLaneAccessIn spelling 88 log2_bytes at lane piece
 IsInstrIn spelling (instr.Vector op) piece = IsVectorInstrIn spelling op piece
 -- of the threads proposal
-IsInstrIn spelling (instr.Atomic access at) piece = Joined (IsPrefixedIn spelling 0xFE (atomic_number access)) (IsMemArgIn spelling at) piece
+IsInstrIn spelling (instr.Atomic access at) piece = Joined (IsPrefixedIn spelling 0xFE (atomic_number access)) (IsMemArgIn spelling at)
+    piece
 IsInstrIn spelling instr.AtomicFence piece = Joined (IsPrefixedIn spelling 0xFE 3) (IsByte 0x00) piece
 
 abbrev pub IsInstr : Instr → List ℕ → Type 0
@@ -104,11 +111,13 @@ IsExpr = IsExprIn any
 abbrev pub IsInstrWrittenIn : Spelling → Instr → List ℕ → Type 0
 IsInstrWrittenIn spelling (instr.Load op at) piece = Joined (IsByte (load_opcode op)) (IsMemArgWrittenIn spelling at) piece
 IsInstrWrittenIn spelling (instr.Store op at) piece = Joined (IsByte (store_opcode op)) (IsMemArgWrittenIn spelling at) piece
-IsInstrWrittenIn spelling (instr.VectorLoad op at) piece = Joined (IsPrefixedIn spelling 0xFD (vector_load_number op)) (IsMemArgWrittenIn spelling at) piece
+IsInstrWrittenIn spelling (instr.VectorLoad op at) piece = Joined (IsPrefixedIn spelling 0xFD (vector_load_number op))
+    (IsMemArgWrittenIn spelling at) piece
 IsInstrWrittenIn spelling (instr.VectorStore at) piece = Joined (IsPrefixedIn spelling 0xFD 11) (IsMemArgWrittenIn spelling at) piece
 IsInstrWrittenIn spelling (instr.VectorLoadLane log2_bytes at lane) piece = IsLaneAccessWrittenIn spelling 84 log2_bytes at lane piece
 IsInstrWrittenIn spelling (instr.VectorStoreLane log2_bytes at lane) piece = IsLaneAccessWrittenIn spelling 88 log2_bytes at lane piece
-IsInstrWrittenIn spelling (instr.Atomic access at) piece = Joined (IsPrefixedIn spelling 0xFE (atomic_number access)) (IsMemArgWrittenIn spelling at) piece
+IsInstrWrittenIn spelling (instr.Atomic access at) piece = Joined (IsPrefixedIn spelling 0xFE (atomic_number access))
+    (IsMemArgWrittenIn spelling at) piece
 IsInstrWrittenIn spelling instruction piece = IsInstrIn spelling instruction piece
 
 abbrev pub IsInstrWritten : Instr → List ℕ → Type 0

@@ -21,13 +21,15 @@ use Rattle.smith_instr.specs.declared.vector.VectorLoad.TheVariants as vector_lo
 -- offset (Memory Instructions)
 pub data IsMemArg (at : MemArg) (piece : List ℕ) : Type 0 where
   first_memory : at.memory ≡ 0 → at.align < 2 ^ 6 → Joined (IsUnsigned 32 at.align) (IsUnsigned 64 at.offset) piece → IsMemArg at piece
-  named_memory : at.align < 2 ^ 6 → Joined (IsUnsigned 32 (at.align + 2 ^ 6)) (Joined (IsIndex at.memory) (IsUnsigned 64 at.offset)) piece → IsMemArg at piece
+  named_memory : at.align < 2 ^ 6 → Joined (IsUnsigned 32 (at.align + 2 ^ 6)) (Joined (IsIndex at.memory) (IsUnsigned 64 at.offset)) piece
+      → IsMemArg at piece
 
 -- the place as it is written: the first memory is not named, and any other is (own rule)
 pub record IsMemArgWrittenIn (spelling : Spelling) (at : MemArg) (piece : List ℕ) : Type 0 where
   pub form : IsMemArg at piece
   pub unnamed : at.memory ≡ 0 → Joined (IsUnsignedIn spelling 32 at.align) (IsUnsignedIn spelling 64 at.offset) piece
-  pub named : (at.memory ≡ 0 → ⊥) → Joined (IsUnsignedIn spelling 32 (at.align + 2 ^ 6)) (Joined (IsIndexIn spelling at.memory) (IsUnsignedIn spelling 64 at.offset)) piece
+  pub named : (at.memory ≡ 0 → ⊥) → Joined (IsUnsignedIn spelling 32 (at.align + 2 ^ 6))
+      (Joined (IsIndexIn spelling at.memory) (IsUnsignedIn spelling 64 at.offset)) piece
 
 abbrev pub IsMemArgWritten : MemArg → List ℕ → Type 0
 IsMemArgWritten = IsMemArgWrittenIn any
@@ -70,9 +72,11 @@ store_opcode store.I64To32 = 0x3E
 abbrev pub IsMemoryIn : Spelling → MemoryInstr → List ℕ → Type 0
 IsMemoryIn spelling (memory.Size index) piece = Joined (IsByte 0x3F) (IsIndexIn spelling index) piece
 IsMemoryIn spelling (memory.Grow index) piece = Joined (IsByte 0x40) (IsIndexIn spelling index) piece
-IsMemoryIn spelling (memory.Init index segment) piece = Joined (IsPrefixedIn spelling 0xFC 8) (Joined (IsIndexIn spelling segment) (IsIndexIn spelling index)) piece
+IsMemoryIn spelling (memory.Init index segment) piece = Joined (IsPrefixedIn spelling 0xFC 8)
+    (Joined (IsIndexIn spelling segment) (IsIndexIn spelling index)) piece
 IsMemoryIn spelling (memory.DataDrop segment) piece = Joined (IsPrefixedIn spelling 0xFC 9) (IsIndexIn spelling segment) piece
-IsMemoryIn spelling (memory.Copy to from) piece = Joined (IsPrefixedIn spelling 0xFC 10) (Joined (IsIndexIn spelling to) (IsIndexIn spelling from)) piece
+IsMemoryIn spelling (memory.Copy to from) piece = Joined (IsPrefixedIn spelling 0xFC 10)
+    (Joined (IsIndexIn spelling to) (IsIndexIn spelling from)) piece
 IsMemoryIn spelling (memory.Fill index) piece = Joined (IsPrefixedIn spelling 0xFC 11) (IsIndexIn spelling index) piece
 
 abbrev pub IsMemory : MemoryInstr → List ℕ → Type 0
@@ -97,14 +101,16 @@ vector_load_number vector_load.Zero64 = 93
 -- an access to a lane of `2 ^ log2_bytes` bytes, of which there are four sizes: the numbers follow
 -- one another from `first` on (Vector Instructions)
 abbrev pub IsLaneAccessIn : Spelling → ℕ → ℕ → MemArg → ℕ → List ℕ → Type 0
-IsLaneAccessIn spelling first log2_bytes at lane piece = (log2_bytes < 4) × Joined (IsPrefixedIn spelling 0xFD (first + log2_bytes)) (Joined (IsMemArgIn spelling at) (IsByte lane)) piece
+IsLaneAccessIn spelling first log2_bytes at lane piece = (log2_bytes < 4) × Joined (IsPrefixedIn spelling 0xFD (first + log2_bytes))
+    (Joined (IsMemArgIn spelling at) (IsByte lane)) piece
 
 abbrev pub IsLaneAccess : ℕ → ℕ → MemArg → ℕ → List ℕ → Type 0
 IsLaneAccess = IsLaneAccessIn any
 
 -- an access to a lane as it is written (own rule)
 abbrev pub IsLaneAccessWrittenIn : Spelling → ℕ → ℕ → MemArg → ℕ → List ℕ → Type 0
-IsLaneAccessWrittenIn spelling first log2_bytes at lane piece = (log2_bytes < 4) × Joined (IsPrefixedIn spelling 0xFD (first + log2_bytes)) (Joined (IsMemArgWrittenIn spelling at) (IsByte lane)) piece
+IsLaneAccessWrittenIn spelling first log2_bytes at lane piece = (log2_bytes < 4) × Joined (IsPrefixedIn spelling 0xFD (first + log2_bytes))
+    (Joined (IsMemArgWrittenIn spelling at) (IsByte lane)) piece
 
 abbrev pub IsLaneAccessWritten : ℕ → ℕ → MemArg → ℕ → List ℕ → Type 0
 IsLaneAccessWritten = IsLaneAccessWrittenIn any

@@ -42,9 +42,11 @@ IsReference = IsReferenceIn any
 abbrev pub IsTableIn : Spelling → TableInstr → List ℕ → Type 0
 IsTableIn spelling (table.Get index) piece = Joined (IsByte 0x25) (IsIndexIn spelling index) piece
 IsTableIn spelling (table.Set index) piece = Joined (IsByte 0x26) (IsIndexIn spelling index) piece
-IsTableIn spelling (table.Init index segment) piece = Joined (IsPrefixedIn spelling 0xFC 12) (Joined (IsIndexIn spelling segment) (IsIndexIn spelling index)) piece
+IsTableIn spelling (table.Init index segment) piece = Joined (IsPrefixedIn spelling 0xFC 12)
+    (Joined (IsIndexIn spelling segment) (IsIndexIn spelling index)) piece
 IsTableIn spelling (table.ElemDrop segment) piece = Joined (IsPrefixedIn spelling 0xFC 13) (IsIndexIn spelling segment) piece
-IsTableIn spelling (table.Copy to from) piece = Joined (IsPrefixedIn spelling 0xFC 14) (Joined (IsIndexIn spelling to) (IsIndexIn spelling from)) piece
+IsTableIn spelling (table.Copy to from) piece = Joined (IsPrefixedIn spelling 0xFC 14)
+    (Joined (IsIndexIn spelling to) (IsIndexIn spelling from)) piece
 IsTableIn spelling (table.Grow index) piece = Joined (IsPrefixedIn spelling 0xFC 15) (IsIndexIn spelling index) piece
 IsTableIn spelling (table.Size index) piece = Joined (IsPrefixedIn spelling 0xFC 16) (IsIndexIn spelling index) piece
 IsTableIn spelling (table.Fill index) piece = Joined (IsPrefixedIn spelling 0xFC 17) (IsIndexIn spelling index) piece

@@ -7,7 +7,10 @@ use Rattle.smith_binary.specs.Pieces.{Is, IsByte, Joined}
 use Rattle.smith_binary_sections.specs.Instructions.{IsPrefixedIn}
 use Rattle.smith_instr.specs.declared.vector.VectorInstr.{VectorInstr}
 use Rattle.smith_instr.specs.declared.vector.VectorInstr.TheVariants as vector
-use Rattle.smith_binary_instr.specs.VectorNumbers.{all_true_number, bitmask_number, extract_number, relaxed_binary_number, relaxed_float_binary_number, relaxed_float_ternary_number, relaxed_float_unary_number, relaxed_ternary_number, replace_number, shift_number, splat_number, vector_binary_number, vector_float_binary_number, vector_float_unary_number, vector_unary_number}
+use Rattle.smith_binary_instr.specs.VectorNumbers.{all_true_number, bitmask_number, extract_number, relaxed_binary_number}
+use Rattle.smith_binary_instr.specs.VectorNumbers.{relaxed_float_binary_number, relaxed_float_ternary_number, relaxed_float_unary_number}
+use Rattle.smith_binary_instr.specs.VectorNumbers.{relaxed_ternary_number, replace_number, shift_number, splat_number, vector_binary_number}
+use Rattle.smith_binary_instr.specs.VectorNumbers.{vector_float_binary_number, vector_float_unary_number, vector_unary_number}
 
 -- an instruction of a number, after the prefix of vectors (Vector Instructions)
 abbrev pub IsNumberedIn : Spelling → ℕ → List ℕ → Type 0

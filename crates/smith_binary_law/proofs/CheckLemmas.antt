@@ -15,7 +15,8 @@ one_spelled : IsOne (0x41 ∷ 0x01 ∷ [])
 one_spelled = both (0x41 ∷ []) (0x01 ∷ []) refl (positive_last 32 1 (omega arith) (omega arith)).spelled
 
 trap_spelled : IsTrapIf (0x04 ∷ 0x40 ∷ 0x00 ∷ 0x0B ∷ [])
-trap_spelled = both (0x04 ∷ []) (0x40 ∷ 0x00 ∷ 0x0B ∷ []) refl (both (0x40 ∷ []) (0x00 ∷ 0x0B ∷ []) refl (both (0x00 ∷ []) (0x0B ∷ []) refl refl))
+trap_spelled = both (0x04 ∷ []) (0x40 ∷ 0x00 ∷ 0x0B ∷ []) refl
+    (both (0x40 ∷ []) (0x00 ∷ 0x0B ∷ []) refl (both (0x00 ∷ []) (0x0B ∷ []) refl refl))
 
 get_spelled : (counter : ℕ) → counter < 2 ^ 32 → IsGlobalGet counter (0x23 ∷ index_bytes counter)
 get_spelled counter fits = both (0x23 ∷ []) (index_bytes counter) refl (shortest_spelled 4 32 counter (omega arith) fits)
@@ -26,14 +27,17 @@ set_spelled counter fits = both (0x24 ∷ []) (index_bytes counter) refl (shorte
 -- the check, with its bytes in the order of its instructions
 nested_bytes : ℕ → List ℕ
 nested_bytes counter =
-    (0x23 ∷ index_bytes counter) ++ ((0x45 ∷ []) ++ ((0x04 ∷ 0x40 ∷ 0x00 ∷ 0x0B ∷ []) ++ ((0x23 ∷ index_bytes counter) ++ ((0x41 ∷ 0x01 ∷ []) ++ ((0x6B ∷ []) ++ (0x24 ∷ index_bytes counter))))))
+    (0x23 ∷ index_bytes counter) ++
+    ((0x45 ∷ []) ++ ((0x04 ∷ 0x40 ∷ 0x00 ∷ 0x0B ∷ []) ++
+    ((0x23 ∷ index_bytes counter) ++ ((0x41 ∷ 0x01 ∷ []) ++ ((0x6B ∷ []) ++ (0x24 ∷ index_bytes counter))))))
 
 regroup_four : (a b c d e : List ℕ) → (((a ++ b) ++ c) ++ d) ++ e ≡ a ++ (b ++ (c ++ (d ++ e)))
 regroup_four a b c d e = append_assoc ((a ++ b) ++ c) d e ∙ append_assoc (a ++ b) c (d ++ e) ∙ append_assoc a b (c ++ (d ++ e))
 
 nested_are : (counter : ℕ) → check_bytes counter ≡ nested_bytes counter
 unfolding nested_bytes
-nested_are counter = regroup_four (0x23 ∷ index_bytes counter) (0x45 ∷ 0x04 ∷ 0x40 ∷ 0x00 ∷ 0x0B ∷ []) (0x23 ∷ index_bytes counter) (0x41 ∷ 0x01 ∷ 0x6B ∷ []) (0x24 ∷ index_bytes counter)
+nested_are counter = regroup_four (0x23 ∷ index_bytes counter) (0x45 ∷ 0x04 ∷ 0x40 ∷ 0x00 ∷ 0x0B ∷ []) (0x23 ∷ index_bytes counter)
+    (0x41 ∷ 0x01 ∷ 0x6B ∷ []) (0x24 ∷ index_bytes counter)
 
 check_spelled : (counter : ℕ) → counter < 2 ^ 32 → IsCheck counter (check_bytes counter)
 unfolding nested_bytes
@@ -42,12 +46,16 @@ check_spelled counter fits =
     (both (0x23 ∷ index_bytes counter) _ (get_spelled counter fits)
     (both (0x45 ∷ []) _ refl
     (both (0x04 ∷ 0x40 ∷ 0x00 ∷ 0x0B ∷ []) _ trap_spelled
-    (both (0x23 ∷ index_bytes counter) _ (get_spelled counter fits) (both (0x41 ∷ 0x01 ∷ []) _ one_spelled (both (0x6B ∷ []) (0x24 ∷ index_bytes counter) refl (set_spelled counter fits)))))))
+    (both (0x23 ∷ index_bytes counter) _ (get_spelled counter fits)
+    (both (0x41 ∷ 0x01 ∷ []) _ one_spelled (both (0x6B ∷ []) (0x24 ∷ index_bytes counter) refl (set_spelled counter fits)))))))
 
 checks_spelled : (counters : List ℕ) → All (λ (counter : ℕ). counter < 2 ^ 32) counters → IsChecks counters (checks_bytes counters)
 checks_spelled [] h = refl
 checks_spelled (counter ∷ counters) h =
-    both (checks_bytes counters) (check_bytes counter) (checks_spelled counters (λ k d inside. h (suc k) d (omega arith))) (check_spelled counter (h 0 0 (omega arith)))
+    both (checks_bytes counters) (check_bytes counter) (checks_spelled counters (λ k d inside. h (suc k) d (omega arith)))
+    (check_spelled counter (h 0 0 (omega arith)))
 
-pub checked_spelled : (counters : List ℕ) → All (λ (counter : ℕ). counter < 2 ^ 32) counters → IsChecked counters (body_bytes counters Unreachable)
-checked_spelled counters h = both (checks_bytes counters) (0x00 ∷ 0x0B ∷ []) (checks_spelled counters h) (both (0x00 ∷ []) (0x0B ∷ []) refl refl)
+pub checked_spelled : (counters : List ℕ) → All (λ (counter : ℕ). counter < 2 ^ 32) counters
+    → IsChecked counters (body_bytes counters Unreachable)
+checked_spelled counters h = both (checks_bytes counters) (0x00 ∷ 0x0B ∷ []) (checks_spelled counters h)
+    (both (0x00 ∷ []) (0x0B ∷ []) refl refl)

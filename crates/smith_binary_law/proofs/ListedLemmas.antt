@@ -1,7 +1,9 @@
 -- Each instruction is in the tables of opcodes.
 use Rattle.std.proofs.Common.{◌≡◌, ℕ, Bool, true, false, List, refl}
 use Rattle.std.specs.Prelude.{◌==◌}
-use Rattle.smith_binary_instr.specs.Numeric.{int_unary_opcode, int_binary_opcode, int_compare_opcode, float_unary_opcode, float_binary_opcode, float_compare_opcode, conversion_opcode, extension_opcode, saturating_number, wide_number}
+use Rattle.smith_binary_instr.specs.Numeric.{int_unary_opcode, int_binary_opcode, int_compare_opcode, float_unary_opcode}
+use Rattle.smith_binary_instr.specs.Numeric.{float_binary_opcode, float_compare_opcode, conversion_opcode, extension_opcode}
+use Rattle.smith_binary_instr.specs.Numeric.{saturating_number, wide_number}
 use Rattle.smith_binary_instr.specs.Aggregate.{get_number}
 use Rattle.smith_binary_instr.specs.Atomic.{atomic_number}
 use Rattle.smith_binary_instr.specs.Memory.{load_opcode, store_opcode}
@@ -66,22 +68,26 @@ pub record Listed (opcode : Opcode) (shape : Shape) : Type 0 where
   pub proper : IsProper opcode
   pub found : shape_at opcode ≡ shape
 
-pub i32_compare_listed : (op : IntCompare) → Listed (short (int_compare_opcode 0x46 op)) (form.plain (instr.Numeric (numeric.I32Compare op)))
+pub i32_compare_listed : (op : IntCompare) → Listed (short (int_compare_opcode 0x46 op))
+    (form.plain (instr.Numeric (numeric.I32Compare op)))
 unfolding shape_at
 i32_compare_listed int_compare.Eq = record { proper = refl; found = refl }
 i32_compare_listed op = record { proper = refl; found = refl }
 
-pub i64_compare_listed : (op : IntCompare) → Listed (short (int_compare_opcode 0x51 op)) (form.plain (instr.Numeric (numeric.I64Compare op)))
+pub i64_compare_listed : (op : IntCompare) → Listed (short (int_compare_opcode 0x51 op))
+    (form.plain (instr.Numeric (numeric.I64Compare op)))
 unfolding shape_at
 i64_compare_listed int_compare.Eq = record { proper = refl; found = refl }
 i64_compare_listed op = record { proper = refl; found = refl }
 
-pub f32_compare_listed : (op : FloatCompare) → Listed (short (float_compare_opcode 0x5B op)) (form.plain (instr.Numeric (numeric.F32Compare op)))
+pub f32_compare_listed : (op : FloatCompare) → Listed (short (float_compare_opcode 0x5B op))
+    (form.plain (instr.Numeric (numeric.F32Compare op)))
 unfolding shape_at
 f32_compare_listed float_compare.Eq = record { proper = refl; found = refl }
 f32_compare_listed op = record { proper = refl; found = refl }
 
-pub f64_compare_listed : (op : FloatCompare) → Listed (short (float_compare_opcode 0x61 op)) (form.plain (instr.Numeric (numeric.F64Compare op)))
+pub f64_compare_listed : (op : FloatCompare) → Listed (short (float_compare_opcode 0x61 op))
+    (form.plain (instr.Numeric (numeric.F64Compare op)))
 unfolding shape_at
 f64_compare_listed float_compare.Eq = record { proper = refl; found = refl }
 f64_compare_listed op = record { proper = refl; found = refl }
@@ -111,7 +117,8 @@ unfolding shape_at
 f32_unary_listed float_unary.Abs = record { proper = refl; found = refl }
 f32_unary_listed op = record { proper = refl; found = refl }
 
-pub f32_binary_listed : (op : FloatBinary) → Listed (short (float_binary_opcode 0x92 op)) (form.plain (instr.Numeric (numeric.F32Binary op)))
+pub f32_binary_listed : (op : FloatBinary) → Listed (short (float_binary_opcode 0x92 op))
+    (form.plain (instr.Numeric (numeric.F32Binary op)))
 unfolding shape_at
 f32_binary_listed float_binary.Add = record { proper = refl; found = refl }
 f32_binary_listed op = record { proper = refl; found = refl }
@@ -121,7 +128,8 @@ unfolding shape_at
 f64_unary_listed float_unary.Abs = record { proper = refl; found = refl }
 f64_unary_listed op = record { proper = refl; found = refl }
 
-pub f64_binary_listed : (op : FloatBinary) → Listed (short (float_binary_opcode 0xA0 op)) (form.plain (instr.Numeric (numeric.F64Binary op)))
+pub f64_binary_listed : (op : FloatBinary) → Listed (short (float_binary_opcode 0xA0 op))
+    (form.plain (instr.Numeric (numeric.F64Binary op)))
 unfolding shape_at
 f64_binary_listed float_binary.Add = record { proper = refl; found = refl }
 f64_binary_listed op = record { proper = refl; found = refl }
@@ -136,7 +144,8 @@ unfolding shape_at
 extend_listed extend.I32From8 = record { proper = refl; found = refl }
 extend_listed op = record { proper = refl; found = refl }
 
-pub saturate_listed : (op : SaturatingConversion) → Listed (long 0xFC (saturating_number op)) (form.plain (instr.Numeric (numeric.Saturate op)))
+pub saturate_listed : (op : SaturatingConversion) → Listed (long 0xFC (saturating_number op))
+    (form.plain (instr.Numeric (numeric.Saturate op)))
 unfolding shape_at
 saturate_listed saturate.I32TruncSatF32S = record { proper = refl; found = refl }
 saturate_listed op = record { proper = refl; found = refl }
@@ -156,22 +165,26 @@ unfolding shape_at
 store_listed store.I32 = record { proper = refl; found = refl }
 store_listed op = record { proper = refl; found = refl }
 
-pub test_listed : (nullable : Bool) → Listed (long 0xFB (cast_number 20 nullable)) (form.heap (λ ty. instr.Reference (reference.Test (reference_of nullable ty))))
+pub test_listed : (nullable : Bool) → Listed (long 0xFB (cast_number 20 nullable))
+    (form.heap (λ ty. instr.Reference (reference.Test (reference_of nullable ty))))
 unfolding shape_at
 test_listed true = record { proper = refl; found = refl }
 test_listed false = record { proper = refl; found = refl }
 
-pub cast_listed : (nullable : Bool) → Listed (long 0xFB (cast_number 22 nullable)) (form.heap (λ ty. instr.Reference (reference.Cast (reference_of nullable ty))))
+pub cast_listed : (nullable : Bool) → Listed (long 0xFB (cast_number 22 nullable))
+    (form.heap (λ ty. instr.Reference (reference.Cast (reference_of nullable ty))))
 unfolding shape_at
 cast_listed true = record { proper = refl; found = refl }
 cast_listed false = record { proper = refl; found = refl }
 
-pub struct_get_listed : (extended : Extension) → Listed (long 0xFB (get_number 2 extended)) (form.indices (λ ty on. instr.Aggregate (aggregate.StructGet ty on extended)))
+pub struct_get_listed : (extended : Extension) → Listed (long 0xFB (get_number 2 extended))
+    (form.indices (λ ty on. instr.Aggregate (aggregate.StructGet ty on extended)))
 unfolding shape_at
 struct_get_listed extension.Unpacked = record { proper = refl; found = refl }
 struct_get_listed extended = record { proper = refl; found = refl }
 
-pub array_get_listed : (extended : Extension) → Listed (long 0xFB (get_number 11 extended)) (form.index (λ ty. instr.Aggregate (aggregate.ArrayGet ty extended)))
+pub array_get_listed : (extended : Extension) → Listed (long 0xFB (get_number 11 extended))
+    (form.index (λ ty. instr.Aggregate (aggregate.ArrayGet ty extended)))
 unfolding shape_at
 array_get_listed extension.Unpacked = record { proper = refl; found = refl }
 array_get_listed extended = record { proper = refl; found = refl }

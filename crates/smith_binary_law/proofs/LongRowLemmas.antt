@@ -94,13 +94,18 @@ abbrev atomic_access : AtomicAccess → Shape
 atomic_access access = form.access (instr.Atomic access)
 
 abbrev updates_of : AtomicUpdate → List (ℕ × Shape)
-updates_of kind = rows_of (λ (size : AtomicWidth). atomic_number (atomic.Update kind size)) (λ (size : AtomicWidth). atomic_access (atomic.Update kind size)) widths
+updates_of kind = rows_of (λ (size : AtomicWidth). atomic_number (atomic.Update kind size))
+    (λ (size : AtomicWidth). atomic_access (atomic.Update kind size)) widths
 
 abbrev pub atomic_rows : List (ℕ × Shape)
 atomic_rows =
-    (0, atomic_access atomic.Notify) ∷ (1, atomic_access atomic.Wait32) ∷ (2, atomic_access atomic.Wait64) ∷ (3, form.zero_byte instr.AtomicFence)
+    (0, atomic_access atomic.Notify) ∷ (1, atomic_access atomic.Wait32) ∷ (2, atomic_access atomic.Wait64) ∷
+    (3, form.zero_byte instr.AtomicFence)
     ∷ (114, form.plain (instr.Aggregate aggregate.RefI31Shared)) ∷ []
     ++ rows_of (λ (size : AtomicWidth). atomic_number (atomic.Load size)) (λ (size : AtomicWidth). atomic_access (atomic.Load size)) widths
-    ++ rows_of (λ (size : AtomicWidth). atomic_number (atomic.Store size)) (λ (size : AtomicWidth). atomic_access (atomic.Store size)) widths
-    ++ updates_of update.Add ++ updates_of update.Sub ++ updates_of update.And ++ updates_of update.Or ++ updates_of update.Xor ++ updates_of update.Exchange
-    ++ rows_of (λ (size : AtomicWidth). atomic_number (atomic.CompareExchange size)) (λ (size : AtomicWidth). atomic_access (atomic.CompareExchange size)) widths
+    ++ rows_of (λ (size : AtomicWidth). atomic_number (atomic.Store size)) (λ (size : AtomicWidth). atomic_access (atomic.Store size))
+    widths
+    ++ updates_of update.Add ++ updates_of update.Sub ++ updates_of update.And ++ updates_of update.Or ++ updates_of update.Xor
+    ++ updates_of update.Exchange
+    ++ rows_of (λ (size : AtomicWidth). atomic_number (atomic.CompareExchange size))
+    (λ (size : AtomicWidth). atomic_access (atomic.CompareExchange size)) widths

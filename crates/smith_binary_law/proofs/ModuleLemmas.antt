@@ -2,7 +2,8 @@
 use Rattle.std.proofs.Common.{◌≡◌, ℕ, Option, List, [], ◌∷◌, ◌++◌, refl, sym, subst, ap, ◌∙◌, length}
 use Rattle.smith_binary.specs.Pieces.{Is, Joined}
 use Rattle.smith_binary.specs.Unambiguous.{IsUnambiguous, IsUnambiguousWhole}
-use Rattle.smith_binary.proofs.UnambiguousLemmas.{unsigned_is_unambiguous, list_is_unambiguous, sized_is_unambiguous, joined_same, same_front}
+use Rattle.smith_binary.proofs.UnambiguousLemmas.{unsigned_is_unambiguous, list_is_unambiguous, sized_is_unambiguous, joined_same}
+use Rattle.smith_binary.proofs.UnambiguousLemmas.{same_front}
 use Rattle.smith_syntax.specs.declared.value_type.ValType.{ValType}
 use Rattle.smith_syntax.specs.declared.composite_type.SubType.{SubType}
 use Rattle.smith_syntax.specs.declared.entity_type.ExportKind.{ExportKind}
@@ -23,7 +24,8 @@ use Rattle.smith_binary_sections.specs.Data.{Data, IsData}
 use Rattle.smith_binary_sections.specs.Sections.{IsOptionalSection, IsListSection}
 use Rattle.smith_binary_sections.specs.Modules.{Contents, IsPreamble, IsStartSection, IsModule}
 use Rattle.smith_binary_law.proofs.TypeLemmas.{group_is_unambiguous, val_is_unambiguous}
-use Rattle.smith_binary_law.proofs.EntityLemmas.{export_is_unambiguous, global_is_unambiguous, table_is_unambiguous, memory_is_unambiguous, tag_is_unambiguous}
+use Rattle.smith_binary_law.proofs.EntityLemmas.{export_is_unambiguous, global_is_unambiguous, table_is_unambiguous, memory_is_unambiguous}
+use Rattle.smith_binary_law.proofs.EntityLemmas.{tag_is_unambiguous}
 use Rattle.smith_binary_law.proofs.ImportLemmas.{imports_are_unambiguous}
 use Rattle.smith_binary_law.proofs.ElementLemmas.{elem_is_unambiguous}
 use Rattle.smith_binary_law.proofs.DataLemmas.{data_is_unambiguous}
@@ -66,12 +68,15 @@ Parts = List (List SubType) × (List Import × (List ℕ × AfterFunctions))
 abbrev IsBack : AfterGlobals → List ℕ → Type 0
 IsBack x =
     Joined (IsListSection 7 IsExport x.0)
-    (Joined (IsStartSection x.1.0) (Joined (IsListSection 9 IsElem x.1.1.0) (Joined (IsCount x.1.1.1.0) (Joined (IsListSection 10 IsBody x.1.1.1.1.0) (IsListSection 11 IsData x.1.1.1.1.1)))))
+    (Joined (IsStartSection x.1.0)
+    (Joined (IsListSection 9 IsElem x.1.1.0)
+    (Joined (IsCount x.1.1.1.0) (Joined (IsListSection 10 IsBody x.1.1.1.1.0) (IsListSection 11 IsData x.1.1.1.1.1)))))
 
 abbrev IsMiddle : AfterFunctions → List ℕ → Type 0
 IsMiddle x =
     Joined (IsListSection 4 IsTable x.0)
-    (Joined (IsListSection 5 IsMemoryType x.1.0) (Joined (IsListSection 13 IsTagType x.1.1.0) (Joined (IsListSection 6 IsGlobal x.1.1.1.0) (IsBack x.1.1.1.1))))
+    (Joined (IsListSection 5 IsMemoryType x.1.0)
+    (Joined (IsListSection 13 IsTagType x.1.1.0) (Joined (IsListSection 6 IsGlobal x.1.1.1.0) (IsBack x.1.1.1.1))))
 
 abbrev IsAll : Parts → List ℕ → Type 0
 IsAll x =
@@ -96,12 +101,22 @@ middle_tail =
 all_tail : Tail (1 ∷ 2 ∷ 3 ∷ 4 ∷ 5 ∷ 13 ∷ 6 ∷ 7 ∷ 8 ∷ 9 ∷ 12 ∷ 10 ∷ 11 ∷ []) IsAll
 all_tail =
     more_tail 1 (2 ∷ 3 ∷ 4 ∷ 5 ∷ 13 ∷ 6 ∷ 7 ∷ 8 ∷ 9 ∷ 12 ∷ 10 ∷ 11 ∷ []) (list_part 1 IsRecGroup group_is_unambiguous) refl
-    (more_tail 2 (3 ∷ 4 ∷ 5 ∷ 13 ∷ 6 ∷ 7 ∷ 8 ∷ 9 ∷ 12 ∷ 10 ∷ 11 ∷ []) (optional_part 2 IsImports (λ (imports : List Import). imports ≡ []) imports_are_unambiguous (λ x y m n. m ∙ sym n)) refl
+    (more_tail 2 (3 ∷ 4 ∷ 5 ∷ 13 ∷ 6 ∷ 7 ∷ 8 ∷ 9 ∷ 12 ∷ 10 ∷ 11 ∷ []) (optional_part 2 IsImports (λ (imports : List Import). imports ≡ [])
+    imports_are_unambiguous (λ x y m n. m ∙ sym n)) refl
     (more_tail 3 (4 ∷ 5 ∷ 13 ∷ 6 ∷ 7 ∷ 8 ∷ 9 ∷ 12 ∷ 10 ∷ 11 ∷ []) (list_part 3 IsIndex (unsigned_is_unambiguous 32)) refl middle_tail))
 
 -- the parts of a module, and a module of parts
 abbrev parts_of : Contents → Parts
-parts_of m = (m.types, (m.imports, (m.functions, (m.tables, (m.memories, (m.tags, (m.globals, (m.exports, (m.start, (m.elems, (tt, (m.bodies, m.datas))))))))))))
+parts_of m = (
+  m.types,
+  (
+    m.imports,
+    (
+      m.functions,
+      (m.tables, (m.memories, (m.tags, (m.globals, (m.exports, (m.start, (m.elems, (tt, (m.bodies, m.datas))))))))),
+    ),
+  ),
+)
 
 abbrev made_of : Parts → Contents
 made_of x = record {
@@ -120,14 +135,31 @@ made_of x = record {
 }
 
 second_as : {A B W : List ℕ → Type 0} (piece : List ℕ) → ((p : List ℕ) → B p → W p) → Joined A B piece → Joined A W piece
-second_as piece other h = record { first = h.first; second = h.second; is_first = h.is_first; is_second = other h.second h.is_second; whole = h.whole }
+second_as piece other h = record {
+  first = h.first;
+  second = h.second;
+  is_first = h.is_first;
+  is_second = other h.second h.is_second;
+  whole = h.whole;
+}
 
 first_as : {A B V : List ℕ → Type 0} (piece : List ℕ) → ((p : List ℕ) → A p → V p) → Joined A B piece → Joined V B piece
-first_as piece one h = record { first = h.first; second = h.second; is_first = one h.first h.is_first; is_second = h.is_second; whole = h.whole }
+first_as piece one h = record {
+  first = h.first;
+  second = h.second;
+  is_first = one h.first h.is_first;
+  is_second = h.is_second;
+  whole = h.whole;
+}
 
 -- the sections of a module are those of its parts
 all_of : (m : Contents) (piece : List ℕ) → IsModule m piece → Joined IsPreamble (IsAll (parts_of m)) piece
-all_of m piece h = second_as piece (λ a. second_as a (λ b. second_as b (λ c. second_as c (λ d. second_as d (λ e. second_as e (λ f. second_as f (λ g. second_as g (λ i. second_as i (λ j. second_as j (λ l. second_as l (λ n. first_as n (λ p count. (length m.datas, count))))))))))))) h.form
+all_of m piece h = second_as piece
+    (λ a. second_as a (λ b. second_as b
+    (λ c. second_as c (λ d. second_as d
+    (λ e. second_as e (λ f. second_as f
+    (λ g. second_as g (λ i. second_as i (λ j. second_as j (λ l. second_as l (λ n. first_as n (λ p count. (length m.datas, count)))))))))))))
+    h.form
 
 -- bytes after equal bytes
 same_rest : (xs ys rest other : List ℕ) → xs ≡ ys → xs ++ rest ≡ ys ++ other → rest ≡ other

@@ -32,18 +32,23 @@ IsProper opcode = nat_le 0xFB (first_byte opcode) ≡ has_number opcode
 
 pub opcode_begins : (opcode : Opcode) (piece : List ℕ) → IsOpcode opcode piece → Begins (λ (b : ℕ). b ≡ first_byte opcode) piece
 opcode_begins (short byte) piece h = record { head = byte; tail = []; whole = h; test = refl }
-opcode_begins (long prefix number) piece h = record { head = prefix; tail = h.second; whole = h.whole ∙ ap (λ (bytes : List ℕ). bytes ++ h.second) h.is_first; test = refl }
+opcode_begins (long prefix number) piece h =
+    record { head = prefix; tail = h.second; whole = h.whole ∙ ap (λ (bytes : List ℕ). bytes ++ h.second) h.is_first; test = refl }
 
-heads_same : (x y : Opcode) (piece more rest other : List ℕ) → IsOpcode x piece → IsOpcode y more → piece ++ rest ≡ more ++ other → first_byte x ≡ first_byte y
+heads_same : (x y : Opcode) (piece more rest other : List ℕ) → IsOpcode x piece → IsOpcode y more → piece ++ rest ≡ more ++ other
+    → first_byte x ≡ first_byte y
 heads_same x y piece more rest other h k e =
     let a = opcode_begins x piece h in
     let b = opcode_begins y more k in
-    let heads : a.head ≡ b.head = same_head (ap (λ (bytes : List ℕ). bytes ++ rest) (sym a.whole) ∙ e ∙ ap (λ (bytes : List ℕ). bytes ++ other) b.whole) in
+    let heads : a.head ≡ b.head =
+    same_head (ap (λ (bytes : List ℕ). bytes ++ rest) (sym a.whole) ∙ e ∙ ap (λ (bytes : List ℕ). bytes ++ other) b.whole) in
     sym a.test ∙ heads ∙ b.test
 
 -- opcodes in one place
-pub opcode_same : (x y : Opcode) (piece more rest other : List ℕ) → IsProper x → IsProper y → IsOpcode x piece → IsOpcode y more → piece ++ rest ≡ more ++ other → Same x y rest other
-opcode_same (short a) (short b) piece more rest other p q h k e = let one = byte_is_unambiguous.one a b piece more rest other h k e in record { item = ap short one.item; after = one.after }
+pub opcode_same : (x y : Opcode) (piece more rest other : List ℕ) → IsProper x → IsProper y → IsOpcode x piece → IsOpcode y more
+    → piece ++ rest ≡ more ++ other → Same x y rest other
+opcode_same (short a) (short b) piece more rest other p q h k e = let one = byte_is_unambiguous.one a b piece more rest other h k e in
+    record { item = ap short one.item; after = one.after }
 opcode_same (long a m) (long b n) piece more rest other p q h k e =
     let one = joined_same byte_is_unambiguous (unsigned_is_unambiguous 32) h k e in
     record { item = ap (λ (c : ℕ). long c m) one.first ∙ ap (long b) one.second; after = one.after }

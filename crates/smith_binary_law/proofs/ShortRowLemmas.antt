@@ -1,6 +1,7 @@
 -- The table of the opcodes of one byte.
 use Rattle.std.proofs.Common.{ℕ, List, [], ◌∷◌, ◌++◌}
-use Rattle.smith_binary_instr.specs.Numeric.{int_unary_opcode, int_binary_opcode, int_compare_opcode, float_unary_opcode, float_binary_opcode, float_compare_opcode, conversion_opcode, extension_opcode}
+use Rattle.smith_binary_instr.specs.Numeric.{int_unary_opcode, int_binary_opcode, int_compare_opcode, float_unary_opcode}
+use Rattle.smith_binary_instr.specs.Numeric.{float_binary_opcode, float_compare_opcode, conversion_opcode, extension_opcode}
 use Rattle.smith_binary_instr.specs.Memory.{load_opcode, store_opcode}
 use Rattle.smith_binary_law.proofs.RowLemmas.{rows_of}
 use Rattle.smith_binary_law.proofs.ShapeLemmas.{Shape}
@@ -127,7 +128,8 @@ numeric_rows =
     ++ rows_of extension_opcode (λ (op : SignExtension). form.plain (instr.Numeric (numeric.Extend op))) extensions
 
 abbrev access_rows : List (ℕ × Shape)
-access_rows = rows_of load_opcode (λ (op : Load). form.access (instr.Load op)) loads ++ rows_of store_opcode (λ (op : Store). form.access (instr.Store op)) stores
+access_rows = rows_of load_opcode (λ (op : Load). form.access (instr.Load op)) loads ++ rows_of store_opcode
+    (λ (op : Store). form.access (instr.Store op)) stores
 
 abbrev pub short_rows : List (ℕ × Shape)
 short_rows = single_rows ++ access_rows ++ numeric_rows

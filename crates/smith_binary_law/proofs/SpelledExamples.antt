@@ -37,13 +37,15 @@ pub no_item : {A : Type 0} (Item : A → List ℕ → Type 0) → Each Item [] [
 unfolding Each
 no_item Item = refl
 
-pub more_items : {A : Type 0} (Item : A → List ℕ → Type 0) (x : A) (xs : List A) (one other : List ℕ) → Item x one → Each Item xs other → Each Item (x ∷ xs) (one ++ other)
+pub more_items : {A : Type 0} (Item : A → List ℕ → Type 0) (x : A) (xs : List A) (one other : List ℕ) → Item x one → Each Item xs other
+    → Each Item (x ∷ xs) (one ++ other)
 unfolding Each
 more_items Item x xs one other h rest = both one other h rest
 
 -- the first function in a list
 pub one_function : IsFuncs (0 ∷ []) (0x01 ∷ 0x00 ∷ [])
-one_function = both (0x01 ∷ []) (0x00 ∷ []) (index 1 (omega arith)) (more_items IsIndex 0 [] (0x00 ∷ []) [] (index 0 (omega arith)) (no_item IsIndex))
+one_function = both (0x01 ∷ []) (0x00 ∷ []) (index 1 (omega arith)) (more_items IsIndex 0 [] (0x00 ∷ []) [] (index 0 (omega arith))
+    (no_item IsIndex))
 
 -- a byte in a list
 pub one_byte : IsList IsByte (0x2A ∷ []) (0x01 ∷ 0x2A ∷ [])
@@ -53,26 +55,36 @@ one_byte = both (0x01 ∷ []) (0x2A ∷ []) (index 1 (omega arith)) (each_byte (
 pub start_spelled : IsExpression (offset_of start) (0x41 ∷ 0x00 ∷ 0x0B ∷ [])
 start_spelled =
     both (0x41 ∷ 0x00 ∷ []) (0x0B ∷ [])
-    (more_items IsConst (I32Const (pos 0)) [] (0x41 ∷ 0x00 ∷ []) [] (both (0x41 ∷ []) (0x00 ∷ []) refl (positive_last 32 0 (omega arith) (omega arith)).spelled) (no_item IsConst))
+    (more_items IsConst (I32Const (pos 0)) [] (0x41 ∷ 0x00 ∷ []) []
+    (both (0x41 ∷ []) (0x00 ∷ []) refl (positive_last 32 0 (omega arith) (omega arith)).spelled) (no_item IsConst))
     refl
 
 pub null_spelled : IsExpression no_function (0xD0 ∷ 0x70 ∷ 0x0B ∷ [])
 null_spelled =
-    both (0xD0 ∷ 0x70 ∷ []) (0x0B ∷ []) (more_items IsConst (RefNull (plain heap.Func)) [] (0xD0 ∷ 0x70 ∷ []) [] (both (0xD0 ∷ []) (0x70 ∷ []) refl refl) (no_item IsConst)) refl
+    both (0xD0 ∷ 0x70 ∷ []) (0x0B ∷ []) (more_items IsConst (RefNull (plain heap.Func)) [] (0xD0 ∷ 0x70 ∷ []) []
+    (both (0xD0 ∷ []) (0x70 ∷ []) refl refl) (no_item IsConst)) refl
 
 -- bytes that begin with another number than the required one
-pub other_number : (n m : ℕ) (Second : List ℕ → Type 0) (piece : List ℕ) → m < 128 → (n ≡ m → ⊥) → Joined (IsUnsigned 32 n) Second (m ∷ piece) → ⊥
+pub other_number : (n m : ℕ) (Second : List ℕ → Type 0) (piece : List ℕ) → m < 128 → (n ≡ m → ⊥)
+    → Joined (IsUnsigned 32 n) Second (m ∷ piece) → ⊥
 other_number n m Second piece low differ h =
     differ ((unsigned_is_unambiguous 32).one n m h.first (m ∷ []) h.second piece h.is_first (index m low) (sym h.whole)).item
 
 -- a load in the first memory, as it is written
-pub loaded_as_written : (align offset : ℕ) → align < 64 → offset < 128 → IsInstrWritten (load_word align offset 0) (0x28 ∷ align ∷ offset ∷ [])
+pub loaded_as_written : (align offset : ℕ) → align < 64 → offset < 128 → IsInstrWritten (load_word align offset 0)
+    (0x28 ∷ align ∷ offset ∷ [])
 loaded_as_written align offset narrow low =
-    let place : Joined (IsUnsigned 32 align) (IsUnsigned 64 offset) (align ∷ offset ∷ []) = both (align ∷ []) (offset ∷ []) (index align (omega arith)) (small 64 offset low (omega arith)) in
-    both (0x28 ∷ []) (align ∷ offset ∷ []) refl (record { form = IsMemArg.first_memory refl narrow place; unnamed = λ first. place; named = λ other. absurd (other refl) })
+    let place : Joined (IsUnsigned 32 align) (IsUnsigned 64 offset) (align ∷ offset ∷ []) =
+    both (align ∷ []) (offset ∷ []) (index align (omega arith)) (small 64 offset low (omega arith)) in
+    both (0x28 ∷ []) (align ∷ offset ∷ []) refl (record {
+      form = IsMemArg.first_memory refl narrow place;
+      unnamed = λ first. place;
+      named = λ other. absurd (other refl);
+    })
 
 pub loaded : (align offset : ℕ) → align < 64 → offset < 128 → IsInstr (load_word align offset 0) (0x28 ∷ align ∷ offset ∷ [])
-loaded align offset narrow low = instr_is any (load_word align offset 0) (0x28 ∷ align ∷ offset ∷ []) (loaded_as_written align offset narrow low)
+loaded align offset narrow low = instr_is any (load_word align offset 0) (0x28 ∷ align ∷ offset ∷ [])
+    (loaded_as_written align offset narrow low)
 
 -- the alignment of a load, and the table of an indirect call
 abbrev pub align_of : Instr → ℕ

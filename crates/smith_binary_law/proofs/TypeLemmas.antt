@@ -1,11 +1,13 @@
 -- Types have one meaning.
 use Rattle.std.proofs.lemmas.Int.{ints}
-use Rattle.std.proofs.Common.{inl, inr, ◌≡◌, ℕ, ◌≤◌, Bool, true, false, List, [], ◌∷◌, ◌++◌, Some, None, Option, refl, sym, subst, ap, ◌∙◌, arith}
+use Rattle.std.proofs.Common.{inl, inr, ◌≡◌, ℕ, ◌≤◌, Bool, true, false, List, [], ◌∷◌, ◌++◌, Some, None, Option, refl, sym, subst, ap, ◌∙◌}
+use Rattle.std.proofs.Common.{arith}
 use Rattle.std.specs.Prelude.{pos, ◌==◌, if◌then◌else◌, option_to_list}
 use Rattle.smith_binary.specs.Numbers.{IsUnsigned, IsSigned}
 use Rattle.smith_binary.specs.Pieces.{Is, IsByte, Joined, IsList}
 use Rattle.smith_binary.specs.Unambiguous.{Same, IsUnambiguous}
-use Rattle.smith_binary.proofs.UnambiguousLemmas.{unsigned_is_unambiguous, signed_is_unambiguous, byte_is_unambiguous, first_same, joined_same, list_is_unambiguous, same_head}
+use Rattle.smith_binary.proofs.UnambiguousLemmas.{unsigned_is_unambiguous, signed_is_unambiguous, byte_is_unambiguous, first_same}
+use Rattle.smith_binary.proofs.UnambiguousLemmas.{joined_same, list_is_unambiguous, same_head}
 use Rattle.smith_syntax.specs.declared.value_type.AbstractHeapType.{AbstractHeapType}
 use Rattle.smith_syntax.specs.declared.value_type.AbstractHeapType.TheVariants as abstract
 use Rattle.smith_syntax.specs.declared.value_type.HeapType.{HeapType}
@@ -20,7 +22,9 @@ use Rattle.smith_syntax.specs.declared.composite_type.CompositeInnerType.{Compos
 use Rattle.smith_syntax.specs.declared.composite_type.CompositeInnerType.TheVariants as inner
 use Rattle.smith_syntax.specs.declared.composite_type.CompositeType.{CompositeType}
 use Rattle.smith_syntax.specs.declared.composite_type.SubType.{SubType}
-use Rattle.smith_binary_sections.specs.Types.{abstract_byte, null_byte, mutability_byte, shared_bytes, final_byte, IsHeapType, IsAbstractAlone, IsRefType, IsValType, IsStorageType, IsFieldType, IsFuncType, IsInnerType, IsCompositeType, IsSubType, IsRecGroup}
+use Rattle.smith_binary_sections.specs.Types.{abstract_byte, null_byte, mutability_byte, shared_bytes, final_byte, IsHeapType}
+use Rattle.smith_binary_sections.specs.Types.{IsAbstractAlone, IsRefType, IsValType, IsStorageType, IsFieldType, IsFuncType, IsInnerType}
+use Rattle.smith_binary_sections.specs.Types.{IsCompositeType, IsSubType, IsRecGroup}
 use Rattle.smith_binary_law.proofs.HeadLemmas.{Begins, byte_begins, joined_begins, begins_as, apart, code_is_unambiguous}
 
 -- the abstract heap type of a byte
@@ -84,30 +88,48 @@ heap_begins (Abstract true ty) piece h = joined_begins _ _ _ piece (λ first one
 heap_begins (Concrete index) piece h = positive_begins 33 index piece h
 heap_begins (Exact index) piece h = joined_begins _ _ _ piece (λ first one. byte_begins _ 0x62 first refl one) h
 
-heap_apart : (x y : HeapType) (piece more rest other : List ℕ) → IsHeapType x piece → IsHeapType y more → piece ++ rest ≡ more ++ other → ((b : ℕ) → heap_head x b → heap_head y b → ⊥) → ⊥
-heap_apart x y piece more rest other h k e never = apart (heap_head x) (heap_head y) piece more rest other (heap_begins x piece h) (heap_begins y more k) e never
+heap_apart : (x y : HeapType) (piece more rest other : List ℕ) → IsHeapType x piece → IsHeapType y more → piece ++ rest ≡ more ++ other
+    → ((b : ℕ) → heap_head x b → heap_head y b → ⊥) → ⊥
+heap_apart x y piece more rest other h k e never = apart (heap_head x) (heap_head y) piece more rest other (heap_begins x piece h)
+    (heap_begins y more k) e never
 
-heap_same : (x y : HeapType) (piece more rest other : List ℕ) → IsHeapType x piece → IsHeapType y more → piece ++ rest ≡ more ++ other → Same x y rest other
+heap_same : (x y : HeapType) (piece more rest other : List ℕ) → IsHeapType x piece → IsHeapType y more → piece ++ rest ≡ more ++ other
+    → Same x y rest other
 heap_same (Abstract false a) (Abstract false b) piece more rest other h k e =
-    let one = abstract_is_unambiguous.one a b piece more rest other h k e in record { item = ap (Abstract false) one.item; after = one.after }
+    let one = abstract_is_unambiguous.one a b piece more rest other h k e in
+    record { item = ap (Abstract false) one.item; after = one.after }
 heap_same (Abstract true a) (Abstract true b) piece more rest other h k e =
-    let one = joined_same {x = 0x65} {y = 0x65} byte_is_unambiguous abstract_is_unambiguous h k e in record { item = ap (Abstract true) one.second; after = one.after }
+    let one = joined_same {x = 0x65} {y = 0x65} byte_is_unambiguous abstract_is_unambiguous h k e in
+    record { item = ap (Abstract true) one.second; after = one.after }
 heap_same (Concrete i) (Concrete j) piece more rest other h k e =
     let one = (signed_is_unambiguous 33).one (pos i) (pos j) piece more rest other h k e in record { item = cc; after = one.after }
 heap_same (Exact i) (Exact j) piece more rest other h k e =
-    let one = joined_same {x = 0x62} {y = 0x62} byte_is_unambiguous (unsigned_is_unambiguous 32) h k e in record { item = ap Exact one.second; after = one.after }
-heap_same (Abstract false a) (Abstract true b) piece more rest other h k e = absurd (heap_apart (Abstract false a) (Abstract true b) piece more rest other h k e (λ b one two. omega (arith, one, two)))
-heap_same (Abstract false a) (Concrete j) piece more rest other h k e = absurd (heap_apart (Abstract false a) (Concrete j) piece more rest other h k e (λ b one two. omega (arith, one, two)))
-heap_same (Abstract false a) (Exact j) piece more rest other h k e = absurd (heap_apart (Abstract false a) (Exact j) piece more rest other h k e (λ b one two. omega (arith, one, two)))
-heap_same (Abstract true a) (Abstract false b) piece more rest other h k e = absurd (heap_apart (Abstract true a) (Abstract false b) piece more rest other h k e (λ b one two. omega (arith, one, two)))
-heap_same (Abstract true a) (Concrete j) piece more rest other h k e = absurd (heap_apart (Abstract true a) (Concrete j) piece more rest other h k e (λ b one two. omega (arith, one, two)))
-heap_same (Abstract true a) (Exact j) piece more rest other h k e = absurd (heap_apart (Abstract true a) (Exact j) piece more rest other h k e (λ b one two. omega (arith, one, two)))
-heap_same (Concrete i) (Abstract false b) piece more rest other h k e = absurd (heap_apart (Concrete i) (Abstract false b) piece more rest other h k e (λ b one two. omega (arith, one, two)))
-heap_same (Concrete i) (Abstract true b) piece more rest other h k e = absurd (heap_apart (Concrete i) (Abstract true b) piece more rest other h k e (λ b one two. omega (arith, one, two)))
-heap_same (Concrete i) (Exact j) piece more rest other h k e = absurd (heap_apart (Concrete i) (Exact j) piece more rest other h k e (λ b one two. omega (arith, one, two)))
-heap_same (Exact i) (Abstract false b) piece more rest other h k e = absurd (heap_apart (Exact i) (Abstract false b) piece more rest other h k e (λ b one two. omega (arith, one, two)))
-heap_same (Exact i) (Abstract true b) piece more rest other h k e = absurd (heap_apart (Exact i) (Abstract true b) piece more rest other h k e (λ b one two. omega (arith, one, two)))
-heap_same (Exact i) (Concrete j) piece more rest other h k e = absurd (heap_apart (Exact i) (Concrete j) piece more rest other h k e (λ b one two. omega (arith, one, two)))
+    let one = joined_same {x = 0x62} {y = 0x62} byte_is_unambiguous (unsigned_is_unambiguous 32) h k e in
+    record { item = ap Exact one.second; after = one.after }
+heap_same (Abstract false a) (Abstract true b) piece more rest other h k e =
+    absurd (heap_apart (Abstract false a) (Abstract true b) piece more rest other h k e (λ b one two. omega (arith, one, two)))
+heap_same (Abstract false a) (Concrete j) piece more rest other h k e =
+    absurd (heap_apart (Abstract false a) (Concrete j) piece more rest other h k e (λ b one two. omega (arith, one, two)))
+heap_same (Abstract false a) (Exact j) piece more rest other h k e =
+    absurd (heap_apart (Abstract false a) (Exact j) piece more rest other h k e (λ b one two. omega (arith, one, two)))
+heap_same (Abstract true a) (Abstract false b) piece more rest other h k e =
+    absurd (heap_apart (Abstract true a) (Abstract false b) piece more rest other h k e (λ b one two. omega (arith, one, two)))
+heap_same (Abstract true a) (Concrete j) piece more rest other h k e =
+    absurd (heap_apart (Abstract true a) (Concrete j) piece more rest other h k e (λ b one two. omega (arith, one, two)))
+heap_same (Abstract true a) (Exact j) piece more rest other h k e =
+    absurd (heap_apart (Abstract true a) (Exact j) piece more rest other h k e (λ b one two. omega (arith, one, two)))
+heap_same (Concrete i) (Abstract false b) piece more rest other h k e =
+    absurd (heap_apart (Concrete i) (Abstract false b) piece more rest other h k e (λ b one two. omega (arith, one, two)))
+heap_same (Concrete i) (Abstract true b) piece more rest other h k e =
+    absurd (heap_apart (Concrete i) (Abstract true b) piece more rest other h k e (λ b one two. omega (arith, one, two)))
+heap_same (Concrete i) (Exact j) piece more rest other h k e =
+    absurd (heap_apart (Concrete i) (Exact j) piece more rest other h k e (λ b one two. omega (arith, one, two)))
+heap_same (Exact i) (Abstract false b) piece more rest other h k e =
+    absurd (heap_apart (Exact i) (Abstract false b) piece more rest other h k e (λ b one two. omega (arith, one, two)))
+heap_same (Exact i) (Abstract true b) piece more rest other h k e =
+    absurd (heap_apart (Exact i) (Abstract true b) piece more rest other h k e (λ b one two. omega (arith, one, two)))
+heap_same (Exact i) (Concrete j) piece more rest other h k e =
+    absurd (heap_apart (Exact i) (Concrete j) piece more rest other h k e (λ b one two. omega (arith, one, two)))
 
 pub heap_is_unambiguous : IsUnambiguous IsHeapType
 heap_is_unambiguous = record { one = heap_same }
@@ -123,8 +145,10 @@ null_within : (b : Bool) → (0x63 ≤ null_byte b) × (null_byte b ≤ 0x64)
 null_within true = (omega arith, omega arith)
 null_within false = (omega arith, omega arith)
 
-full_ref_begins : (reference : RefType) (piece : List ℕ) → Joined (IsByte (null_byte reference.nullable)) (IsHeapType reference.heap_type) piece → Begins (λ (b : ℕ). (0x63 ≤ b) × (b ≤ 0x64)) piece
-full_ref_begins reference piece h = joined_begins _ _ _ piece (λ first one. byte_begins _ (null_byte reference.nullable) first (null_within reference.nullable) one) h
+full_ref_begins : (reference : RefType) (piece : List ℕ) → Joined (IsByte (null_byte reference.nullable)) (IsHeapType reference.heap_type)
+    piece → Begins (λ (b : ℕ). (0x63 ≤ b) × (b ≤ 0x64)) piece
+full_ref_begins reference piece h = joined_begins _ _ _ piece (λ first one. byte_begins _ (null_byte reference.nullable) first
+    (null_within reference.nullable) one) h
 
 alone_heap : (heap : HeapType) (piece : List ℕ) → IsAbstractAlone heap piece → IsHeapType heap piece
 alone_heap (Abstract false ty) piece h = h
@@ -139,11 +163,14 @@ alone_begins (Concrete index) piece h = absurd h
 alone_begins (Exact index) piece h = absurd h
 
 same_ref : (x y : RefType) → x.nullable ≡ y.nullable → x.heap_type ≡ y.heap_type → x ≡ y
-same_ref x y a b = ap (λ (n : Bool). record { nullable = n; heap_type = x.heap_type }) a ∙ ap (λ (t : HeapType). record { nullable = y.nullable; heap_type = t }) b
+same_ref x y a b = ap (λ (n : Bool). record { nullable = n; heap_type = x.heap_type }) a
+    ∙ ap (λ (t : HeapType). record { nullable = y.nullable; heap_type = t }) b
 
-ref_same : (x y : RefType) (piece more rest other : List ℕ) → IsRefType x piece → IsRefType y more → piece ++ rest ≡ more ++ other → Same x y rest other
+ref_same : (x y : RefType) (piece more rest other : List ℕ) → IsRefType x piece → IsRefType y more → piece ++ rest ≡ more ++ other
+    → Same x y rest other
 ref_same x y piece more rest other (IsRefType.full h) (IsRefType.full k) e =
-    let one = joined_same null_is_unambiguous heap_is_unambiguous h k e in record { item = same_ref x y one.first one.second; after = one.after }
+    let one = joined_same null_is_unambiguous heap_is_unambiguous h k e in
+    record { item = same_ref x y one.first one.second; after = one.after }
 ref_same x y piece more rest other (IsRefType.full h) (IsRefType.short n k) e =
     absurd (apart _ _ piece more rest other (full_ref_begins x piece h) (alone_begins y.heap_type more k) e (λ b one two. omega arith))
 ref_same x y piece more rest other (IsRefType.short n h) (IsRefType.full k) e =
@@ -157,7 +184,8 @@ ref_is_unambiguous = record { one = ref_same }
 
 pub ref_begins : (reference : RefType) (piece : List ℕ) → IsRefType reference piece → Begins (λ (b : ℕ). (0x63 ≤ b) × (b ≤ 0x74)) piece
 ref_begins reference piece (IsRefType.full h) = begins_as _ _ piece (λ b t. (omega arith, omega arith)) (full_ref_begins reference piece h)
-ref_begins reference piece (IsRefType.short n h) = begins_as _ _ piece (λ b t. (omega arith, omega arith)) (alone_begins reference.heap_type piece h)
+ref_begins reference piece (IsRefType.short n h) = begins_as _ _ piece (λ b t. (omega arith, omega arith))
+    (alone_begins reference.heap_type piece h)
 
 -- the first byte of a value type
 abbrev pub val_head : ValType → ℕ → Type 0
@@ -176,17 +204,21 @@ val_begins F64 piece h = byte_begins _ 0x7C piece refl h
 val_begins V128 piece h = byte_begins _ 0x7B piece refl h
 val_begins (Ref reference) piece h = ref_begins reference piece h
 
-pub one_byte : (byte : ℕ) (piece more rest other : List ℕ) → IsByte byte piece → IsByte byte more → piece ++ rest ≡ more ++ other → rest ≡ other
+pub one_byte : (byte : ℕ) (piece more rest other : List ℕ) → IsByte byte piece → IsByte byte more → piece ++ rest ≡ more ++ other
+    → rest ≡ other
 one_byte byte piece more rest other h k e = (byte_is_unambiguous.one byte byte piece more rest other h k e).after
 
-val_same : (x y : ValType) (piece more rest other : List ℕ) → IsValType x piece → IsValType y more → piece ++ rest ≡ more ++ other → Same x y rest other
+val_same : (x y : ValType) (piece more rest other : List ℕ) → IsValType x piece → IsValType y more → piece ++ rest ≡ more ++ other
+    → Same x y rest other
 val_same I32 I32 piece more rest other h k e = record { item = refl; after = one_byte 0x7F piece more rest other h k e }
 val_same I64 I64 piece more rest other h k e = record { item = refl; after = one_byte 0x7E piece more rest other h k e }
 val_same F32 F32 piece more rest other h k e = record { item = refl; after = one_byte 0x7D piece more rest other h k e }
 val_same F64 F64 piece more rest other h k e = record { item = refl; after = one_byte 0x7C piece more rest other h k e }
 val_same V128 V128 piece more rest other h k e = record { item = refl; after = one_byte 0x7B piece more rest other h k e }
-val_same (Ref x) (Ref y) piece more rest other h k e = let one = ref_same x y piece more rest other h k e in record { item = ap Ref one.item; after = one.after }
-val_same x y piece more rest other h k e = absurd (apart (val_head x) (val_head y) piece more rest other (val_begins x piece h) (val_begins y more k) e (λ b one two. omega arith))
+val_same (Ref x) (Ref y) piece more rest other h k e = let one = ref_same x y piece more rest other h k e in
+    record { item = ap Ref one.item; after = one.after }
+val_same x y piece more rest other h k e = absurd (apart (val_head x) (val_head y) piece more rest other (val_begins x piece h)
+    (val_begins y more k) e (λ b one two. omega arith))
 
 pub val_is_unambiguous : IsUnambiguous IsValType
 val_is_unambiguous = record { one = val_same }
@@ -210,11 +242,15 @@ storage_begins storage.I8 piece h = byte_begins _ 0x78 piece refl h
 storage_begins storage.I16 piece h = byte_begins _ 0x77 piece refl h
 storage_begins (storage.Val value) piece h = begins_as _ _ piece (val_stored value) (val_begins value piece h)
 
-storage_same : (x y : StorageType) (piece more rest other : List ℕ) → IsStorageType x piece → IsStorageType y more → piece ++ rest ≡ more ++ other → Same x y rest other
+storage_same : (x y : StorageType) (piece more rest other : List ℕ) → IsStorageType x piece → IsStorageType y more
+    → piece ++ rest ≡ more ++ other → Same x y rest other
 storage_same storage.I8 storage.I8 piece more rest other h k e = record { item = refl; after = one_byte 0x78 piece more rest other h k e }
 storage_same storage.I16 storage.I16 piece more rest other h k e = record { item = refl; after = one_byte 0x77 piece more rest other h k e }
-storage_same (storage.Val x) (storage.Val y) piece more rest other h k e = let one = val_same x y piece more rest other h k e in record { item = ap storage.Val one.item; after = one.after }
-storage_same x y piece more rest other h k e = absurd (apart (storage_head x) (storage_head y) piece more rest other (storage_begins x piece h) (storage_begins y more k) e (λ b one two. omega arith))
+storage_same (storage.Val x) (storage.Val y) piece more rest other h k e = let one = val_same x y piece more rest other h k e in
+    record { item = ap storage.Val one.item; after = one.after }
+storage_same x y piece more rest other h k e =
+    absurd (apart (storage_head x) (storage_head y) piece more rest other (storage_begins x piece h) (storage_begins y more k) e
+    (λ b one two. omega arith))
 
 storage_is_unambiguous : IsUnambiguous IsStorageType
 storage_is_unambiguous = record { one = storage_same }
@@ -230,14 +266,22 @@ field_is_unambiguous : IsUnambiguous IsFieldType
 field_is_unambiguous = record {
   one = λ x y piece more rest other h k e.
       let one = joined_same storage_is_unambiguous mutability_is_unambiguous h k e in
-      record { item = ap (λ (t : StorageType). record { element_type = t; mutable = x.mutable }) one.first ∙ ap (λ (b : Bool). record { element_type = y.element_type; mutable = b }) one.second; after = one.after };
+      record {
+        item = ap (λ (t : StorageType). record { element_type = t; mutable = x.mutable }) one.first
+            ∙ ap (λ (b : Bool). record { element_type = y.element_type; mutable = b }) one.second;
+        after = one.after;
+      };
 }
 
 func_is_unambiguous : IsUnambiguous IsFuncType
 func_is_unambiguous = record {
   one = λ x y piece more rest other h k e.
       let one = joined_same (list_is_unambiguous val_is_unambiguous) (list_is_unambiguous val_is_unambiguous) h k e in
-      record { item = ap (λ (ts : List ValType). record { params = ts; results = x.results }) one.first ∙ ap (λ (ts : List ValType). record { params = y.params; results = ts }) one.second; after = one.after };
+      record {
+        item = ap (λ (ts : List ValType). record { params = ts; results = x.results }) one.first
+            ∙ ap (λ (ts : List ValType). record { params = y.params; results = ts }) one.second;
+        after = one.after;
+      };
 }
 
 -- the first byte of an array, a struct or a function type
@@ -251,14 +295,19 @@ inner_begins (inner.Array array) piece h = joined_begins _ _ _ piece (λ first o
 inner_begins (inner.Struct structure) piece h = joined_begins _ _ _ piece (λ first one. byte_begins _ 0x5F first refl one) h
 inner_begins (inner.Func function) piece h = joined_begins _ _ _ piece (λ first one. byte_begins _ 0x60 first refl one) h
 
-inner_same : (x y : CompositeInnerType) (piece more rest other : List ℕ) → IsInnerType x piece → IsInnerType y more → piece ++ rest ≡ more ++ other → Same x y rest other
+inner_same : (x y : CompositeInnerType) (piece more rest other : List ℕ) → IsInnerType x piece → IsInnerType y more
+    → piece ++ rest ≡ more ++ other → Same x y rest other
 inner_same (inner.Array x) (inner.Array y) piece more rest other h k e =
-    let one = joined_same {x = 0x5E} {y = 0x5E} byte_is_unambiguous field_is_unambiguous h k e in record { item = ap (λ (f : FieldType). inner.Array (record { 0 = f })) one.second; after = one.after }
+    let one = joined_same {x = 0x5E} {y = 0x5E} byte_is_unambiguous field_is_unambiguous h k e in
+    record { item = ap (λ (f : FieldType). inner.Array (record { 0 = f })) one.second; after = one.after }
 inner_same (inner.Struct x) (inner.Struct y) piece more rest other h k e =
-    let one = joined_same {x = 0x5F} {y = 0x5F} byte_is_unambiguous (list_is_unambiguous field_is_unambiguous) h k e in record { item = ap (λ (fs : List FieldType). inner.Struct (record { fields = fs })) one.second; after = one.after }
+    let one = joined_same {x = 0x5F} {y = 0x5F} byte_is_unambiguous (list_is_unambiguous field_is_unambiguous) h k e in
+    record { item = ap (λ (fs : List FieldType). inner.Struct (record { fields = fs })) one.second; after = one.after }
 inner_same (inner.Func x) (inner.Func y) piece more rest other h k e =
-    let one = joined_same {x = 0x60} {y = 0x60} byte_is_unambiguous func_is_unambiguous h k e in record { item = ap inner.Func one.second; after = one.after }
-inner_same x y piece more rest other h k e = absurd (apart (inner_head x) (inner_head y) piece more rest other (inner_begins x piece h) (inner_begins y more k) e (λ b one two. omega arith))
+    let one = joined_same {x = 0x60} {y = 0x60} byte_is_unambiguous func_is_unambiguous h k e in
+    record { item = ap inner.Func one.second; after = one.after }
+inner_same x y piece more rest other h k e = absurd (apart (inner_head x) (inner_head y) piece more rest other (inner_begins x piece h)
+    (inner_begins y more k) e (λ b one two. omega arith))
 
 inner_is_unambiguous : IsUnambiguous IsInnerType
 inner_is_unambiguous = record { one = inner_same }
@@ -276,7 +325,8 @@ composite_head false b = (0x5E ≤ b) × (b ≤ 0x60)
 unshared_whole : (t : CompositeInnerType) (piece : List ℕ) → Joined (Is []) (IsInnerType t) piece → IsInnerType t piece
 unshared_whole t piece h = subst (IsInnerType t) (sym (h.whole ∙ ap (λ (bytes : List ℕ). bytes ++ h.second) h.is_first)) h.is_second
 
-shape_begins : (shared : Bool) (t : CompositeInnerType) (piece : List ℕ) → Joined (Is (shared_bytes shared)) (IsInnerType t) piece → Begins (composite_head shared) piece
+shape_begins : (shared : Bool) (t : CompositeInnerType) (piece : List ℕ) → Joined (Is (shared_bytes shared)) (IsInnerType t) piece
+    → Begins (composite_head shared) piece
 shape_begins true t piece h = joined_begins _ _ _ piece (λ first one. byte_begins _ 0x65 first refl one) h
 shape_begins false t piece h = begins_as _ _ piece (inner_within t) (inner_begins t piece (unshared_whole t piece h))
 
@@ -286,18 +336,27 @@ record SameShape (m n : Bool) (x y : CompositeInnerType) (rest other : List ℕ)
   pub inner : x ≡ y
   pub after : rest ≡ other
 
-shape_same : (m n : Bool) (x y : CompositeInnerType) (piece more rest other : List ℕ) → Joined (Is (shared_bytes m)) (IsInnerType x) piece → Joined (Is (shared_bytes n)) (IsInnerType y) more → piece ++ rest ≡ more ++ other → SameShape m n x y rest other
+shape_same : (m n : Bool) (x y : CompositeInnerType) (piece more rest other : List ℕ) → Joined (Is (shared_bytes m)) (IsInnerType x) piece
+    → Joined (Is (shared_bytes n)) (IsInnerType y) more → piece ++ rest ≡ more ++ other → SameShape m n x y rest other
 shape_same true true x y piece more rest other h k e =
-    let one = joined_same {x = 0x65} {y = 0x65} byte_is_unambiguous inner_is_unambiguous h k e in record { shared = refl; inner = one.second; after = one.after }
+    let one = joined_same {x = 0x65} {y = 0x65} byte_is_unambiguous inner_is_unambiguous h k e in
+    record { shared = refl; inner = one.second; after = one.after }
 shape_same false false x y piece more rest other h k e =
-    let one = inner_same x y piece more rest other (unshared_whole x piece h) (unshared_whole y more k) e in record { shared = refl; inner = one.item; after = one.after }
-shape_same m n x y piece more rest other h k e = absurd (apart (composite_head m) (composite_head n) piece more rest other (shape_begins m x piece h) (shape_begins n y more k) e (λ b one two. omega arith))
+    let one = inner_same x y piece more rest other (unshared_whole x piece h) (unshared_whole y more k) e in
+    record { shared = refl; inner = one.item; after = one.after }
+shape_same m n x y piece more rest other h k e =
+    absurd (apart (composite_head m) (composite_head n) piece more rest other (shape_begins m x piece h) (shape_begins n y more k) e
+    (λ b one two. omega arith))
 
 composite_is_unambiguous : IsUnambiguous IsCompositeType
 composite_is_unambiguous = record {
   one = λ x y piece more rest other h k e.
       let one = shape_same x.shared y.shared x.inner y.inner piece more rest other h k e in
-      record { item = ap (λ (t : CompositeInnerType). record { inner = t; shared = x.shared }) one.inner ∙ ap (λ (b : Bool). record { inner = y.inner; shared = b }) one.shared; after = one.after };
+      record {
+        item = ap (λ (t : CompositeInnerType). record { inner = t; shared = x.shared }) one.inner
+            ∙ ap (λ (b : Bool). record { inner = y.inner; shared = b }) one.shared;
+        after = one.after;
+      };
 }
 
 composite_within : (shared : Bool) (b : ℕ) → composite_head shared b → (0x5E ≤ b) × (b ≤ 0x65)
@@ -332,20 +391,25 @@ same_sub_type x y a b c =
 
 -- the bytes after the first byte of a type in full
 abbrev IsDeclared : SubType → List ℕ → Type 0
-IsDeclared t = Joined (IsByte (final_byte t.is_final)) (Joined (IsList (IsUnsigned 32) (option_to_list t.supertype)) (IsCompositeType t.composite_type))
+IsDeclared t = Joined (IsByte (final_byte t.is_final)) (Joined (IsList (IsUnsigned 32) (option_to_list t.supertype))
+    (IsCompositeType t.composite_type))
 
 declared_begins : (t : SubType) (piece : List ℕ) → IsDeclared t piece → Begins (λ (b : ℕ). (0x4F ≤ b) × (b ≤ 0x50)) piece
-declared_begins t piece h = joined_begins _ _ _ piece (λ first one. byte_begins _ (final_byte t.is_final) first (final_within t.is_final) one) h
+declared_begins t piece h = joined_begins _ _ _ piece (λ first one. byte_begins _ (final_byte t.is_final) first (final_within t.is_final)
+    one) h
 
-sub_type_same : (x y : SubType) (piece more rest other : List ℕ) → IsSubType x piece → IsSubType y more → piece ++ rest ≡ more ++ other → Same x y rest other
+sub_type_same : (x y : SubType) (piece more rest other : List ℕ) → IsSubType x piece → IsSubType y more → piece ++ rest ≡ more ++ other
+    → Same x y rest other
 sub_type_same x y piece more rest other (IsSubType.full h) (IsSubType.full k) e =
     let one = first_same rest other final_is_unambiguous h k e in
     let two = joined_same (list_is_unambiguous (unsigned_is_unambiguous 32)) composite_is_unambiguous h.is_second k.is_second one.after in
     record { item = same_sub_type x y one.item (same_option x.supertype y.supertype two.first) two.second; after = two.after }
 sub_type_same x y piece more rest other (IsSubType.full h) (IsSubType.short m n k) e =
-    absurd (apart _ _ piece more rest other (declared_begins x piece h) (composite_begins y.composite_type more k) e (λ b one two. omega arith))
+    absurd (apart _ _ piece more rest other (declared_begins x piece h) (composite_begins y.composite_type more k) e
+    (λ b one two. omega arith))
 sub_type_same x y piece more rest other (IsSubType.short m n h) (IsSubType.full k) e =
-    absurd (apart _ _ piece more rest other (composite_begins x.composite_type piece h) (declared_begins y more k) e (λ b one two. omega arith))
+    absurd (apart _ _ piece more rest other (composite_begins x.composite_type piece h) (declared_begins y more k) e
+    (λ b one two. omega arith))
 sub_type_same x y piece more rest other (IsSubType.short m n h) (IsSubType.short p q k) e =
     let one = composite_is_unambiguous.one x.composite_type y.composite_type piece more rest other h k e in
     record { item = same_sub_type x y (m ∙ sym p) (n ∙ sym q) one.item; after = one.after }
@@ -357,12 +421,15 @@ sub_type_begins : (t : SubType) (piece : List ℕ) → IsSubType t piece → Beg
 sub_type_begins t piece (IsSubType.full h) = begins_as _ _ piece (λ b one. omega arith) (declared_begins t piece h)
 sub_type_begins t piece (IsSubType.short m n h) = begins_as _ _ piece (λ b one. omega arith) (composite_begins t.composite_type piece h)
 
-full_group_begins : (group : List SubType) (piece : List ℕ) → Joined (IsByte 0x4E) (IsList IsSubType group) piece → Begins (λ (b : ℕ). b ≡ 0x4E) piece
+full_group_begins : (group : List SubType) (piece : List ℕ) → Joined (IsByte 0x4E) (IsList IsSubType group) piece
+    → Begins (λ (b : ℕ). b ≡ 0x4E) piece
 full_group_begins group piece h = joined_begins _ _ _ piece (λ first one. byte_begins _ 0x4E first refl one) h
 
-group_same : (x y : List SubType) (piece more rest other : List ℕ) → IsRecGroup x piece → IsRecGroup y more → piece ++ rest ≡ more ++ other → Same x y rest other
+group_same : (x y : List SubType) (piece more rest other : List ℕ) → IsRecGroup x piece → IsRecGroup y more → piece ++ rest ≡ more ++ other
+    → Same x y rest other
 group_same x y piece more rest other (IsRecGroup.full h) (IsRecGroup.full k) e =
-    let one = joined_same {x = 0x4E} {y = 0x4E} byte_is_unambiguous (list_is_unambiguous sub_type_is_unambiguous) h k e in record { item = one.second; after = one.after }
+    let one = joined_same {x = 0x4E} {y = 0x4E} byte_is_unambiguous (list_is_unambiguous sub_type_is_unambiguous) h k e in
+    record { item = one.second; after = one.after }
 group_same x y piece more rest other (IsRecGroup.full h) (IsRecGroup.short t m k) e =
     absurd (apart _ _ piece more rest other (full_group_begins x piece h) (sub_type_begins t more k) e (λ b one two. omega arith))
 group_same x y piece more rest other (IsRecGroup.short t m h) (IsRecGroup.full k) e =

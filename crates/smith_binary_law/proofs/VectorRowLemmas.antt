@@ -1,7 +1,10 @@
 -- The table of the numbers of vector instructions.
 use Rattle.std.proofs.Common.{ℕ, List, [], ◌∷◌, ◌++◌}
 use Rattle.smith_binary_instr.specs.Memory.{vector_load_number}
-use Rattle.smith_binary_instr.specs.VectorNumbers.{vector_unary_number, vector_float_unary_number, vector_binary_number, vector_float_binary_number, all_true_number, bitmask_number, shift_number, splat_number, extract_number, replace_number, relaxed_float_unary_number, relaxed_binary_number, relaxed_float_binary_number, relaxed_ternary_number, relaxed_float_ternary_number}
+use Rattle.smith_binary_instr.specs.VectorNumbers.{vector_unary_number, vector_float_unary_number, vector_binary_number}
+use Rattle.smith_binary_instr.specs.VectorNumbers.{vector_float_binary_number, all_true_number, bitmask_number, shift_number, splat_number}
+use Rattle.smith_binary_instr.specs.VectorNumbers.{extract_number, replace_number, relaxed_float_unary_number, relaxed_binary_number}
+use Rattle.smith_binary_instr.specs.VectorNumbers.{relaxed_float_binary_number, relaxed_ternary_number, relaxed_float_ternary_number}
 use Rattle.smith_binary_law.proofs.RowLemmas.{rows_of}
 use Rattle.smith_binary_law.proofs.ShapeLemmas.{Shape}
 use Rattle.smith_binary_law.proofs.ShapeLemmas.{Shape as form}
@@ -139,19 +142,24 @@ operator_rows =
     ++ rows_of all_true_number (λ (op : IntShape). form.plain (instr.Vector (vector.AllTrue op))) int_shapes
     ++ rows_of bitmask_number (λ (op : IntShape). form.plain (instr.Vector (vector.Bitmask op))) int_shapes
     ++ rows_of splat_number (λ (op : LaneShape). form.plain (instr.Vector (vector.Splat op))) shapes
-    ++ rows_of relaxed_float_unary_number (λ (op : RelaxedFloatUnary). form.plain (instr.Vector (vector.RelaxedFloatUnary op))) relaxed_float_unaries
+    ++ rows_of relaxed_float_unary_number (λ (op : RelaxedFloatUnary). form.plain (instr.Vector (vector.RelaxedFloatUnary op)))
+    relaxed_float_unaries
     ++ rows_of relaxed_binary_number (λ (op : RelaxedBinary). form.plain (instr.Vector (vector.RelaxedBinary op))) relaxed_binaries
-    ++ rows_of relaxed_float_binary_number (λ (op : RelaxedFloatBinary). form.plain (instr.Vector (vector.RelaxedFloatBinary op))) relaxed_float_binaries
+    ++ rows_of relaxed_float_binary_number (λ (op : RelaxedFloatBinary). form.plain (instr.Vector (vector.RelaxedFloatBinary op)))
+    relaxed_float_binaries
     ++ rows_of relaxed_ternary_number (λ (op : RelaxedTernary). form.plain (instr.Vector (vector.RelaxedTernary op))) relaxed_ternaries
-    ++ rows_of relaxed_float_ternary_number (λ (op : RelaxedFloatTernary). form.plain (instr.Vector (vector.RelaxedFloatTernary op))) relaxed_float_ternaries
+    ++ rows_of relaxed_float_ternary_number (λ (op : RelaxedFloatTernary). form.plain (instr.Vector (vector.RelaxedFloatTernary op)))
+    relaxed_float_ternaries
 
 abbrev shifts_of : VectorShift → List (ℕ × Shape)
 shifts_of op = rows_of (shift_number op) (λ (lanes : IntShape). form.plain (instr.Vector (vector.Shift op lanes))) int_shapes
 
 abbrev lane_rows : List (ℕ × Shape)
 lane_rows =
-    (84, form.lane_access (instr.VectorLoadLane 0)) ∷ (85, form.lane_access (instr.VectorLoadLane 1)) ∷ (86, form.lane_access (instr.VectorLoadLane 2))
-    ∷ (87, form.lane_access (instr.VectorLoadLane 3)) ∷ (88, form.lane_access (instr.VectorStoreLane 0)) ∷ (89, form.lane_access (instr.VectorStoreLane 1))
+    (84, form.lane_access (instr.VectorLoadLane 0)) ∷ (85, form.lane_access (instr.VectorLoadLane 1)) ∷
+    (86, form.lane_access (instr.VectorLoadLane 2))
+    ∷ (87, form.lane_access (instr.VectorLoadLane 3)) ∷ (88, form.lane_access (instr.VectorStoreLane 0)) ∷
+    (89, form.lane_access (instr.VectorStoreLane 1))
     ∷ (90, form.lane_access (instr.VectorStoreLane 2)) ∷ (91, form.lane_access (instr.VectorStoreLane 3)) ∷ []
     ++ rows_of extract_number (λ (op : LaneExtract). form.lane (λ at. instr.Vector (vector.ExtractLane op at))) extracts
     ++ rows_of replace_number (λ (lanes : LaneShape). form.lane (λ at. instr.Vector (vector.ReplaceLane lanes at))) shapes

@@ -24,7 +24,8 @@ IsOne = Joined (IsByte 0x41) (IsSigned 32 (pos 1))
 -- `i32.sub`, `global.set`
 abbrev pub IsCheck : ℕ → List ℕ → Type 0
 IsCheck counter =
-    Joined (IsGlobalGet counter) (Joined (IsByte 0x45) (Joined IsTrapIf (Joined (IsGlobalGet counter) (Joined IsOne (Joined (IsByte 0x6B) (IsGlobalSet counter))))))
+    Joined (IsGlobalGet counter)
+    (Joined (IsByte 0x45) (Joined IsTrapIf (Joined (IsGlobalGet counter) (Joined IsOne (Joined (IsByte 0x6B) (IsGlobalSet counter))))))
 
 -- the checks of counters, the last one first
 abbrev pub IsChecks : List ℕ → List ℕ → Type 0

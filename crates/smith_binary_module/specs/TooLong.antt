@@ -9,7 +9,8 @@ use Rattle.smith_binary_sections.specs.Exports.{IsExport}
 use Rattle.smith_binary_sections.specs.Elements.{IsElem}
 use Rattle.smith_binary_sections.specs.Codes.{IsBodyWritten}
 use Rattle.smith_binary_sections.specs.Data.{IsData}
-use Rattle.smith_binary_sections.specs.Long.{IsLongSection, IsNeverLong, IsLongGroup, IsLongImportGroup, IsLongExport, IsLongElem, IsLongBody, IsLongData}
+use Rattle.smith_binary_sections.specs.Long.{IsLongSection, IsNeverLong, IsLongGroup, IsLongImportGroup, IsLongExport, IsLongElem}
+use Rattle.smith_binary_sections.specs.Long.{IsLongBody, IsLongData}
 use Rattle.smith_binary_module.specs.Contents.{contents_of}
 
 -- a section is too long: a list in it has 2^32 items or more, or it or a body of it has a spelling

@@ -26,8 +26,10 @@ abbrev pub IsFrontIn : Spelling → ModuleParts → List ℕ → Type 0
 IsFrontIn spelling m =
     Joined (IsSectionIfIn spelling (writes_types m) 1 (IsListIn spelling (IsRecGroupWrittenIn spelling) (contents_of m).types))
     (Joined (IsSectionIfIn spelling (writes_imports m) 2 (IsListIn spelling (IsImportGroupIn spelling) m.imports))
-    (Joined (IsSectionIfIn spelling (is_filled (defined m.num_defined_funcs m.funcs)) 3 (IsListIn spelling (IsIndexIn spelling) (contents_of m).functions))
-    (IsSectionIfIn spelling (is_filled m.defined_tables) 4 (IsListIn spelling (IsTableWrittenIn spelling) (zip (defined (length m.defined_tables) m.tables) m.defined_tables)))))
+    (Joined (IsSectionIfIn spelling (is_filled (defined m.num_defined_funcs m.funcs)) 3
+    (IsListIn spelling (IsIndexIn spelling) (contents_of m).functions))
+    (IsSectionIfIn spelling (is_filled m.defined_tables) 4
+    (IsListIn spelling (IsTableWrittenIn spelling) (zip (defined (length m.defined_tables) m.tables) m.defined_tables)))))
 
 abbrev pub IsFront : ModuleParts → List ℕ → Type 0
 IsFront = IsFrontIn any
@@ -35,9 +37,12 @@ IsFront = IsFrontIn any
 -- the sections up to the export section
 abbrev pub IsMiddleIn : Spelling → ModuleParts → List ℕ → Type 0
 IsMiddleIn spelling m =
-    Joined (IsSectionIfIn spelling (is_filled (defined m.num_defined_memories m.memories)) 5 (IsListIn spelling (IsMemoryTypeIn spelling) (contents_of m).memories))
-    (Joined (IsSectionIfIn spelling (is_filled (defined m.num_defined_tags m.tags)) 13 (IsListIn spelling (IsTagTypeIn spelling) (contents_of m).tags))
-    (Joined (IsSectionIfIn spelling (is_filled m.defined_globals) 6 (IsListIn spelling (IsGlobalIn spelling) (contents_of m).globals)) (IsSectionIfIn spelling (is_filled m.exports) 7 (IsListIn spelling (IsExportIn spelling) m.exports))))
+    Joined (IsSectionIfIn spelling (is_filled (defined m.num_defined_memories m.memories)) 5
+    (IsListIn spelling (IsMemoryTypeIn spelling) (contents_of m).memories))
+    (Joined (IsSectionIfIn spelling (is_filled (defined m.num_defined_tags m.tags)) 13
+    (IsListIn spelling (IsTagTypeIn spelling) (contents_of m).tags))
+    (Joined (IsSectionIfIn spelling (is_filled m.defined_globals) 6 (IsListIn spelling (IsGlobalIn spelling) (contents_of m).globals))
+    (IsSectionIfIn spelling (is_filled m.exports) 7 (IsListIn spelling (IsExportIn spelling) m.exports))))
 
 abbrev pub IsMiddle : ModuleParts → List ℕ → Type 0
 IsMiddle = IsMiddleIn any
@@ -48,14 +53,16 @@ IsBackIn spelling m Bodies =
     Joined (IsStartSectionIn spelling m.start)
     (Joined (IsSectionIfIn spelling (is_filled m.elems) 9 (IsListIn spelling (IsElemWrittenIn spelling) m.elems))
     (Joined (IsSectionIfIn spelling (writes_data_count m) 12 (IsUnsignedIn spelling 32 (length m.datas)))
-    (Joined (IsSectionIfIn spelling (is_filled m.code) 10 Bodies) (IsSectionIfIn spelling (is_filled m.datas) 11 (IsListIn spelling (IsDataWrittenIn spelling) m.datas)))))
+    (Joined (IsSectionIfIn spelling (is_filled m.code) 10 Bodies)
+    (IsSectionIfIn spelling (is_filled m.datas) 11 (IsListIn spelling (IsDataWrittenIn spelling) m.datas)))))
 
 abbrev pub IsBack : ModuleParts → (List ℕ → Type 0) → List ℕ → Type 0
 IsBack = IsBackIn any
 
 -- a module as it is written, if this spells the content of the code section
 abbrev pub IsWrittenIn : Spelling → ModuleParts → (List ℕ → Type 0) → List ℕ → Type 0
-IsWrittenIn spelling m Bodies = Joined IsPreamble (Joined (IsFrontIn spelling m) (Joined (IsMiddleIn spelling m) (IsBackIn spelling m Bodies)))
+IsWrittenIn spelling m Bodies =
+    Joined IsPreamble (Joined (IsFrontIn spelling m) (Joined (IsMiddleIn spelling m) (IsBackIn spelling m Bodies)))
 
 abbrev pub IsWritten : ModuleParts → (List ℕ → Type 0) → List ℕ → Type 0
 IsWritten = IsWrittenIn any

@@ -8,11 +8,13 @@ use Rattle.smith_syntax.specs.declared.code.Code.{Code}
 use Rattle.smith_program.specs.declared.program.Body.{Body}
 
 -- a place of both lists
-pub inside : (codes : List Code) (bodies : List Body) (place : ℕ) → place < min (length codes) (length bodies) → place < length (zip codes bodies)
+pub inside : (codes : List Code) (bodies : List Body) (place : ℕ) → place < min (length codes) (length bodies)
+    → place < length (zip codes bodies)
 inside codes bodies place within = rw (length-zip codes bodies) within
 
 -- the function and the body at a place
-pub pair_at : (codes : List Code) (bodies : List Body) (place : ℕ) (code : Code) (given : Body) → place < min (length codes) (length bodies) → code ≡ get_or codes place code → given ≡ get_or bodies place given
+pub pair_at : (codes : List Code) (bodies : List Body) (place : ℕ) (code : Code) (given : Body) → place < min (length codes) (length bodies)
+    → code ≡ get_or codes place code → given ≡ get_or bodies place given
     → (code, given) ≡ get_or (zip codes bodies) place (code, given)
 pair_at codes bodies place code given within is also =
     let here : place < length codes = omega (arith, min-le_left (length codes) (length bodies)) in
@@ -20,6 +22,8 @@ pair_at codes bodies place code given within is also =
     rw (get_or-zip codes bodies place (code, given) here there, ← is, ← also)
 
 -- some body is too long
-pub long_at : (P : Code × Body → Type 0) (codes : List Code) (bodies : List Body) (place : ℕ) (code : Code) (given : Body) → place < min (length codes) (length bodies) → code ≡ get_or codes place code → given ≡ get_or bodies place given
+pub long_at : (P : Code × Body → Type 0) (codes : List Code) (bodies : List Body) (place : ℕ) (code : Code) (given : Body)
+    → place < min (length codes) (length bodies) → code ≡ get_or codes place code → given ≡ get_or bodies place given
     → P (code, given) → Any P (zip codes bodies)
-long_at P codes bodies place code given within is also long = (place, (code, given), inside codes bodies place within, sym (pair_at codes bodies place code given within is also), long)
+long_at P codes bodies place code given within is also long =
+    (place, (code, given), inside codes bodies place within, sym (pair_at codes bodies place code given within is also), long)

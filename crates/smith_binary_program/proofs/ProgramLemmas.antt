@@ -32,7 +32,8 @@ none_expressed : (counters : List ℕ) (bodies : List Body) → Expressions coun
 none_expressed counters bodies = record { bytes = []; each = tt; many = refl }
 
 -- an expression as it is written is one of the grammar
-expression_is : (counters : List ℕ) (code : Code) (given : Body) (piece : List ℕ) → IsExpressionWritten counters code given piece → IsExpressionOf counters code given piece
+expression_is : (counters : List ℕ) (code : Code) (given : Body) (piece : List ℕ) → IsExpressionWritten counters code given piece
+    → IsExpressionOf counters code given piece
 expression_is counters code (body.Drawn instructions) piece h = expr_is any (counted counters instructions) piece h
 expression_is counters code body.Raw piece h = h
 
@@ -41,7 +42,8 @@ record AreRead (counters : List ℕ) (codes : List Code) (bodies : List Body) (p
   pub expressions : Expressions counters codes bodies
   pub spelled : Each IsBody (with_expressions codes expressions.bytes) piece
 
-each_read : (counters : List ℕ) (codes : List Code) (bodies : List Body) (piece : List ℕ) → Each (IsBodyOf counters) (zip codes bodies) piece → AreRead counters codes bodies piece
+each_read : (counters : List ℕ) (codes : List Code) (bodies : List Body) (piece : List ℕ)
+    → Each (IsBodyOf counters) (zip codes bodies) piece → AreRead counters codes bodies piece
 unfolding Each
 each_read counters [] bodies piece h = record { expressions = none_expressed counters bodies; spelled = h }
 each_read counters (code ∷ codes) [] piece h = record { expressions = record { bytes = []; each = tt; many = refl }; spelled = h }
@@ -59,7 +61,14 @@ each_read counters (code ∷ codes) (given ∷ bodies) piece h =
         second = h.second;
         is_first = record {
           content = h.is_first.content;
-          is_content = record { first = content.first; second = content.second; is_first = locals_spelled code.locals content.first content.is_first; is_second = refl; whole = content.whole };
+          is_content = record {
+            first = content.first;
+            second = content.second;
+            is_first = locals_spelled code.locals content.first
+                content.is_first;
+            is_second = refl;
+            whole = content.whole;
+          };
           form = h.is_first.form;
         };
         is_second = rest.spelled;
@@ -68,7 +77,8 @@ each_read counters (code ∷ codes) (given ∷ bodies) piece h =
     }
 
 -- the code section of a program is that of a module with its expressions
-code_read : (is_written : Bool) (counters : List ℕ) (codes : List Code) (bodies : List Body) → (is_written ≡ false → codes ≡ []) → (piece : List ℕ) → IsSectionIf is_written 10 (AreBodiesOf counters codes bodies) piece
+code_read : (is_written : Bool) (counters : List ℕ) (codes : List Code) (bodies : List Body) → (is_written ≡ false → codes ≡ [])
+    → (piece : List ℕ) → IsSectionIf is_written 10 (AreBodiesOf counters codes bodies) piece
     → (x : Expressions counters codes bodies) × IsListSection 10 IsBody (with_expressions codes x.bytes) piece
 code_read true counters codes bodies nothing piece h =
     let list = h.is_second.is_content in
@@ -80,30 +90,44 @@ code_read true counters codes bodies nothing piece h =
         is_first = h.is_first;
         is_second = record {
           content = h.is_second.content;
-          is_content = record { first = list.first; second = list.second; is_first = subst (λ (n : ℕ). IsUnsigned 32 n list.first) (sym rest.expressions.many) list.is_first; is_second = rest.spelled; whole = list.whole };
+          is_content = record {
+            first = list.first;
+            second = list.second;
+            is_first = subst (λ (n : ℕ). IsUnsigned 32 n list.first)
+                (sym rest.expressions.many) list.is_first;
+            is_second = rest.spelled;
+            whole = list.whole;
+          };
           form = h.is_second.form;
         };
         whole = h.whole;
       }),
     )
 code_read false counters codes bodies nothing piece h =
-    subst (λ (codes : List Code). (x : Expressions counters codes bodies) × IsListSection 10 IsBody (with_expressions codes x.bytes) piece) (sym (nothing refl))
+    subst (λ (codes : List Code). (x : Expressions counters codes bodies) × IsListSection 10 IsBody (with_expressions codes x.bytes) piece)
+    (sym (nothing refl))
     (none_expressed counters bodies, IsOptionalSection.absent refl h)
 
 -- a piece, then another of some kind
-after_some : {X : Type 0} {First Other : List ℕ → Type 0} {Second : X → List ℕ → Type 0} → ((piece : List ℕ) → Other piece → (x : X) × Second x piece) → (piece : List ℕ) → Joined First Other piece
+after_some : {X : Type 0} {First Other : List ℕ → Type 0} {Second : X → List ℕ → Type 0}
+    → ((piece : List ℕ) → Other piece → (x : X) × Second x piece) → (piece : List ℕ) → Joined First Other piece
     → (x : X) × Joined First (Second x) piece
 after_some some piece h =
     let (x, is) = some h.second h.is_second in
     (x, record { first = h.first; second = h.second; is_first = h.is_first; is_second = is; whole = h.whole })
 
 -- a module whose code section is one of some kind
-around_some : {X : Type 0} (m : Contents) (Code : List ℕ → Type 0) (Some : X → List ℕ → Type 0) → ((piece : List ℕ) → Code piece → (x : X) × Some x piece) → (piece : List ℕ) → IsModuleAround m Code piece
+around_some : {X : Type 0} (m : Contents) (Code : List ℕ → Type 0) (Some : X → List ℕ → Type 0)
+    → ((piece : List ℕ) → Code piece → (x : X) × Some x piece) → (piece : List ℕ) → IsModuleAround m Code piece
     → (x : X) × IsModuleAround m (Some x) piece
 around_some {X = X} m Code Some some piece h =
-    let last : (p : List ℕ) → Joined Code (IsListSection 11 IsData m.datas) p → (x : X) × Joined (Some x) (IsListSection 11 IsData m.datas) p =
-    λ p code. let (x, is) = some code.first code.is_first in (x, record { first = code.first; second = code.second; is_first = is; is_second = code.is_second; whole = code.whole }) in
-    after_some (after_some (after_some (after_some (after_some (after_some (after_some (after_some (after_some (after_some (after_some (after_some last))))))))))) piece h
+    let last : (p : List ℕ) → Joined Code (IsListSection 11 IsData m.datas) p → (x : X) × Joined (Some x) (IsListSection 11 IsData m.datas)
+    p =
+    λ p code. let (x, is) = some code.first code.is_first in
+    (x, record { first = code.first; second = code.second; is_first = is; is_second = code.is_second; whole = code.whole }) in
+    after_some (after_some
+    (after_some (after_some
+    (after_some (after_some (after_some (after_some (after_some (after_some (after_some (after_some last))))))))))) piece h
 
 -- as many pairs as items, if there is a second item for each
 zipped_count : {A B : Type 0} (xs : List A) (ys : List B) → length ys ≡ length xs → length (zip xs ys) ≡ length xs
@@ -116,7 +140,8 @@ pub program_is : (m : ModuleParts) (bodies : List Body) → HasBodies m.num_defi
     → (piece : List ℕ) → IsModuleAround (contents_of m) (IsSectionIf (is_filled m.code) 10 (AreBodiesOf m.fuel_globals m.code bodies)) piece
     → IsProgramBinary m bodies piece
 program_is m bodies each same piece h =
-    let (x, is) = around_some (contents_of m) (IsSectionIf (is_filled m.code) 10 (AreBodiesOf m.fuel_globals m.code bodies)) (λ (x : Expressions m.fuel_globals m.code bodies). IsListSection 10 IsBody (with_expressions m.code x.bytes))
+    let (x, is) = around_some (contents_of m) (IsSectionIf (is_filled m.code) 10 (AreBodiesOf m.fuel_globals m.code bodies))
+    (λ (x : Expressions m.fuel_globals m.code bodies). IsListSection 10 IsBody (with_expressions m.code x.bytes))
     (code_read (is_filled m.code) m.fuel_globals m.code bodies (not_filled m.code)) piece h in
     record {
       expressions = x.bytes;

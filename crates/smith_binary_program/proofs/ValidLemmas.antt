@@ -23,7 +23,8 @@ after_section written id rest there = Contains-append_right (id_if written id) r
 
 count_written : (m : ModuleParts) → CountsData m → Contains (section_ids m) 12
 count_written m counts =
-    let written : writes_data_count m ≡ true = and_from m.config.bulk_memory_enabled (is_filled m.datas) counts.bulk_memory (lt-ltb 0 (length m.datas) counts.some) in
+    let written : writes_data_count m ≡ true = and_from m.config.bulk_memory_enabled (is_filled m.datas) counts.bulk_memory
+    (lt-ltb 0 (length m.datas) counts.some) in
     after_section (writes_types m) 1 _
     (after_section (writes_imports m) 2 _
     (after_section (is_filled (defined m.num_defined_funcs m.funcs)) 3 _
@@ -34,9 +35,11 @@ count_written m counts =
     (after_section (is_filled m.exports) 7 _
     (after_section (is_some m.start) 8 _
     (after_section (is_filled m.elems) 9 _
-    (Contains-append_left (id_if (writes_data_count m) 12) (id_if (is_filled m.code) 10 ++ id_if (is_filled m.datas) 11) 12 (count_there (writes_data_count m) written)))))))))))
+    (Contains-append_left (id_if (writes_data_count m) 12) (id_if (is_filled m.code) 10 ++ id_if (is_filled m.datas) 11) 12
+    (count_there (writes_data_count m) written)))))))))))
 
-pub encoded_valid : (m : ModuleParts) (bodies : List Body) (bytes : List ℕ) → IsEncoded m bodies bytes → IsValidProgram m bodies → IsValidBinary bytes
+pub encoded_valid : (m : ModuleParts) (bodies : List Body) (bytes : List ℕ) → IsEncoded m bodies bytes → IsValidProgram m bodies
+    → IsValidBinary bytes
 encoded_valid m bodies bytes encoded valid = record {
   m = m;
   bodies = bodies;

@@ -20,7 +20,8 @@ IsExpressionOf counters code body.Raw piece = Is (body_bytes counters code.instr
 
 -- that expression as it is written, where no access names the first memory (own rule)
 abbrev pub IsExpressionWrittenIn : Spelling → List ℕ → Code → Body → List ℕ → Type 0
-IsExpressionWrittenIn spelling counters code (body.Drawn instructions) piece = IsExprWrittenIn spelling (counted counters instructions) piece
+IsExpressionWrittenIn spelling counters code (body.Drawn instructions) piece = IsExprWrittenIn spelling (counted counters instructions)
+    piece
 IsExpressionWrittenIn spelling counters code body.Raw piece = Is (body_bytes counters code.instructions) piece
 
 abbrev pub IsExpressionWritten : List ℕ → Code → Body → List ℕ → Type 0
@@ -29,7 +30,8 @@ IsExpressionWritten = IsExpressionWrittenIn any
 -- a body as it is written (Code Section): the number of its bytes, then its locals, each as a run
 -- of its own (own rule), and its expression
 abbrev pub IsBodyOfIn : Spelling → List ℕ → Code × Body → List ℕ → Type 0
-IsBodyOfIn spelling counters given = IsSizedIn spelling (Joined (IsLocalsWrittenIn spelling given.0.locals) (IsExpressionWrittenIn spelling counters given.0 given.1))
+IsBodyOfIn spelling counters given =
+    IsSizedIn spelling (Joined (IsLocalsWrittenIn spelling given.0.locals) (IsExpressionWrittenIn spelling counters given.0 given.1))
 
 abbrev pub IsBodyOf : List ℕ → Code × Body → List ℕ → Type 0
 IsBodyOf = IsBodyOfIn any

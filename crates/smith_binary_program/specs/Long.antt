@@ -32,4 +32,5 @@ AreLongBodies counters codes bodies = IsLongList (IsLongBodyOf counters) (zip co
 
 -- the module is too long, or its bodies are
 abbrev pub IsLongProgram : ModuleParts → List Body → Type 0
-IsLongProgram m bodies = IsTooLong m ⊎ (AreLongBodies m.fuel_globals m.code bodies ⊎ IsLongContent (AreBodiesOf m.fuel_globals m.code bodies))
+IsLongProgram m bodies =
+    IsTooLong m ⊎ (AreLongBodies m.fuel_globals m.code bodies ⊎ IsLongContent (AreBodiesOf m.fuel_globals m.code bodies))

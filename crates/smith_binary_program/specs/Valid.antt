@@ -49,8 +49,10 @@ pub record IsValidBinary (bytes : List ℕ) : Type 0 where
 -- bytes are at most one program
 abbrev pub ProgramsAreUnambiguous : Type 0
 ProgramsAreUnambiguous =
-    (m n : ModuleParts) (bodies others : List Body) (bytes : List ℕ) → IsProgramBinary m bodies bytes → IsProgramBinary n others bytes → IsSameProgram m n bodies others
+    (m n : ModuleParts) (bodies others : List Body) (bytes : List ℕ) → IsProgramBinary m bodies bytes → IsProgramBinary n others bytes
+    → IsSameProgram m n bodies others
 
 -- the bytes that are written for a valid program are a valid program
 abbrev pub EncodedProgramsAreValid : Type 0
-EncodedProgramsAreValid = (m : ModuleParts) (bodies : List Body) (bytes : List ℕ) → IsEncoded m bodies bytes → IsValidProgram m bodies → IsValidBinary bytes
+EncodedProgramsAreValid = (m : ModuleParts) (bodies : List Body) (bytes : List ℕ) → IsEncoded m bodies bytes → IsValidProgram m bodies
+    → IsValidBinary bytes

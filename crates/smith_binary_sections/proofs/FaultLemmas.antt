@@ -20,5 +20,6 @@ fault_weaker (Ok u) weaker h = tt
 fault_weaker (Err e) weaker h = fault_as e weaker h
 
 -- a content that was written by itself is too long
-pub long_content : {Content : Spelling → List ℕ → Type 0} {empty inner : Output} (least : ℕ) → empty ≡ record { bytes = []; least = least } → Writes Content empty inner → 2 ^ 32 ≤ length inner.bytes → IsLongContent (Content any)
+pub long_content : {Content : Spelling → List ℕ → Type 0} {empty inner : Output} (least : ℕ) → empty ≡ record { bytes = []; least = least }
+    → Writes Content empty inner → 2 ^ 32 ≤ length inner.bytes → IsLongContent (Content any)
 long_content {inner = inner} least is one long = record { piece = inner.bytes; spelled = (content_whole least is one).0; long = long }

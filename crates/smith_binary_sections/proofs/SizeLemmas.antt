@@ -1,5 +1,6 @@
 -- The most bytes that spellings have.
-use Rattle.std.proofs.Common.{◌≡◌, ℕ, ◌+◌, ◌-◌, ◌*◌, ◌^◌, ◌<◌, ◌≤◌, inl, inr, List, [], ◌∷◌, ◌++◌, length, sym, subst, ap, arith, length-append}
+use Rattle.std.proofs.Common.{◌≡◌, ℕ, ◌+◌, ◌-◌, ◌*◌, ◌^◌, ◌<◌, ◌≤◌, inl, inr, List, [], ◌∷◌, ◌++◌, length, sym, subst, ap, arith}
+use Rattle.std.proofs.Common.{length-append}
 use Rattle.std.proofs.lemmas.List.Elements.{All-from_recursion}
 use Rattle.smith_binary.specs.Numbers.{IsUnsigned}
 use Rattle.smith_binary.specs.Pieces.{Is, Joined, Each, IsList, IsSized}
@@ -42,7 +43,8 @@ one_within Item x n few = joined_within 5 (n + 0) (number_within 1) (joined_with
 pub sized_within : {Content : List ℕ → Type 0} (n : ℕ) → AtMost n Content → AtMost (5 + n) (IsSized Content)
 sized_within n few piece h =
     let content : length h.content ≤ n = few h.content h.is_content in
-    let form : length piece ≤ 5 + length h.content = joined_within 5 (length h.content) (number_within (length h.content)) (bytes_within h.content) piece h.form in
+    let form : length piece ≤ 5 + length h.content = joined_within 5 (length h.content) (number_within (length h.content))
+    (bytes_within h.content) piece h.form in
     omega (arith, content, form)
 
 -- a content of few bytes is not too long
@@ -56,12 +58,14 @@ no_long_items IsLong (inr some) = omega (arith, some.2)
 
 pub one_long_item : {A : Type 0} (IsLong : A → Type 0) (x : A) → (IsLong x → ⊥) → IsLongList IsLong (x ∷ []) → ⊥
 one_long_item IsLong x short (inl many) = omega (arith, many)
-one_long_item IsLong x short (inr (k, y, inside, is, long)) = All-from_recursion (λ z. IsLong z → ⊥) (x ∷ []) (short, tt) k y inside (subst IsLong (sym is) long)
+one_long_item IsLong x short (inr (k, y, inside, is, long)) = All-from_recursion (λ z. IsLong z → ⊥) (x ∷ []) (short, tt) k y inside
+    (subst IsLong (sym is) long)
 
 pub no_long_section : {A : Type 0} (Item : A → List ℕ → Type 0) (IsLong : A → Type 0) → IsLongSection Item IsLong [] → ⊥
 no_long_section Item IsLong (inl long) = no_long_items IsLong long
 no_long_section Item IsLong (inr long) = not_long 5 (omega arith) (none_within Item) long
 
-pub one_long_section : {A : Type 0} (Item : A → List ℕ → Type 0) (IsLong : A → Type 0) (x : A) (n : ℕ) → n < 2 ^ 31 → AtMost n (Item x) → (IsLong x → ⊥) → IsLongSection Item IsLong (x ∷ []) → ⊥
+pub one_long_section : {A : Type 0} (Item : A → List ℕ → Type 0) (IsLong : A → Type 0) (x : A) (n : ℕ) → n < 2 ^ 31 → AtMost n (Item x)
+    → (IsLong x → ⊥) → IsLongSection Item IsLong (x ∷ []) → ⊥
 one_long_section Item IsLong x n low few short (inl long) = one_long_item IsLong x short long
 one_long_section Item IsLong x n low few short (inr long) = not_long (5 + (n + 0)) (omega (arith, low)) (one_within Item x n few) long

@@ -45,9 +45,11 @@ elem_spelled segment piece h = record { form = elem_form segment.items segment.t
 pub data_spelled : (segment : DataSegment) (piece : List ℕ) → IsDataWritten segment piece → IsData (data_of segment) piece
 data_spelled segment piece h = record { form = data_form segment.kind; spelled = h }
 
-spelled_as : (ty : TableType) (initial : Option (List ConstInstr)) (piece : List ℕ) → IsTableAs ty initial piece → IsTable (initialised_table (ty, initial)) piece
+spelled_as : (ty : TableType) (initial : Option (List ConstInstr)) (piece : List ℕ) → IsTableAs ty initial piece
+    → IsTable (initialised_table (ty, initial)) piece
 spelled_as ty None piece h = IsTable.null refl h
 spelled_as ty (Some expression) piece h = IsTable.initialised h
 
-pub table_spelled : (table : TableType × Option (List ConstInstr)) (piece : List ℕ) → IsTableWritten table piece → IsTable (initialised_table table) piece
+pub table_spelled : (table : TableType × Option (List ConstInstr)) (piece : List ℕ) → IsTableWritten table piece
+    → IsTable (initialised_table table) piece
 table_spelled table piece h = spelled_as table.0 table.1 piece h

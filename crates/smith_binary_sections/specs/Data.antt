@@ -34,7 +34,8 @@ data_number named_memory = 2
 -- a segment in a form, after the number of the form (Data Section)
 abbrev pub IsInDataFormIn : Spelling → DataForm → Data → List ℕ → Type 0
 IsInDataFormIn spelling first_memory d piece =
-    (offset : List ConstInstr) × (d.mode ≡ active 0 offset) × Joined (IsExpressionIn spelling offset) (IsListIn spelling IsByte d.bytes) piece
+    (offset : List ConstInstr) × (d.mode ≡ active 0 offset) × Joined (IsExpressionIn spelling offset) (IsListIn spelling IsByte d.bytes)
+    piece
 IsInDataFormIn spelling no_memory d piece = (d.mode ≡ passive) × IsListIn spelling IsByte d.bytes piece
 IsInDataFormIn spelling named_memory d piece =
     (memory : ℕ) × (offset : List ConstInstr) × (d.mode ≡ active memory offset)

@@ -18,7 +18,8 @@ null_of reference = RefNull reference.heap_type ∷ []
 
 -- two bytes, the type of a table and the expression of its elements (Table Section)
 abbrev pub IsInitialisedTableIn : Spelling → TableType → List ConstInstr → List ℕ → Type 0
-IsInitialisedTableIn spelling ty initial = Joined (Is (0x40 ∷ 0x00 ∷ [])) (Joined (IsTableTypeIn spelling ty) (IsExpressionIn spelling initial))
+IsInitialisedTableIn spelling ty initial =
+    Joined (Is (0x40 ∷ 0x00 ∷ [])) (Joined (IsTableTypeIn spelling ty) (IsExpressionIn spelling initial))
 
 abbrev pub IsInitialisedTable : TableType → List ConstInstr → List ℕ → Type 0
 IsInitialisedTable = IsInitialisedTableIn any

@@ -82,14 +82,26 @@ IsKindFuncs = IsKindFuncsIn any
 
 -- a segment in a form, after the number of the form (Element Section)
 abbrev pub IsInFormIn : Spelling → Form → Elem → List ℕ → Type 0
-IsInFormIn spelling first_funcs e piece = (offset : List ConstInstr) × (funcs : List ℕ) × (e ≡ record { ty = func_ref false; items = func_items funcs; mode = active 0 offset }) × Joined (IsExpressionIn spelling offset) (IsFuncsIn spelling funcs) piece
-IsInFormIn spelling passive_funcs e piece = (funcs : List ℕ) × (e ≡ record { ty = func_ref false; items = func_items funcs; mode = passive }) × IsKindFuncsIn spelling funcs piece
-IsInFormIn spelling table_funcs e piece = (table : ℕ) × (offset : List ConstInstr) × (funcs : List ℕ) × (e ≡ record { ty = func_ref false; items = func_items funcs; mode = active table offset }) × Joined (IsIndexIn spelling table) (Joined (IsExpressionIn spelling offset) (IsKindFuncsIn spelling funcs)) piece
-IsInFormIn spelling declared_funcs e piece = (funcs : List ℕ) × (e ≡ record { ty = func_ref false; items = func_items funcs; mode = declared }) × IsKindFuncsIn spelling funcs piece
-IsInFormIn spelling first_items e piece = (offset : List ConstInstr) × (items : List (List ConstInstr)) × (e ≡ record { ty = func_ref true; items = items; mode = active 0 offset }) × Joined (IsExpressionIn spelling offset) (IsItemsIn spelling items) piece
-IsInFormIn spelling passive_items e piece = (ty : RefType) × (items : List (List ConstInstr)) × (e ≡ record { ty = ty; items = items; mode = passive }) × Joined (IsRefTypeIn spelling ty) (IsItemsIn spelling items) piece
-IsInFormIn spelling table_items e piece = (table : ℕ) × (offset : List ConstInstr) × (ty : RefType) × (items : List (List ConstInstr)) × (e ≡ record { ty = ty; items = items; mode = active table offset }) × Joined (IsIndexIn spelling table) (Joined (IsExpressionIn spelling offset) (Joined (IsRefTypeIn spelling ty) (IsItemsIn spelling items))) piece
-IsInFormIn spelling declared_items e piece = (ty : RefType) × (items : List (List ConstInstr)) × (e ≡ record { ty = ty; items = items; mode = declared }) × Joined (IsRefTypeIn spelling ty) (IsItemsIn spelling items) piece
+IsInFormIn spelling first_funcs e piece = (offset : List ConstInstr) × (funcs : List ℕ)
+    × (e ≡ record { ty = func_ref false; items = func_items funcs; mode = active 0 offset }) × Joined (IsExpressionIn spelling offset)
+    (IsFuncsIn spelling funcs) piece
+IsInFormIn spelling passive_funcs e piece = (funcs : List ℕ)
+    × (e ≡ record { ty = func_ref false; items = func_items funcs; mode = passive }) × IsKindFuncsIn spelling funcs piece
+IsInFormIn spelling table_funcs e piece = (table : ℕ) × (offset : List ConstInstr) × (funcs : List ℕ)
+    × (e ≡ record { ty = func_ref false; items = func_items funcs; mode = active table offset }) × Joined (IsIndexIn spelling table)
+    (Joined (IsExpressionIn spelling offset) (IsKindFuncsIn spelling funcs)) piece
+IsInFormIn spelling declared_funcs e piece = (funcs : List ℕ)
+    × (e ≡ record { ty = func_ref false; items = func_items funcs; mode = declared }) × IsKindFuncsIn spelling funcs piece
+IsInFormIn spelling first_items e piece = (offset : List ConstInstr) × (items : List (List ConstInstr))
+    × (e ≡ record { ty = func_ref true; items = items; mode = active 0 offset }) × Joined (IsExpressionIn spelling offset)
+    (IsItemsIn spelling items) piece
+IsInFormIn spelling passive_items e piece = (ty : RefType) × (items : List (List ConstInstr))
+    × (e ≡ record { ty = ty; items = items; mode = passive }) × Joined (IsRefTypeIn spelling ty) (IsItemsIn spelling items) piece
+IsInFormIn spelling table_items e piece = (table : ℕ) × (offset : List ConstInstr) × (ty : RefType) × (items : List (List ConstInstr))
+    × (e ≡ record { ty = ty; items = items; mode = active table offset }) × Joined (IsIndexIn spelling table)
+    (Joined (IsExpressionIn spelling offset) (Joined (IsRefTypeIn spelling ty) (IsItemsIn spelling items))) piece
+IsInFormIn spelling declared_items e piece = (ty : RefType) × (items : List (List ConstInstr))
+    × (e ≡ record { ty = ty; items = items; mode = declared }) × Joined (IsRefTypeIn spelling ty) (IsItemsIn spelling items) piece
 
 abbrev pub IsInForm : Form → Elem → List ℕ → Type 0
 IsInForm = IsInFormIn any

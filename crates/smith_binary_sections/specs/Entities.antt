@@ -76,7 +76,8 @@ IsMemoryType = IsMemoryTypeIn any
 -- a table type: its reference type, then its flags and its limits (Table Types)
 abbrev pub IsTableTypeIn : Spelling → TableType → List ℕ → Type 0
 IsTableTypeIn spelling table =
-    Joined (IsRefTypeIn spelling table.element_type) (Joined (IsByte (limits_byte table.maximum table.shared table.table64 None)) (IsRangeIn spelling table.minimum table.maximum))
+    Joined (IsRefTypeIn spelling table.element_type) (Joined (IsByte (limits_byte table.maximum table.shared table.table64 None))
+    (IsRangeIn spelling table.minimum table.maximum))
 
 abbrev pub IsTableType : TableType → List ℕ → Type 0
 IsTableType = IsTableTypeIn any

@@ -13,7 +13,8 @@ use Rattle.smith_binary_sections.specs.Entities.{IsExternTypeIn}
 
 -- an import: the name of a module, then its own name, then its type (Import Section)
 abbrev pub IsImportIn : Spelling → Import → List ℕ → Type 0
-IsImportIn spelling imported = Joined (IsNameIn spelling imported.«module») (Joined (IsNameIn spelling imported.name) (IsExternTypeIn spelling imported.entity_type))
+IsImportIn spelling imported = Joined (IsNameIn spelling imported.«module»)
+    (Joined (IsNameIn spelling imported.name) (IsExternTypeIn spelling imported.entity_type))
 
 abbrev pub IsImport : Import → List ℕ → Type 0
 IsImport = IsImportIn any
@@ -37,8 +38,10 @@ IsGroupHead = IsGroupHeadIn any
 -- of one type (compact imports proposal)
 abbrev pub IsImportGroupIn : Spelling → Imports → List ℕ → Type 0
 IsImportGroupIn spelling (Single imported) piece = IsImportIn spelling imported piece
-IsImportGroupIn spelling (Compact1 from items) piece = Joined (IsGroupHeadIn spelling from 0x7F) (IsListIn spelling (IsImportItemIn spelling) items) piece
-IsImportGroupIn spelling (Compact2 from ty names) piece = Joined (IsGroupHeadIn spelling from 0x7E) (Joined (IsExternTypeIn spelling ty) (IsListIn spelling (IsNameIn spelling) names)) piece
+IsImportGroupIn spelling (Compact1 from items) piece = Joined (IsGroupHeadIn spelling from 0x7F)
+    (IsListIn spelling (IsImportItemIn spelling) items) piece
+IsImportGroupIn spelling (Compact2 from ty names) piece = Joined (IsGroupHeadIn spelling from 0x7E)
+    (Joined (IsExternTypeIn spelling ty) (IsListIn spelling (IsNameIn spelling) names)) piece
 
 abbrev pub IsImportGroup : Imports → List ℕ → Type 0
 IsImportGroup = IsImportGroupIn any

@@ -47,7 +47,8 @@ IsInstrIn spelling (instr.StructNew index) piece = Joined (IsPrefixedIn spelling
 IsInstrIn spelling (instr.StructNewDefault index) piece = Joined (IsPrefixedIn spelling 0xFB 1) (IsIndexIn spelling index) piece
 IsInstrIn spelling (instr.ArrayNew index) piece = Joined (IsPrefixedIn spelling 0xFB 6) (IsIndexIn spelling index) piece
 IsInstrIn spelling (instr.ArrayNewDefault index) piece = Joined (IsPrefixedIn spelling 0xFB 7) (IsIndexIn spelling index) piece
-IsInstrIn spelling (instr.ArrayNewFixed index size) piece = Joined (IsPrefixedIn spelling 0xFB 8) (Joined (IsIndexIn spelling index) (IsUnsignedIn spelling 32 size)) piece
+IsInstrIn spelling (instr.ArrayNewFixed index size) piece = Joined (IsPrefixedIn spelling 0xFB 8)
+    (Joined (IsIndexIn spelling index) (IsUnsignedIn spelling 32 size)) piece
 IsInstrIn spelling instr.AnyConvertExtern piece = IsPrefixedIn spelling 0xFB 26 piece
 IsInstrIn spelling instr.ExternConvertAny piece = IsPrefixedIn spelling 0xFB 27 piece
 

@@ -116,7 +116,8 @@ IsFieldType = IsFieldTypeIn any
 
 -- the lists of a function type (Composite Types)
 abbrev pub IsFuncTypeIn : Spelling → FuncType → List ℕ → Type 0
-IsFuncTypeIn spelling function = Joined (IsListIn spelling (IsValTypeIn spelling) function.params) (IsListIn spelling (IsValTypeIn spelling) function.results)
+IsFuncTypeIn spelling function = Joined (IsListIn spelling (IsValTypeIn spelling) function.params)
+    (IsListIn spelling (IsValTypeIn spelling) function.results)
 
 abbrev pub IsFuncType : FuncType → List ℕ → Type 0
 IsFuncType = IsFuncTypeIn any
@@ -124,7 +125,8 @@ IsFuncType = IsFuncTypeIn any
 -- an array, a struct or a function type (Composite Types)
 abbrev pub IsInnerTypeIn : Spelling → CompositeInnerType → List ℕ → Type 0
 IsInnerTypeIn spelling (inner.Array array) piece = Joined (IsByte 0x5E) (IsFieldTypeIn spelling array.0) piece
-IsInnerTypeIn spelling (inner.Struct structure) piece = Joined (IsByte 0x5F) (IsListIn spelling (IsFieldTypeIn spelling) structure.fields) piece
+IsInnerTypeIn spelling (inner.Struct structure) piece = Joined (IsByte 0x5F) (IsListIn spelling (IsFieldTypeIn spelling) structure.fields)
+    piece
 IsInnerTypeIn spelling (inner.Func function) piece = Joined (IsByte 0x60) (IsFuncTypeIn spelling function) piece
 
 abbrev pub IsInnerType : CompositeInnerType → List ℕ → Type 0
@@ -150,7 +152,8 @@ final_byte false = 0x50
 -- a sub type (Recursive Types): whether it is final, its supertypes and its composite type; or the
 -- composite type alone, if it is final and has no supertype
 pub data IsSubType (t : SubType) (piece : List ℕ) : Type 0 where
-  full : Joined (IsByte (final_byte t.is_final)) (Joined (IsList (IsUnsigned 32) (option_to_list t.supertype)) (IsCompositeType t.composite_type)) piece → IsSubType t piece
+  full : Joined (IsByte (final_byte t.is_final)) (Joined (IsList (IsUnsigned 32) (option_to_list t.supertype))
+      (IsCompositeType t.composite_type)) piece → IsSubType t piece
   short : t.is_final ≡ true → t.supertype ≡ None → IsCompositeType t.composite_type piece → IsSubType t piece
 
 -- a recursive group (Recursive Types): a list of sub types; or one sub type alone

@@ -11,6 +11,7 @@ stop_typed context valid =
     let inside : BodyContext = record context { labels = context.results ∷ [] } in
     record {
       set = [];
-      typed = step (one inside instr.Unreachable [] context.results context.results [] [] [] ([], refl, valid) (below_themselves context.types context.results) valid refl)
+      typed = step (one inside instr.Unreachable [] context.results context.results [] [] [] ([], refl, valid)
+          (below_themselves context.types context.results) valid refl)
           (finished inside context.results [] valid);
     }

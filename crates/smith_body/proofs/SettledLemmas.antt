@@ -163,7 +163,8 @@ settling_else config context value bytes left rest tested is next =
 pub settling_tested : (config : Config) (context : BodyContext) (value : ValType) (bytes left rest : List ℕ) (tested : Settling)
     → place_at config context value bytes ≡ (None, left) → test_at config context value left ≡ (Some tested, rest)
     → settling_at config context value bytes ≡ (tested, rest)
-settling_tested config context value bytes left rest tested is next = settling_else config context value bytes left rest (Some tested) is next
+settling_tested config context value bytes left rest tested is next = settling_else config context value bytes left rest (Some tested) is
+    next
 
 pub settling_dropped : (config : Config) (context : BodyContext) (value : ValType) (bytes left rest : List ℕ)
     → place_at config context value bytes ≡ (None, left) → test_at config context value left ≡ (None, rest)

@@ -1,5 +1,6 @@
 -- The body that the bytes produce. Rules of this project.
-use Rattle.std.specs.Prelude.{ℕ, zero, suc, ◌+◌, ◌-◌, ◌/◌, ◌%◌, ◌==◌, ◌||◌, nat_le, not, Bool, true, false, Option, Some, None, option_to_list, List, [], ◌∷◌, ◌++◌, length, pos, replicate, if◌then◌else◌}
+use Rattle.std.specs.Prelude.{ℕ, zero, suc, ◌+◌, ◌-◌, ◌/◌, ◌%◌, ◌==◌, ◌||◌, nat_le, not, Bool, true, false, Option, Some, None}
+use Rattle.std.specs.Prelude.{option_to_list, List, [], ◌∷◌, ◌++◌, length, pos, replicate, if◌then◌else◌}
 use Rattle.std.specs.Int.{cast_signed, w32}
 use Rattle.smith_bytes.specs.Draws.{range_at}
 use Rattle.smith_config.specs.declared.config.Config.{Config}
@@ -272,4 +273,5 @@ ended s = (s.out, s.bytes)
 -- `unreachable`
 unfoldable pub body_at : Config → BodyContext → ℕ → List ℕ → List Instr × List ℕ
 body_at config context budget bytes =
-    if budget == 0 then (instr.Unreachable ∷ [], bytes) else ended (results_at (drawing_at config 40) context.results (begun context budget bytes))
+    if budget == 0 then (instr.Unreachable ∷ [], bytes) else ended (results_at (drawing_at config 40) context.results
+    (begun context budget bytes))

@@ -18,7 +18,8 @@ pub record IsDrawn (scope : Scope) (operands values : List ValType) (cost : ℕ)
   pub more : List Instr
   pub longer : new.out ≡ old.out ++ more
   pub typed : (base : List ValType) → AreValid (bare scope) base
-      → HaveNeededStops scope.config.now (where_stands scope old) more (stacked (base ++ operands) old.set.items) (stacked (base ++ values) new.set.items)
+      → HaveNeededStops scope.config.now (where_stands scope old) more (stacked (base ++ operands) old.set.items)
+      (stacked (base ++ values) new.set.items)
   pub allowed : All (IsAllowedIn scope) more
   pub set : List ℕ
   pub set_more : new.set.items ≡ old.set.items ++ set

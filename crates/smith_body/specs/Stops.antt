@@ -3,7 +3,8 @@ use Rattle.std.specs.Prelude.{◌≡◌, ℕ, IsTrue, List, [], ◌∷◌}
 use Rattle.smith_config.specs.declared.config.Config.{Config}
 use Rattle.smith_syntax.specs.declared.value_type.ValType.{ValType}
 use Rattle.smith_instr.specs.Contexts.{BodyContext}
-use Rattle.smith_instr.specs.Sequences.{Stacked, IsFramed, IsStep, AreTyped, IsBodyTyped, nothing, step, block, loop, if_alone, if_else, try_table}
+use Rattle.smith_instr.specs.Sequences.{Stacked, IsFramed, IsStep, AreTyped, IsBodyTyped, nothing, step, block, loop, if_alone, if_else}
+use Rattle.smith_instr.specs.Sequences.{try_table}
 use Rattle.smith_instr.specs.declared.instr.Instr.{Instr}
 use Rattle.smith_instr.specs.declared.instr.Instr.TheVariants as instr
 use Rattle.smith_body_leaves.specs.Laws.{HasNoOther}
@@ -23,9 +24,11 @@ TakesExactly {operands = operands} framed = framed.taken ≡ operands
 
 -- an instruction takes values of exactly the types of its operands, and with `disallow_traps` each
 -- `unreachable` is needed
-pub record IsStopNeeded (config : Config) (context : BodyContext) (instruction : Instr) (before after : Stacked) (typed : IsStep context instruction before after) : Type 0 where
+pub record IsStopNeeded (config : Config) (context : BodyContext) (instruction : Instr) (before after : Stacked)
+    (typed : IsStep context instruction before after) : Type 0 where
   pub exact : TakesExactly typed.framed
-  pub stop : IsTrue config.disallow_traps → instruction ≡ instr.Unreachable → IsNeeded config context before.set typed.framed.taken typed.framed.given
+  pub stop : IsTrue config.disallow_traps → instruction ≡ instr.Unreachable → IsNeeded config context before.set typed.framed.taken
+      typed.framed.given
 
 -- by these types of the instructions in a sequence, each instruction and each block takes values of
 -- exactly the types of its operands, each sequence leaves values of exactly the types at its end,
@@ -37,10 +40,12 @@ AreStopsNeeded config (step {context = context} {instruction = instruction} {bef
     IsStopNeeded config context instruction before between first × AreStopsNeeded config more
 AreStopsNeeded config (block is fits inner framed more) = AreStopsNeeded config inner × TakesExactly framed × AreStopsNeeded config more
 AreStopsNeeded config (loop is fits inner framed more) = AreStopsNeeded config inner × TakesExactly framed × AreStopsNeeded config more
-AreStopsNeeded config (if_alone is fits inner counts framed more) = AreStopsNeeded config inner × TakesExactly framed × AreStopsNeeded config more
+AreStopsNeeded config (if_alone is fits inner counts framed more) = AreStopsNeeded config inner × TakesExactly framed
+    × AreStopsNeeded config more
 AreStopsNeeded config (if_else is fits inner other framed more) =
     AreStopsNeeded config inner × AreStopsNeeded config other × TakesExactly framed × AreStopsNeeded config more
-AreStopsNeeded config (try_table is fits caught inner framed more) = AreStopsNeeded config inner × TakesExactly framed × AreStopsNeeded config more
+AreStopsNeeded config (try_table is fits caught inner framed more) = AreStopsNeeded config inner × TakesExactly framed
+    × AreStopsNeeded config more
 
 -- instructions that have such types
 pub record HaveNeededStops (config : Config) (context : BodyContext) (instructions : List Instr) (before after : Stacked) : Type 0 where

@@ -10,9 +10,9 @@ ghost use Rattle.smith_body_nodes.specs.Scopes.{IsScope, bare, kinds_of_bodies, 
 ghost use Rattle.smith_body_nodes.specs.Traps.{IsTrapless};
 
 use crate::draws::draw_results;
-use smith_body_nodes::{Draft, Scope, SetLocals};
+use smith_body_nodes::{Draft, Scope};
 use smith_bytes::{Error, Unstructured};
-use smith_instr::Instr;
+use smith_instr::{Instr, SetLocals};
 use smith_types::Items;
 use std::alloc::Global;
 

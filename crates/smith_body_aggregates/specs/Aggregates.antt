@@ -60,7 +60,8 @@ field_there ty fields index = option_map (λ (field : FieldType). record { ty = 
 
 abbrev pub field_in : BodyContext → FieldUse → ℕ → Option StructType → List ℕ → Option StructField × List ℕ
 field_in context way ty None bytes = (None, bytes)
-field_in context way ty (Some structure) bytes = giving (field_there ty structure.fields) (choose_at (fields_with context.types way structure.fields) bytes)
+field_in context way ty (Some structure) bytes = giving (field_there ty structure.fields)
+    (choose_at (fields_with context.types way structure.fields) bytes)
 
 abbrev pub field_at : BodyContext → FieldUse → List ℕ → Option StructField × List ℕ
 field_at context way bytes =

@@ -26,7 +26,8 @@ use Rattle.smith_body_nodes.specs.declared.node.Node.{Node}
 -- a struct from values for its fields, or from default values
 abbrev pub struct_new_node : BodyContext → ℕ → Option Node
 struct_new_node context ty =
-    option_map (λ (structure : StructType). aggregate_of (field_values structure.fields) (aggregate.StructNew ty)) (struct_in (slice_get context.types ty))
+    option_map (λ (structure : StructType). aggregate_of (field_values structure.fields) (aggregate.StructNew ty))
+    (struct_in (slice_get context.types ty))
 
 abbrev pub struct_new_at : BodyContext → ValType → List ℕ → Chosen
 struct_new_at context wanted bytes = giving (struct_new_node context) (created_struct_at context wanted false bytes)
@@ -88,17 +89,20 @@ abbrev pub fixed_at : BodyContext → ValType → List ℕ → Chosen
 fixed_at context wanted bytes = let array = created_array_at context wanted field_use.New bytes in continued array_fixed array.0 array.1
 
 abbrev pub data_at : BodyContext → ValType → List ℕ → Chosen
-data_at context wanted bytes = let array = created_array_at context wanted field_use.NewBytes bytes in continued (array_data context) array.0 array.1
+data_at context wanted bytes = let array = created_array_at context wanted field_use.NewBytes bytes in
+    continued (array_data context) array.0 array.1
 
 abbrev pub elem_at : BodyContext → ValType → List ℕ → Chosen
-elem_at context wanted bytes = let array = created_array_at context wanted field_use.NewReferences bytes in continued (array_elem context) array.0 array.1
+elem_at context wanted bytes = let array = created_array_at context wanted field_use.NewReferences bytes in
+    continued (array_elem context) array.0 array.1
 
 -- a creation whose value matches the wanted type
 abbrev pub creation_of : BodyContext → ValType → Creation → List ℕ → Chosen
 creation_of context wanted creation.StructNew bytes = struct_new_at context wanted bytes
 creation_of context wanted creation.StructDefault bytes = struct_default_at context wanted bytes
 creation_of context wanted creation.ArrayNew bytes = giving array_new_node (created_array_at context wanted field_use.New bytes)
-creation_of context wanted creation.ArrayDefault bytes = giving array_default_node (created_array_at context wanted field_use.NewDefault bytes)
+creation_of context wanted creation.ArrayDefault bytes =
+    giving array_default_node (created_array_at context wanted field_use.NewDefault bytes)
 creation_of context wanted creation.ArrayFixed bytes = fixed_at context wanted bytes
 creation_of context wanted creation.ArrayData bytes = data_at context wanted bytes
 creation_of context wanted creation.ArrayElem bytes = elem_at context wanted bytes

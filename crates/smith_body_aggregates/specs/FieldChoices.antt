@@ -26,8 +26,11 @@ use Rattle.smith_body_nodes.specs.declared.node.Node.{Node}
 -- a field that is read; a packed one is extended by its sign if the drawn bool is true
 abbrev pub struct_get : StructField → List ℕ → Chosen
 struct_get chosen bytes =
-    let signed = bool_at bytes in
-    (Some (aggregate_of (nullable_to (Concrete chosen.ty) ∷ []) (aggregate.StructGet chosen.ty chosen.index (extension_of chosen.field.element_type signed.0))), signed.1)
+    let signed = bool_at bytes in (
+      Some (aggregate_of (nullable_to (Concrete chosen.ty) ∷ [])
+          (aggregate.StructGet chosen.ty chosen.index (extension_of chosen.field.element_type signed.0))),
+      signed.1,
+    )
 
 abbrev pub struct_get_at : BodyContext → ValType → List ℕ → Chosen
 struct_get_at context wanted bytes = let chosen = field_at context (field_use.Read wanted) bytes in continued struct_get chosen.0 chosen.1
@@ -35,8 +38,11 @@ struct_get_at context wanted bytes = let chosen = field_at context (field_use.Re
 -- an element that is read
 abbrev pub array_get : ℕ × FieldType → List ℕ → Chosen
 array_get array bytes =
-    let signed = bool_at bytes in
-    (Some (aggregate_of (nullable_to (Concrete array.0) ∷ I32 ∷ []) (aggregate.ArrayGet array.0 (extension_of array.1.element_type signed.0))), signed.1)
+    let signed = bool_at bytes in (
+      Some (aggregate_of (nullable_to (Concrete array.0) ∷ I32 ∷ [])
+          (aggregate.ArrayGet array.0 (extension_of array.1.element_type signed.0))),
+      signed.1,
+    )
 
 abbrev pub array_get_at : BodyContext → ValType → List ℕ → Chosen
 array_get_at context wanted bytes = let array = array_at context (field_use.Read wanted) bytes in continued array_get array.0 array.1
@@ -61,12 +67,14 @@ array_set_node array = Some (aggregate_of (nullable_to (Concrete array.0) ∷ I3
 
 -- elements that are set to one value
 abbrev pub array_fill_node : ℕ × FieldType → Option Node
-array_fill_node array = Some (aggregate_of (nullable_to (Concrete array.0) ∷ I32 ∷ value_of array.1 ∷ I32 ∷ []) (aggregate.ArrayFill array.0))
+array_fill_node array = Some (aggregate_of (nullable_to (Concrete array.0) ∷ I32 ∷ value_of array.1 ∷ I32 ∷ [])
+    (aggregate.ArrayFill array.0))
 
 -- elements that are copied into an array from an array
 abbrev pub array_copy_node : ℕ × FieldType → ℕ × FieldType → Option Node
 array_copy_node into out =
-    Some (aggregate_of (nullable_to (Concrete into.0) ∷ I32 ∷ nullable_to (Concrete out.0) ∷ I32 ∷ I32 ∷ []) (aggregate.ArrayCopy into.0 out.0))
+    Some (aggregate_of (nullable_to (Concrete into.0) ∷ I32 ∷ nullable_to (Concrete out.0) ∷ I32 ∷ I32 ∷ [])
+    (aggregate.ArrayCopy into.0 out.0))
 
 abbrev pub array_copied : BodyContext → ℕ × FieldType → List ℕ → Chosen
 array_copied context into bytes = giving (array_copy_node into) (array_at context (field_use.CopyInto into.1.element_type) bytes)
@@ -94,11 +102,13 @@ abbrev pub elem_initialized : BodyContext → ℕ × FieldType → List ℕ → 
 elem_initialized context array bytes = giving (init_elem_node array) (chosen_elem_at context (value_of array.1) bytes)
 
 abbrev pub init_elem_at : BodyContext → List ℕ → Chosen
-init_elem_at context bytes = let array = array_at context field_use.SetReferences bytes in continued (elem_initialized context) array.0 array.1
+init_elem_at context bytes = let array = array_at context field_use.SetReferences bytes in
+    continued (elem_initialized context) array.0 array.1
 
 -- the writes; the number of times that each is listed is its weight
 abbrev pub field_writes : List FieldWrite
-field_writes = write.StructSet ∷ write.ArraySet ∷ write.ArrayFill ∷ write.ArrayCopy ∷ write.InitData ∷ write.InitElem ∷ write.InitElem ∷ write.InitElem ∷ []
+field_writes = write.StructSet ∷ write.ArraySet ∷ write.ArrayFill ∷ write.ArrayCopy ∷ write.InitData ∷ write.InitElem ∷ write.InitElem
+    ∷ write.InitElem ∷ []
 
 abbrev pub write_of : BodyContext → FieldWrite → List ℕ → Chosen
 write_of context write.StructSet bytes = giving struct_set_node (field_at context field_use.Set bytes)

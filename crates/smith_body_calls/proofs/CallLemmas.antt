@@ -1,5 +1,6 @@
 -- Calls through tables and references, and tail calls.
-use Rattle.std.proofs.Common.{◌≡◌, inl, inr, ℕ, ◌+◌, ◌-◌, ◌<◌, ◌≤◌, Bool, true, false, List, [], ◌∷◌, ◌++◌, Option, Some, None, length, length-append, get_or, drop, refl, sym, subst, ap, ◌∙◌, arith}
+use Rattle.std.proofs.Common.{◌≡◌, inl, inr, ℕ, ◌+◌, ◌-◌, ◌<◌, ◌≤◌, Bool, true, false, List, [], ◌∷◌, ◌++◌, Option, Some, None, length}
+use Rattle.std.proofs.Common.{length-append, get_or, drop, refl, sym, subst, ap, ◌∙◌, arith}
 use Rattle.std.specs.Prelude.{IfSome, slice_get, IsTrue, if◌then◌else◌, option_map, ◌&&◌}
 use Rattle.std.proofs.lemmas.Bool.{ne_eqb}
 use Rattle.std.proofs.lemmas.List.{append-nil}
@@ -42,13 +43,19 @@ Gives context outcome.Returned function results = AreValid context results
 Gives context _ function results = results ≡ function.results
 
 -- a call whose results have an outcome
-pub outcome_gives : (context : BodyContext) (set : List ℕ) (outcome : Outcome) (function : FuncType) (operands values : List ValType) (instruction : Instr) → IsOrderly context.types → IsOutcome context outcome → AreValid context function.results
-    → is_fit context.types context.results outcome function ≡ true → IsLeft context outcome values → ((more : List ℕ) (results : List ValType) → Gives context outcome function results → HasInstrType context (set ++ more) instruction operands results)
-    → sets instruction ≡ [] → length function.params + length function.results ≤ widest context.types → length operands ≤ length function.params + 1 → AreValid context operands
+pub outcome_gives : (context : BodyContext) (set : List ℕ) (outcome : Outcome) (function : FuncType) (operands values : List ValType)
+    (instruction : Instr) → IsOrderly context.types → IsOutcome context outcome → AreValid context function.results
+    → is_fit context.types context.results outcome function ≡ true → IsLeft context outcome values
+    → ((more : List ℕ) (results : List ValType) → Gives context outcome function results
+    → HasInstrType context (set ++ more) instruction operands results)
+    → sets instruction ≡ [] → length function.params + length function.results ≤ widest context.types
+    → length operands ≤ length function.params + 1 → AreValid context operands
     → IsNode context set values (node_of operands instruction (dropped_of outcome function))
-outcome_gives context set (outcome.Wanted value) function operands values instruction orderly valid results fit left typed none wide few operands_valid =
+outcome_gives context set (outcome.Wanted value) function operands values instruction orderly valid results fit left typed none wide few
+    operands_valid =
     let zip = first_below context.types orderly value function.results fit in
-    let same : length function.results ≡ length (value ∷ drop 1 function.results) = zip_length _ function.results (value ∷ drop 1 function.results) zip in
+    let same : length function.results ≡ length (value ∷ drop 1 function.results) =
+    zip_length _ function.results (value ∷ drop 1 function.results) zip in
     let less : length (drop 1 function.results) ≡ length function.results - 1 = omega arith in
     rw left (record {
       results = function.results;
@@ -63,7 +70,8 @@ outcome_gives context set (outcome.Wanted value) function operands values instru
       valid = operands_valid;
       inside = tt;
     })
-outcome_gives context set outcome.Dropped function operands values instruction orderly valid results fit left typed none wide few operands_valid =
+outcome_gives context set outcome.Dropped function operands values instruction orderly valid results fit left typed none wide few
+    operands_valid =
     rw left (record {
       results = function.results;
       dropped = function.results;
@@ -77,56 +85,69 @@ outcome_gives context set outcome.Dropped function operands values instruction o
       valid = operands_valid;
       inside = tt;
     })
-outcome_gives context set outcome.Returned function operands values instruction orderly valid results fit left typed none wide few operands_valid = record {
-  results = values;
-  dropped = [];
-  typed = λ more. typed more values left;
-  below = rw append-nil (below_themselves context.types values);
-  given = left;
-  spare = no_valid context;
-  drops = refl;
-  sets_local = none;
-  few = omega arith;
-  valid = operands_valid;
-  inside = tt;
-}
+outcome_gives context set outcome.Returned function operands values instruction orderly valid results fit left typed none wide few
+    operands_valid = record {
+      results = values;
+      dropped = [];
+      typed = λ more. typed more values left;
+      below = rw append-nil (below_themselves context.types values);
+      given = left;
+      spare = no_valid context;
+      drops = refl;
+      sets_local = none;
+      few = omega arith;
+      valid = operands_valid;
+      inside = tt;
+    }
 
 -- a table of functions
 below_func : (context : BodyContext) (element : RefType) → IsOrderly context.types → holds_functions context.types element ≡ true
     → (shared : Bool) × IsRefBelow context.types element (record { nullable = true; heap_type = Abstract shared abstract.Func })
-below_func context element orderly is = elim (either (is_below_func context.types element false) (is_below_func context.types element true) is) [
-  | inl below ↦ (false, tested context.types orderly (Ref element) (nullable_to (Abstract false abstract.Func)) below)
-  | inr below ↦ (true, tested context.types orderly (Ref element) (nullable_to (Abstract true abstract.Func)) below)
-]
+below_func context element orderly is = elim (either (is_below_func context.types element false) (is_below_func context.types element true)
+    is) [
+      | inl below ↦ (false, tested context.types orderly (Ref element) (nullable_to (Abstract false abstract.Func)) below)
+      | inr below ↦ (true, tested context.types orderly (Ref element) (nullable_to (Abstract true abstract.Func)) below)
+    ]
 
-function_table_at : (context : BodyContext) (index : ℕ) (o : Option TableType) → IsOrderly context.types → slice_get context.tables index ≡ o → is_function_table_at context.types o ≡ true
+function_table_at : (context : BodyContext) (index : ℕ) (o : Option TableType) → IsOrderly context.types → slice_get context.tables index
+    ≡ o → is_function_table_at context.types o ≡ true
     → (table : TableType) × (slice_get context.tables index ≡ Some table) × IsFunctionTable context index table.table64
 function_table_at context index (Some table) orderly at is =
     let (shared, below) = below_func context table.element_type orderly is in
     (table, at, record { table = table; there = at; addressed = refl; shared = shared; of_functions = below })
 function_table_at context index None orderly at is = cc
 
-pub function_table : (context : BodyContext) (index : ℕ) (d : TableType) → IsOrderly context.types → is_function_table context index ≡ true → IsFunctionTable context index (get_or context.tables index d).table64
+pub function_table : (context : BodyContext) (index : ℕ) (d : TableType) → IsOrderly context.types → is_function_table context index ≡ true
+    → IsFunctionTable context index (get_or context.tables index d).table64
 function_table context index d orderly is =
     let (table, at, of) = function_table_at context index (slice_get context.tables index) orderly refl is in
-    let here : slice_get context.tables index ≡ Some (get_or context.tables index d) = slice_get-get_or context.tables index d (slice_get_within context.tables index table at) in
+    let here : slice_get context.tables index ≡ Some (get_or context.tables index d) = slice_get-get_or context.tables index d
+    (slice_get_within context.tables index table at) in
     let same : table ≡ get_or context.tables index d = same_Some table (get_or context.tables index d) (sym at ∙ here) in
     subst (λ (t : TableType). IsFunctionTable context index t.table64) same of
 
 -- a function type whose results may have an outcome
-pub fit_type : (context : BodyContext) (outcome : Outcome) (index : ℕ) (function : FuncType) → is_fit_type context outcome index ≡ true → func_in (slice_get context.types index) ≡ Some function → is_fit context.types context.results outcome function ≡ true
-fit_type context outcome index function is at = subst (λ (o : Option FuncType). is_fit_in context.types context.results outcome o ≡ true) at is
+pub fit_type : (context : BodyContext) (outcome : Outcome) (index : ℕ) (function : FuncType) → is_fit_type context outcome index ≡ true
+    → func_in (slice_get context.types index) ≡ Some function → is_fit context.types context.results outcome function ≡ true
+fit_type context outcome index function is at = subst (λ (o : Option FuncType). is_fit_in context.types context.results outcome o ≡ true) at
+    is
 
 -- the types of the calls
-indirect_typed : (context : BodyContext) (set : List ℕ) (outcome : Outcome) (function : FuncType) (table ty : ℕ) (wide : Bool) (results : List ValType) → IsOrderly context.types → is_fit context.types context.results outcome function ≡ true
-    → IsFunctionTable context table wide → IsFuncAt context.types ty function → Gives context outcome function results → HasInstrType context set (indirect_instr outcome table ty) (function.params ++ address wide ∷ []) results
-indirect_typed context set (outcome.Wanted value) function table ty wide results orderly fit of there gives = (function, wide, of, there, (refl, gives))
-indirect_typed context set outcome.Dropped function table ty wide results orderly fit of there gives = (function, wide, of, there, (refl, gives))
+indirect_typed : (context : BodyContext) (set : List ℕ) (outcome : Outcome) (function : FuncType) (table ty : ℕ) (wide : Bool)
+    (results : List ValType) → IsOrderly context.types → is_fit context.types context.results outcome function ≡ true
+    → IsFunctionTable context table wide → IsFuncAt context.types ty function → Gives context outcome function results
+    → HasInstrType context set (indirect_instr outcome table ty) (function.params ++ address wide ∷ []) results
+indirect_typed context set (outcome.Wanted value) function table ty wide results orderly fit of there gives =
+    (function, wide, of, there, (refl, gives))
+indirect_typed context set outcome.Dropped function table ty wide results orderly fit of there gives =
+    (function, wide, of, there, (refl, gives))
 indirect_typed context set outcome.Returned function table ty wide results orderly fit of there gives =
     (function, wide, of, there, all_below context.types orderly function.results context.results fit, ([], refl, gives))
 
-by_reference_typed : (context : BodyContext) (set : List ℕ) (outcome : Outcome) (function : FuncType) (ty : ℕ) (results : List ValType) → IsOrderly context.types → is_fit context.types context.results outcome function ≡ true
-    → IsFuncAt context.types ty function → Gives context outcome function results → HasInstrType context set (by_reference_instr outcome ty) (function.params ++ nullable_to (Concrete ty) ∷ []) results
+by_reference_typed : (context : BodyContext) (set : List ℕ) (outcome : Outcome) (function : FuncType) (ty : ℕ) (results : List ValType)
+    → IsOrderly context.types → is_fit context.types context.results outcome function ≡ true
+    → IsFuncAt context.types ty function → Gives context outcome function results → HasInstrType context set (by_reference_instr outcome ty)
+    (function.params ++ nullable_to (Concrete ty) ∷ []) results
 by_reference_typed context set (outcome.Wanted value) function ty results orderly fit there gives = (function, there, (refl, gives))
 by_reference_typed context set outcome.Dropped function ty results orderly fit there gives = (function, there, (refl, gives))
 by_reference_typed context set outcome.Returned function ty results orderly fit there gives =
@@ -146,36 +167,58 @@ by_reference_sets outcome.Returned ty = refl
 topped_few : (params : List ValType) (top : ValType) → length (params ++ top ∷ []) ≤ length params + 1
 topped_few params top = simp length-append (omega arith)
 
-pub indirect_gives : (context : BodyContext) (set : List ℕ) (outcome : Outcome) (function : FuncType) (values : List ValType) (table ty : ℕ) (d : TableType) → IsOrderly context.types → IsOutcome context outcome → AreValid context function.params → AreValid context function.results
-    → is_fit_type context outcome ty ≡ true → is_function_table context table ≡ true → func_in (slice_get context.types ty) ≡ Some function → IsLeft context outcome values
-    → IsNode context set values (node_of (function.params ++ address (get_or context.tables table d).table64 ∷ []) (indirect_instr outcome table ty) (dropped_of outcome function))
+pub indirect_gives : (context : BodyContext) (set : List ℕ) (outcome : Outcome) (function : FuncType) (values : List ValType) (table ty : ℕ)
+    (d : TableType) → IsOrderly context.types → IsOutcome context outcome → AreValid context function.params
+    → AreValid context function.results
+    → is_fit_type context outcome ty ≡ true → is_function_table context table ≡ true → func_in (slice_get context.types ty) ≡ Some function
+    → IsLeft context outcome values
+    → IsNode context set values (node_of (function.params ++ address (get_or context.tables table d).table64 ∷ [])
+    (indirect_instr outcome table ty) (dropped_of outcome function))
 indirect_gives context set outcome function values table ty d orderly valid params results fit is at left =
     let wide = (get_or context.tables table d).table64 in
     let there = func_there context.types ty function at in
     let fit' = fit_type context outcome ty function fit at in
     let of = function_table context table d orderly is in
-    outcome_gives context set outcome function (function.params ++ address wide ∷ []) values (indirect_instr outcome table ty) orderly valid results fit' left
-    (λ more given gives. indirect_typed context (set ++ more) outcome function table ty wide given orderly fit' of there gives) (indirect_sets outcome table ty)
-    (func_wide context.types ty function there) (topped_few function.params (address wide)) (All-push (IsValid context) function.params (address wide) params (address_valid context wide))
+    outcome_gives context set outcome function (function.params ++ address wide ∷ []) values (indirect_instr outcome table ty) orderly valid
+    results fit' left
+    (λ more given gives. indirect_typed context (set ++ more) outcome function table ty wide given orderly fit' of there gives)
+    (indirect_sets outcome table ty)
+    (func_wide context.types ty function there) (topped_few function.params (address wide))
+    (All-push (IsValid context) function.params (address wide) params (address_valid context wide))
 
-pub by_reference_gives : (context : BodyContext) (set : List ℕ) (outcome : Outcome) (function : FuncType) (values : List ValType) (ty : ℕ) → IsOrderly context.types → IsOutcome context outcome → AreValid context function.params → AreValid context function.results
-    → IsTrue context.features.reference_types → IsTrue context.features.gc → is_fit_type context outcome ty ≡ true → func_in (slice_get context.types ty) ≡ Some function → IsLeft context outcome values
-    → IsNode context set values (node_of (function.params ++ nullable_to (Concrete ty) ∷ []) (by_reference_instr outcome ty) (dropped_of outcome function))
+pub by_reference_gives : (context : BodyContext) (set : List ℕ) (outcome : Outcome) (function : FuncType) (values : List ValType) (ty : ℕ)
+    → IsOrderly context.types → IsOutcome context outcome → AreValid context function.params → AreValid context function.results
+    → IsTrue context.features.reference_types → IsTrue context.features.gc → is_fit_type context outcome ty ≡ true
+    → func_in (slice_get context.types ty) ≡ Some function → IsLeft context outcome values
+    → IsNode context set values (node_of (function.params ++ nullable_to (Concrete ty) ∷ []) (by_reference_instr outcome ty)
+    (dropped_of outcome function))
 by_reference_gives context set outcome function values ty orderly valid params results on gc fit at left =
     let (t, type_at, is) = func_there context.types ty function at in
     let fit' = fit_type context outcome ty function fit at in
-    let operand : IsValid context (nullable_to (Concrete ty)) = (on, record { heap_type = (gc, slice_get_within context.types ty t type_at); nullable = λ h. cc }) in
-    outcome_gives context set outcome function (function.params ++ nullable_to (Concrete ty) ∷ []) values (by_reference_instr outcome ty) orderly valid results fit' left
-    (λ more given gives. by_reference_typed context (set ++ more) outcome function ty given orderly fit' (t, type_at, is) gives) (by_reference_sets outcome ty)
-    (func_wide context.types ty function (t, type_at, is)) (topped_few function.params (nullable_to (Concrete ty))) (All-push (IsValid context) function.params (nullable_to (Concrete ty)) params operand)
+    let operand : IsValid context (nullable_to (Concrete ty)) =
+    (on, record { heap_type = (gc, slice_get_within context.types ty t type_at); nullable = λ h. cc }) in
+    outcome_gives context set outcome function (function.params ++ nullable_to (Concrete ty) ∷ []) values (by_reference_instr outcome ty)
+    orderly valid results fit' left
+    (λ more given gives. by_reference_typed context (set ++ more) outcome function ty given orderly fit' (t, type_at, is) gives)
+    (by_reference_sets outcome ty)
+    (func_wide context.types ty function (t, type_at, is)) (topped_few function.params (nullable_to (Concrete ty)))
+    (All-push (IsValid context) function.params (nullable_to (Concrete ty)) params operand)
 
-pub return_call_gives : (context : BodyContext) (set : List ℕ) (function : FuncType) (values : List ValType) (index : ℕ) → IsOrderly context.types → AreValid context function.params → AreValid context function.results
-    → is_returnable context index ≡ true → function_at context index ≡ Some function → AreValid context values → IsNode context set values (node_of function.params (instr.ReturnCall index) 0)
+pub return_call_gives : (context : BodyContext) (set : List ℕ) (function : FuncType) (values : List ValType) (index : ℕ)
+    → IsOrderly context.types → AreValid context function.params → AreValid context function.results
+    → is_returnable context index ≡ true → function_at context index ≡ Some function → AreValid context values
+    → IsNode context set values (node_of function.params (instr.ReturnCall index) 0)
 return_call_gives context set function values index orderly params results is at left =
     let (ty, type_at, there) = function_there context index function at in
-    let fit : is_fit context.types context.results outcome.Returned function ≡ true = subst (λ (o : Option FuncType). is_fit_in context.types context.results outcome.Returned o ≡ true) at is in
+    let fit : is_fit context.types context.results outcome.Returned function ≡ true =
+    subst (λ (o : Option FuncType). is_fit_in context.types context.results outcome.Returned o ≡ true) at is in
     outcome_gives context set outcome.Returned function function.params values (instr.ReturnCall index) orderly tt results fit left
-    (λ more given gives. (function, (ty, type_at, there), all_below context.types orderly function.results context.results fit, ([], refl, gives))) refl
+    (λ more given gives. (
+      function,
+      (ty, type_at, there),
+      all_below context.types orderly function.results context.results fit,
+      ([], refl, gives),
+    )) refl
     (func_wide context.types ty function there) (omega arith) params
 
 -- the type of a function that may be named
@@ -232,28 +275,41 @@ called_again context draw bytes left first own drawn is again =
     ∙ ap (λ (b : Bool). if b then draw left else (first, left)) again
 
 -- the chosen call
-pub indirect_none : (context : BodyContext) (outcome : Outcome) (bytes left : List ℕ) → fit_type_at context outcome bytes ≡ (None, left) → indirect_at context outcome bytes ≡ (None, left)
+pub indirect_none : (context : BodyContext) (outcome : Outcome) (bytes left : List ℕ) → fit_type_at context outcome bytes ≡ (None, left)
+    → indirect_at context outcome bytes ≡ (None, left)
 unfolding indirect_at
 indirect_none context outcome bytes left drawn = ap (λ (ty : Option ℕ × List ℕ). indirect_by context outcome ty.0 ty.1) drawn
 
-pub indirect_without : (context : BodyContext) (outcome : Outcome) (bytes middle left : List ℕ) (ty : ℕ) → fit_type_at context outcome bytes ≡ (Some ty, middle) → chunk_at (is_function_table context) (indexed (length context.tables)) middle ≡ (None, left)
+pub indirect_without : (context : BodyContext) (outcome : Outcome) (bytes middle left : List ℕ) (ty : ℕ) → fit_type_at context outcome bytes
+    ≡ (Some ty, middle) → chunk_at (is_function_table context) (indexed (length context.tables)) middle ≡ (None, left)
     → indirect_at context outcome bytes ≡ (None, left)
 unfolding indirect_at
 indirect_without context outcome bytes middle left ty drawn drawn' =
     ap (λ (ty : Option ℕ × List ℕ). indirect_by context outcome ty.0 ty.1) drawn
-    ∙ ap (λ (table : Option ℕ × List ℕ). giving (λ table. indirect_node outcome ty table (func_in (slice_get context.types ty)) (slice_get context.tables table)) table) drawn'
+    ∙ ap (λ (table : Option ℕ × List ℕ). giving (λ table. indirect_node outcome ty table (func_in (slice_get context.types ty))
+    (slice_get context.tables table)) table) drawn'
 
-pub indirect_there : (context : BodyContext) (outcome : Outcome) (bytes middle left : List ℕ) (ty table : ℕ) (function : FuncType) (d : TableType) → fit_type_at context outcome bytes ≡ (Some ty, middle)
-    → chunk_at (is_function_table context) (indexed (length context.tables)) middle ≡ (Some table, left) → table < length context.tables → func_in (slice_get context.types ty) ≡ Some function
-    → indirect_at context outcome bytes ≡ (Some (node_of (function.params ++ address (get_or context.tables table d).table64 ∷ []) (indirect_instr outcome table ty) (dropped_of outcome function)), left)
+pub indirect_there : (context : BodyContext) (outcome : Outcome) (bytes middle left : List ℕ) (ty table : ℕ) (function : FuncType)
+    (d : TableType) → fit_type_at context outcome bytes ≡ (Some ty, middle)
+    → chunk_at (is_function_table context) (indexed (length context.tables)) middle ≡ (Some table, left) → table < length context.tables
+    → func_in (slice_get context.types ty) ≡ Some function
+    → indirect_at context outcome bytes
+    ≡ (
+      Some (node_of (function.params ++ address (get_or context.tables table d).table64 ∷ []) (indirect_instr outcome table ty)
+          (dropped_of outcome function)),
+      left,
+    )
 unfolding indirect_at
 indirect_there context outcome bytes middle left ty table function d drawn drawn' inside at =
     ap (λ (ty : Option ℕ × List ℕ). indirect_by context outcome ty.0 ty.1) drawn
-    ∙ (ap (λ (table : Option ℕ × List ℕ). giving (λ table. indirect_node outcome ty table (func_in (slice_get context.types ty)) (slice_get context.tables table)) table) drawn'
+    ∙ (ap (λ (table : Option ℕ × List ℕ). giving (λ table. indirect_node outcome ty table (func_in (slice_get context.types ty))
+    (slice_get context.tables table)) table) drawn'
     ∙ (ap (λ (o : Option FuncType). (indirect_node outcome ty table o (slice_get context.tables table), left)) at
-    ∙ ap (λ (o : Option TableType). (indirect_node outcome ty table (Some function) o, left)) (slice_get-get_or context.tables table d inside)))
+    ∙ ap (λ (o : Option TableType). (indirect_node outcome ty table (Some function) o, left))
+    (slice_get-get_or context.tables table d inside)))
 
-pub by_reference_off : (context : BodyContext) (outcome : Outcome) (bytes : List ℕ) → (context.features.reference_types && context.features.gc) ≡ false → by_reference_at context outcome bytes ≡ (None, bytes)
+pub by_reference_off : (context : BodyContext) (outcome : Outcome) (bytes : List ℕ)
+    → (context.features.reference_types && context.features.gc) ≡ false → by_reference_at context outcome bytes ≡ (None, bytes)
 unfolding by_reference_at
 by_reference_off context outcome bytes off = rw off refl
 
@@ -261,36 +317,51 @@ pub by_reference_none : (context : BodyContext) (outcome : Outcome) (bytes left 
     → (context.features.reference_types && context.features.gc) ≡ true → referred_type_at context outcome bytes ≡ (None, left)
     → by_reference_at context outcome bytes ≡ (None, left)
 unfolding by_reference_at
-by_reference_none context outcome bytes left on drawn = rw on (ap (λ (ty : Option ℕ × List ℕ). giving (by_reference_node context outcome) ty) drawn)
+by_reference_none context outcome bytes left on drawn =
+    rw on (ap (λ (ty : Option ℕ × List ℕ). giving (by_reference_node context outcome) ty) drawn)
 
 pub by_reference_there : (context : BodyContext) (outcome : Outcome) (bytes left : List ℕ) (ty : ℕ) (function : FuncType)
     → (context.features.reference_types && context.features.gc) ≡ true → referred_type_at context outcome bytes ≡ (Some ty, left)
     → func_in (slice_get context.types ty) ≡ Some function
-    → by_reference_at context outcome bytes ≡ (Some (node_of (function.params ++ nullable_to (Concrete ty) ∷ []) (by_reference_instr outcome ty) (dropped_of outcome function)), left)
+    → by_reference_at context outcome bytes
+    ≡ (
+      Some (node_of (function.params ++ nullable_to (Concrete ty) ∷ []) (by_reference_instr outcome ty) (dropped_of outcome function)),
+      left,
+    )
 unfolding by_reference_at
 by_reference_there context outcome bytes left ty function on drawn at =
     rw on (ap (λ (ty : Option ℕ × List ℕ). giving (by_reference_node context outcome) ty) drawn
-    ∙ ap (λ (o : Option FuncType). (option_map (λ (function : FuncType). node_of (function.params ++ nullable_to (Concrete ty) ∷ []) (by_reference_instr outcome ty) (dropped_of outcome function)) o, left)) at)
+    ∙ ap (λ (o : Option FuncType). (
+      option_map (λ (function : FuncType). node_of (function.params ++ nullable_to (Concrete ty) ∷ [])
+          (by_reference_instr outcome ty) (dropped_of outcome function)) o,
+      left,
+    )) at)
 
-pub return_call_none : (context : BodyContext) (bytes left : List ℕ) → chunk_at (is_returnable context) (indexed (length context.funcs)) bytes ≡ (None, left) → return_call_at context bytes ≡ (None, left)
+pub return_call_none : (context : BodyContext) (bytes left : List ℕ) → chunk_at (is_returnable context) (indexed (length context.funcs))
+    bytes ≡ (None, left) → return_call_at context bytes ≡ (None, left)
 unfolding return_call_at
 return_call_none context bytes left drawn = ap (λ (index : Option ℕ × List ℕ). giving (return_call_node context) index) drawn
 
-pub return_call_there : (context : BodyContext) (bytes left : List ℕ) (index : ℕ) (function : FuncType) → chunk_at (is_returnable context) (indexed (length context.funcs)) bytes ≡ (Some index, left) → function_at context index ≡ Some function
+pub return_call_there : (context : BodyContext) (bytes left : List ℕ) (index : ℕ) (function : FuncType)
+    → chunk_at (is_returnable context) (indexed (length context.funcs)) bytes ≡ (Some index, left) → function_at context index
+    ≡ Some function
     → return_call_at context bytes ≡ (Some (node_of function.params (instr.ReturnCall index) 0), left)
 unfolding return_call_at
 return_call_there context bytes left index function drawn at =
     ap (λ (index : Option ℕ × List ℕ). giving (return_call_node context) index) drawn
     ∙ ap (λ (o : Option FuncType). (option_map (λ (function : FuncType). node_of function.params (instr.ReturnCall index) 0) o, left)) at
 
-pub tail_call_direct : (context : BodyContext) (bytes middle : List ℕ) → range_at 0 2 bytes ≡ (0, middle) → tail_call_at context bytes ≡ return_call_at context middle
+pub tail_call_direct : (context : BodyContext) (bytes middle : List ℕ) → range_at 0 2 bytes ≡ (0, middle) → tail_call_at context bytes
+    ≡ return_call_at context middle
 unfolding tail_call_at
 tail_call_direct context bytes middle drawn = rw drawn refl
 
-pub tail_call_indirect : (context : BodyContext) (bytes middle : List ℕ) → range_at 0 2 bytes ≡ (1, middle) → tail_call_at context bytes ≡ indirect_at context outcome.Returned middle
+pub tail_call_indirect : (context : BodyContext) (bytes middle : List ℕ) → range_at 0 2 bytes ≡ (1, middle) → tail_call_at context bytes
+    ≡ indirect_at context outcome.Returned middle
 unfolding tail_call_at
 tail_call_indirect context bytes middle drawn = rw drawn refl
 
-pub tail_call_by_reference : (context : BodyContext) (bytes middle : List ℕ) → range_at 0 2 bytes ≡ (2, middle) → tail_call_at context bytes ≡ by_reference_at context outcome.Returned middle
+pub tail_call_by_reference : (context : BodyContext) (bytes middle : List ℕ) → range_at 0 2 bytes ≡ (2, middle) → tail_call_at context bytes
+    ≡ by_reference_at context outcome.Returned middle
 unfolding tail_call_at
 tail_call_by_reference context bytes middle drawn = rw drawn refl

@@ -36,7 +36,8 @@ without_null features to = record { nullable = to.nullable && not features.funct
 
 -- a cast to a reference type
 unfoldable pub cast_at : BodyContext → RefType → List ℕ → Chosen
-cast_at context to bytes = let from = above_at context to bytes in (Some (node_of (Ref from.0 ∷ []) (instr.Reference (reference.Cast to)) 0), from.1)
+cast_at context to bytes = let from = above_at context to bytes in
+    (Some (node_of (Ref from.0 ∷ []) (instr.Reference (reference.Cast to)) 0), from.1)
 
 -- a local that is a reference
 abbrev pub is_reference_local : BodyContext → ℕ → Bool
@@ -44,11 +45,13 @@ is_reference_local context index = is_some (reference_in (slice_get context.loca
 
 abbrev pub reference_local_at : BodyContext → List ℕ → Option RefType × List ℕ
 reference_local_at context bytes =
-    giving (λ index. reference_in (slice_get context.locals index)) (choose_at (offered (is_reference_local context) (indexed (length context.locals))) bytes)
+    giving (λ index. reference_in (slice_get context.locals index))
+    (choose_at (offered (is_reference_local context) (indexed (length context.locals))) bytes)
 
 -- a test for the type of a local
 abbrev pub tested_for : BodyContext → RefType → List ℕ → Chosen
-tested_for context to bytes = let from = above_at context to bytes in (Some (node_of (Ref from.0 ∷ []) (instr.Reference (reference.Test to)) 0), from.1)
+tested_for context to bytes = let from = above_at context to bytes in
+    (Some (node_of (Ref from.0 ∷ []) (instr.Reference (reference.Test to)) 0), from.1)
 
 unfoldable pub type_test_at : BodyContext → List ℕ → Chosen
 type_test_at context bytes = let to = reference_local_at context bytes in continued (tested_for context) to.0 to.1
@@ -92,7 +95,8 @@ converted_to nullable _ = None
 -- a reference from a number or another reference; the number of times that each way is listed is
 -- its weight
 abbrev pub conversions : List Conversion
-conversions = conversion.I31 ∷ conversion.Outside ∷ conversion.Cast ∷ conversion.NonNullCast ∷ conversion.Outside ∷ conversion.Outside ∷ conversion.Outside ∷ []
+conversions = conversion.I31 ∷ conversion.Outside ∷ conversion.Cast ∷ conversion.NonNullCast ∷ conversion.Outside ∷ conversion.Outside
+    ∷ conversion.Outside ∷ []
 
 abbrev pub conversion_of : BodyContext → RefType → Conversion → List ℕ → Chosen
 conversion_of context to conversion.I31 bytes = (i31_node context to, bytes)

@@ -1,6 +1,7 @@
 -- Calls, drops, and instructions on locals and globals leave the values of their definitions.
 use Rattle.std.specs.Prelude.{slice_get, All}
-use Rattle.std.proofs.Common.{◌≡◌, ℕ, ◌-◌, ◌<◌, ◌≤◌, true, List, [], ◌∷◌, ◌++◌, Option, Some, length, get_or, drop, refl, sym, subst, ap, ◌∙◌, arith}
+use Rattle.std.proofs.Common.{◌≡◌, ℕ, ◌-◌, ◌<◌, ◌≤◌, true, List, [], ◌∷◌, ◌++◌, Option, Some, length, get_or, drop, refl, sym, subst, ap}
+use Rattle.std.proofs.Common.{◌∙◌, arith}
 use Rattle.std.proofs.lemmas.List.{append-nil}
 use Rattle.std.proofs.lemmas.List.Elements.{All-drop}
 use Rattle.std.proofs.lemmas.Option.{same_Some, slice_get-get_or, slice_get_within}
@@ -17,7 +18,8 @@ use Rattle.smith_body_nodes.specs.Offered.{is_callable, is_callable_at, function
 use Rattle.smith_body_nodes.proofs.OfferLemmas.{function_there}
 use Rattle.smith_body_nodes.proofs.NodeLemmas.{AreParamsValid, first_below, func_wide, no_valid, one_valid, three_wide, zip_length}
 
-pub tee_node : (context : BodyContext) (set : List ℕ) (wanted : ValType) (index : ℕ) (d : ValType) → IsValid context wanted → AreValid context context.locals → IsLocalBelow context wanted index
+pub tee_node : (context : BodyContext) (set : List ℕ) (wanted : ValType) (index : ℕ) (d : ValType) → IsValid context wanted
+    → AreValid context context.locals → IsLocalBelow context wanted index
     → IsNode context set (wanted ∷ []) (setting index (get_or context.locals index d) (instr.LocalTee index))
 tee_node context set wanted index d wanted_valid valid (value, at, below) =
     let inside : index < length context.locals = slice_get_within context.locals index value at in
@@ -37,7 +39,8 @@ tee_node context set wanted index d wanted_valid valid (value, at, below) =
       inside = tt;
     }
 
-pub set_node : (context : BodyContext) (set : List ℕ) (index : ℕ) (d : ValType) → AreValid context context.locals → index < length context.locals
+pub set_node : (context : BodyContext) (set : List ℕ) (index : ℕ) (d : ValType) → AreValid context context.locals
+    → index < length context.locals
     → IsNode context set [] (setting index (get_or context.locals index d) (instr.LocalSet index))
 set_node context set index d valid inside = record {
   results = [];
@@ -53,7 +56,8 @@ set_node context set index d valid inside = record {
   inside = tt;
 }
 
-pub drop_node : (context : BodyContext) (set : List ℕ) (value : ValType) → IsValid context value → IsNode context set [] (node_of (value ∷ []) instr.Drop 0)
+pub drop_node : (context : BodyContext) (set : List ℕ) (value : ValType) → IsValid context value
+    → IsNode context set [] (node_of (value ∷ []) instr.Drop 0)
 drop_node context set value valid = record {
   results = [];
   dropped = [];
@@ -68,7 +72,8 @@ drop_node context set value valid = record {
   inside = tt;
 }
 
-pub global_set_node : (context : BodyContext) (set : List ℕ) (index : ℕ) (d : GlobalType) → All (λ (global : GlobalType). IsValid context global.val_type) context.globals → IsGlobalMutable context index
+pub global_set_node : (context : BodyContext) (set : List ℕ) (index : ℕ) (d : GlobalType)
+    → All (λ (global : GlobalType). IsValid context global.val_type) context.globals → IsGlobalMutable context index
     → IsNode context set [] (node_of ((get_or context.globals index d).val_type ∷ []) (instr.GlobalSet index) 0)
 global_set_node context set index d valid (global, at, mutable) =
     let inside : index < length context.globals = slice_get_within context.globals index global at in
@@ -88,8 +93,10 @@ global_set_node context set index d valid (global, at, mutable) =
       inside = tt;
     }
 
-call_node : (context : BodyContext) (set : List ℕ) (values dropped : List ValType) (index : ℕ) (function : FuncType) → AreParamsValid context → AreValid context values → AreValid context dropped → IsFunction context index function
-    → AreBelow context function.results (values ++ dropped) → length dropped ≤ length function.results → IsNode context set values (node_of function.params (instr.Call index) (length dropped))
+call_node : (context : BodyContext) (set : List ℕ) (values dropped : List ValType) (index : ℕ) (function : FuncType)
+    → AreParamsValid context → AreValid context values → AreValid context dropped → IsFunction context index function
+    → AreBelow context function.results (values ++ dropped) → length dropped ≤ length function.results
+    → IsNode context set values (node_of function.params (instr.Call index) (length dropped))
 call_node context set values dropped index function scope given spare (ty, at, there) below less = record {
   results = function.results;
   dropped = dropped;
@@ -105,23 +112,31 @@ call_node context set values dropped index function scope given spare (ty, at, t
 }
 
 -- a function whose results are dropped
-pub any_call_node : (context : BodyContext) (set : List ℕ) (index : ℕ) (function : FuncType) → AreParamsValid context → AreValid context function.results → IsFunction context index function
+pub any_call_node : (context : BodyContext) (set : List ℕ) (index : ℕ) (function : FuncType) → AreParamsValid context
+    → AreValid context function.results → IsFunction context index function
     → IsNode context set [] (node_of function.params (instr.Call index) (length function.results))
 any_call_node context set index function scope results there =
-    call_node context set [] function.results index function scope (no_valid context) results there (below_themselves context.types function.results) (omega arith)
+    call_node context set [] function.results index function scope (no_valid context) results there
+    (below_themselves context.types function.results) (omega arith)
 
 -- a function whose first result matches the wanted type
-pub call_for : (context : BodyContext) (set : List ℕ) (wanted : ValType) (index : ℕ) (function : FuncType) → IsOrderly context.types → AreParamsValid context → AreValid context function.results → IsValid context wanted
-    → is_callable context wanted index ≡ true → function_at context index ≡ Some function → IsNode context set (wanted ∷ []) (node_of function.params (instr.Call index) (length function.results - 1))
+pub call_for : (context : BodyContext) (set : List ℕ) (wanted : ValType) (index : ℕ) (function : FuncType) → IsOrderly context.types
+    → AreParamsValid context → AreValid context function.results → IsValid context wanted
+    → is_callable context wanted index ≡ true → function_at context index ≡ Some function
+    → IsNode context set (wanted ∷ []) (node_of function.params (instr.Call index) (length function.results - 1))
 call_for context set wanted index function orderly params results valid callable at =
-    let callable' : is_callable_at context.types wanted (Some function) ≡ true = subst (λ (o : Option FuncType). is_callable_at context.types wanted o ≡ true) at callable in
+    let callable' : is_callable_at context.types wanted (Some function) ≡ true =
+    subst (λ (o : Option FuncType). is_callable_at context.types wanted o ≡ true) at callable in
     let zip = first_below context.types orderly wanted function.results callable' in
-    let same : length function.results ≡ length (wanted ∷ drop 1 function.results) = zip_length _ function.results (wanted ∷ drop 1 function.results) zip in
+    let same : length function.results ≡ length (wanted ∷ drop 1 function.results) =
+    zip_length _ function.results (wanted ∷ drop 1 function.results) zip in
     let less : length (drop 1 function.results) ≡ length function.results - 1 = omega arith in
-    rw (← less) (call_node context set (wanted ∷ []) (drop 1 function.results) index function params (one_valid context wanted valid) (All-drop (IsValid context) 1 function.results results) (function_there context index function at) zip (omega arith))
+    rw (← less) (call_node context set (wanted ∷ []) (drop 1 function.results) index function params (one_valid context wanted valid)
+    (All-drop (IsValid context) 1 function.results results) (function_there context index function at) zip (omega arith))
 
 -- `unreachable` in place of any values
-pub stop_node : (context : BodyContext) (set : List ℕ) (values : List ValType) → AreValid context values → IsNode context set values (node_of [] instr.Unreachable 0)
+pub stop_node : (context : BodyContext) (set : List ℕ) (values : List ValType) → AreValid context values
+    → IsNode context set values (node_of [] instr.Unreachable 0)
 stop_node context set values valid = record {
   results = values;
   dropped = [];

@@ -48,12 +48,14 @@ abbrev pub tee_node : BodyContext → ℕ → Option Node
 tee_node context index = option_map (λ value. setting index value (instr.LocalTee index)) (slice_get context.locals index)
 
 unfoldable pub tee_at : BodyContext → ValType → List ℕ → Chosen
-tee_at context wanted bytes = giving (tee_node context) (choose_at (offered (is_local_below context wanted) (indexed (length context.locals))) bytes)
+tee_at context wanted bytes =
+    giving (tee_node context) (choose_at (offered (is_local_below context wanted) (indexed (length context.locals))) bytes)
 
 -- a call of a function whose first result matches the wanted type; the others are dropped
 abbrev pub call_node : BodyContext → ℕ → Option Node
 call_node context index =
-    option_map (λ (function : FuncType). node_of function.params (instr.Call index) (length function.results - 1)) (function_at context index)
+    option_map (λ (function : FuncType). node_of function.params (instr.Call index) (length function.results - 1))
+    (function_at context index)
 
 unfoldable pub call_at : BodyContext → ValType → List ℕ → Chosen
 call_at context wanted bytes =
@@ -241,7 +243,8 @@ value_of config context wanted value.CastBranch bytes = cast_value_at context wa
 value_of config context wanted value.Try bytes = try_at context wanted bytes
 
 unfoldable pub value_choice_at : Config → BodyContext → ValType → List ℕ → Chosen
-value_choice_at config context wanted bytes = let family = chosen_at value.Leaf (value_families wanted) bytes in value_of config context wanted family.0 family.1
+value_choice_at config context wanted bytes = let family = chosen_at value.Leaf (value_families wanted) bytes in
+    value_of config context wanted family.0 family.1
 
 -- the chosen node, if it is allowed
 abbrev pub if_allowed : Features → Config → Option Node → Option Node
@@ -274,7 +277,8 @@ set_at context bytes = let index = range_at 0 (indexed (length context.locals) -
 
 -- a global that is set
 abbrev pub global_set_node : BodyContext → ℕ → Option Node
-global_set_node context index = option_map (λ global. node_of (global.val_type ∷ []) (instr.GlobalSet index) 0) (slice_get context.globals index)
+global_set_node context index = option_map (λ global. node_of (global.val_type ∷ []) (instr.GlobalSet index) 0)
+    (slice_get context.globals index)
 
 unfoldable pub global_set_at : BodyContext → List ℕ → Chosen
 global_set_at context bytes = giving (global_set_node context) (chunk_at (is_mutable context) (indexed (length context.globals)) bytes)

@@ -1,7 +1,8 @@
 -- Blocks leave the values of their types.
 use Rattle.std.specs.Prelude.{IfSome, if◌then◌else◌}
 use Rattle.std.specs.Cmp.Lexicographic.{pointwise}
-use Rattle.std.proofs.Common.{◌≡◌, ℕ, ◌+◌, ◌≤◌, Bool, true, false, List, [], ◌∷◌, ◌++◌, Option, Some, None, length, length-append, refl, arith}
+use Rattle.std.proofs.Common.{◌≡◌, ℕ, ◌+◌, ◌≤◌, Bool, true, false, List, [], ◌∷◌, ◌++◌, Option, Some, None, length, length-append, refl}
+use Rattle.std.proofs.Common.{arith}
 use Rattle.std.proofs.lemmas.List.Elements.{All-push}
 use Rattle.smith_syntax.specs.Same.{exact_items, exact_val}
 use Rattle.smith_types.specs.Entities.{IsFuncAt}
@@ -22,7 +23,8 @@ use Rattle.smith_body_nodes.specs.declared.node.Sides.{Sides}
 use Rattle.smith_body_nodes.proofs.NodeLemmas.{func_wide, no_valid, one_valid, three_wide}
 
 -- the operands of a block are valid
-pub taken_valid : (context : BodyContext) (opening : Opening) (params : List ValType) → AreValid context params → AreValid context (taken_by opening params)
+pub taken_valid : (context : BodyContext) (opening : Opening) (params : List ValType) → AreValid context params
+    → AreValid context (taken_by opening params)
 taken_valid context opening.Block params valid = valid
 taken_valid context opening.Loop params valid = valid
 taken_valid context opening.IfAlone params valid = All-push (IsValid context) params I32 valid tt
@@ -33,19 +35,26 @@ taken_few opening.Loop params = omega arith
 taken_few opening.IfAlone params = simp length-append (omega arith)
 
 -- an `if` without `else` may be opened if its parameters are its results
-alone : (same : Bool) (params results : List ValType) → (same ≡ true → params ≡ results) → IfSome (if same then Some opening.IfAlone else None) (λ opening. MayOpen opening params results)
+alone : (same : Bool) (params results : List ValType) → (same ≡ true → params ≡ results)
+    → IfSome (if same then Some opening.IfAlone else None) (λ opening. MayOpen opening params results)
 alone true params results is = is refl
 alone false params results is = tt
 
-may_open : (opening : Option Opening) (params results : List ValType) → IfSome (fitting opening params results) (λ opening. MayOpen opening params results)
+may_open : (opening : Option Opening) (params results : List ValType) → IfSome (fitting opening params results)
+    (λ opening. MayOpen opening params results)
 may_open (Some opening.Block) params results = tt
 may_open (Some opening.Loop) params results = tt
-may_open (Some opening.IfAlone) params results = alone (pointwise val_same.eq params results) params results (exact_items exact_val params results).0
+may_open (Some opening.IfAlone) params results = alone (pointwise val_same.eq params results) params results
+    (exact_items exact_val params results).0
 may_open None params results = tt
 
 -- a block
-opened_node : (context : BodyContext) (set : List ℕ) (values dropped : List ValType) (opening : Option Opening) (ty : BlockType) (sides : Sides) → IfSome opening (λ opening. MayOpen opening sides.params sides.results) → IsBlockType context ty sides.params sides.results
-    → AreBelow context sides.results (values ++ dropped) → AreValid context values → AreValid context dropped → AreSidesValid context.features context.types sides → length dropped ≤ length sides.results → IsNode context set values (opened_by opening ty sides (length dropped))
+opened_node : (context : BodyContext) (set : List ℕ) (values dropped : List ValType) (opening : Option Opening) (ty : BlockType)
+    (sides : Sides) → IfSome opening (λ opening. MayOpen opening sides.params sides.results)
+    → IsBlockType context ty sides.params sides.results
+    → AreBelow context sides.results (values ++ dropped) → AreValid context values → AreValid context dropped
+    → AreSidesValid context.features context.types sides → length dropped ≤ length sides.results
+    → IsNode context set values (opened_by opening ty sides (length dropped))
 opened_node context set values dropped (Some opening) ty sides may fits below given spare valid less = record {
   results = sides.results;
   dropped = dropped;
@@ -73,23 +82,34 @@ opened_node context set values dropped None ty sides may fits below given spare 
   inside = valid;
 }
 
-pub block_node : (context : BodyContext) (set : List ℕ) (values dropped : List ValType) (opening : Option Opening) (ty : BlockType) (params results : List ValType) → IsBlockType context ty params results → AreBelow context results (values ++ dropped)
-    → AreValid context values → AreValid context dropped → AreValid context params → AreValid context results → length params + length results ≤ widest context.types → length dropped ≤ length results → IsNode context set values (blocked opening ty params results (length dropped))
+pub block_node : (context : BodyContext) (set : List ℕ) (values dropped : List ValType) (opening : Option Opening) (ty : BlockType)
+    (params results : List ValType) → IsBlockType context ty params results → AreBelow context results (values ++ dropped)
+    → AreValid context values → AreValid context dropped → AreValid context params → AreValid context results
+    → length params + length results ≤ widest context.types → length dropped ≤ length results
+    → IsNode context set values (blocked opening ty params results (length dropped))
 block_node context set values dropped opening ty params results fits below given spare params_valid results_valid few less =
-    opened_node context set values dropped (fitting opening params results) ty (record { params = params; results = results }) (may_open opening params results) fits below given spare
+    opened_node context set values dropped (fitting opening params results) ty (record { params = params; results = results })
+    (may_open opening params results) fits below given spare
     (record { params = params_valid; results = results_valid; few = few }) less
 
-pub value_block : (context : BodyContext) (set : List ℕ) (opening : Option Opening) (wanted : ValType) → IsValid context wanted → IsNode context set (wanted ∷ []) (blocked opening (block.Value wanted) [] (wanted ∷ []) 0)
+pub value_block : (context : BodyContext) (set : List ℕ) (opening : Option Opening) (wanted : ValType) → IsValid context wanted
+    → IsNode context set (wanted ∷ []) (blocked opening (block.Value wanted) [] (wanted ∷ []) 0)
 value_block context set opening wanted valid =
     let wide = three_wide context.types in
-    block_node context set (wanted ∷ []) [] opening (block.Value wanted) [] (wanted ∷ []) (valid, refl, refl) (IsValBelow-refl context.types wanted, tt)
+    block_node context set (wanted ∷ []) [] opening (block.Value wanted) [] (wanted ∷ []) (valid, refl, refl)
+    (IsValBelow-refl context.types wanted, tt)
     (one_valid context wanted valid) (no_valid context) (no_valid context) (one_valid context wanted valid) (omega arith) (omega arith)
 
-pub empty_block : (context : BodyContext) (set : List ℕ) (opening : Option Opening) → IsNode context set [] (blocked opening block.Empty [] [] 0)
-empty_block context set opening = block_node context set [] [] opening block.Empty [] [] (refl, refl) tt (no_valid context) (no_valid context) (no_valid context) (no_valid context) (omega arith) (omega arith)
+pub empty_block : (context : BodyContext) (set : List ℕ) (opening : Option Opening)
+    → IsNode context set [] (blocked opening block.Empty [] [] 0)
+empty_block context set opening = block_node context set [] [] opening block.Empty [] [] (refl, refl) tt (no_valid context)
+    (no_valid context) (no_valid context) (no_valid context) (omega arith) (omega arith)
 
 -- a block of a function type
-pub func_block : (context : BodyContext) (set : List ℕ) (opening : Option Opening) (index : ℕ) (function : FuncType) → IsFuncAt context.types index function → AreValid context function.params → AreValid context function.results
+pub func_block : (context : BodyContext) (set : List ℕ) (opening : Option Opening) (index : ℕ) (function : FuncType)
+    → IsFuncAt context.types index function → AreValid context function.params → AreValid context function.results
     → IsNode context set [] (blocked opening (block.Func index) function.params function.results (length function.results))
 func_block context set opening index function there params results =
-    block_node context set [] function.results opening (block.Func index) function.params function.results (function, there, refl, refl) (below_themselves context.types function.results) (no_valid context) results params results (func_wide context.types index function there) (omega arith)
+    block_node context set [] function.results opening (block.Func index) function.params function.results (function, there, refl, refl)
+    (below_themselves context.types function.results) (no_valid context) results params results
+    (func_wide context.types index function there) (omega arith)

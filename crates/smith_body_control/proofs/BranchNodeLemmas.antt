@@ -16,7 +16,8 @@ use Rattle.smith_body_nodes.proofs.NodeLemmas.{no_valid}
 use Rattle.smith_body_nodes.proofs.LabelLemmas.{label_at}
 use Rattle.smith_body_control.proofs.BlockNodeLemmas.{taken_valid}
 
-pub br_node : (scope : Scope) (labels : List (List ValType)) (set : List ℕ) (index : ℕ) (taken values : List ValType) → AreLabels scope labels → index < length labels → taken ≡ get_or labels index taken → AreValid (bare scope) values
+pub br_node : (scope : Scope) (labels : List (List ValType)) (set : List ℕ) (index : ℕ) (taken values : List ValType)
+    → AreLabels scope labels → index < length labels → taken ≡ get_or labels index taken → AreValid (bare scope) values
     → IsNode (context_of scope labels) set values (node_of taken (instr.Br index) 0)
 br_node scope labels set index taken values are inside is valid =
     let (at, taken_valid, few) = label_at scope labels are index taken inside is in
@@ -34,7 +35,9 @@ br_node scope labels set index taken values are inside is valid =
       inside = tt;
     }
 
-pub return_node : (context : BodyContext) (set : List ℕ) (values : List ValType) → AreValid context context.results → length context.results ≤ widest context.types → AreValid context values → IsNode context set values (node_of context.results instr.Return 0)
+pub return_node : (context : BodyContext) (set : List ℕ) (values : List ValType) → AreValid context context.results
+    → length context.results ≤ widest context.types → AreValid context values
+    → IsNode context set values (node_of context.results instr.Return 0)
 return_node context set values results few valid = record {
   results = values;
   dropped = [];
@@ -49,7 +52,8 @@ return_node context set values results few valid = record {
   inside = tt;
 }
 
-pub br_if_node : (scope : Scope) (labels : List (List ValType)) (set : List ℕ) (index : ℕ) (taken : List ValType) → AreLabels scope labels → index < length labels → taken ≡ get_or labels index taken
+pub br_if_node : (scope : Scope) (labels : List (List ValType)) (set : List ℕ) (index : ℕ) (taken : List ValType) → AreLabels scope labels
+    → index < length labels → taken ≡ get_or labels index taken
     → IsNode (context_of scope labels) set [] (node_of (taken ++ I32 ∷ []) (instr.BrIf index) (length taken))
 br_if_node scope labels set index taken are inside is =
     let (at, taken_valid, few) = label_at scope labels are index taken inside is in
@@ -67,7 +71,9 @@ br_if_node scope labels set index taken are inside is =
       inside = tt;
     }
 
-pub table_node : (scope : Scope) (labels : List (List ValType)) (set targets : List ℕ) (index : ℕ) (taken values : List ValType) → AreLabels scope labels → index < length labels → taken ≡ get_or labels index taken → All (IsTaken (context_of scope labels) taken) targets → AreValid (bare scope) values
+pub table_node : (scope : Scope) (labels : List (List ValType)) (set targets : List ℕ) (index : ℕ) (taken values : List ValType)
+    → AreLabels scope labels → index < length labels → taken ≡ get_or labels index taken
+    → All (IsTaken (context_of scope labels) taken) targets → AreValid (bare scope) values
     → IsNode (context_of scope labels) set values (node_of (taken ++ I32 ∷ []) (instr.BrTable targets index) 0)
 table_node scope labels set targets index taken values are inside is all valid =
     let (at, taken_valid, few) = label_at scope labels are index taken inside is in

@@ -1,5 +1,6 @@
 -- Labels of a branch to one of several, one after another.
-use Rattle.std.proofs.Common.{◌≡◌, ℕ, zero, suc, ◌+◌, ◌-◌, ◌<◌, ◌≤◌, List, [], ◌∷◌, ◌++◌, Option, Some, None, length, get_or, refl, sym, ap, ◌∙◌, arith}
+use Rattle.std.proofs.Common.{◌≡◌, ℕ, zero, suc, ◌+◌, ◌-◌, ◌<◌, ◌≤◌, List, [], ◌∷◌, ◌++◌, Option, Some, None, length, get_or, refl, sym, ap}
+use Rattle.std.proofs.Common.{◌∙◌, arith}
 use Rattle.std.specs.Prelude.{slice_get}
 use Rattle.std.proofs.lemmas.List.{append-nil}
 use Rattle.std.proofs.lemmas.Option.{slice_get-get_or}
@@ -27,25 +28,37 @@ none_offered {A = A} (x ∷ xs) bytes left drawn =
 abbrev pub AreDrawnTargets : BodyContext → List ValType → ℕ → List ℕ → ℕ → List ℕ → List ℕ → Type 0
 AreDrawnTargets context taken count start turns done bytes = AreDrawnSoFar (targets_at context taken) count start turns done bytes
 
-pub targets_none : (context : BodyContext) (taken : List ValType) (count : ℕ) (start : List ℕ) → AreDrawnTargets context taken count start 0 [] start
+pub targets_none : (context : BodyContext) (taken : List ValType) (count : ℕ) (start : List ℕ)
+    → AreDrawnTargets context taken count start 0 [] start
 targets_none context taken count start = no_turn (targets_at context taken) count start
 
-pub targets_more : (context : BodyContext) (taken : List ValType) (count turns label : ℕ) (start done bytes left : List ℕ) → turns < count → choose_at (offered (is_target context.types context.labels taken) (label_count context)) bytes ≡ (Some label, left)
-    → AreDrawnTargets context taken count start turns done bytes → AreDrawnTargets context taken count start (turns + 1) (done ++ label ∷ []) left
+pub targets_more : (context : BodyContext) (taken : List ValType) (count turns label : ℕ) (start done bytes left : List ℕ) → turns < count
+    → choose_at (offered (is_target context.types context.labels taken) (label_count context)) bytes ≡ (Some label, left)
+    → AreDrawnTargets context taken count start turns done bytes → AreDrawnTargets context taken count start (turns + 1)
+    (done ++ label ∷ []) left
 unfolding targets_at
-targets_more context taken count turns label start done bytes left more drawn so_far = one_turn (targets_at context taken) count turns start bytes left done (label ∷ []) more (λ n. rw drawn refl) so_far
+targets_more context taken count turns label start done bytes left more drawn so_far = one_turn (targets_at context taken) count turns start
+    bytes left done (label ∷ []) more (λ n. rw drawn refl) so_far
 
-pub targets_all : (context : BodyContext) (taken : List ValType) (count turns : ℕ) (start done bytes : List ℕ) → count ≤ turns → AreDrawnTargets context taken count start turns done bytes → targets_at context taken count start ≡ (done, bytes)
+pub targets_all : (context : BodyContext) (taken : List ValType) (count turns : ℕ) (start done bytes : List ℕ) → count ≤ turns
+    → AreDrawnTargets context taken count start turns done bytes → targets_at context taken count start ≡ (done, bytes)
 unfolding targets_at
-targets_all context taken count turns start done bytes all so_far = all_turns (targets_at context taken) count turns start bytes done all refl so_far
+targets_all context taken count turns start done bytes all so_far = all_turns (targets_at context taken) count turns start bytes done all
+    refl so_far
 
-no_targets : (context : BodyContext) (taken : List ValType) (count : ℕ) (bytes : List ℕ) → length (offered (is_target context.types context.labels taken) (label_count context)) ≡ 0 → targets_at context taken count bytes ≡ ([], bytes)
+no_targets : (context : BodyContext) (taken : List ValType) (count : ℕ) (bytes : List ℕ)
+    → length (offered (is_target context.types context.labels taken) (label_count context)) ≡ 0 → targets_at context taken count bytes
+    ≡ ([], bytes)
 unfolding targets_at
 no_targets context taken zero bytes none = refl
 no_targets context taken (suc count) bytes none =
-    rw (choose_none (offered (is_target context.types context.labels taken) (label_count context)) bytes none, no_targets context taken count bytes none) refl
+    rw (
+      choose_none (offered (is_target context.types context.labels taken) (label_count context)) bytes none,
+      no_targets context taken count bytes none,
+    ) refl
 
-pub targets_stop : (context : BodyContext) (taken : List ValType) (count turns : ℕ) (start done bytes left : List ℕ) → choose_at (offered (is_target context.types context.labels taken) (label_count context)) bytes ≡ (None, left)
+pub targets_stop : (context : BodyContext) (taken : List ValType) (count turns : ℕ) (start done bytes left : List ℕ)
+    → choose_at (offered (is_target context.types context.labels taken) (label_count context)) bytes ≡ (None, left)
     → AreDrawnTargets context taken count start turns done bytes → targets_at context taken count start ≡ (done, left)
 targets_stop context taken count turns start done bytes left drawn so_far =
     let items = offered (is_target context.types context.labels taken) (label_count context) in
@@ -56,5 +69,7 @@ targets_stop context taken count turns start done bytes left drawn so_far =
     ∙ (ap (λ (targets : List ℕ). (targets, bytes)) (append-nil done) ∙ ap (λ (b : List ℕ). (done, b)) same))
 
 -- the number of targets is drawn first
-pub targets_by : (context : BodyContext) (taken : List ValType) (bytes start left targets : List ℕ) (count : ℕ) → target_count_at bytes ≡ (count, start) → targets_at context taken count start ≡ (targets, left) → some_targets_at context taken bytes ≡ (targets, left)
+pub targets_by : (context : BodyContext) (taken : List ValType) (bytes start left targets : List ℕ) (count : ℕ)
+    → target_count_at bytes ≡ (count, start) → targets_at context taken count start ≡ (targets, left) → some_targets_at context taken bytes
+    ≡ (targets, left)
 targets_by context taken bytes start left targets count drawn is = ap (λ (r : ℕ × List ℕ). targets_at context taken r.0 r.1) drawn ∙ is

@@ -117,7 +117,8 @@ by_reference_instr _ ty = instr.CallRef ty
 
 abbrev pub by_reference_node : BodyContext → Outcome → ℕ → Option Node
 by_reference_node context outcome ty =
-    option_map (λ (function : FuncType). node_of (function.params ++ nullable_to (Concrete ty) ∷ []) (by_reference_instr outcome ty) (dropped_of outcome function))
+    option_map (λ (function : FuncType). node_of (function.params ++ nullable_to (Concrete ty) ∷ []) (by_reference_instr outcome ty)
+    (dropped_of outcome function))
     (func_in (slice_get context.types ty))
 
 -- the type of a function that may be named, by its place among those

@@ -1,6 +1,7 @@
 -- The `try_table` that the bytes choose. The choices, their order and their weights are rules of
 -- this project.
-use Rattle.std.specs.Prelude.{◌≡◌, ℕ, zero, suc, ◌&&◌, Bool, true, false, Option, Some, None, option_map, option_to_list, List, [], ◌∷◌, ◌++◌, length, slice_get, if◌then◌else◌}
+use Rattle.std.specs.Prelude.{◌≡◌, ℕ, zero, suc, ◌&&◌, Bool, true, false, Option, Some, None, option_map, option_to_list, List, [], ◌∷◌}
+use Rattle.std.specs.Prelude.{◌++◌, length, slice_get, if◌then◌else◌}
 use Rattle.smith_bytes.specs.Draws.{bool_at, choose_at, range_at}
 use Rattle.smith_types.specs.Expressions.{reference_to}
 use Rattle.smith_syntax.specs.Features.{Features}
@@ -41,7 +42,8 @@ IsCaught context None values = values ≡ []
 -- a clause to a label that takes its values, if there is one
 abbrev pub clause_to : BodyContext → Option ℕ → Bool → List ValType → List ℕ → Option Catch × List ℕ
 clause_to context tag referenced values bytes =
-    let label = choose_at (offered (is_target context.types context.labels (passed_values values referenced)) (label_count context)) bytes in
+    let label = choose_at (offered (is_target context.types context.labels (passed_values values referenced)) (label_count context))
+    bytes in
     (option_map (clause_of tag referenced) label.0, label.1)
 
 -- a clause for the exceptions of a tag of this type

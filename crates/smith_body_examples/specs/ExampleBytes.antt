@@ -35,7 +35,8 @@ wide_number n = instr.I64Const (pos n)
 -- i32 and i64
 abbrev pub calling : List ValType → BodyContext
 calling results = record (function_of [] results) {
-  types = final_type (Func (record { params = []; results = I32 ∷ [] })) ∷ final_type (Func (record { params = I64 ∷ []; results = I32 ∷ I64 ∷ [] })) ∷ [];
+  types = final_type (Func (record { params = []; results = I32 ∷ [] })) ∷ final_type
+      (Func (record { params = I64 ∷ []; results = I32 ∷ I64 ∷ [] })) ∷ [];
 }
 
 -- a body with these results, and the type of a function from i64 to i64

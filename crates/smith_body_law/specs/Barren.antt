@@ -26,8 +26,10 @@ IsSharingOn context shared = IsTrue shared → IsTrue context.features.shared_ev
 -- be named, no i31, and no external reference is below it
 pub record IsBarren (context : BodyContext) (heap_type : HeapType) : Type 0 where
   pub no_struct : ¬ IsGroundedByStructs context.types context.features.custom_descriptors heap_type
-  pub no_array : (index : ℕ) (element : FieldType) → IsArrayAt context.types index element → ¬ IsValBelow context.types (created_reference context index) (reference_to heap_type)
-  pub no_function : (function index : ℕ) → Contains context.references function → slice_get context.funcs function ≡ Some index → ¬ IsValBelow context.types (reference_to_function context function index) (reference_to heap_type)
+  pub no_array : (index : ℕ) (element : FieldType) → IsArrayAt context.types index element
+      → ¬ IsValBelow context.types (created_reference context index) (reference_to heap_type)
+  pub no_function : (function index : ℕ) → Contains context.references function → slice_get context.funcs function ≡ Some index
+      → ¬ IsValBelow context.types (reference_to_function context function index) (reference_to heap_type)
   pub no_i31 : (shared : Bool) → IsSharingOn context shared → ¬ IsBelow context.types (Abstract shared abstract.I31) heap_type
   pub no_external : (shared : Bool) → IsSharingOn context shared → ¬ IsBelow context.types (Abstract shared abstract.Extern) heap_type
 

@@ -19,7 +19,8 @@ pub record AreOfOneModule (context : Context) (body : BodyContext) : Type 0 wher
 pub record IsGroundedByUnnamed (context : Context) (references : List ℕ) (heap_type : HeapType) : Type 0 where
   pub no_structs : ¬ IsGroundedByStructs context.types context.features.custom_descriptors heap_type
   pub functions : IsGroundedByFuncs context heap_type
-  pub unnamed : (function index : ℕ) → slice_get context.funcs function ≡ Some index → IsValBelow context.types (function_reference context function index) (reference_to heap_type) → ¬ Contains references function
+  pub unnamed : (function index : ℕ) → slice_get context.funcs function ≡ Some index
+      → IsValBelow context.types (function_reference context function index) (reference_to heap_type) → ¬ Contains references function
 
 -- a barren heap type that is grounded is grounded by functions alone, none of which may be named
 abbrev pub BarrenTypesAreGroundedByUnnamedFunctions : Type 0

@@ -23,7 +23,8 @@ unfolding range_at
 least hi = rw (take-nil, zero-mod) refl
 
 -- without bytes the first item is chosen
-pub chosen_first : (items : List ℕ) (bytes left : List ℕ) (o : Option ℕ) → bytes ≡ [] → choose_at items bytes ≡ (o, left) → o ≡ slice_get items 0
+pub chosen_first : (items : List ℕ) (bytes left : List ℕ) (o : Option ℕ) → bytes ≡ [] → choose_at items bytes ≡ (o, left)
+    → o ≡ slice_get items 0
 unfolding choose_at
 chosen_first items bytes left o empty drawn =
     let drawn' : choose_at items [] ≡ (o, left) = rw empty at drawn in
@@ -35,24 +36,29 @@ nothing_first (item ∷ items) place index none at = cc
 
 -- without a first item no item is offered
 pub none_offered : (test : ℕ → Bool) (size index : ℕ) → first_offered test size ≡ None → index < size → test index ≡ true → ⊥
-none_offered test size index none inside is = nothing_first (offered test size) (length (offered test index)) index none (offered_place test size index inside is)
+none_offered test size index none inside is = nothing_first (offered test size) (length (offered test index)) index none
+    (offered_place test size index inside is)
 
 pub both_are : (a b : Bool) → a ≡ true → b ≡ true → (a && b) ≡ true
 both_are true b p q = q
 both_are false b p q = p
 
 -- an array type that is offered
-element_held : (types : List SubType) (ty : ℕ) (o : Option FieldType) → element_in (slice_get types ty) ≡ o → is_some o ≡ true → (element : FieldType) × IsArrayAt types ty element
+element_held : (types : List SubType) (ty : ℕ) (o : Option FieldType) → element_in (slice_get types ty) ≡ o → is_some o ≡ true
+    → (element : FieldType) × IsArrayAt types ty element
 element_held types ty (Some element) at is = (element, array_is types ty element at)
 element_held types ty None at is = cc
 
-pub array_created : (context : BodyContext) (wanted : ValType) (ty : ℕ) → is_created_empty context wanted ty ≡ true → (is_created_below context wanted ty ≡ true) × ((element : FieldType) × IsArrayAt context.types ty element)
+pub array_created : (context : BodyContext) (wanted : ValType) (ty : ℕ) → is_created_empty context wanted ty ≡ true
+    → (is_created_below context wanted ty ≡ true) × ((element : FieldType) × IsArrayAt context.types ty element)
 array_created context wanted ty is =
     let (below, held) = both (is_created_below context wanted ty) (is_some (element_in (slice_get context.types ty))) is in
     (below, element_held context.types ty (element_in (slice_get context.types ty)) refl held)
 
-pub array_offered : (context : BodyContext) (wanted : ValType) (ty : ℕ) (element : FieldType) → IsArrayAt context.types ty element → is_created_below context wanted ty ≡ true → is_created_empty context wanted ty ≡ true
+pub array_offered : (context : BodyContext) (wanted : ValType) (ty : ℕ) (element : FieldType) → IsArrayAt context.types ty element
+    → is_created_below context wanted ty ≡ true → is_created_empty context wanted ty ≡ true
 array_offered context wanted ty element (t, at, is) below =
-    let there : is_some (element_of t.composite_type.inner) ≡ true = subst (λ (x : CompositeInnerType). is_some (element_of x) ≡ true) (sym is) refl in
+    let there : is_some (element_of t.composite_type.inner) ≡ true = subst (λ (x : CompositeInnerType). is_some (element_of x) ≡ true)
+    (sym is) refl in
     both_are (is_created_below context wanted ty) (is_some (element_in (slice_get context.types ty))) below
     (subst (λ (o : Option SubType). is_some (element_in o) ≡ true) (sym at) there)

@@ -1,6 +1,7 @@
 -- The value without a budget that the bytes produce: one instruction, or a value that is preferred to
 -- null. The choices, their order and their weights are rules of this project.
-use Rattle.std.specs.Prelude.{◌≡◌, ℕ, ℤ, Bool, true, false, ◌&&◌, not, nat_lt, Option, Some, None, option_map, unwrap_or, List, [], ◌∷◌, ◌++◌, length, pos, replicate, slice_get, if◌then◌else◌}
+use Rattle.std.specs.Prelude.{◌≡◌, ℕ, ℤ, Bool, true, false, ◌&&◌, not, nat_lt, Option, Some, None, option_map, unwrap_or, List, [], ◌∷◌}
+use Rattle.std.specs.Prelude.{◌++◌, length, pos, replicate, slice_get, if◌then◌else◌}
 use Rattle.smith_bytes.specs.Draws.{range_at}
 use Rattle.smith_config.specs.declared.config.Config.{Config}
 use Rattle.smith_types.specs.Expressions.{unpacked}
@@ -19,7 +20,8 @@ use Rattle.smith_instr.specs.declared.instr.Instr.{Instr}
 use Rattle.smith_instr.specs.declared.instr.Instr.TheVariants as instr
 use Rattle.smith_instr.specs.declared.reference.ReferenceInstr.TheVariants as reference
 use Rattle.smith_body_leaves.specs.Constants.{integer32_at}
-use Rattle.smith_body_leaves.specs.Leaves.{IsLeaf, IsTaking, any_leaf_at, by_index, i31_creation, if_permitted, instructions_of, leaf_of, named_type, only, spare_leaf, with_last}
+use Rattle.smith_body_leaves.specs.Leaves.{IsLeaf, IsTaking, any_leaf_at, by_index, i31_creation, if_permitted, instructions_of, leaf_of}
+use Rattle.smith_body_leaves.specs.Leaves.{named_type, only, spare_leaf, with_last}
 use Rattle.smith_body_leaves.specs.declared.families.CreatedFamily.{CreatedFamily}
 use Rattle.smith_body_leaves.specs.declared.families.CreatedFamily.TheVariants as created
 use Rattle.smith_body_leaves.specs.declared.families.LeafFamily.{LeafFamily}
@@ -57,7 +59,8 @@ held_of config context set wanted family bytes =
 
 -- a local, or if none is chosen, a global
 unfoldable pub variable_at : Config → BodyContext → List ℕ → ValType → List ℕ → Option Instr × List ℕ
-variable_at config context set wanted bytes = or_next (held_of config context set wanted leaf.Local bytes) (held_of config context set wanted leaf.Global)
+variable_at config context set wanted bytes = or_next (held_of config context set wanted leaf.Local bytes)
+    (held_of config context set wanted leaf.Global)
 
 -- a type that passes a test: the type that is named, or if none is, one of a drawn chunk
 abbrev pub created_type_at : (ℕ → Bool) → ℕ → Option ℕ → List ℕ → Option ℕ × List ℕ
@@ -67,7 +70,8 @@ created_type_at test size None bytes = chunk_at test size bytes
 -- a struct of default values
 abbrev pub struct_at : BodyContext → ValType → List ℕ → Option Instr × List ℕ
 struct_at context wanted bytes =
-    by_index (λ ty. instr.Aggregate (aggregate.StructNewDefault ty)) (created_type_at (is_created_struct context wanted true) (indexed (length context.types)) (named_type wanted) bytes)
+    by_index (λ ty. instr.Aggregate (aggregate.StructNewDefault ty)) (created_type_at (is_created_struct context wanted true)
+    (indexed (length context.types)) (named_type wanted) bytes)
 
 -- an array type whose elements have a default, and whose created values match the wanted type
 abbrev pub has_default_element : Option FieldType → Bool
@@ -75,12 +79,14 @@ has_default_element (Some element) = is_defaultable (unpacked element.element_ty
 has_default_element None = false
 
 abbrev pub is_created_array : BodyContext → ValType → ℕ → Bool
-is_created_array context wanted index = is_created_below context wanted index && has_default_element (element_in (slice_get context.types index))
+is_created_array context wanted index = is_created_below context wanted index && has_default_element
+    (element_in (slice_get context.types index))
 
 -- an array of default values
 abbrev pub array_at : BodyContext → ValType → List ℕ → Option Instr × List ℕ
 array_at context wanted bytes =
-    by_index (λ ty. instr.Aggregate (aggregate.ArrayNewDefault ty)) (created_type_at (is_created_array context wanted) (indexed (length context.types)) (named_type wanted) bytes)
+    by_index (λ ty. instr.Aggregate (aggregate.ArrayNewDefault ty)) (created_type_at (is_created_array context wanted)
+    (indexed (length context.types)) (named_type wanted) bytes)
 
 -- an instruction that takes a number, with this number, if both are permitted
 abbrev pub over_number : Config → BodyContext → Instr → ℤ → Option Leaf
@@ -154,7 +160,8 @@ strict_value_for config context set strict wanted family bytes =
 
 -- such a value, first of the non-nullable form of the type
 unfoldable pub value_for : Config → BodyContext → List ℕ → ValType → CreatedFamily → List ℕ → Option Leaf × List ℕ
-value_for config context set wanted family bytes = strict_value_for config context set (strict_form context.features wanted) wanted family bytes
+value_for config context set wanted family bytes = strict_value_for config context set (strict_form context.features wanted) wanted family
+    bytes
 
 -- a value that is preferred to null, if there is one: one of 16 times there is none
 abbrev pub preferred_by : Config → BodyContext → List ℕ → ValType → Option CreatedFamily → List ℕ → Option Leaf × List ℕ

@@ -80,10 +80,14 @@ IsTried search wanted ty = IsTriedBy search (named_type wanted) ty
 -- creation of an i31 whose operand has a value of one instruction, no conversion whose operand has a
 -- value, and no creation of a struct of one field, of a type that is tried, whose field has a value;
 -- after a search of the struct types, none is made for this field
-pub record HasNoUnary (config : Config) (context : BodyContext) (set : List ℕ) (search : Bool) (HasNone : Bool → ValType → Type 0) (wanted : ValType) : Type 0 where
-  pub no_i31 : (creation : Instr) → IsI31Creation creation → IsOtherOver config context set I32 wanted creation → HasNoSingle config context set I32
-  pub no_conversion : (operand : ValType) (conversion : Instr) → IsConversion conversion → IsOtherOver config context set operand wanted conversion → HasNone search operand
-  pub no_struct : (ty : ℕ) (operand : ValType) → IsTried search wanted ty → IsOtherOver config context set operand wanted (instr.Aggregate (aggregate.StructNew ty)) → HasNone (searches_on search (named_type wanted)) operand
+pub record HasNoUnary (config : Config) (context : BodyContext) (set : List ℕ) (search : Bool) (HasNone : Bool → ValType → Type 0)
+    (wanted : ValType) : Type 0 where
+  pub no_i31 : (creation : Instr) → IsI31Creation creation → IsOtherOver config context set I32 wanted creation
+      → HasNoSingle config context set I32
+  pub no_conversion : (operand : ValType) (conversion : Instr) → IsConversion conversion
+      → IsOtherOver config context set operand wanted conversion → HasNone search operand
+  pub no_struct : (ty : ℕ) (operand : ValType) → IsTried search wanted ty → IsOtherOver config context set operand wanted
+      (instr.Aggregate (aggregate.StructNew ty)) → HasNone (searches_on search (named_type wanted)) operand
 
 -- no value of the wanted type consists of a single instruction, and then at most this number of such
 -- instructions with one operand
@@ -96,7 +100,8 @@ HasNoValue config context set (suc more) search wanted =
 -- with one operand, nor of a permitted creation of a struct and a single instruction for each operand
 pub record HasNoOther (config : Config) (context : BodyContext) (set : List ℕ) (wanted : ValType) : Type 0 where
   pub none : HasNoValue config context set 2 true wanted
-  pub none_created : (ty : ℕ) (operands : List ValType) → IsTried true wanted ty → IsOtherTaking config context set operands wanted (instr.Aggregate (aggregate.StructNew ty)) → Any (HasNoSingle config context set) operands
+  pub none_created : (ty : ℕ) (operands : List ValType) → IsTried true wanted ty → IsOtherTaking config context set operands wanted
+      (instr.Aggregate (aggregate.StructNew ty)) → Any (HasNoSingle config context set) operands
 
 -- with `disallow_traps`, a value is produced by `unreachable` only if no other such instructions
 -- produce one

@@ -1,6 +1,7 @@
 -- The value that the bytes produce without a budget. The choices and their order are rules of this
 -- project.
-use Rattle.std.specs.Prelude.{◌≡◌, ℕ, zero, suc, ◌+◌, max, ◌&&◌, Bool, false, true, Option, Some, None, is_some, option_and_then, option_map, option_to_list, unwrap_or, List, [], ◌∷◌, ◌++◌, length, pos, slice_get, if◌then◌else◌}
+use Rattle.std.specs.Prelude.{◌≡◌, ℕ, zero, suc, ◌+◌, max, ◌&&◌, Bool, false, true, Option, Some, None, is_some, option_and_then}
+use Rattle.std.specs.Prelude.{option_map, option_to_list, unwrap_or, List, [], ◌∷◌, ◌++◌, length, pos, slice_get, if◌then◌else◌}
 use Rattle.std.specs.Option.{option_or}
 use Rattle.smith_bytes.specs.Draws.{choose_at}
 use Rattle.smith_config.specs.declared.config.Config.{Config}
@@ -57,18 +58,22 @@ by_index read drawn = (option_map read drawn.0, drawn.1)
 
 -- a local that is set and whose type matches the wanted type
 abbrev pub local_at : BodyContext → List ℕ → ValType → List ℕ → Option Instr × List ℕ
-local_at context set wanted bytes = by_index instr.LocalGet (choose_at (offered (is_readable context set wanted) (indexed (length context.locals))) bytes)
+local_at context set wanted bytes =
+    by_index instr.LocalGet (choose_at (offered (is_readable context set wanted) (indexed (length context.locals))) bytes)
 
 -- a global whose type matches the wanted type
 abbrev pub global_at : BodyContext → Reach → ValType → List ℕ → Option Instr × List ℕ
-global_at context reach wanted bytes = by_index instr.GlobalGet (within_at reach (is_global_below context wanted) (indexed (length context.globals)) bytes)
+global_at context reach wanted bytes =
+    by_index instr.GlobalGet (within_at reach (is_global_below context wanted) (indexed (length context.globals)) bytes)
 
 -- a function that may be named; the bytes choose its place among those offered
 unfoldable pub named_at : BodyContext → Reach → ValType → List ℕ → Option ℕ × List ℕ
-named_at context reach wanted bytes = giving (slice_get context.references) (within_at reach (is_reference context wanted) (length context.references) bytes)
+named_at context reach wanted bytes = giving (slice_get context.references)
+    (within_at reach (is_reference context wanted) (length context.references) bytes)
 
 abbrev pub reference_at : BodyContext → Reach → ValType → List ℕ → Option Instr × List ℕ
-reference_at context reach wanted bytes = by_index (λ function. instr.Reference (reference.Func function)) (named_at context reach wanted bytes)
+reference_at context reach wanted bytes = by_index (λ function. instr.Reference (reference.Func function))
+    (named_at context reach wanted bytes)
 
 -- the families of values without operands; the number of times that each is listed is its weight
 abbrev pub leaf_families : List LeafFamily
@@ -88,7 +93,8 @@ leaf_of context set reach wanted leaf.Reference bytes = reference_at context rea
 leaf_of context set reach wanted leaf.Constant bytes = (None, bytes)
 
 unfoldable pub leaf_choice_at : BodyContext → List ℕ → ValType → List ℕ → Option Instr × List ℕ
-leaf_choice_at context set wanted bytes = let family = chosen_at leaf.Constant leaf_families bytes in leaf_of context set reach.Chunk wanted family.0 family.1
+leaf_choice_at context set wanted bytes = let family = chosen_at leaf.Constant leaf_families bytes in
+    leaf_of context set reach.Chunk wanted family.0 family.1
 
 -- the instruction that was chosen, or a constant
 abbrev pub or_constant : ValType → Option Instr → List ℕ → Instr × List ℕ
@@ -176,7 +182,8 @@ i31_creation config context wanted = option_or (i31_by config context wanted fal
 
 -- the number of an i31: zero, or the first i32 of one instruction
 abbrev pub i31_number : Config → BodyContext → List ℕ → Option Instr
-i31_number config context set = option_or (if_permitted config context (Some (instr.I32Const (pos 0)))) (first_single config context set I32)
+i31_number config context set = option_or (if_permitted config context (Some (instr.I32Const (pos 0))))
+    (first_single config context set I32)
 
 -- an i31
 abbrev pub i31_with : Option Instr → Instr → Option Leaf
@@ -216,7 +223,8 @@ fields_at types ty = fields_in (struct_in (slice_get types ty))
 
 -- a struct of this type matches the wanted type, and its creation is permitted
 abbrev pub may_create : Config → BodyContext → ValType → ℕ → Bool
-may_create config context wanted ty = is_created_below context wanted ty && is_permitted context.features config (instr.Aggregate (aggregate.StructNew ty))
+may_create config context wanted ty = is_created_below context wanted ty && is_permitted context.features config
+    (instr.Aggregate (aggregate.StructNew ty))
 
 -- the creation of a struct of one field
 abbrev pub creation_over : Config → BodyContext → ValType → ℕ → List FieldType → Option Unary
@@ -292,7 +300,8 @@ have_singles config context set (wanted ∷ more) = is_some (first_single config
 -- a struct of this type matches the wanted type, its creation is permitted, and each field has a
 -- value of one instruction
 abbrev pub is_created_in : Config → BodyContext → List ℕ → ValType → ℕ → Option StructType → Bool
-is_created_in config context set wanted ty (Some structure) = may_create config context wanted ty && have_singles config context set (field_values structure.fields)
+is_created_in config context set wanted ty (Some structure) = may_create config context wanted ty && have_singles config context set
+    (field_values structure.fields)
 is_created_in config context set wanted ty None = false
 
 abbrev pub is_created : Config → BodyContext → List ℕ → ValType → ℕ → Bool
@@ -307,7 +316,8 @@ created_type config context set wanted = first_tried context true (named_type wa
 
 -- a struct created from the first value of one instruction of each field
 abbrev pub created_from : Config → BodyContext → List ℕ → ℕ → List Instr
-created_from config context set ty = singles config context set (field_values (fields_at context.types ty)) ++ instr.Aggregate (aggregate.StructNew ty) ∷ []
+created_from config context set ty = singles config context set (field_values (fields_at context.types ty)) ++ instr.Aggregate
+    (aggregate.StructNew ty) ∷ []
 
 -- a value of at most three instructions, or a struct of values of one instruction; `unreachable` if
 -- there is none

@@ -32,15 +32,19 @@ loads_give F64 = refl
 loads_give V128 = refl
 loads_give (Ref reference) = refl
 
-loaded_value : (rows : List Load) (index : ℕ) (op : Load) (wanted : ValType) → rows ≡ loads_of wanted → index < length rows → op ≡ get_or rows index op → (loaded op).0 ≡ wanted
+loaded_value : (rows : List Load) (index : ℕ) (op : Load) (wanted : ValType) → rows ≡ loads_of wanted → index < length rows
+    → op ≡ get_or rows index op → (loaded op).0 ≡ wanted
 loaded_value rows index op wanted are inside is =
     let all : list_all (λ (op : Load). begins wanted ((loaded op).0 ∷ [])) rows ≡ true = rw are (loads_give wanted) in
-    let test : begins wanted ((loaded (get_or rows index op)).0 ∷ []) ≡ true = AllPass-from_list_all (λ (op : Load). begins wanted ((loaded op).0 ∷ [])) rows all index op inside in
+    let test : begins wanted ((loaded (get_or rows index op)).0 ∷ []) ≡ true =
+    AllPass-from_list_all (λ (op : Load). begins wanted ((loaded op).0 ∷ [])) rows all index op inside in
     let test' : begins wanted ((loaded op).0 ∷ []) ≡ true = subst (λ (o : Load). begins wanted ((loaded o).0 ∷ []) ≡ true) (sym is) test in
     first_same (begins_with wanted ((loaded op).0 ∷ []) test')
 
-pub load_node : (rows : List Load) (index : ℕ) (op : Load) (wanted : ValType) → rows ≡ loads_of wanted → index < length rows → op ≡ get_or rows index op
-    → (context : BodyContext) (set : List ℕ) (at : MemArg) (wide : Bool) → IsValid context wanted → IsAccess context.memories at wide → at.align ≤ (loaded op).1
+pub load_node : (rows : List Load) (index : ℕ) (op : Load) (wanted : ValType) → rows ≡ loads_of wanted → index < length rows
+    → op ≡ get_or rows index op
+    → (context : BodyContext) (set : List ℕ) (at : MemArg) (wide : Bool) → IsValid context wanted → IsAccess context.memories at wide
+    → at.align ≤ (loaded op).1
     → IsNode context set (wanted ∷ []) (node_of (address wide ∷ []) (instr.Load op at) 0)
 load_node rows index op wanted are inside is context set at wide valid access aligned =
     let given : (loaded op).0 ≡ wanted = loaded_value rows index op wanted are inside is in
@@ -48,7 +52,11 @@ load_node rows index op wanted are inside is context set at wide valid access al
       results = (loaded op).0 ∷ [];
       dropped = [];
       typed = λ more. (wide, (access, aligned), (refl, refl));
-      below = (subst (λ (value : ValType). IsValBelow context.types (loaded op).0 value) given (IsValBelow-refl context.types (loaded op).0), tt);
+      below = (
+        subst (λ (value : ValType). IsValBelow context.types (loaded op).0 value) given
+            (IsValBelow-refl context.types (loaded op).0),
+        tt,
+      );
       given = one_valid context wanted valid;
       spare = no_valid context;
       drops = refl;
@@ -61,7 +69,8 @@ load_node rows index op wanted are inside is context set at wide valid access al
 stored_valid : (context : BodyContext) (op : Store) → IsValid context (stored op).0
 stored_valid context op = search rules
 
-pub store_node : (context : BodyContext) (set : List ℕ) (op : Store) (at : MemArg) (wide : Bool) → IsAccess context.memories at wide → at.align ≤ (stored op).1
+pub store_node : (context : BodyContext) (set : List ℕ) (op : Store) (at : MemArg) (wide : Bool) → IsAccess context.memories at wide
+    → at.align ≤ (stored op).1
     → IsNode context set [] (node_of (address wide ∷ (stored op).0 ∷ []) (instr.Store op at) 0)
 store_node context set op at wide access aligned = record {
   results = [];
@@ -73,12 +82,14 @@ store_node context set op at wide access aligned = record {
   drops = refl;
   sets_local = refl;
   few = let many = three_wide context.types in omega arith;
-  valid = more_valid context (address wide) ((stored op).0 ∷ []) (address_valid context wide) (one_valid context (stored op).0 (stored_valid context op));
+  valid = more_valid context (address wide) ((stored op).0 ∷ []) (address_valid context wide)
+      (one_valid context (stored op).0 (stored_valid context op));
   inside = tt;
 }
 
 -- the size of a memory, and its growth
-pub size_node : (context : BodyContext) (set : List ℕ) (wanted : ValType) (index : ℕ) → is_addressed context wanted index ≡ true → IsNode context set (wanted ∷ []) (node_of [] (instr.Memory (memory.Size index)) 0)
+pub size_node : (context : BodyContext) (set : List ℕ) (wanted : ValType) (index : ℕ) → is_addressed context wanted index ≡ true
+    → IsNode context set (wanted ∷ []) (node_of [] (instr.Memory (memory.Size index)) 0)
 size_node context set wanted index is =
     let (ty, at, of) = addressed context wanted index is in
     record {
@@ -95,7 +106,8 @@ size_node context set wanted index is =
       inside = tt;
     }
 
-pub grow_node : (context : BodyContext) (set : List ℕ) (wanted : ValType) (index : ℕ) → is_addressed context wanted index ≡ true → IsNode context set (wanted ∷ []) (node_of (wanted ∷ []) (instr.Memory (memory.Grow index)) 0)
+pub grow_node : (context : BodyContext) (set : List ℕ) (wanted : ValType) (index : ℕ) → is_addressed context wanted index ≡ true
+    → IsNode context set (wanted ∷ []) (node_of (wanted ∷ []) (instr.Memory (memory.Grow index)) 0)
 grow_node context set wanted index is =
     let (ty, at, of) = addressed context wanted index is in
     let same : wanted ∷ [] ≡ address ty.memory64 ∷ [] = ap (λ (v : ValType). v ∷ []) of in
@@ -114,8 +126,10 @@ grow_node context set wanted index is =
       inside = tt;
     }
 
-pub load_row : (rows : List Load) (index : ℕ) (d : Load) (wanted : ValType) → rows ≡ loads_of wanted → index < length rows → (context : BodyContext) (set : List ℕ) (at : MemArg) (wide : Bool)
+pub load_row : (rows : List Load) (index : ℕ) (d : Load) (wanted : ValType) → rows ≡ loads_of wanted → index < length rows
+    → (context : BodyContext) (set : List ℕ) (at : MemArg) (wide : Bool)
     → IsValid context wanted → IsAccess context.memories at wide → at.align ≤ (loaded (get_or rows index d)).1
     → IsNode context set (wanted ∷ []) (node_of (address wide ∷ []) (instr.Load (get_or rows index d) at) 0)
 load_row rows index d wanted are inside context set at wide valid access aligned =
-    load_node rows index (get_or rows index d) wanted are inside (same_item rows index d (get_or rows index d) inside) context set at wide valid access aligned
+    load_node rows index (get_or rows index d) wanted are inside (same_item rows index d (get_or rows index d) inside) context set at wide
+    valid access aligned

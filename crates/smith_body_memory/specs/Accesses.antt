@@ -1,5 +1,6 @@
 -- The access to a memory. The order of the draws is a rule of this project.
-use Rattle.std.specs.Prelude.{ℕ, ◌+◌, ◌-◌, ◌*◌, ◌^◌, min, max, nat_lt, Option, Some, None, option_map, List, length, slice_get, if◌then◌else◌}
+use Rattle.std.specs.Prelude.{ℕ, ◌+◌, ◌-◌, ◌*◌, ◌^◌, min, max, nat_lt, Option, Some, None, option_map, List, length, slice_get}
+use Rattle.std.specs.Prelude.{if◌then◌else◌}
 use Rattle.smith_bytes.specs.Draws.{range_at}
 use Rattle.smith_types.specs.Entities.{addresses, page_log2}
 use Rattle.smith_syntax.specs.declared.entity_type.MemoryType.{MemoryType}

@@ -102,7 +102,8 @@ vector_of config memories family.LoadLane bytes = load_lane_at config memories b
 
 -- a vector
 unfoldable pub vector_choice_at : Config → List MemoryType → List ℕ → Option Node × List ℕ
-vector_choice_at config memories bytes = let drawn = chosen_at family.Instr vector_families bytes in vector_of config memories drawn.0 drawn.1
+vector_choice_at config memories bytes = let drawn = chosen_at family.Instr vector_families bytes in
+    vector_of config memories drawn.0 drawn.1
 
 -- a vector, or a number that a vector instruction produces
 abbrev pub any_vector_at : Config → List MemoryType → ValType → List ℕ → Option Node × List ℕ

@@ -7,7 +7,13 @@ use Rattle.smith_instr.specs.Contexts.{AreValid}
 use Rattle.smith_body_nodes.specs.Scopes.{AreLabels, bare, widest}
 use Rattle.smith_body_nodes.specs.declared.scope.Scope.{Scope}
 
-pub label_at : (scope : Scope) (labels : List (List ValType)) → AreLabels scope labels → (index : ℕ) (taken : List ValType) → index < length labels → taken ≡ get_or labels index taken
+pub label_at : (scope : Scope) (labels : List (List ValType)) → AreLabels scope labels → (index : ℕ) (taken : List ValType)
+    → index < length labels → taken ≡ get_or labels index taken
     → (slice_get labels index ≡ Some taken) × AreValid (bare scope) taken × (length taken ≤ widest scope.types.now.types)
-label_at scope labels are index taken inside is =
-    (slice_get_read labels (length labels) index taken refl inside is, subst (AreValid (bare scope)) (sym is) (are.valid index taken inside), subst (λ (values : List ValType). length values ≤ widest scope.types.now.types) (sym is) (are.few index taken inside))
+label_at scope labels are index taken inside is = (
+  slice_get_read labels (length labels) index taken refl inside is,
+  subst (AreValid (bare scope)) (sym is)
+      (are.valid index taken inside),
+  subst (λ (values : List ValType). length values ≤ widest scope.types.now.types) (sym is)
+      (are.few index taken inside),
+)

@@ -3,7 +3,6 @@ pub mod OfferLemmas
 pub mod IndexedTypeLemmas
 pub mod AboveLemmas
 pub mod LabelLemmas
-pub mod SetLocalLemmas
 pub mod AmongLemmas
 pub mod AllowedLemmas
 pub mod NodeLemmas

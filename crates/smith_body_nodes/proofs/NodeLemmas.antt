@@ -31,7 +31,8 @@ one_valid context value valid = All-push (IsValid context) [] value (All-nil (Is
 pub no_valid : (context : BodyContext) → AreValid context []
 no_valid context = All-nil (IsValid context)
 
-pub more_valid : (context : BodyContext) (value : ValType) (values : List ValType) → IsValid context value → AreValid context values → AreValid context (value ∷ values)
+pub more_valid : (context : BodyContext) (value : ValType) (values : List ValType) → IsValid context value → AreValid context values
+    → AreValid context (value ∷ values)
 more_valid context value values valid more = All-append (IsValid context) (value ∷ []) values (one_valid context value valid) more
 
 -- a number type
@@ -52,7 +53,8 @@ number_valid context V128 is = cc
 number_valid context (Ref reference) is = cc
 
 pub numbers_valid : (context : BodyContext) (values : List ValType) → list_all is_number values ≡ true → AreValid context values
-numbers_valid context values numbers = λ k d inside. number_valid context (get_or values k d) (AllPass-from_list_all is_number values numbers k d inside)
+numbers_valid context values numbers = λ k d inside. number_valid context (get_or values k d)
+    (AllPass-from_list_all is_number values numbers k d inside)
 
 -- whether the first of some types is this number type
 unfoldable pub begins : ValType → List ValType → Bool
@@ -70,13 +72,16 @@ begins_with F32 (F32 ∷ more) is = refl
 begins_with F64 (F64 ∷ more) is = refl
 begins_with _ _ is = cc
 
-wide_at : (types : List SubType) (index : ℕ) (t : SubType) → slice_get types index ≡ Some t → func_size t.composite_type.inner ≤ widest types
+wide_at : (types : List SubType) (index : ℕ) (t : SubType) → slice_get types index ≡ Some t
+    → func_size t.composite_type.inner ≤ widest types
 unfolding widest
 wide_at [] index t at = cc
-wide_at (u ∷ types) zero t at = let same : func_size u.composite_type.inner ≡ func_size t.composite_type.inner = ap (λ (t : SubType). func_size t.composite_type.inner) (same_Some u t at) in omega arith
+wide_at (u ∷ types) zero t at = let same : func_size u.composite_type.inner ≡ func_size t.composite_type.inner =
+    ap (λ (t : SubType). func_size t.composite_type.inner) (same_Some u t at) in omega arith
 wide_at (u ∷ types) (suc index) t at = let rest = wide_at types index t at in omega arith
 
-pub func_wide : (types : List SubType) (index : ℕ) (function : FuncType) → IsFuncAt types index function → length function.params + length function.results ≤ widest types
+pub func_wide : (types : List SubType) (index : ℕ) (function : FuncType) → IsFuncAt types index function
+    → length function.params + length function.results ≤ widest types
 func_wide types index function (t, at, is) =
     let size : func_size t.composite_type.inner ≡ length function.params + length function.results = ap func_size is in
     let wide = wide_at types index t at in
@@ -93,7 +98,8 @@ zip_length R [] (y ∷ ys) zip = absurd zip
 zip_length R (x ∷ xs) [] zip = absurd zip
 zip_length R (x ∷ xs) (y ∷ ys) (first, more) = ap suc (zip_length R xs ys more)
 
-pub first_below : (types : List SubType) → IsOrderly types → (wanted : ValType) (values : List ValType) → is_first_below types wanted values ≡ true → AllZip (IsValBelow types) values (wanted ∷ drop 1 values)
+pub first_below : (types : List SubType) → IsOrderly types → (wanted : ValType) (values : List ValType) → is_first_below types wanted values
+    ≡ true → AllZip (IsValBelow types) values (wanted ∷ drop 1 values)
 first_below types orderly wanted [] is = cc
 first_below types orderly wanted (value ∷ more) is = (tested types orderly value wanted is, below_themselves types more)
 

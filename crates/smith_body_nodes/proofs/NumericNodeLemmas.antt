@@ -1,6 +1,7 @@
 -- Numeric instructions, and `select`, leave the values of their types.
 use Rattle.std.specs.List.{list_all}
-use Rattle.std.proofs.Common.{rules, ◌≡◌, ℕ, suc, ◌+◌, ◌-◌, ◌<◌, ◌≤◌, true, List, [], ◌∷◌, length, get_or, drop, refl, sym, subst, ap, ◌∙◌, arith}
+use Rattle.std.proofs.Common.{rules, ◌≡◌, ℕ, suc, ◌+◌, ◌-◌, ◌<◌, ◌≤◌, true, List, [], ◌∷◌, length, get_or, drop, refl, sym, subst, ap, ◌∙◌}
+use Rattle.std.proofs.Common.{arith}
 use Rattle.std.proofs.lemmas.List.Sums.{AllPass-from_list_all}
 use Rattle.smith_syntax.specs.declared.value_type.ValType.{ValType}
 use Rattle.smith_syntax.specs.declared.value_type.ValType.TheVariants.{I32, I64, F32, F64, V128, Ref}
@@ -39,7 +40,8 @@ rows_begin F64 = refl
 rows_begin V128 = refl
 rows_begin (Ref reference) = refl
 
-numeric_node : (op : NumericInstr) (wanted : ValType) → (signature op).results ≡ wanted ∷ drop 1 (signature op).results → (context : BodyContext) (set : List ℕ)
+numeric_node : (op : NumericInstr) (wanted : ValType) → (signature op).results ≡ wanted ∷ drop 1 (signature op).results
+    → (context : BodyContext) (set : List ℕ)
     → IsNode context set (wanted ∷ []) (node_of (signature op).operands (instr.Numeric op) (length (signature op).results - 1))
 numeric_node op wanted first context set =
     let results = (signature op).results in
@@ -61,15 +63,20 @@ numeric_node op wanted first context set =
       inside = tt;
     }
 
-pub numeric_at : (rows : List NumericInstr) (index : ℕ) (op : NumericInstr) (wanted : ValType) → rows ≡ numeric_rows wanted → index < length rows → op ≡ get_or rows index op
-    → (context : BodyContext) (set : List ℕ) → IsNode context set (wanted ∷ []) (node_of (signature op).operands (instr.Numeric op) (length (signature op).results - 1))
+pub numeric_at : (rows : List NumericInstr) (index : ℕ) (op : NumericInstr) (wanted : ValType) → rows ≡ numeric_rows wanted
+    → index < length rows → op ≡ get_or rows index op
+    → (context : BodyContext) (set : List ℕ) → IsNode context set (wanted ∷ []) (node_of (signature op).operands (instr.Numeric op)
+    (length (signature op).results - 1))
 numeric_at rows index op wanted are inside is =
     let all : list_all (λ (op : NumericInstr). begins wanted (signature op).results) rows ≡ true = rw are (rows_begin wanted) in
-    let test : begins wanted (signature (get_or rows index op)).results ≡ true = AllPass-from_list_all (λ (op : NumericInstr). begins wanted (signature op).results) rows all index op inside in
-    let test' : begins wanted (signature op).results ≡ true = subst (λ (o : NumericInstr). begins wanted (signature o).results ≡ true) (sym is) test in
+    let test : begins wanted (signature (get_or rows index op)).results ≡ true =
+    AllPass-from_list_all (λ (op : NumericInstr). begins wanted (signature op).results) rows all index op inside in
+    let test' : begins wanted (signature op).results ≡ true = subst (λ (o : NumericInstr). begins wanted (signature o).results ≡ true)
+    (sym is) test in
     numeric_node op wanted (begins_with wanted (signature op).results test')
 
-pub select_node : (wanted : ValType) → IsNumberOrVector wanted → (context : BodyContext) (set : List ℕ) → IsValid context wanted → IsNode context set (wanted ∷ []) (node_of (wanted ∷ wanted ∷ I32 ∷ []) instr.Select 0)
+pub select_node : (wanted : ValType) → IsNumberOrVector wanted → (context : BodyContext) (set : List ℕ) → IsValid context wanted
+    → IsNode context set (wanted ∷ []) (node_of (wanted ∷ wanted ∷ I32 ∷ []) instr.Select 0)
 select_node wanted numeric context set valid = record {
   results = wanted ∷ [];
   dropped = [];
@@ -84,6 +91,9 @@ select_node wanted numeric context set valid = record {
   inside = tt;
 }
 
-pub numeric_row : (rows : List NumericInstr) (index : ℕ) (d : NumericInstr) (wanted : ValType) → rows ≡ numeric_rows wanted → index < length rows → (context : BodyContext) (set : List ℕ)
-    → IsNode context set (wanted ∷ []) (node_of (signature (get_or rows index d)).operands (instr.Numeric (get_or rows index d)) (length (signature (get_or rows index d)).results - 1))
-numeric_row rows index d wanted are inside context set = numeric_at rows index (get_or rows index d) wanted are inside (same_item rows index d (get_or rows index d) inside) context set
+pub numeric_row : (rows : List NumericInstr) (index : ℕ) (d : NumericInstr) (wanted : ValType) → rows ≡ numeric_rows wanted
+    → index < length rows → (context : BodyContext) (set : List ℕ)
+    → IsNode context set (wanted ∷ []) (node_of (signature (get_or rows index d)).operands (instr.Numeric (get_or rows index d))
+    (length (signature (get_or rows index d)).results - 1))
+numeric_row rows index d wanted are inside context set = numeric_at rows index (get_or rows index d) wanted are inside
+    (same_item rows index d (get_or rows index d) inside) context set

@@ -1,5 +1,6 @@
 -- Instructions whose results are just the wanted types: rows of them, and their nodes.
-use Rattle.std.proofs.Common.{◌≡◌, ℕ, ◌-◌, ◌<◌, ◌≤◌, true, List, [], ◌∷◌, ◌++◌, Some, None, length, get_or, refl, sym, subst, ap, ◌∙◌, arith}
+use Rattle.std.proofs.Common.{◌≡◌, ℕ, ◌-◌, ◌<◌, ◌≤◌, true, List, [], ◌∷◌, ◌++◌, Some, None, length, get_or, refl, sym, subst, ap, ◌∙◌}
+use Rattle.std.proofs.Common.{arith}
 use Rattle.std.specs.Cmp.Lexicographic.{pointwise}
 use Rattle.std.specs.List.{list_all}
 use Rattle.std.proofs.lemmas.List.{append-nil}
@@ -21,19 +22,24 @@ pub row_none : {A : Type 0} (rows table : List A) (bytes : List ℕ) → rows �
 row_none {A = A} rows table bytes are none = choose_none table bytes (ap (λ (rows : List A). length rows) (sym are) ∙ none)
 
 -- a row by its place
-pub row_there : {A : Type 0} (rows table : List A) (bytes left : List ℕ) (place : ℕ) (d : A) → rows ≡ table → range_at 0 (length rows - 1) bytes ≡ (place, left) → place < length rows → choose_at table bytes ≡ (Some (get_or rows place d), left)
+pub row_there : {A : Type 0} (rows table : List A) (bytes left : List ℕ) (place : ℕ) (d : A) → rows ≡ table
+    → range_at 0 (length rows - 1) bytes ≡ (place, left) → place < length rows → choose_at table bytes ≡ (Some (get_or rows place d), left)
 row_there {A = A} rows table bytes left place d are drawn inside =
-    subst (λ (rows' : List A). choose_at rows' bytes ≡ (Some (get_or rows place d), left)) are (choose_there rows bytes left place d drawn inside)
+    subst (λ (rows' : List A). choose_at rows' bytes ≡ (Some (get_or rows place d), left)) are
+    (choose_there rows bytes left place d drawn inside)
 
 -- a row has the results that all rows have
-pub row_gives : {A : Type 0} (results : A → List ValType) (rows table : List A) (wanted : ValType) (place : ℕ) (d : A) → rows ≡ table → list_all (λ (row : A). pointwise val_same.eq (results row) (wanted ∷ [])) table ≡ true → place < length rows
+pub row_gives : {A : Type 0} (results : A → List ValType) (rows table : List A) (wanted : ValType) (place : ℕ) (d : A) → rows ≡ table
+    → list_all (λ (row : A). pointwise val_same.eq (results row) (wanted ∷ [])) table ≡ true → place < length rows
     → results (get_or rows place d) ≡ wanted ∷ []
 row_gives {A = A} results rows table wanted place d are all inside =
     let all' : list_all (λ (row : A). pointwise val_same.eq (results row) (wanted ∷ [])) rows ≡ true = rw are all in
-    (exact_items exact_val (results (get_or rows place d)) (wanted ∷ [])).0 (AllPass-from_list_all (λ (row : A). pointwise val_same.eq (results row) (wanted ∷ [])) rows all' place d inside)
+    (exact_items exact_val (results (get_or rows place d)) (wanted ∷ [])).0
+    (AllPass-from_list_all (λ (row : A). pointwise val_same.eq (results row) (wanted ∷ [])) rows all' place d inside)
 
 -- the node of an instruction whose results are just these
-pub plain_node : (context : BodyContext) (set : List ℕ) (operands values : List ValType) (instruction : Instr) → ((more : List ℕ) → HasInstrType context (set ++ more) instruction operands values) → sets instruction ≡ []
+pub plain_node : (context : BodyContext) (set : List ℕ) (operands values : List ValType) (instruction : Instr)
+    → ((more : List ℕ) → HasInstrType context (set ++ more) instruction operands values) → sets instruction ≡ []
     → AreValid context operands → AreValid context values → length operands ≤ 7 → IsNode context set values (node_of operands instruction 0)
 plain_node context set operands values instruction typed sets_none valid given few = record {
   results = values;

@@ -13,18 +13,23 @@ use Rattle.smith_body_nodes.specs.declared.node.Node.{Node}
 use Rattle.smith_body_nodes.proofs.OfferLemmas.{both}
 
 -- with `disallow_traps` an `unreachable` is not permitted
-pub stop_forbidden : (features : Features) (config : Config) → config.disallow_traps ≡ true → is_permitted features config instr.Unreachable ≡ true → ⊥
+pub stop_forbidden : (features : Features) (config : Config) → config.disallow_traps ≡ true → is_permitted features config instr.Unreachable
+    ≡ true → ⊥
 unfolding is_permitted
 stop_forbidden features config trapless is =
-    let (_, kept) = both (is_enabled features (kinds_of_bodies config) instr.Unreachable) (not config.disallow_traps || not (may_trap instr.Unreachable)) is in
+    let (_, kept) = both (is_enabled features (kinds_of_bodies config) instr.Unreachable)
+    (not config.disallow_traps || not (may_trap instr.Unreachable)) is in
     let never : (not true || false) ≡ true = subst (λ (b : Bool). (not b || false) ≡ true) trapless kept in
     cc
 
 -- with `disallow_traps`, an instruction that is permitted is not an `unreachable`
-pub permitted_goes_on : (features : Features) (config : Config) (instruction : Instr) → is_permitted features config instruction ≡ true → IsNoStop config instruction
-permitted_goes_on features config instruction permitted = λ disallowed stops. stop_forbidden features config disallowed (subst (λ (i : Instr). is_permitted features config i ≡ true) stops permitted)
+pub permitted_goes_on : (features : Features) (config : Config) (instruction : Instr) → is_permitted features config instruction ≡ true
+    → IsNoStop config instruction
+permitted_goes_on features config instruction permitted = λ disallowed stops. stop_forbidden features config disallowed
+    (subst (λ (i : Instr). is_permitted features config i ≡ true) stops permitted)
 
-pub node_goes_on : (features : Features) (config : Config) (node : Node) → is_node_allowed features config node ≡ true → IsNoStop config (head_instruction node.head)
+pub node_goes_on : (features : Features) (config : Config) (node : Node) → is_node_allowed features config node ≡ true
+    → IsNoStop config (head_instruction node.head)
 node_goes_on features config node allowed =
     let (head, _) = both (is_head_allowed features config node.head) (is_drop_allowed features config node.drops) allowed in
     let (permitted, _) = both (is_permitted features config (head_instruction node.head)) _ head in

@@ -53,4 +53,5 @@ is_creatable_in defaults None = false
 
 -- a struct type whose created values match the wanted type
 abbrev pub is_created_struct : BodyContext → ValType → Bool → ℕ → Bool
-is_created_struct context wanted defaults index = is_created_below context wanted index && is_creatable_in defaults (struct_in (slice_get context.types index))
+is_created_struct context wanted defaults index = is_created_below context wanted index && is_creatable_in defaults
+    (struct_in (slice_get context.types index))

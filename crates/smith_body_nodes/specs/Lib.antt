@@ -4,7 +4,6 @@ pub mod Nodes
 pub mod Offered
 pub mod IndexedTypes
 pub mod Above
-pub mod SetLocals
 pub mod NumericRows
 pub mod Chosen
 pub mod Items

@@ -1,5 +1,6 @@
 -- Instructions that are chosen, with the operands that are drawn before them.
-use Rattle.std.specs.Prelude.{◌≡◌, ℕ, ◌+◌, ◌*◌, ◌≤◌, ◌<◌, ◌==◌, ◌&&◌, ◌||◌, Bool, Option, Some, None, Result, IfOk, IfSome, List, [], ◌∷◌, ◌++◌, length, option_to_list, All, if◌then◌else◌}
+use Rattle.std.specs.Prelude.{◌≡◌, ℕ, ◌+◌, ◌*◌, ◌≤◌, ◌<◌, ◌==◌, ◌&&◌, ◌||◌, Bool, Option, Some, None, Result, IfOk, IfSome, List, [], ◌∷◌}
+use Rattle.std.specs.Prelude.{◌++◌, length, option_to_list, All, if◌then◌else◌}
 use Rattle.std.specs.Cmp.Lexicographic.{pointwise}
 use Rattle.smith_bytes.specs.declared.error.Error.{Error}
 use Rattle.smith_syntax.specs.Features.{Features}
@@ -64,7 +65,8 @@ HasHeadType context set (head.Enclosed opening ty sides) operands results =
 HasHeadType context set (head.If ty sides) operands results =
     IsBlockType context ty sides.params sides.results × (operands ≡ sides.params ++ I32 ∷ []) × (results ≡ sides.results)
 HasHeadType context set (head.Try ty clauses sides) operands results =
-    IsBlockType context ty sides.params sides.results × All (IsCatch context) clauses × (operands ≡ sides.params) × (results ≡ sides.results)
+    IsBlockType context ty sides.params sides.results × All (IsCatch context) clauses × (operands ≡ sides.params)
+    × (results ≡ sides.results)
 
 -- the parameters and results of a block are valid, and not more than those of a function
 pub record AreSidesValid (features : Features) (types : List SubType) (sides : Sides) : Type 0 where
@@ -119,7 +121,8 @@ is_drop_allowed features config count = (count == 0) || is_permitted features co
 -- whether the instructions of a node may be used, except its operands: including `drop` if it drops
 -- anything
 abbrev pub is_head_allowed : Features → Config → Head → Bool
-is_head_allowed features config head = is_permitted features config (head_instruction head) && is_drop_allowed features config (length (head_params head))
+is_head_allowed features config head = is_permitted features config (head_instruction head) && is_drop_allowed features config
+    (length (head_params head))
 
 abbrev pub is_node_allowed : Features → Config → Node → Bool
 is_node_allowed features config node = is_head_allowed features config node.head && is_drop_allowed features config node.drops
@@ -163,7 +166,8 @@ opened_by (Some opening) ty sides drops =
 opened_by None ty sides drops = record { operands = sides.params ++ I32 ∷ []; head = head.If ty sides; sets = None; drops = drops }
 
 abbrev pub blocked : Option Opening → BlockType → List ValType → List ValType → ℕ → Node
-blocked opening ty params results drops = opened_by (fitting opening params results) ty (record { params = params; results = results }) drops
+blocked opening ty params results drops = opened_by (fitting opening params results) ty (record { params = params; results = results })
+    drops
 
 -- a node of a `try_table` of these clauses and sides, of whose results some are dropped
 abbrev pub trying : BlockType → List Catch → List ValType → List ValType → ℕ → Node

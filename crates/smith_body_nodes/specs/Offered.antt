@@ -1,5 +1,6 @@
 -- The items that are offered when an instruction is drawn.
-use Rattle.std.specs.Prelude.{◌≡◌, ℕ, zero, suc, ◌+◌, ◌-◌, ◌*◌, ◌/◌, Bool, true, false, ◌&&◌, ◌||◌, not, nat_lt, ◌==◌, Option, Some, None, option_map, List, [], ◌∷◌, ◌++◌, length, min, slice_get, if◌then◌else◌}
+use Rattle.std.specs.Prelude.{◌≡◌, ℕ, zero, suc, ◌+◌, ◌-◌, ◌*◌, ◌/◌, Bool, true, false, ◌&&◌, ◌||◌, not, nat_lt, ◌==◌, Option, Some, None}
+use Rattle.std.specs.Prelude.{option_map, List, [], ◌∷◌, ◌++◌, length, min, slice_get, if◌then◌else◌}
 use Rattle.std.specs.List.{Contains}
 use Rattle.smith_bytes.specs.Draws.{choose_at, range_at}
 use Rattle.smith_types.specs.Subtyping.{IsValBelow}
@@ -13,6 +14,7 @@ use Rattle.smith_syntax.specs.declared.entity_type.GlobalType.{GlobalType}
 use Rattle.smith_syntax.specs.declared.entity_type.MemoryType.{MemoryType}
 use Rattle.smith_draw_types.specs.Below.{is_val_below}
 use Rattle.smith_instr.specs.Contexts.{BodyContext, IsLocalSet, IsFunction, reference_to_function}
+use Rattle.smith_instr.specs.SetLocals.{is_among}
 use Rattle.smith_body_nodes.specs.declared.offer.Reach.{Reach}
 use Rattle.smith_body_nodes.specs.declared.offer.Reach.TheVariants as reach
 
@@ -55,11 +57,6 @@ is_elem_below context wanted index = is_below_at context.types wanted (option_ma
 abbrev pub has_default : ValType → Bool
 has_default (Ref reference) = reference.nullable
 has_default _ = true
-
--- whether a number is in a list
-abbrev pub is_among : ℕ → List ℕ → Bool
-is_among n [] = false
-is_among n (m ∷ more) = (m == n) || is_among n more
 
 -- a local exists, is set, and its type matches the wanted type
 abbrev pub is_readable_at : BodyContext → List ℕ → ValType → ℕ → Option ValType → Bool
@@ -169,11 +166,13 @@ IsReadable context set wanted index = (value : ValType) × IsLocalSet context se
 
 -- a local whose type matches the wanted type
 abbrev pub IsLocalBelow : BodyContext → ValType → ℕ → Type 0
-IsLocalBelow context wanted index = (value : ValType) × (slice_get context.locals index ≡ Some value) × IsValBelow context.types value wanted
+IsLocalBelow context wanted index = (value : ValType) × (slice_get context.locals index ≡ Some value)
+    × IsValBelow context.types value wanted
 
 -- a global whose type matches the wanted type
 abbrev pub IsGlobalBelow : BodyContext → ValType → ℕ → Type 0
-IsGlobalBelow context wanted index = (global : GlobalType) × (slice_get context.globals index ≡ Some global) × IsValBelow context.types global.val_type wanted
+IsGlobalBelow context wanted index = (global : GlobalType) × (slice_get context.globals index ≡ Some global)
+    × IsValBelow context.types global.val_type wanted
 
 -- a global that is mutable
 abbrev pub IsGlobalMutable : BodyContext → ℕ → Type 0
@@ -182,5 +181,6 @@ IsGlobalMutable context index = (global : GlobalType) × (slice_get context.glob
 -- a function whose first result matches the wanted type
 abbrev pub IsCallable : BodyContext → ValType → ℕ → Type 0
 IsCallable context wanted index =
-    (function : FuncType) × IsFunction context index function × (value : ValType) × (rest : List ValType) × (function.results ≡ value ∷ rest)
+    (function : FuncType) × IsFunction context index function × (value : ValType) × (rest : List ValType)
+    × (function.results ≡ value ∷ rest)
     × IsValBelow context.types value wanted

@@ -53,7 +53,8 @@ unfoldable pub test_at : Features → List ValType → List ℕ → Chosen
 test_at features locals bytes =
     let two = bool_at bytes in
     let heap_type = referent_at locals two.1 in
-    if features.reference_types then (if two.0 then (eq_node features, two.1) else (Some (is_null_node heap_type.0), heap_type.1)) else (None, bytes)
+    if features.reference_types then (if two.0 then (eq_node features, two.1) else (Some (is_null_node heap_type.0), heap_type.1)) else
+    (None, bytes)
 
 -- a reference that is not null, from a nullable one
 abbrev pub non_null_node : RefType → Option Node

@@ -1,5 +1,6 @@
 -- The context in which a body is drawn.
-use Rattle.std.specs.Prelude.{◌≡◌, ℕ, ◌+◌, ◌*◌, ◌≤◌, ◌-◌, ◌^◌, ◌&&◌, ◌||◌, not, Bool, IsTrue, min, max, List, [], ◌∷◌, length, slice_get, Some, All, bit_and, if◌then◌else◌}
+use Rattle.std.specs.Prelude.{◌≡◌, ℕ, ◌+◌, ◌*◌, ◌≤◌, ◌-◌, ◌^◌, ◌&&◌, ◌||◌, not, Bool, IsTrue, min, max, List, [], ◌∷◌, length, slice_get}
+use Rattle.std.specs.Prelude.{Some, All, bit_and, if◌then◌else◌}
 use Rattle.smith_syntax.specs.FeatureBits.{features_in}
 use Rattle.smith_syntax.specs.Features.{Features}
 use Rattle.smith_syntax.specs.Instructions.{float_bits, kinds_bits}
@@ -103,7 +104,8 @@ pub record IsScope (context : BodyContext) : Type 0 where
   pub results_few : length context.results ≤ widest context.types
   pub params_valid : (index : ℕ) (function : FuncType) → IsFuncAt context.types index function → AreValid context function.params
   pub results_valid : (index : ℕ) (function : FuncType) → IsFuncAt context.types index function → AreValid context function.results
-  pub fields_valid : (index : ℕ) (t : SubType) → slice_get context.types index ≡ Some t → AreValid context (field_values (fields_of t.composite_type.inner))
+  pub fields_valid : (index : ℕ) (t : SubType) → slice_get context.types index ≡ Some t
+      → AreValid context (field_values (fields_of t.composite_type.inner))
 
 -- the operands of a branch to each label are valid, and not more than a function has
 pub record AreLabels (scope : Scope) (labels : List (List ValType)) : Type 0 where

@@ -20,7 +20,6 @@ mod operands;
 mod reference_values;
 mod scope;
 mod segments;
-mod set_locals;
 mod targets;
 mod traps;
 
@@ -46,5 +45,4 @@ pub use reference_values::{
 };
 pub use scope::{Draft, Scope, indexed_count};
 pub use segments::choose_segment_below;
-pub use set_locals::SetLocals;
 pub use targets::{are_below, choose_target};

@@ -10,8 +10,8 @@ ghost use Rattle.smith_body_nodes.specs.Scopes.{IsScope, bare, indexed};
 
 use crate::offer::{Offer, choose_offered};
 use crate::scope::{Draft, Scope, indexed_count};
-use crate::set_locals::SetLocals;
 use smith_bytes::Unstructured;
+use smith_instr::SetLocals;
 use smith_types::ValType;
 
 /// Locals whose type matches a wanted type.

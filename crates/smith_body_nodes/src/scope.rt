@@ -1,9 +1,8 @@
 ghost use Rattle.std.specs.Prelude.{◌≡◌};
 ghost use Rattle.smith_body_nodes.specs.Scopes.{indexed};
 
-use crate::set_locals::SetLocals;
 use smith_config::Config;
-use smith_instr::Instr;
+use smith_instr::{Instr, SetLocals};
 use smith_types::{
     GlobalType, Items, MemoryType, RefType, TableType, TypeSpace, ValType, WasmFeatures,
 };

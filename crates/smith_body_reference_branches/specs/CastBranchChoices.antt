@@ -1,6 +1,7 @@
 -- The branch on a cast that the bytes choose. The choices, their order and their weights are rules
 -- of this project.
-use Rattle.std.specs.Prelude.{ℕ, ◌-◌, ◌==◌, ◌&&◌, not, Bool, true, false, min, Option, Some, None, option_map, option_and_then, unwrap_or, List, [], ◌∷◌, ◌++◌, length, slice_get, take, if◌then◌else◌}
+use Rattle.std.specs.Prelude.{ℕ, ◌-◌, ◌==◌, ◌&&◌, not, Bool, true, false, min, Option, Some, None, option_map, option_and_then, unwrap_or}
+use Rattle.std.specs.Prelude.{List, [], ◌∷◌, ◌++◌, length, slice_get, take, if◌then◌else◌}
 use Rattle.smith_bytes.specs.Draws.{bool_at, choose_at, range_at}
 use Rattle.smith_syntax.specs.declared.value_type.AbstractHeapType.TheVariants as abstract
 use Rattle.smith_syntax.specs.declared.value_type.HeapType.{HeapType}
@@ -140,7 +141,8 @@ kept_cast labels to label = option_map (kept_cast_node to label) (last_of labels
 
 abbrev pub kept_cast_at : BodyContext → RefType → List ℕ → Chosen
 kept_cast_at context to bytes =
-    giving (kept_cast context.labels to) (choose_at (offered (is_target context.types context.labels (Ref to ∷ [])) (min (length context.labels) 64)) bytes)
+    giving (kept_cast context.labels to)
+    (choose_at (offered (is_target context.types context.labels (Ref to ∷ [])) (min (length context.labels) 64)) bytes)
 
 unfoldable pub cast_value_at : BodyContext → ValType → List ℕ → Chosen
 cast_value_at context (Ref to) bytes =

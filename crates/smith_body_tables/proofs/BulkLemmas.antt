@@ -21,23 +21,32 @@ pub fill_node : (context : BodyContext) (set : List ℕ) (index : ℕ) (ty : Mem
     → IsNode context set [] (node_of (address ty.memory64 ∷ I32 ∷ address ty.memory64 ∷ []) (instr.Memory (memory.Fill index)) 0)
 fill_node context set index ty there =
     let place = address_valid context ty.memory64 in
-    gives_none context set (address ty.memory64 ∷ I32 ∷ address ty.memory64 ∷ []) (instr.Memory (memory.Fill index)) (λ more. (ty, there, (refl, refl))) refl (omega arith)
+    gives_none context set (address ty.memory64 ∷ I32 ∷ address ty.memory64 ∷ []) (instr.Memory (memory.Fill index))
+    (λ more. (ty, there, (refl, refl))) refl (omega arith)
     (three_valid context (address ty.memory64) I32 (address ty.memory64) place tt place)
 
-pub copy_node : (context : BodyContext) (set : List ℕ) (to from : ℕ) (into out : MemoryType) → IsMemory context to into → IsMemory context from out
-    → IsNode context set [] (node_of (address into.memory64 ∷ address out.memory64 ∷ narrower into.memory64 out.memory64 ∷ []) (instr.Memory (memory.Copy to from)) 0)
+pub copy_node : (context : BodyContext) (set : List ℕ) (to from : ℕ) (into out : MemoryType) → IsMemory context to into
+    → IsMemory context from out
+    → IsNode context set [] (node_of (address into.memory64 ∷ address out.memory64 ∷ narrower into.memory64 out.memory64 ∷ [])
+    (instr.Memory (memory.Copy to from)) 0)
 copy_node context set to from into out there there' =
-    gives_none context set (address into.memory64 ∷ address out.memory64 ∷ narrower into.memory64 out.memory64 ∷ []) (instr.Memory (memory.Copy to from)) (λ more. (into, out, there, there', (refl, refl))) refl (omega arith)
-    (three_valid context (address into.memory64) (address out.memory64) (narrower into.memory64 out.memory64) (address_valid context into.memory64) (address_valid context out.memory64) (narrower_valid context into.memory64 out.memory64))
+    gives_none context set (address into.memory64 ∷ address out.memory64 ∷ narrower into.memory64 out.memory64 ∷ [])
+    (instr.Memory (memory.Copy to from)) (λ more. (into, out, there, there', (refl, refl))) refl (omega arith)
+    (three_valid context (address into.memory64) (address out.memory64) (narrower into.memory64 out.memory64)
+    (address_valid context into.memory64) (address_valid context out.memory64) (narrower_valid context into.memory64 out.memory64))
 
-pub init_node : (context : BodyContext) (set : List ℕ) (index segment : ℕ) (ty : MemoryType) → IsMemory context index ty → segment < context.datas
+pub init_node : (context : BodyContext) (set : List ℕ) (index segment : ℕ) (ty : MemoryType) → IsMemory context index ty
+    → segment < context.datas
     → IsNode context set [] (node_of (address ty.memory64 ∷ I32 ∷ I32 ∷ []) (instr.Memory (memory.Init index segment)) 0)
 init_node context set index segment ty there inside =
-    gives_none context set (address ty.memory64 ∷ I32 ∷ I32 ∷ []) (instr.Memory (memory.Init index segment)) (λ more. (ty, there, inside, (refl, refl))) refl (omega arith)
+    gives_none context set (address ty.memory64 ∷ I32 ∷ I32 ∷ []) (instr.Memory (memory.Init index segment))
+    (λ more. (ty, there, inside, (refl, refl))) refl (omega arith)
     (three_valid context (address ty.memory64) I32 I32 (address_valid context ty.memory64) tt tt)
 
 -- the chosen statement on several bytes
-pub bulk_by : (context : BodyContext) (bytes left : List ℕ) (rows : List Bulk) (drawn_kind kind : Bulk) → rows ≡ bulks → chosen_at bulk.Fill rows bytes ≡ (drawn_kind, left) → drawn_kind ≡ kind
+pub bulk_by : (context : BodyContext) (bytes left : List ℕ) (rows : List Bulk) (drawn_kind kind : Bulk) → rows ≡ bulks
+    → chosen_at bulk.Fill rows bytes ≡ (drawn_kind, left) → drawn_kind ≡ kind
     → or_nop (bulk_at context bytes) ≡ or_nop (bulk_of context kind left)
 unfolding bulk_at
-bulk_by context bytes left rows drawn_kind kind are drawn is = chosen_by (λ kind bytes. or_nop (bulk_of context kind bytes)) bulk.Fill bulks rows bytes left drawn_kind kind are drawn is
+bulk_by context bytes left rows drawn_kind kind are drawn is = chosen_by (λ kind bytes. or_nop (bulk_of context kind bytes)) bulk.Fill bulks
+    rows bytes left drawn_kind kind are drawn is

@@ -26,7 +26,8 @@ memory_fill_at context bytes = giving memory_fill_node (item_at context.memories
 -- bytes are copied into a memory from another or the same
 abbrev pub memory_copy_node : ℕ × MemoryType → ℕ × MemoryType → Option Node
 memory_copy_node into out =
-    Some (node_of (address into.1.memory64 ∷ address out.1.memory64 ∷ narrower into.1.memory64 out.1.memory64 ∷ []) (instr.Memory (memory.Copy into.0 out.0)) 0)
+    Some (node_of (address into.1.memory64 ∷ address out.1.memory64 ∷ narrower into.1.memory64 out.1.memory64 ∷ [])
+    (instr.Memory (memory.Copy into.0 out.0)) 0)
 
 abbrev pub memory_copied : BodyContext → ℕ × MemoryType → List ℕ → Chosen
 memory_copied context into bytes = giving (memory_copy_node into) (item_at context.memories bytes)

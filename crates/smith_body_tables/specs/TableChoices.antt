@@ -36,7 +36,8 @@ is_table_addressed context wanted index =
 -- a reference from a table
 abbrev pub table_get_node : BodyContext → ℕ → Option Node
 table_get_node context index =
-    option_map (λ (table : TableType). node_of (address table.table64 ∷ []) (instr.Table (table_instr.Get index)) 0) (slice_get context.tables index)
+    option_map (λ (table : TableType). node_of (address table.table64 ∷ []) (instr.Table (table_instr.Get index)) 0)
+    (slice_get context.tables index)
 
 abbrev pub table_get_at : BodyContext → ValType → List ℕ → Chosen
 table_get_at context wanted bytes =
@@ -72,17 +73,20 @@ table_set_node into =
 
 abbrev pub table_fill_node : ℕ × TableType → Option Node
 table_fill_node into =
-    Some (node_of (address into.1.table64 ∷ Ref into.1.element_type ∷ address into.1.table64 ∷ []) (instr.Table (table_instr.Fill into.0)) 0)
+    Some (node_of (address into.1.table64 ∷ Ref into.1.element_type ∷ address into.1.table64 ∷ []) (instr.Table (table_instr.Fill into.0))
+    0)
 
 -- references are copied into a table from one whose element type matches
 abbrev pub table_copy_node : BodyContext → ℕ × TableType → ℕ → Option Node
 table_copy_node context into from =
-    option_map (λ (out : TableType). node_of (address into.1.table64 ∷ address out.table64 ∷ narrower into.1.table64 out.table64 ∷ []) (instr.Table (table_instr.Copy into.0 from)) 0)
+    option_map (λ (out : TableType). node_of (address into.1.table64 ∷ address out.table64 ∷ narrower into.1.table64 out.table64 ∷ [])
+    (instr.Table (table_instr.Copy into.0 from)) 0)
     (slice_get context.tables from)
 
 abbrev pub table_copied : BodyContext → ℕ × TableType → List ℕ → Chosen
 table_copied context into bytes =
-    giving (table_copy_node context into) (chunk_at (is_table_below context (Ref into.1.element_type)) (indexed (length context.tables)) bytes)
+    giving (table_copy_node context into) (chunk_at (is_table_below context (Ref into.1.element_type)) (indexed (length context.tables))
+    bytes)
 
 abbrev pub table_copy_at : BodyContext → List ℕ → Chosen
 table_copy_at context bytes = let into = item_at context.tables bytes in continued (table_copied context) into.0 into.1

@@ -1,11 +1,13 @@
 -- Bounds of the longest UTF-8 prefix of some bytes, from a part of them.
-use Rattle.std.proofs.Common.{◌≡◌, ℕ, zero, suc, ◌+◌, ◌-◌, ◌<◌, ◌≤◌, Bool, true, false, cond, List, [], ◌∷◌, length, take, drop, get_or, IsUtf8, subst, sym, ap, ◌∙◌, refl, arith, length-take, length-drop, length-append, take-take}
+use Rattle.std.proofs.Common.{◌≡◌, ℕ, zero, suc, ◌+◌, ◌-◌, ◌<◌, ◌≤◌, Bool, true, false, cond, List, [], ◌∷◌, length, take, drop, get_or}
+use Rattle.std.proofs.Common.{IsUtf8, subst, sym, ap, ◌∙◌, refl, arith, length-take, length-drop, length-append, take-take}
 use Rattle.std.specs.Str.{IsCharBoundary, all_scalars, encode_utf8_all, is_utf8}
 use Rattle.std.specs.Str.Lossy.{valid_len_up_to, utf8_valid_len}
 use Rattle.std.specs.Char.{encode_utf8}
 use Rattle.std.proofs.lemmas.Bool.{and_parts, cases_lt, false≢true}
 use Rattle.std.proofs.lemmas.List.{drop-take, get_or-take}
-use Rattle.std.proofs.lemmas.Str.{IsUtf8-nil, IsUtf8-encode, IsUtf8-drop, IsUtf8-from_is_utf8, is_utf8-from_IsUtf8, length-encode, len_utf8_bounds, utf8_valid_len_le}
+use Rattle.std.proofs.lemmas.Str.{IsUtf8-nil, IsUtf8-encode, IsUtf8-drop, IsUtf8-from_is_utf8, is_utf8-from_IsUtf8, length-encode}
+use Rattle.std.proofs.lemmas.Str.{len_utf8_bounds, utf8_valid_len_le}
 use Rattle.std.proofs.Math.Logic.{⊎_elim}
 use Rattle.std.proofs.Math.Seq.{take-append_seam}
 use Rattle.simdutf8.proofs.Parts.{front_and_part, rest_of_whole}
@@ -15,7 +17,8 @@ record IsLongestFront (bs : List ℕ) (most n : ℕ) : Type 0 where
   pub front : IsUtf8 (take n bs)
   pub longest : (m : ℕ) → n < m → m ≤ most → ¬ (IsUtf8 (take m bs))
 
-front_by_test : (bs : List ℕ) (n : ℕ) (b : Bool) → is_utf8 (take (suc n) bs) ≡ b → IsLongestFront bs n (valid_len_up_to bs n) → IsLongestFront bs (suc n) (cond b (suc n) (valid_len_up_to bs n))
+front_by_test : (bs : List ℕ) (n : ℕ) (b : Bool) → is_utf8 (take (suc n) bs) ≡ b → IsLongestFront bs n (valid_len_up_to bs n)
+    → IsLongestFront bs (suc n) (cond b (suc n) (valid_len_up_to bs n))
 front_by_test bs n true test below = record {
   front = IsUtf8-from_is_utf8 _ test;
   longest = λ m more most. absurd (omega arith);
@@ -62,7 +65,8 @@ begins_with_text bs (c ∷ cs) valid spelt some =
       text = subst IsUtf8 (sym first) (IsUtf8-encode c (and_parts _ _ valid).0);
     }
 
-longer_text : (bs : List ℕ) (n m size : ℕ) → n ≤ length (take m bs) → n + size ≤ m → IsUtf8 (take n bs) → IsUtf8 (take size (drop n (take m bs))) → IsUtf8 (take (n + size) bs)
+longer_text : (bs : List ℕ) (n m size : ℕ) → n ≤ length (take m bs) → n + size ≤ m → IsUtf8 (take n bs)
+    → IsUtf8 (take size (drop n (take m bs))) → IsUtf8 (take (n + size) bs)
 longer_text bs n m size some within front part =
     let begun = subst IsUtf8 (sym (take-take n m bs (omega arith))) front in
     subst IsUtf8 (take-take (n + size) m bs within) (front_and_part (take m bs) n some begun size part)
@@ -101,7 +105,8 @@ part_longest bs part n within inside text =
 
 -- if the longest UTF-8 prefix ends within a prefix of the bytes, the longest UTF-8 prefix of that
 -- part is the same
-pub valid_len_by_part : (bs : List ℕ) (part : ℕ) → part ≤ length bs → utf8_valid_len bs ≤ part → utf8_valid_len bs ≡ utf8_valid_len (take part bs)
+pub valid_len_by_part : (bs : List ℕ) (part : ℕ) → part ≤ length bs → utf8_valid_len bs ≤ part → utf8_valid_len bs ≡ utf8_valid_len
+    (take part bs)
 valid_len_by_part bs part within inside =
     let most = utf8_valid_len_le (take part bs) in
     let up = part_longest bs part (utf8_valid_len bs) within inside (valid_len_text bs) in
@@ -110,7 +115,8 @@ valid_len_by_part bs part within inside =
 
 -- if a whole character still fits after the longest UTF-8 prefix of the window, no UTF-8 prefix
 -- extends beyond the window
-pub valid_len_by_window : (bs : List ℕ) (window : ℕ) → window ≤ length bs → utf8_valid_len (take window bs) + 4 ≤ window → utf8_valid_len bs ≤ window
+pub valid_len_by_window : (bs : List ℕ) (window : ℕ) → window ≤ length bs → utf8_valid_len (take window bs) + 4 ≤ window
+    → utf8_valid_len bs ≤ window
 valid_len_by_window bs window within room =
     let n = utf8_valid_len (take window bs) in
     let m = utf8_valid_len bs in
@@ -125,7 +131,8 @@ valid_len_by_window bs window within room =
 
 -- from a position where a character starts, or the end, the longest UTF-8 prefix of the rest bounds
 -- that of all bytes
-pub valid_len_by_rest : (bs : List ℕ) (start : ℕ) → start ≤ length bs → (start < length bs → 192 ≤ get_or bs start 0) → utf8_valid_len bs ≤ start + utf8_valid_len (drop start bs)
+pub valid_len_by_rest : (bs : List ℕ) (start : ℕ) → start ≤ length bs → (start < length bs → 192 ≤ get_or bs start 0)
+    → utf8_valid_len bs ≤ start + utf8_valid_len (drop start bs)
 valid_len_by_rest bs start within begins =
     let m = utf8_valid_len bs in
     let most = utf8_valid_len_le bs in
@@ -134,7 +141,8 @@ valid_len_by_rest bs start within begins =
     (λ following.
     let same : start + (m - start) ≡ m = omega arith in
     let long = length-take m bs in
-    let boundary : IsCharBoundary (take m bs) start = (omega arith, λ inside some. subst (λ b. 192 ≤ b) (sym (get_or-take m bs start 0 (omega arith))) (begins (omega arith))) in
+    let boundary : IsCharBoundary (take m bs) start =
+    (omega arith, λ inside some. subst (λ b. 192 ≤ b) (sym (get_or-take m bs start 0 (omega arith))) (begins (omega arith))) in
     let rest = IsUtf8-drop (take m bs) start (valid_len_text bs) boundary in
     let part = subst IsUtf8 (ap (λ k. drop start (take k bs)) (sym same) ∙ drop-take start (m - start) bs) rest in
     let reached = valid_len_longest (drop start bs) (m - start) (omega (arith, length-drop start bs)) part in

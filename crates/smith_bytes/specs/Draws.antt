@@ -1,6 +1,7 @@
 -- Each draw as a function of the bytes of the source: the value drawn, and the remaining bytes.
 -- Past the end a draw reads zeros.
-use Rattle.std.specs.Prelude.{ℕ, zero, suc, ◌+◌, ◌-◌, ◌*◌, ◌/◌, ◌%◌, ◌^◌, ◌==◌, Bool, List, [], ◌∷◌, take, drop, fold, length, nat_le, if◌then◌else◌, slice_index, slice_get, Option}
+use Rattle.std.specs.Prelude.{ℕ, zero, suc, ◌+◌, ◌-◌, ◌*◌, ◌/◌, ◌%◌, ◌^◌, ◌==◌, Bool, List, [], ◌∷◌, take, drop, fold, length, nat_le}
+use Rattle.std.specs.Prelude.{if◌then◌else◌, slice_index, slice_get, Option}
 
 -- the number with these base-256 digits, least significant first
 abbrev pub little_endian : List ℕ → ℕ

@@ -1,5 +1,6 @@
 -- Kebab names: lowercase letters and digits, in parts joined by single dashes.
-use Rattle.std.specs.Prelude.{◌≡◌, ◌≤◌, ◌⊎◌, ℕ, zero, suc, ◌+◌, ◌-◌, ◌==◌, ◌||◌, Bool, List, [], ◌∷◌, ◌++◌, length, min, nat_lt, slice_index, EachIndex, if◌then◌else◌}
+use Rattle.std.specs.Prelude.{◌≡◌, ◌≤◌, ◌⊎◌, ℕ, zero, suc, ◌+◌, ◌-◌, ◌==◌, ◌||◌, Bool, List, [], ◌∷◌, ◌++◌, length, min, nat_lt}
+use Rattle.std.specs.Prelude.{slice_index, EachIndex, if◌then◌else◌}
 use Rattle.smith_bytes.specs.Draws.{range_at, len_at}
 
 abbrev pub dash : ℕ

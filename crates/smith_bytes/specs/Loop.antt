@@ -10,7 +10,8 @@ use Rattle.smith_bytes.specs.Growth.{goes_at}
 
 -- each call of the closure leaves a contiguous piece of the bytes that it received
 abbrev pub CallsKeepPieces : {F : Type 0} → Mut F (MutBor (List ℕ) × Unit {0}) (Result Bool Error × (MutBor (List ℕ) × Unit {0})) → Type 0
-CallsKeepPieces {F} g = (f : F) (bytes : List ℕ) (answer : Result Bool Error) (f' : F) (bytes' : List ℕ) → CalledAtMut g f bytes answer f' bytes' → KeepsPieces bytes bytes'
+CallsKeepPieces {F} g = (f : F) (bytes : List ℕ) (answer : Result Bool Error) (f' : F) (bytes' : List ℕ)
+    → CalledAtMut g f bytes answer f' bytes' → KeepsPieces bytes bytes'
 
 module _ {F : Type 0} (g : Mut F (MutBor (List ℕ) × Unit {0}) (Result Bool Error × (MutBor (List ℕ) × Unit {0}))) (min max : ℕ) where
   -- the call after `calls` calls: the loop continues, and f is called on the remaining bytes
@@ -23,14 +24,16 @@ module _ {F : Type 0} (g : Mut F (MutBor (List ℕ) × Unit {0}) (Result Bool Er
   -- this number of calls, each returning true
   abbrev pub HasRun : F → List ℕ → ℕ → F → List ℕ → Type 0
   HasRun f bytes zero f' bytes' = (f ≡ f') × (bytes ≡ bytes')
-  HasRun f bytes (suc calls) f' bytes' = (last : F) × (left : List ℕ) × HasRun f bytes calls last left × Turn calls last left (Ok true) f' bytes'
+  HasRun f bytes (suc calls) f' bytes' = (last : F) × (left : List ℕ) × HasRun f bytes calls last left
+      × Turn calls last left (Ok true) f' bytes'
 
   -- the end of the loop after this number of calls that returned true
   pub data EndsAt (calls : ℕ) (f : F) (bytes : List ℕ) : Result (Unit {0}) Error → List ℕ → Type 0 where
     at_most : calls ≡ max → EndsAt calls f bytes (Ok tt) bytes
     at_bool : (bytes' : List ℕ) → calls < max → goes_at (nat_lt calls min) bytes ≡ (false, bytes') → EndsAt calls f bytes (Ok tt) bytes'
     at_false : (f' : F) (bytes' : List ℕ) → min ≤ calls → Turn calls f bytes (Ok false) f' bytes' → EndsAt calls f bytes (Ok tt) bytes'
-    too_few : (f' : F) (bytes' : List ℕ) → calls < min → Turn calls f bytes (Ok false) f' bytes' → EndsAt calls f bytes (Err (IncorrectFormat Loop)) bytes'
+    too_few : (f' : F) (bytes' : List ℕ) → calls < min → Turn calls f bytes (Ok false) f' bytes'
+        → EndsAt calls f bytes (Err (IncorrectFormat Loop)) bytes'
     at_error : (e : Error) (f' : F) (bytes' : List ℕ) → Turn calls f bytes (Err e) f' bytes' → EndsAt calls f bytes (Err e) bytes'
 
   -- the calls of f that returned true, and the end of the loop after them

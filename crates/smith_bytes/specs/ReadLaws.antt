@@ -23,7 +23,8 @@ Spelled is_spelled x piece = IsTrue (is_spelled x piece)
 -- the items spelled without bools up to the minimum (`needed`)
 pub record ListsReadWhatIsSpelled (A : Type 0) : Type 0 where
   pub asked : (is_spelled : A → List ℕ → Bool) (draw : List A → List ℕ → A × List ℕ) (most : ℕ) (made xs : List A) (piece after : List ℕ)
-      → ReadsEach (Spelled is_spelled) draw → Listed (Spelled is_spelled) most xs piece → grow_at draw 0 most made (piece ++ after) ≡ (made ++ xs, after)
+      → ReadsEach (Spelled is_spelled) draw → Listed (Spelled is_spelled) most xs piece → grow_at draw 0 most made (piece ++ after)
+      ≡ (made ++ xs, after)
   pub needed : (is_spelled : A → List ℕ → Bool) (draw : List A → List ℕ → A × List ℕ) (least : ℕ) (made xs : List A) (piece after : List ℕ)
       → ReadsEach (Spelled is_spelled) draw → least ≡ length made + length xs → Each (Spelled is_spelled) xs piece
       → grow_at draw least (length xs) made (piece ++ after) ≡ (made ++ xs, after)

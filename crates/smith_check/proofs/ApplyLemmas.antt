@@ -11,7 +11,8 @@ use Rattle.smith_check.specs.Closes.{with_labels, StepsNowhere}
 use Rattle.smith_check.specs.Applies.{Applies, HasOnly, HasNone, IsTaken, IsTried}
 use Rattle.smith_check.proofs.ListLemmas.{zip_parts, zip_join}
 
-pub applied : (context : BodyContext) (operands results : List Slot) (old middle new : Held) → Pops context operands old middle → Pushes context results middle new
+pub applied : (context : BodyContext) (operands results : List Slot) (old middle new : Held) → Pops context operands old middle
+    → Pushes context results middle new
     → Applies context operands results old new
 applied context operands results old middle new pops pushes = record {
   sound = λ after c.
@@ -38,7 +39,8 @@ applied context operands results old middle new pops pushes = record {
 }
 
 -- operands above others
-pub pops_then : (context : BodyContext) (operands top : List Slot) (old middle new : Held) → Pops context top old middle → Pops context operands middle new
+pub pops_then : (context : BodyContext) (operands top : List Slot) (old middle new : Held) → Pops context top old middle
+    → Pops context operands middle new
     → Pops context (operands ++ top) old new
 pops_then context operands top old middle new first second = record {
   sound = λ rest c.
@@ -56,27 +58,37 @@ pops_then context operands top old middle new first second = record {
   complete = λ rest before c t.
       let (front, back, is, left, right) = zip_parts (IsBelow context.types) t.taken operands top t.accepted in
       second.complete rest (rest ++ front)
-      (first.complete (rest ++ front) before c (record { taken = back; is = t.is ∙ ap (λ xs. rest ++ xs) is ∙ sym (append_assoc rest front back); accepted = right }))
+      (first.complete (rest ++ front) before c
+      (record { taken = back; is = t.is ∙ ap (λ xs. rest ++ xs) is ∙ sym (append_assoc rest front back); accepted = right }))
       (record { taken = front; is = refl; accepted = left });
   valid = second.valid;
 }
 
-pub nothing_above : (context : BodyContext) (operands top : List Slot) (old : Held) → PopsNothing context top old → PopsNothing context (operands ++ top) old
+pub nothing_above : (context : BodyContext) (operands top : List Slot) (old : Held) → PopsNothing context top old
+    → PopsNothing context (operands ++ top) old
 nothing_above context operands top old never rest before c t =
     let (front, back, is, left, right) = zip_parts (IsBelow context.types) t.taken operands top t.accepted in
-    never (rest ++ front) before c (record { taken = back; is = t.is ∙ ap (λ xs. rest ++ xs) is ∙ sym (append_assoc rest front back); accepted = right })
+    never (rest ++ front) before c (record {
+      taken = back;
+      is = t.is ∙ ap (λ xs. rest ++ xs) is ∙ sym (append_assoc rest front back);
+      accepted = right;
+    })
 
-pub nothing_below : (context : BodyContext) (operands top : List Slot) (old middle : Held) → Pops context top old middle → PopsNothing context operands middle
+pub nothing_below : (context : BodyContext) (operands top : List Slot) (old middle : Held) → Pops context top old middle
+    → PopsNothing context operands middle
     → PopsNothing context (operands ++ top) old
 nothing_below context operands top old middle first never rest before c t =
     let (front, back, is, left, right) = zip_parts (IsBelow context.types) t.taken operands top t.accepted in
     never rest (rest ++ front)
-    (first.complete (rest ++ front) before c (record { taken = back; is = t.is ∙ ap (λ xs. rest ++ xs) is ∙ sym (append_assoc rest front back); accepted = right }))
+    (first.complete (rest ++ front) before c
+    (record { taken = back; is = t.is ∙ ap (λ xs. rest ++ xs) is ∙ sym (append_assoc rest front back); accepted = right }))
     (record { taken = front; is = refl; accepted = left })
 
 -- an instruction of one signature steps as the signature applies
-pub steps_as : (context : BodyContext) (labels : List (List ValType)) (x : Instr) (set : List ℕ) (operands results : List Slot) (old new : Held)
-    → HasOnly (with_labels context labels) set x operands results → Applies context operands results old new → IsTaken context labels x set old new
+pub steps_as : (context : BodyContext) (labels : List (List ValType)) (x : Instr) (set : List ℕ) (operands results : List Slot)
+    (old new : Held)
+    → HasOnly (with_labels context labels) set x operands results → Applies context operands results old new
+    → IsTaken context labels x set old new
 steps_as context labels x set operands results old new has applies = record {
   steps = record {
     sound = λ after c.
@@ -108,7 +120,10 @@ steps_as context labels x set operands results old new has applies = record {
           given = s.framed.given;
           under = s.framed.under;
           accepted = subst (λ xs. AreBelow context.types s.framed.taken xs) these s.framed.accepted;
-          offered = record { below = subst (λ xs. AreBelow context.types xs s.framed.given) those s.framed.offered.below; valid = s.framed.offered.valid };
+          offered = record {
+            below = subst (λ xs. AreBelow context.types xs s.framed.given) those s.framed.offered.below;
+            valid = s.framed.offered.valid;
+          };
           over = s.framed.over;
           set_then = refl;
         });
@@ -117,7 +132,8 @@ steps_as context labels x set operands results old new has applies = record {
 }
 
 pub nowhere_as : (context : BodyContext) (labels : List (List ValType)) (x : Instr) (set : List ℕ) (operands : List Slot) (old : Held)
-    → ((these those : List Slot) → HasStackType (with_labels context labels) set x these those → these ≡ operands) → PopsNothing context operands old
+    → ((these those : List Slot) → HasStackType (with_labels context labels) set x these those → these ≡ operands)
+    → PopsNothing context operands old
     → StepsNowhere context labels x set old
 nowhere_as context labels x set operands old only never before after c s =
     never s.framed.rest before c (record {
@@ -126,20 +142,24 @@ nowhere_as context labels x set operands old only never before after c s =
       accepted = subst (λ xs. AreBelow context.types s.framed.taken xs) (only s.operands s.results s.typed) s.framed.accepted;
     })
 
-pub nowhere_untyped : (context : BodyContext) (labels : List (List ValType)) (x : Instr) (set : List ℕ) (old : Held) → HasNone (with_labels context labels) set x
+pub nowhere_untyped : (context : BodyContext) (labels : List (List ValType)) (x : Instr) (set : List ℕ) (old : Held)
+    → HasNone (with_labels context labels) set x
     → StepsNowhere context labels x set old
 nowhere_untyped context labels x set old none before after c s = none s.operands s.results s.typed
 
 -- an instruction of one signature, tried
-pub tried_as : (context : BodyContext) (labels : List (List ValType)) (x : Instr) (set : List ℕ) (operands results : List Slot) (taken : Bool) (old new : Held)
-    → HasOnly (with_labels context labels) set x operands results → MatchBool taken (Applies context operands results old new) (PopsNothing context operands old)
+pub tried_as : (context : BodyContext) (labels : List (List ValType)) (x : Instr) (set : List ℕ) (operands results : List Slot)
+    (taken : Bool) (old new : Held)
+    → HasOnly (with_labels context labels) set x operands results → MatchBool taken (Applies context operands results old new)
+    (PopsNothing context operands old)
     → IsTried context labels x set taken old new
 tried_as context labels x set operands results true old new has applies = steps_as context labels x set operands results old new has applies
 tried_as context labels x set operands results false old new has never =
     nowhere_as context labels x set operands old (λ these those t. (has.only these those t).0) never
 
 -- operands that are below others, which are taken off first
-pub applies_after : (context : BodyContext) (operands top results : List Slot) (old middle new : Held) → Pops context top old middle → Applies context operands results middle new
+pub applies_after : (context : BodyContext) (operands top results : List Slot) (old middle new : Held) → Pops context top old middle
+    → Applies context operands results middle new
     → Applies context (operands ++ top) results old new
 applies_after context operands top results old middle new pops applies = record {
   sound = λ after c.
@@ -162,7 +182,17 @@ applies_after context operands top results old middle new pops applies = record 
   complete = λ before after c f.
       let (front, back, is, left, right) = zip_parts (IsBelow context.types) f.taken operands top f.accepted in
       applies.complete (f.rest ++ front) after
-      (pops.complete (f.rest ++ front) before c (record { taken = back; is = f.under ∙ ap (λ xs. f.rest ++ xs) is ∙ sym (append_assoc f.rest front back); accepted = right }))
-      (record { rest = f.rest; taken = front; given = f.given; under = refl; accepted = left; offered = f.offered; over = f.over; set_then = refl });
+      (pops.complete (f.rest ++ front) before c
+      (record { taken = back; is = f.under ∙ ap (λ xs. f.rest ++ xs) is ∙ sym (append_assoc f.rest front back); accepted = right }))
+      (record {
+        rest = f.rest;
+        taken = front;
+        given = f.given;
+        under = refl;
+        accepted = left;
+        offered = f.offered;
+        over = f.over;
+        set_then = refl;
+      });
   valid = applies.valid;
 }

@@ -1,5 +1,6 @@
 -- Operands that are popped, and results that are pushed.
-use Rattle.std.proofs.Common.{◌≡◌, ◌<◌, Bool, true, false, List, [], ◌∷◌, ◌++◌, length, refl, sym, ap, ◌∙◌, subst, inl, inr, append_assoc, arith}
+use Rattle.std.proofs.Common.{◌≡◌, ◌<◌, Bool, true, false, List, [], ◌∷◌, ◌++◌, length, refl, sym, ap, ◌∙◌, subst, inl, inr, append_assoc}
+use Rattle.std.proofs.Common.{arith}
 use Rattle.std.proofs.lemmas.List.{length-append, append-nil}
 use Rattle.std.proofs.lemmas.List.Elements.{All-nil, All-cons, All-append, length_all_zip}
 use Rattle.std.proofs.lemmas.Bool.{false≢true}
@@ -33,7 +34,8 @@ bottoms_valid context (x ∷ xs) = All-cons (IsSlotValid context) Bottom (bottom
 
 -- as many operands are known as are expected
 pub pop_enough : (context : BodyContext) (base covered expected : List Slot) (dead : Bool)
-    → AreSlotsValid context (base ++ covered) → AreBelow context.types covered expected → Pops context expected (holding (base ++ covered) dead) (holding base dead)
+    → AreSlotsValid context (base ++ covered) → AreBelow context.types covered expected
+    → Pops context expected (holding (base ++ covered) dead) (holding base dead)
 pop_enough context base covered expected dead valid fits = record {
   sound = λ rest c. record {
     before = rest ++ covered;
@@ -49,8 +51,10 @@ pop_enough context base covered expected dead valid fits = record {
   };
   complete = λ rest before c t.
       let (front, back, is, left, right) = zip_split (IsBelow context.types) base covered c.top c.below in
-      let whole : rest ++ t.taken ≡ (c.under ++ front) ++ back = sym t.is ∙ c.is ∙ ap (λ xs. c.under ++ xs) is ∙ sym (append_assoc c.under front back) in
-      let size : length t.taken ≡ length back = same_size context.types t.taken expected t.accepted ∙ sym (same_size context.types covered expected fits) ∙ same_size context.types covered back right in
+      let whole : rest ++ t.taken ≡ (c.under ++ front) ++ back = sym t.is ∙ c.is ∙ ap (λ xs. c.under ++ xs) is
+      ∙ sym (append_assoc c.under front back) in
+      let size : length t.taken ≡ length back = same_size context.types t.taken expected t.accepted
+      ∙ sym (same_size context.types covered expected fits) ∙ same_size context.types covered back right in
       record {
         under = c.under;
         top = front;
@@ -64,7 +68,8 @@ pop_enough context base covered expected dead valid fits = record {
 
 -- fewer operands are known than are expected, in dead code
 pub pop_beyond : (context : BodyContext) (known missing covered : List Slot)
-    → AreSlotsValid context known → AreBelow context.types known covered → Pops context (missing ++ covered) (holding known true) (holding [] true)
+    → AreSlotsValid context known → AreBelow context.types known covered → Pops context (missing ++ covered) (holding known true)
+    (holding [] true)
 pop_beyond context known missing covered valid fits = record {
   sound = λ rest c. record {
     before = rest ++ (bottoms missing ++ known);
@@ -74,7 +79,8 @@ pop_beyond context known missing covered valid fits = record {
       is = sym (append_assoc rest (bottoms missing) known);
       below = below_themselves context.types known;
       reached = inl refl;
-      valid = All-append (IsSlotValid context) rest (bottoms missing ++ known) c.valid (All-append (IsSlotValid context) (bottoms missing) known (bottoms_valid context missing) valid);
+      valid = All-append (IsSlotValid context) rest (bottoms missing ++ known) c.valid
+          (All-append (IsSlotValid context) (bottoms missing) known (bottoms_valid context missing) valid);
     };
     takes = record {
       taken = bottoms missing ++ known;
@@ -94,24 +100,31 @@ pop_beyond context known missing covered valid fits = record {
 }
 
 pub pop_apart : (context : BodyContext) (base covered expected : List Slot) (dead : Bool)
-    → length covered ≡ length expected → (AreBelow context.types covered expected → ⊥) → PopsNothing context expected (holding (base ++ covered) dead)
+    → length covered ≡ length expected → (AreBelow context.types covered expected → ⊥)
+    → PopsNothing context expected (holding (base ++ covered) dead)
 pop_apart context base covered expected dead long apart rest before c t =
     let (front, back, is, left, right) = zip_split (IsBelow context.types) base covered c.top c.below in
-    let whole : rest ++ t.taken ≡ (c.under ++ front) ++ back = sym t.is ∙ c.is ∙ ap (λ xs. c.under ++ xs) is ∙ sym (append_assoc c.under front back) in
-    let size : length t.taken ≡ length back = same_size context.types t.taken expected t.accepted ∙ sym long ∙ same_size context.types covered back right in
+    let whole : rest ++ t.taken ≡ (c.under ++ front) ++ back = sym t.is ∙ c.is ∙ ap (λ xs. c.under ++ xs) is
+    ∙ sym (append_assoc c.under front back) in
+    let size : length t.taken ≡ length back = same_size context.types t.taken expected t.accepted ∙ sym long ∙ same_size context.types
+    covered back right in
     let same : t.taken ≡ back = right_part rest (c.under ++ front) t.taken back whole size in
     apart (below_all context.types covered back expected right (subst (λ xs. AreBelow context.types xs expected) same t.accepted))
 
 pub pop_apart_beyond : (context : BodyContext) (known missing covered : List Slot) (dead : Bool)
-    → length known ≡ length covered → (AreBelow context.types known covered → ⊥) → PopsNothing context (missing ++ covered) (holding known dead)
+    → length known ≡ length covered → (AreBelow context.types known covered → ⊥) → PopsNothing context (missing ++ covered)
+    (holding known dead)
 pop_apart_beyond context known missing covered dead long apart rest before c t =
     let (front, back, is, left, right) = zip_parts (IsBelow context.types) t.taken missing covered t.accepted in
-    let whole : c.under ++ c.top ≡ (rest ++ front) ++ back = sym c.is ∙ t.is ∙ ap (λ xs. rest ++ xs) is ∙ sym (append_assoc rest front back) in
-    let size : length c.top ≡ length back = sym (same_size context.types known c.top c.below) ∙ long ∙ sym (same_size context.types back covered right) in
+    let whole : c.under ++ c.top ≡ (rest ++ front) ++ back = sym c.is ∙ t.is ∙ ap (λ xs. rest ++ xs) is
+    ∙ sym (append_assoc rest front back) in
+    let size : length c.top ≡ length back = sym (same_size context.types known c.top c.below) ∙ long
+    ∙ sym (same_size context.types back covered right) in
     let same : c.top ≡ back = right_part c.under (rest ++ front) c.top back whole size in
     apart (below_all context.types known back covered (subst (λ xs. AreBelow context.types known xs) same c.below) right)
 
-pub pop_short : (context : BodyContext) (known expected : List Slot) → length known < length expected → PopsNothing context expected (holding known false)
+pub pop_short : (context : BodyContext) (known expected : List Slot) → length known < length expected
+    → PopsNothing context expected (holding known false)
 pop_short context known expected few rest before c t =
     elim c.reached [
       | inl dead ↦ absurd (false≢true dead)
@@ -119,11 +132,18 @@ pop_short context known expected few rest before c t =
           let whole : length before ≡ length (c.under ++ c.top) = ap (λ xs. length xs) c.is in
           let other : length before ≡ length (rest ++ t.taken) = ap (λ xs. length xs) t.is in
           let nothing : length c.under ≡ 0 = ap (λ xs. length xs) none in
-          omega (arith, length-append c.under c.top, length-append rest t.taken, same_size context.types known c.top c.below, same_size context.types t.taken expected t.accepted)
+          omega (
+            arith,
+            length-append c.under c.top,
+            length-append rest t.taken,
+            same_size context.types known c.top c.below,
+            same_size context.types t.taken expected t.accepted,
+          )
     ]
 
 pub push_all : (context : BodyContext) (known results : List Slot) (dead : Bool)
-    → AreSlotsValid context known → AreSlotsValid context results → Pushes context results (holding known dead) (holding (known ++ results) dead)
+    → AreSlotsValid context known → AreSlotsValid context results → Pushes context results (holding known dead)
+    (holding (known ++ results) dead)
 push_all context known results dead known_valid results_valid = record {
   sound = λ after c.
       let (front, back, is, left, right) = zip_split (IsBelow context.types) known results c.top c.below in

@@ -7,7 +7,8 @@ use Rattle.smith_syntax.specs.declared.value_type.ValType.{ValType}
 use Rattle.smith_check.specs.declared.frame.Frame.{Frame}
 use Rattle.smith_check.specs.Closes.{label_of, labels_of}
 
-pub label_at : (first : List ValType) (frames : List Frame) (k : ℕ) (frame : Frame) → 0 < k → k ≤ length frames → frame ≡ get_or frames (length frames - k) frame
+pub label_at : (first : List ValType) (frames : List Frame) (k : ℕ) (frame : Frame) → 0 < k → k ≤ length frames
+    → frame ≡ get_or frames (length frames - k) frame
     → slice_get (first ∷ labels_of (reverse frames)) k ≡ Some (label_of frame.shape)
 label_at first frames zero frame some few at = absurd (omega (arith, some))
 label_at first frames (suc j) frame some few at =

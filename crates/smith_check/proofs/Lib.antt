@@ -1,5 +1,3 @@
-mod AmongLemmas
-mod SetLocalLemmas
 mod ListLemmas
 mod LookupLemmas
 mod RangeLemmas

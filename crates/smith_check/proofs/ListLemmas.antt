@@ -13,11 +13,13 @@ same_length a c b d e n =
 
 pub left_part : {A : Type 0} (a c b d : List A) → a ++ b ≡ c ++ d → length b ≡ length d → a ≡ c
 left_part a c b d e n =
-    sym (take-append_seam a b) ∙ ap (λ xs. take (length a) xs) e ∙ ap (λ k. take k (c ++ d)) (same_length a c b d e n) ∙ take-append_seam c d
+    sym (take-append_seam a b) ∙ ap (λ xs. take (length a) xs) e ∙ ap (λ k. take k (c ++ d)) (same_length a c b d e n)
+    ∙ take-append_seam c d
 
 pub right_part : {A : Type 0} (a c b d : List A) → a ++ b ≡ c ++ d → length b ≡ length d → b ≡ d
 right_part a c b d e n =
-    sym (drop-append_seam a b) ∙ ap (λ xs. drop (length a) xs) e ∙ ap (λ k. drop k (c ++ d)) (same_length a c b d e n) ∙ drop-append_seam c d
+    sym (drop-append_seam a b) ∙ ap (λ xs. drop (length a) xs) e ∙ ap (λ k. drop k (c ++ d)) (same_length a c b d e n)
+    ∙ drop-append_seam c d
 
 pub all_left : {A : Type 0} (P : A → Type 0) (xs ys : List A) → All P (xs ++ ys) → All P xs
 all_left P xs ys all = subst (λ zs. All P zs) (take-append_seam xs ys) (All-take P (length xs) (xs ++ ys) all)
@@ -43,7 +45,8 @@ zip_split R (b ∷ base) top (y ∷ ys) (first, below) =
     let (front, rest, is, left, right) = zip_split R base top ys below in
     (y ∷ front, rest, ap (λ zs. y ∷ zs) is, (first, left), right)
 
-pub zip_join : {A : Type 0} (R : A → A → Type 0) (xs ys base top : List A) → AllZip R xs base → AllZip R ys top → AllZip R (xs ++ ys) (base ++ top)
+pub zip_join : {A : Type 0} (R : A → A → Type 0) (xs ys base top : List A) → AllZip R xs base → AllZip R ys top
+    → AllZip R (xs ++ ys) (base ++ top)
 zip_join R [] ys [] top left right = right
 zip_join R [] ys (b ∷ base) top left right = absurd left
 zip_join R (x ∷ xs) ys [] top left right = absurd left

@@ -12,7 +12,8 @@ use Rattle.smith_instr.specs.declared.memory.Store.{Store}
 use Rattle.smith_instr.specs.declared.memory.Store.TheVariants as store
 use Rattle.smith_check.proofs.LookupLemmas.{some_same}
 
-pub access_same : (memories : List MemoryType) (at : MemArg) (one other : Bool) → IsAccess memories at one → IsAccess memories at other → one ≡ other
+pub access_same : (memories : List MemoryType) (at : MemArg) (one other : Bool) → IsAccess memories at one → IsAccess memories at other
+    → one ≡ other
 access_same memories at one other a b =
     let same : a.memory ≡ b.memory = some_same a.memory b.memory (sym a.there ∙ b.there) in
     a.addressed ∙ ap (λ (m : MemoryType). m.memory64) same ∙ sym b.addressed

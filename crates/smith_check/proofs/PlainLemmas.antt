@@ -59,14 +59,16 @@ pub record StepsThen (context : BodyContext) (instruction : Instr) (more : List 
   pub step : IsStep context instruction before between
   pub then : AreTyped context more between after
 
-pub step_of : {context : BodyContext} {xs : List Instr} {before after : Stacked} (x : Instr) (more : List Instr) → AreTyped context xs before after → xs ≡ x ∷ more → IsPlain x
+pub step_of : {context : BodyContext} {xs : List Instr} {before after : Stacked} (x : Instr) (more : List Instr)
+    → AreTyped context xs before after → xs ≡ x ∷ more → IsPlain x
     → StepsThen context x more before after
 step_of x more (nothing counts same) e p = absurd (not_empty x more e)
-step_of {context = context} {before = before} {after = after} x more (step {instruction = i} {more = rest} {between = between} s t) e p = record {
-  between = between;
-  step = subst (λ z. IsStep context z before between) (same_first i x rest more e) s;
-  then = subst (λ zs. AreTyped context zs between after) (same_others i x rest more e) t;
-}
+step_of {context = context} {before = before} {after = after} x more (step {instruction = i} {more = rest} {between = between} s t) e p =
+    record {
+      between = between;
+      step = subst (λ z. IsStep context z before between) (same_first i x rest more e) s;
+      then = subst (λ zs. AreTyped context zs between after) (same_others i x rest more e) t;
+    }
 step_of x more (block {ty = ty} {body = body} {more = rest} params results is fits inner framed t) e p =
     not_plain _ (instr.Block ty) x (same_first (instr.Block ty) x (body ++ instr.End ∷ rest) more (sym is ∙ e)) p (λ h. h)
 step_of x more (loop {ty = ty} {body = body} {more = rest} params results is fits inner framed t) e p =
@@ -76,22 +78,26 @@ step_of x more (if_alone {ty = ty} {body = body} {more = rest} params results is
 step_of x more (if_else {ty = ty} {body = body} {other = other} {more = rest} params results is fits inner last framed t) e p =
     not_plain _ (instr.If ty) x (same_first (instr.If ty) x (body ++ instr.Else ∷ (other ++ instr.End ∷ rest)) more (sym is ∙ e)) p (λ h. h)
 step_of x more (try_table {ty = ty} {clauses = clauses} {body = body} {more = rest} params results is fits caught inner framed t) e p =
-    not_plain _ (instr.TryTable ty clauses) x (same_first (instr.TryTable ty clauses) x (body ++ instr.End ∷ rest) more (sym is ∙ e)) p (λ h. h)
+    not_plain _ (instr.TryTable ty clauses) x (same_first (instr.TryTable ty clauses) x (body ++ instr.End ∷ rest) more (sym is ∙ e)) p
+    (λ h. h)
 
 -- what closes blocks begins with no plain instruction
-pub no_plain_tail : (context : BodyContext) (shape : Shape) (base : List ℕ) (outers : List Frame) (x : Instr) (xs tail : List Instr) → IsTail context shape base outers tail → tail ≡ x ∷ xs → IsPlain x → ⊥
+pub no_plain_tail : (context : BodyContext) (shape : Shape) (base : List ℕ) (outers : List Frame) (x : Instr) (xs tail : List Instr)
+    → IsTail context shape base outers tail → tail ≡ x ∷ xs → IsPlain x → ⊥
 no_plain_tail context shape base [] x xs tail is e p = not_empty x xs (sym is ∙ e)
 no_plain_tail context shape base (outer ∷ outers) x xs tail (inl ends) e p =
     not_plain _ instr.End x (same_first instr.End x ends.more xs (sym ends.is ∙ e)) p (λ h. h)
 no_plain_tail context shape base (outer ∷ outers) x xs tail (inr other) e p =
     not_plain _ instr.Else x (same_first instr.Else x (other.other ++ instr.End ∷ other.more) xs (sym other.is ∙ e)) p (λ h. h)
 
-pub record ClosesThen (context : BodyContext) (results : List ValType) (Tail : List Instr → Type 0) (instruction : Instr) (rest : List Instr) (before : Stacked) : Type 0 where
+pub record ClosesThen (context : BodyContext) (results : List ValType) (Tail : List Instr → Type 0) (instruction : Instr)
+    (rest : List Instr) (before : Stacked) : Type 0 where
   pub between : Stacked
   pub step : IsStep context instruction before between
   pub then : ClosesWith context results Tail between rest
 
-pub closes_step : (context : BodyContext) (results : List ValType) (Tail : List Instr → Type 0) (x : Instr) (xs : List Instr) (before : Stacked)
+pub closes_step : (context : BodyContext) (results : List ValType) (Tail : List Instr → Type 0) (x : Instr) (xs : List Instr)
+    (before : Stacked)
     → IsPlain x → ((tail : List Instr) → Tail tail → tail ≡ x ∷ xs → ⊥) → ClosesWith context results Tail before (x ∷ xs)
     → ClosesThen context results Tail x xs before
 closes_step context results Tail x xs before p never c =
@@ -106,7 +112,8 @@ closes_step context results Tail x xs before p never c =
           }
     ]
 
-pub step_closes : (context : BodyContext) (results : List ValType) (Tail : List Instr → Type 0) (x : Instr) (xs : List Instr) (before between : Stacked)
+pub step_closes : (context : BodyContext) (results : List ValType) (Tail : List Instr → Type 0) (x : Instr) (xs : List Instr)
+    (before between : Stacked)
     → IsStep context x before between → ClosesWith context results Tail between xs → ClosesWith context results Tail before (x ∷ xs)
 step_closes context results Tail x xs before between s c = record {
   body = x ∷ c.body;
@@ -118,7 +125,8 @@ step_closes context results Tail x xs before between s c = record {
 }
 
 -- where an instruction that opens and closes no block steps, exactly the rest has to finish
-pub steps_finish : (context : BodyContext) (shape : Shape) (outers : List Frame) (x : Instr) (old new : Held) (set more base : List ℕ) (xs : List Instr)
+pub steps_finish : (context : BodyContext) (shape : Shape) (outers : List Frame) (x : Instr) (old new : Held) (set more base : List ℕ)
+    (xs : List Instr)
     → IsPlain x → more ≡ set ++ sets x → Steps context (label_of shape ∷ labels_of outers) x set old new
     → Finishes context shape old set base outers (x ∷ xs) → Finishes context shape new more base outers xs
 steps_finish context shape outers x old new set more base xs p sum s f =
@@ -129,10 +137,12 @@ steps_finish context shape outers x old new set more base xs p sum s f =
     record {
       stack = c.between.stack;
       covered = s.complete f.stack c.between f.covered c.step;
-      closes = subst (λ ys. ClosesWith (with_labels context labels) shape.results (IsTail context shape base outers) (stacked c.between.stack ys) xs) same c.then;
+      closes = subst (λ ys. ClosesWith (with_labels context labels) shape.results (IsTail context shape base outers)
+          (stacked c.between.stack ys) xs) same c.then;
     }
 
-pub steps_begin : (context : BodyContext) (shape : Shape) (outers : List Frame) (x : Instr) (old new : Held) (set more base : List ℕ) (xs : List Instr)
+pub steps_begin : (context : BodyContext) (shape : Shape) (outers : List Frame) (x : Instr) (old new : Held) (set more base : List ℕ)
+    (xs : List Instr)
     → more ≡ set ++ sets x → Steps context (label_of shape ∷ labels_of outers) x set old new
     → Finishes context shape new more base outers xs → Finishes context shape old set base outers (x ∷ xs)
 steps_begin context shape outers x old new set more base xs sum s f =
@@ -143,11 +153,14 @@ steps_begin context shape outers x old new set more base xs sum s f =
       covered = r.covered;
       closes = step_closes (with_labels context labels) shape.results (IsTail context shape base outers) x xs (stacked r.before set)
           (stacked f.stack (set ++ sets x)) r.step
-          (subst (λ ys. ClosesWith (with_labels context labels) shape.results (IsTail context shape base outers) (stacked f.stack ys) xs) sum f.closes);
+          (subst (λ ys. ClosesWith (with_labels context labels) shape.results (IsTail context shape base outers) (stacked f.stack ys) xs)
+          sum f.closes);
     }
 
-pub nowhere_finish : (context : BodyContext) (shape : Shape) (outers : List Frame) (x : Instr) (old : Held) (set base : List ℕ) (xs : List Instr)
-    → IsPlain x → StepsNowhere context (label_of shape ∷ labels_of outers) x set old → Finishes context shape old set base outers (x ∷ xs) → ⊥
+pub nowhere_finish : (context : BodyContext) (shape : Shape) (outers : List Frame) (x : Instr) (old : Held) (set base : List ℕ)
+    (xs : List Instr)
+    → IsPlain x → StepsNowhere context (label_of shape ∷ labels_of outers) x set old → Finishes context shape old set base outers (x ∷ xs)
+    → ⊥
 nowhere_finish context shape outers x old set base xs p never f =
     let labels = label_of shape ∷ labels_of outers in
     let c = closes_step (with_labels context labels) shape.results (IsTail context shape base outers) x xs (stacked f.stack set) p

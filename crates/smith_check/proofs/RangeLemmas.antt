@@ -50,15 +50,18 @@ pub slots_in_range : (context : BodyContext) (slots : List Slot) → AreSlotsVal
 slots_in_range context slots valid = All-weaker (IsSlotValid context) (IsSlotInRange context.types) (slot_in_range context) slots valid
 
 -- a part of slots, or of values, as a slice is read
-pub slots_part : (context : BodyContext) (slots whole : List Slot) (n m : ℕ) → whole ≡ slots → AreSlotsValid context slots → All (IsSlotInRange context.types) (take n (drop m whole))
+pub slots_part : (context : BodyContext) (slots whole : List Slot) (n m : ℕ) → whole ≡ slots → AreSlotsValid context slots
+    → All (IsSlotInRange context.types) (take n (drop m whole))
 slots_part context slots whole n m same valid =
     All-take (IsSlotInRange context.types) n (drop m whole) (All-drop (IsSlotInRange context.types) m whole
     (slots_in_range context whole (subst (λ xs. AreSlotsValid context xs) (sym same) valid)))
 
-pub slots_whole : (context : BodyContext) (slots whole : List Slot) → whole ≡ slots → AreSlotsValid context slots → All (IsSlotInRange context.types) whole
+pub slots_whole : (context : BodyContext) (slots whole : List Slot) → whole ≡ slots → AreSlotsValid context slots
+    → All (IsSlotInRange context.types) whole
 slots_whole context slots whole same valid = slots_in_range context whole (subst (λ xs. AreSlotsValid context xs) (sym same) valid)
 
-pub values_part : (types : List SubType) (values : List ValType) (n m : ℕ) → All (IsValInRange types) values → All (IsValInRange types) (take n (drop m values))
+pub values_part : (types : List SubType) (values : List ValType) (n m : ℕ) → All (IsValInRange types) values
+    → All (IsValInRange types) (take n (drop m values))
 values_part types values n m all = All-take (IsValInRange types) n (drop m values) (All-drop (IsValInRange types) m values all)
 
 pub no_range : (types : List SubType) → All (IsValInRange types) []
@@ -123,7 +126,8 @@ conversion_numbers convert.I64ReinterpretF64 = ((tt, tt), (tt, tt))
 conversion_numbers convert.F32ReinterpretI32 = ((tt, tt), (tt, tt))
 conversion_numbers convert.F64ReinterpretI64 = ((tt, tt), (tt, tt))
 
-saturating_conversion_numbers : (op : SaturatingConversion) → AreNumberTypes (saturating_conversion op).operands × AreNumberTypes (saturating_conversion op).results
+saturating_conversion_numbers : (op : SaturatingConversion) → AreNumberTypes (saturating_conversion op).operands
+    × AreNumberTypes (saturating_conversion op).results
 unfolding AreNumberTypes
 saturating_conversion_numbers saturate.I32TruncSatF32S = ((tt, tt), (tt, tt))
 saturating_conversion_numbers saturate.I32TruncSatF32U = ((tt, tt), (tt, tt))
@@ -173,12 +177,14 @@ signature_numbers (numeric.Wide op) = wide_arithmetic_numbers op
 numbers_in_range : (types : List SubType) (values : List ValType) → AreNumberTypes values → All (IsValInRange types) values
 unfolding AreNumberTypes
 numbers_in_range types [] numbers = All-nil (IsValInRange types)
-numbers_in_range types (x ∷ xs) (first, numbers) = All-cons (IsValInRange types) x xs (number_in_range types x first) (numbers_in_range types xs numbers)
+numbers_in_range types (x ∷ xs) (first, numbers) = All-cons (IsValInRange types) x xs (number_in_range types x first)
+    (numbers_in_range types xs numbers)
 
 numbers_valid : (context : BodyContext) (values : List ValType) → AreNumberTypes values → AreValid context values
 unfolding AreNumberTypes
 numbers_valid context [] numbers = All-nil (IsValid context)
-numbers_valid context (x ∷ xs) (first, numbers) = All-cons (IsValid context) x xs (number_valid context x first) (numbers_valid context xs numbers)
+numbers_valid context (x ∷ xs) (first, numbers) = All-cons (IsValid context) x xs (number_valid context x first)
+    (numbers_valid context xs numbers)
 
 pub signature_in_range : (types : List SubType) (op : NumericInstr) → All (IsValInRange types) (signature op).operands
 signature_in_range types op = numbers_in_range types (signature op).operands (signature_numbers op).0

@@ -28,7 +28,12 @@ pub join_left : (types : List SubType) (a : Slot) → IsNumeric a → IsJoin typ
 join_left types a numeric = record { numeric = numeric; above_first = below_refl types a; above_second = tt; least = λ v n p q. p }
 
 pub join_same : (types : List SubType) (a : Slot) → IsNumeric a → IsJoin types a a a
-join_same types a numeric = record { numeric = numeric; above_first = below_refl types a; above_second = below_refl types a; least = λ v n p q. p }
+join_same types a numeric = record {
+  numeric = numeric;
+  above_first = below_refl types a;
+  above_second = below_refl types a;
+  least = λ v n p q. p;
+}
 
 -- what `select` takes and gives
 pub record SelectsFrom (context : BodyContext) (old : Held) (after : List Slot) : Type 0 where
@@ -59,13 +64,17 @@ three types (a ∷ b ∷ []) p q r (x, (y, below)) = absurd below
 three types (a ∷ b ∷ c ∷ []) p q r (x, (y, (z, below))) = record { a = a; b = b; c = c; is = refl; first = x; second = y; third = z }
 three types (a ∷ b ∷ c ∷ d ∷ xs) p q r (x, (y, (z, below))) = absurd below
 
-pub selects : (context : BodyContext) (old middle lower rest new : Held) (first second given : Slot) → Pops context (Value I32 ∷ []) old middle → Tops context second middle lower
-    → Tops context first lower rest → IsJoin context.types first second given → Pushes context (given ∷ []) rest new → Selects context old new
+pub selects : (context : BodyContext) (old middle lower rest new : Held) (first second given : Slot)
+    → Pops context (Value I32 ∷ []) old middle → Tops context second middle lower
+    → Tops context first lower rest → IsJoin context.types first second given → Pushes context (given ∷ []) rest new
+    → Selects context old new
 selects context old middle lower rest new first second given pops seconds firsts join pushes = record {
   sound = λ after c.
       let p = pushes.sound after c in
-      let one = firsts.sound p.rest first (record { covered = p.covered; above = below_refl context.types first; valid = firsts.top_valid }) in
-      let two = seconds.sound (p.rest ++ first ∷ []) second (record { covered = one; above = below_refl context.types second; valid = seconds.top_valid }) in
+      let one = firsts.sound p.rest first (record { covered = p.covered; above = below_refl context.types first; valid = firsts.top_valid })
+      in
+      let two = seconds.sound (p.rest ++ first ∷ []) second
+      (record { covered = one; above = below_refl context.types second; valid = seconds.top_valid }) in
       let t = pops.sound ((p.rest ++ first ∷ []) ++ second ∷ []) two in
       record {
         before = t.before;
@@ -76,7 +85,8 @@ selects context old middle lower rest new first second given pops seconds firsts
           rest = p.rest;
           taken = first ∷ second ∷ t.takes.taken;
           given = p.gives.given;
-          under = t.takes.is ∙ append_assoc (p.rest ++ first ∷ []) (second ∷ []) t.takes.taken ∙ append_assoc p.rest (first ∷ []) (second ∷ t.takes.taken);
+          under = t.takes.is ∙ append_assoc (p.rest ++ first ∷ []) (second ∷ []) t.takes.taken ∙ append_assoc p.rest (first ∷ [])
+              (second ∷ t.takes.taken);
           accepted = (join.above_first, (join.above_second, t.takes.accepted));
           offered = p.gives.offered;
           over = p.gives.is;
@@ -88,13 +98,18 @@ selects context old middle lower rest new first second given pops seconds firsts
       let whole : before ≡ f.rest ++ (t.a ∷ t.b ∷ t.c ∷ []) = f.under ∙ ap (λ xs. f.rest ++ xs) t.is in
       let one = pops.complete (f.rest ++ t.a ∷ t.b ∷ []) before c
       (record { taken = t.c ∷ []; is = whole ∙ sym (append_assoc f.rest (t.a ∷ t.b ∷ []) (t.c ∷ [])); accepted = (t.third, tt) }) in
-      let two = seconds.complete (f.rest ++ t.a ∷ []) t.b (subst (λ xs. Covers context middle xs) (sym (append_assoc f.rest (t.a ∷ []) (t.b ∷ []))) one) in
+      let two = seconds.complete (f.rest ++ t.a ∷ []) t.b
+      (subst (λ xs. Covers context middle xs) (sym (append_assoc f.rest (t.a ∷ []) (t.b ∷ []))) one) in
       let three = firsts.complete f.rest t.a two.covered in
-      let low = join.least v numeric (below_trans context.types first t.a v three.above t.first) (below_trans context.types second t.b v two.above t.second) in
+      let low = join.least v numeric (below_trans context.types first t.a v three.above t.first)
+      (below_trans context.types second t.b v two.above t.second) in
       pushes.complete after f.rest three.covered (record {
         given = f.given;
         is = f.over;
-        offered = record { below = below_all context.types (given ∷ []) (v ∷ []) f.given (low, tt) f.offered.below; valid = f.offered.valid };
+        offered = record {
+          below = below_all context.types (given ∷ []) (v ∷ []) f.given (low, tt) f.offered.below;
+          valid = f.offered.valid;
+        };
       });
 }
 
@@ -111,7 +126,8 @@ no_number_at_all types SomeRef n p = absurd n
 no_number_at_all types (Value (Ref other)) n p = absurd n
 no_number_at_all types (Value v) n p = absurd p
 
-apart : (types : List SubType) (a b : ValType) (v : Slot) → both a b ≡ None → IsNumeric v → IsBelow types (Value a) v → IsBelow types (Value b) v → ⊥
+apart : (types : List SubType) (a b : ValType) (v : Slot) → both a b ≡ None → IsNumeric v → IsBelow types (Value a) v
+    → IsBelow types (Value b) v → ⊥
 apart types a b Bottom is n p q = absurd p
 apart types a b SomeRef is n p q = absurd n
 apart types a b (Value (Ref r)) is n p q = absurd n
@@ -122,7 +138,8 @@ apart types F64 F64 (Value F64) is n p q = cc
 apart types V128 V128 (Value V128) is n p q = cc
 apart types a b (Value v) is n p q = search rules
 
-number_right : (types : List SubType) (value : ValType) → MatchOption (number value) (HaveNoJoin types Bottom (Value value)) (λ given. IsJoin types Bottom (Value value) given)
+number_right : (types : List SubType) (value : ValType) → MatchOption (number value) (HaveNoJoin types Bottom (Value value))
+    (λ given. IsJoin types Bottom (Value value) given)
 number_right types I32 = join_right types (Value I32) tt
 number_right types I64 = join_right types (Value I64) tt
 number_right types F32 = join_right types (Value F32) tt
@@ -130,7 +147,8 @@ number_right types F64 = join_right types (Value F64) tt
 number_right types V128 = join_right types (Value V128) tt
 number_right types (Ref reference) = λ v n p q. no_number_above types reference v n q
 
-number_left : (types : List SubType) (value : ValType) → MatchOption (number value) (HaveNoJoin types (Value value) Bottom) (λ given. IsJoin types (Value value) Bottom given)
+number_left : (types : List SubType) (value : ValType) → MatchOption (number value) (HaveNoJoin types (Value value) Bottom)
+    (λ given. IsJoin types (Value value) Bottom given)
 number_left types I32 = join_left types (Value I32) tt
 number_left types I64 = join_left types (Value I64) tt
 number_left types F32 = join_left types (Value F32) tt
@@ -138,7 +156,8 @@ number_left types F64 = join_left types (Value F64) tt
 number_left types V128 = join_left types (Value V128) tt
 number_left types (Ref reference) = λ v n p q. no_number_above types reference v n p
 
-both_joined : (types : List SubType) (a b : ValType) → MatchOption (both a b) (HaveNoJoin types (Value a) (Value b)) (λ given. IsJoin types (Value a) (Value b) given)
+both_joined : (types : List SubType) (a b : ValType) → MatchOption (both a b) (HaveNoJoin types (Value a) (Value b))
+    (λ given. IsJoin types (Value a) (Value b) given)
 both_joined types I32 I32 = join_same types (Value I32) tt
 both_joined types I64 I64 = join_same types (Value I64) tt
 both_joined types F32 F32 = join_same types (Value F32) tt
@@ -147,7 +166,8 @@ both_joined types V128 V128 = join_same types (Value V128) tt
 both_joined types a b = λ v n p q. apart types a b v refl n p q
 
 -- the table is right
-pub joined : (types : List SubType) (first second : Slot) → MatchOption (join first second) (HaveNoJoin types first second) (λ given. IsJoin types first second given)
+pub joined : (types : List SubType) (first second : Slot) → MatchOption (join first second) (HaveNoJoin types first second)
+    (λ given. IsJoin types first second given)
 joined types Bottom Bottom = join_same types Bottom tt
 joined types Bottom SomeRef = λ v n p q. no_number_at_all types v n q
 joined types Bottom (Value value) = number_right types value
@@ -157,7 +177,8 @@ joined types (Value value) SomeRef = λ v n p q. no_number_at_all types v n q
 joined types (Value value) (Value other) = both_joined types value other
 
 -- `select` steps as it selects
-pub selects_as : (context : BodyContext) (labels : List (List ValType)) (set : List ℕ) (old new : Held) → Selects context old new → AreSlotsValid context new.known
+pub selects_as : (context : BodyContext) (labels : List (List ValType)) (set : List ℕ) (old new : Held) → Selects context old new
+    → AreSlotsValid context new.known
     → IsTaken context labels instr.Select set old new
 selects_as context labels set old new selects valid = record {
   steps = record {
@@ -190,7 +211,10 @@ selects_as context labels set old new selects valid = record {
           given = s.framed.given;
           under = s.framed.under;
           accepted = subst (λ xs. AreBelow context.types s.framed.taken xs) is s.framed.accepted;
-          offered = record { below = subst (λ xs. AreBelow context.types xs s.framed.given) also s.framed.offered.below; valid = s.framed.offered.valid };
+          offered = record {
+            below = subst (λ xs. AreBelow context.types xs s.framed.given) also s.framed.offered.below;
+            valid = s.framed.offered.valid;
+          };
           over = s.framed.over;
           set_then = refl;
         });
@@ -198,7 +222,8 @@ selects_as context labels set old new selects valid = record {
   valid = valid;
 }
 
-pub select_unindexed : (context : BodyContext) (labels : List (List ValType)) (set : List ℕ) (old : Held) → PopsNothing context (Value I32 ∷ []) old → StepsNowhere context labels instr.Select set old
+pub select_unindexed : (context : BodyContext) (labels : List (List ValType)) (set : List ℕ) (old : Held)
+    → PopsNothing context (Value I32 ∷ []) old → StepsNowhere context labels instr.Select set old
 select_unindexed context labels set old never before after c s =
     let (given, numeric, is, also) = s.typed in
     nothing_above context (given ∷ given ∷ []) (Value I32 ∷ []) old never s.framed.rest before c (record {
@@ -218,11 +243,13 @@ record IsSeen (context : BodyContext) (middle : Held) : Type 0 where
   first : IsBelow context.types a given
   second : IsBelow context.types b given
 
-seen : (context : BodyContext) (labels : List (List ValType)) (set : List ℕ) (old middle : Held) (before : List Slot) (after : Stacked) → Pops context (Value I32 ∷ []) old middle
+seen : (context : BodyContext) (labels : List (List ValType)) (set : List ℕ) (old middle : Held) (before : List Slot) (after : Stacked)
+    → Pops context (Value I32 ∷ []) old middle
     → Covers context old before → IsStep (with_labels context labels) instr.Select (stacked before set) after → IsSeen context middle
 seen context labels set old middle before after pops c s =
     let (v, numeric, is, also) = s.typed in
-    let t = three context.types s.framed.taken v v (Value I32) (subst (λ xs. AreBelow context.types s.framed.taken xs) is s.framed.accepted) in
+    let t = three context.types s.framed.taken v v (Value I32) (subst (λ xs. AreBelow context.types s.framed.taken xs) is s.framed.accepted)
+    in
     let whole : before ≡ s.framed.rest ++ (t.a ∷ t.b ∷ t.c ∷ []) = s.framed.under ∙ ap (λ xs. s.framed.rest ++ xs) t.is in
     let one = pops.complete (s.framed.rest ++ t.a ∷ t.b ∷ []) before c
     (record { taken = t.c ∷ []; is = whole ∙ sym (append_assoc s.framed.rest (t.a ∷ t.b ∷ []) (t.c ∷ [])); accepted = (t.third, tt) }) in
@@ -237,24 +264,29 @@ seen context labels set old middle before after pops c s =
       second = t.second;
     }
 
-pub select_without_second : (context : BodyContext) (labels : List (List ValType)) (set : List ℕ) (old middle : Held) → Pops context (Value I32 ∷ []) old middle → TopsNothing context middle
+pub select_without_second : (context : BodyContext) (labels : List (List ValType)) (set : List ℕ) (old middle : Held)
+    → Pops context (Value I32 ∷ []) old middle → TopsNothing context middle
     → StepsNowhere context labels instr.Select set old
 select_without_second context labels set old middle pops never before after c s =
     let x = seen context labels set old middle before after pops c s in never (x.rest ++ x.a ∷ []) x.b x.covered
 
-pub select_without_first : (context : BodyContext) (labels : List (List ValType)) (set : List ℕ) (old middle lower : Held) (second : Slot) → Pops context (Value I32 ∷ []) old middle
+pub select_without_first : (context : BodyContext) (labels : List (List ValType)) (set : List ℕ) (old middle lower : Held) (second : Slot)
+    → Pops context (Value I32 ∷ []) old middle
     → Tops context second middle lower → TopsNothing context lower → StepsNowhere context labels instr.Select set old
 select_without_first context labels set old middle lower second pops seconds never before after c s =
     let x = seen context labels set old middle before after pops c s in
     never x.rest x.a (seconds.complete (x.rest ++ x.a ∷ []) x.b x.covered).covered
 
-pub select_unjoined : (context : BodyContext) (labels : List (List ValType)) (set : List ℕ) (old middle lower rest : Held) (first second : Slot) → Pops context (Value I32 ∷ []) old middle
-    → Tops context second middle lower → Tops context first lower rest → HaveNoJoin context.types first second → StepsNowhere context labels instr.Select set old
+pub select_unjoined : (context : BodyContext) (labels : List (List ValType)) (set : List ℕ) (old middle lower rest : Held)
+    (first second : Slot) → Pops context (Value I32 ∷ []) old middle
+    → Tops context second middle lower → Tops context first lower rest → HaveNoJoin context.types first second
+    → StepsNowhere context labels instr.Select set old
 select_unjoined context labels set old middle lower rest first second pops seconds firsts never before after c s =
     let x = seen context labels set old middle before after pops c s in
     let two = seconds.complete (x.rest ++ x.a ∷ []) x.b x.covered in
     let one = firsts.complete x.rest x.a two.covered in
-    never x.given x.numeric (below_trans context.types first x.a x.given one.above x.first) (below_trans context.types second x.b x.given two.above x.second)
+    never x.given x.numeric (below_trans context.types first x.a x.given one.above x.first)
+    (below_trans context.types second x.b x.given two.above x.second)
 
 -- what holds of both types holds of that above them
 number_keeps : (P : Slot → Type 0) (value : ValType) → P (Value value) → MatchOption (number value) (Unit {0}) P
@@ -282,7 +314,8 @@ join_keeps P (Value value) Bottom p q = number_keeps P value p
 join_keeps P (Value value) SomeRef p q = tt
 join_keeps P (Value value) (Value other) p q = both_keeps P value other p
 
-pub pushed_one : (context : BodyContext) (known after : List Slot) (slot : Slot) (dead : Bool) → AreSlotsValid context known → IsSlotValid context slot → after ≡ known ++ slot ∷ []
+pub pushed_one : (context : BodyContext) (known after : List Slot) (slot : Slot) (dead : Bool) → AreSlotsValid context known
+    → IsSlotValid context slot → after ≡ known ++ slot ∷ []
     → Pushes context (slot ∷ []) (holding known dead) (holding after dead)
 pushed_one context known after slot dead known_valid valid is =
     subst (λ xs. Pushes context (slot ∷ []) (holding known dead) (holding xs dead)) (sym is)

@@ -17,7 +17,8 @@ vector_above types (Value V128) below = refl
 vector_above types (Value value) below = absurd below
 
 -- where vectors are not valid, no valid result counts as one
-pub no_vector : (context : BodyContext) (results given : List Slot) → results ≡ Value V128 ∷ [] → AreBelow context.types results given → AreSlotsValid context given
+pub no_vector : (context : BodyContext) (results given : List Slot) → results ≡ Value V128 ∷ [] → AreBelow context.types results given
+    → AreSlotsValid context given
     → (IsValid context V128 → ⊥) → ⊥
 no_vector context results given is below valid never =
     let (slot, one, above) = single context.types (Value V128) given (subst (λ xs. AreBelow context.types xs given) is below) in

@@ -18,7 +18,8 @@ pub record AppliesFrom (context : BodyContext) (operands results : List Slot) (o
 -- the stacks of `new` are exactly those of `old` with operands taken off and results put on
 pub record Applies (context : BodyContext) (operands results : List Slot) (old new : Held) : Type 0 where
   pub sound : (after : List Slot) → Covers context new after → AppliesFrom context operands results old after
-  pub complete : (before after : List Slot) → Covers context old before → IsFramed context operands results [] (stacked before []) (stacked after []) → Covers context new after
+  pub complete : (before after : List Slot) → Covers context old before → IsFramed context operands results [] (stacked before [])
+      (stacked after []) → Covers context new after
   pub valid : AreSlotsValid context new.known
 
 -- an instruction has these operands and results, and no others
@@ -31,12 +32,14 @@ abbrev pub HasNone : BodyContext → List ℕ → Instr → Type 0
 HasNone context set instruction = (these those : List Slot) → HasStackType context set instruction these those → ⊥
 
 -- whether an instruction steps, and where to
-pub record IsTaken (context : BodyContext) (labels : List (List ValType)) (instruction : Instr) (set : List ℕ) (old new : Held) : Type 0 where
-  pub steps : Steps context labels instruction set old new
-  pub valid : AreSlotsValid context new.known
+pub record IsTaken (context : BodyContext) (labels : List (List ValType)) (instruction : Instr) (set : List ℕ) (old new : Held) : Type 0
+  where
+    pub steps : Steps context labels instruction set old new
+    pub valid : AreSlotsValid context new.known
 
 abbrev pub IsTried : BodyContext → List (List ValType) → Instr → List ℕ → Bool → Held → Held → Type 0
-IsTried context labels instruction set taken old new = MatchBool taken (IsTaken context labels instruction set old new) (StepsNowhere context labels instruction set old)
+IsTried context labels instruction set taken old new = MatchBool taken (IsTaken context labels instruction set old new)
+    (StepsNowhere context labels instruction set old)
 
 -- an instruction takes operands of these types, and goes on in dead code
 pub record LeavesBy (context : BodyContext) (taken : List Slot) (old new : Held) : Type 0 where

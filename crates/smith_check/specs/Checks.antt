@@ -16,7 +16,8 @@ use Rattle.smith_check.specs.Closes.{Finishes}
 -- instructions make a typed body of those that were checked
 abbrev pub CanFinish : BodyContext → Checker → List Instr → Type 0
 CanFinish context checker rest =
-    Finishes context checker.shape (held checker.operands) checker.log.items (take checker.height checker.log.items) (reverse checker.outers.items) rest
+    Finishes context checker.shape (held checker.operands) checker.log.items (take checker.height checker.log.items)
+    (reverse checker.outers.items) rest
 
 pub record IsShapeValid (context : BodyContext) (shape : Shape) : Type 0 where
   pub params : AreValid context shape.params
@@ -26,7 +27,8 @@ pub record IsShapeValid (context : BodyContext) (shape : Shape) : Type 0 where
 abbrev pub AreWell : BodyContext → ℕ → List Frame → Type 0
 AreWell context height [] = Unit {0}
 AreWell context height (outer ∷ outers) =
-    (outer.height ≤ height) × IsShapeValid context outer.shape × AreSlotsValid context outer.operands.known.items × AreWell context outer.height outers
+    (outer.height ≤ height) × IsShapeValid context outer.shape × AreSlotsValid context outer.operands.known.items
+    × AreWell context outer.height outers
 
 pub record IsWell (context : BodyContext) (checker : Checker) : Type 0 where
   pub shape : IsShapeValid context checker.shape

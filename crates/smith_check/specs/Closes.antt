@@ -40,7 +40,8 @@ MayEnd context kind.If params results = CountsAs context (values params) (values
 MayEnd context _ params results = Unit {0}
 
 -- instructions that lead to these results, and then others
-pub record ClosesWith (context : BodyContext) (results : List ValType) (Tail : List Instr → Type 0) (before : Stacked) (rest : List Instr) : Type 0 where
+pub record ClosesWith (context : BodyContext) (results : List ValType) (Tail : List Instr → Type 0) (before : Stacked)
+    (rest : List Instr) : Type 0 where
   pub body : List Instr
   pub tail : List Instr
   pub end : List ℕ
@@ -49,14 +50,16 @@ pub record ClosesWith (context : BodyContext) (results : List ValType) (Tail : L
   pub after : Tail tail
 
 -- the end of a block, and then others
-pub record EndsAt (context : BodyContext) (kind : Kind) (params results : List ValType) (Next : List Instr → Type 0) (tail : List Instr) : Type 0 where
+pub record EndsAt (context : BodyContext) (kind : Kind) (params results : List ValType) (Next : List Instr → Type 0)
+    (tail : List Instr) : Type 0 where
   pub more : List Instr
   pub is : tail ≡ instr.End ∷ more
   pub may : MayEnd context kind params results
   pub next : Next more
 
 -- the else of an if, its second part with its end, and then others
-pub record ElseAt (context : BodyContext) (kind : Kind) (params results : List ValType) (set : List ℕ) (Next : List Instr → Type 0) (tail : List Instr) : Type 0 where
+pub record ElseAt (context : BodyContext) (kind : Kind) (params results : List ValType) (set : List ℕ) (Next : List Instr → Type 0)
+    (tail : List Instr) : Type 0 where
   pub other : List Instr
   pub more : List Instr
   pub end : List ℕ
@@ -66,10 +69,12 @@ pub record ElseAt (context : BodyContext) (kind : Kind) (params results : List V
   pub next : Next more
 
 abbrev pub Ends : BodyContext → Kind → List ValType → List ValType → List ℕ → (List Instr → Type 0) → List Instr → Type 0
-Ends context kind params results set Next tail = EndsAt context kind params results Next tail ⊎ ElseAt context kind params results set Next tail
+Ends context kind params results set Next tail = EndsAt context kind params results Next tail ⊎ ElseAt context kind params results set Next
+    tail
 
 -- the results of a block are put on the stack, and then others
-pub record Resumes (context : BodyContext) (results : List ValType) (old : Held) (Closes : List Slot → List Instr → Type 0) (more : List Instr) : Type 0 where
+pub record Resumes (context : BodyContext) (results : List ValType) (old : Held) (Closes : List Slot → List Instr → Type 0)
+    (more : List Instr) : Type 0 where
   pub between : List Slot
   pub covered : CoversGiven context (values results) old between
   pub closes : Closes between more
@@ -80,30 +85,36 @@ IsTail context shape base [] tail = tail ≡ []
 IsTail context shape base (outer ∷ outers) tail =
     Ends (with_labels context (label_of shape ∷ labels_of (outer ∷ outers))) shape.kind shape.params shape.results base
     (λ more. Resumes context shape.results (held outer.operands)
-    (λ between rest. ClosesWith (with_labels context (label_of outer.shape ∷ labels_of outers)) outer.shape.results (IsTail context outer.shape (take outer.height base) outers)
+    (λ between rest. ClosesWith (with_labels context (label_of outer.shape ∷ labels_of outers)) outer.shape.results
+    (IsTail context outer.shape (take outer.height base) outers)
     (stacked between base) rest) more)
     tail
 
 -- instructions close the open blocks, from some stack that is covered
-pub record Finishes (context : BodyContext) (shape : Shape) (old : Held) (set base : List ℕ) (outers : List Frame) (rest : List Instr) : Type 0 where
+pub record Finishes (context : BodyContext) (shape : Shape) (old : Held) (set base : List ℕ) (outers : List Frame)
+    (rest : List Instr) : Type 0 where
   pub stack : List Slot
   pub covered : Covers context old stack
-  pub closes : ClosesWith (with_labels context (label_of shape ∷ labels_of outers)) shape.results (IsTail context shape base outers) (stacked stack set) rest
+  pub closes : ClosesWith (with_labels context (label_of shape ∷ labels_of outers)) shape.results (IsTail context shape base outers)
+      (stacked stack set) rest
 
 -- an instruction, blocks aside, takes the stacks of `old` exactly to those of `new`
-pub record Reaches (context : BodyContext) (labels : List (List ValType)) (instruction : Instr) (set : List ℕ) (old : Held) (after : List Slot) : Type 0 where
+pub record Reaches (context : BodyContext) (labels : List (List ValType)) (instruction : Instr) (set : List ℕ) (old : Held)
+    (after : List Slot) : Type 0 where
   pub before : List Slot
   pub covered : Covers context old before
   pub step : IsStep (with_labels context labels) instruction (stacked before set) (stacked after (set ++ sets instruction))
 
 pub record Steps (context : BodyContext) (labels : List (List ValType)) (instruction : Instr) (set : List ℕ) (old new : Held) : Type 0 where
   pub sound : (after : List Slot) → Covers context new after → Reaches context labels instruction set old after
-  pub complete : (before : List Slot) (after : Stacked) → Covers context old before → IsStep (with_labels context labels) instruction (stacked before set) after → Covers context new after.stack
+  pub complete : (before : List Slot) (after : Stacked) → Covers context old before → IsStep (with_labels context labels) instruction
+      (stacked before set) after → Covers context new after.stack
 
 -- an instruction applies to no stack
 abbrev pub StepsNowhere : BodyContext → List (List ValType) → Instr → List ℕ → Held → Type 0
 StepsNowhere context labels instruction set old =
-    (before : List Slot) (after : Stacked) → Covers context old before → IsStep (with_labels context labels) instruction (stacked before set) after → ⊥
+    (before : List Slot) (after : Stacked) → Covers context old before → IsStep (with_labels context labels) instruction
+    (stacked before set) after → ⊥
 
 -- an instruction that opens or closes no block
 abbrev pub IsPlain : Instr → Type 0

@@ -1,7 +1,6 @@
 pub mod Fits
 pub mod Lookups
 pub mod Scopes
-pub mod SetLocals
 pub mod Covers
 pub mod Selects
 pub mod Closes

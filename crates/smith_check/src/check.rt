@@ -7,10 +7,9 @@ use crate::checker::Checker;
 use crate::covered::is_covered;
 use crate::frame::{Kind, Operands, Shape};
 use crate::scope::Scope;
-use crate::set_locals::SetLocals;
 use crate::verdict::Verdict;
 use smith_bytes::Error;
-use smith_instr::Instr;
+use smith_instr::{Instr, SetLocals};
 use smith_types::{Items, ValType};
 use std::alloc::Global;
 

@@ -9,10 +9,9 @@ ghost use Rattle.smith_check.specs.Checks.{IsWell, Goes, Stops, CanFinish};
 use crate::blocks::{is_first, may_end, pop_for, shape_of, starting};
 use crate::frame::{Frame, Kind, Operands, Shape};
 use crate::scope::Scope;
-use crate::set_locals::SetLocals;
 use crate::step::{set_by, step};
 use smith_bytes::Error;
-use smith_instr::{BlockType, Instr};
+use smith_instr::{BlockType, Instr, SetLocals};
 use std::alloc::Global;
 use std::mem::replace;
 

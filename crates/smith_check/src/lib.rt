@@ -18,7 +18,6 @@ mod memory;
 mod operands;
 mod scope;
 mod select;
-mod set_locals;
 mod step;
 mod variables;
 mod verdict;

@@ -19,10 +19,9 @@ use crate::frame::{Frame, Operands, Shape};
 use crate::memory::{load, memory, store};
 use crate::scope::Scope;
 use crate::select::select;
-use crate::set_locals::SetLocals;
 use crate::variables::{global_get, global_set, local_get, local_set, local_tee};
 use smith_bytes::Error;
-use smith_instr::Instr;
+use smith_instr::{Instr, SetLocals};
 
 /// Tries a covered instruction that opens and closes no block.
 pub fn step(

@@ -12,8 +12,8 @@ ghost use Rattle.smith_types.specs.Expressions.{IsDefaultable};
 use crate::frame::Operands;
 use crate::lookups::{global_at, value_at};
 use crate::scope::Scope;
-use crate::set_locals::SetLocals;
 use smith_bytes::Error;
+use smith_instr::SetLocals;
 use smith_types::ValType;
 
 /// Returns whether values of the type `value` have a default (Validation, Local Types).

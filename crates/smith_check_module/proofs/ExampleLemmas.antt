@@ -15,7 +15,8 @@ use Rattle.smith_syntax.specs.declared.entity_type.ExportKind.{ExportKind}
 use Rattle.smith_syntax.specs.declared.entity_type.ExportKind.TheVariants as kind
 use Rattle.smith_check_types.specs.Canonical.{AreCanonical}
 use Rattle.smith_check_module.specs.Contexts.{context_in, spaces_in}
-use Rattle.smith_check_module.specs.ValidModules.{IsConstant, AreEntitiesValid, AreDefinitionsValid, AreSegmentsValid, AreSectionsValid, IsValidApart}
+use Rattle.smith_check_module.specs.ValidModules.{IsConstant, AreEntitiesValid, AreDefinitionsValid, AreSegmentsValid, AreSectionsValid}
+use Rattle.smith_check_module.specs.ValidModules.{IsValidApart}
 use Rattle.smith_check_module.specs.ExampleSyntax.{nothing, exports_missing, one}
 
 no_types : AreTypesValid usual_features (space_of [])
@@ -31,7 +32,11 @@ none_canonical = record { long = refl; each = λ index first at. absurd (cc at) 
 no_sections : AreSectionsValid usual_features [] nothing
 no_sections = record {
   entities = record { tags = All-nil _; funcs = All-nil _; tables = All-nil _; memories = All-nil _; globals = All-nil _ };
-  counts = record { tags = λ some. absurd (omega (arith, some)); several_tables = λ some. absurd (omega (arith, some)); several_memories = λ some. absurd (omega (arith, some)) };
+  counts = record {
+    tags = λ some. absurd (omega (arith, some));
+    several_tables = λ some. absurd (omega (arith, some));
+    several_memories = λ some. absurd (omega (arith, some));
+  };
   definitions = record { tables = All-nil _; globals = tt };
   exports = record { stand = All-nil _; distinct = record { once = λ i j item at there. absurd (cc at) } };
   start = tt;
@@ -47,7 +52,20 @@ one_constant = record {
   spelled = refl;
   typed = record {
     value = I32;
-    steps = (I32 ∷ [], record { operands = []; result = I32; typed = (refl, refl); rest = []; taken = []; on_top = refl; accepted = tt; pushed = refl }, refl);
+    steps = (
+      I32 ∷ [],
+      record {
+        operands = [];
+        result = I32;
+        typed = (refl, refl);
+        rest = [];
+        taken = [];
+        on_top = refl;
+        accepted = tt;
+        pushed = refl;
+      },
+      refl,
+    );
     below = tt;
     enabled = All-cons (IsInstrEnabled usual_features 0) (constant.I32Const (pos 1)) [] tt (All-nil (IsInstrEnabled usual_features 0));
   };
@@ -55,5 +73,6 @@ one_constant = record {
 
 pub no_export : IsValidApart usual_features exports_missing → ⊥
 no_export valid =
-    let first = All-head (λ (item : List ℕ × ExportKind × ℕ). (ty : EntityType) × IsEntityAt (spaces_in valid.indices exports_missing) item.1 item.2 ty) ([], kind.Func, 0) [] valid.sections.exports.stand in
+    let first = All-head (λ (item : List ℕ × ExportKind × ℕ). (ty : EntityType) × IsEntityAt (spaces_in valid.indices exports_missing)
+    item.1 item.2 ty) ([], kind.Func, 0) [] valid.sections.exports.stand in
     let (ty, entity) = first in let (func, at, is) = entity in cc at

@@ -89,7 +89,8 @@ IsElementTypeValid context ty =
 
 -- an active segment is copied into a table that accepts its items, at an offset of the type of the
 -- table's addresses (Validation, Element Segments)
-pub record IsCopiedToTable (context : Context) (indices : List ℕ) (spaces : EntitySpaces) (ty : RefType) (index : ℕ) (offset : List Instr) : Type 0 where
+pub record IsCopiedToTable (context : Context) (indices : List ℕ) (spaces : EntitySpaces) (ty : RefType) (index : ℕ)
+    (offset : List Instr) : Type 0 where
   pub table : TableType
   pub stands : slice_get spaces.tables index ≡ Some table
   pub below : IsRefBelow context.types ty table.element_type
@@ -113,12 +114,14 @@ pub record IsElementValid (context : Context) (indices : List ℕ) (spaces : Ent
 abbrev pub IsDataModeValid : Context → List ℕ → EntitySpaces → DataMode → Type 0
 IsDataModeValid context indices spaces DataMode.passive = IsTrue context.features.bulk_memory
 IsDataModeValid context indices spaces (DataMode.active index offset) =
-    (memory : MemoryType) × (slice_get spaces.memories index ≡ Some memory) × IsConstant context indices (address_type memory.memory64) offset
+    (memory : MemoryType) × (slice_get spaces.memories index ≡ Some memory) × IsConstant context indices (address_type memory.memory64)
+    offset
 
 -- element and data segments (Validation, Element Segments; Data Segments)
 pub record AreSegmentsValid (context : Context) (indices : List ℕ) (spaces : EntitySpaces) (m : Syntax) : Type 0 where
   pub elements : All (IsElementValid (seeing context (seen_by_segments context)) indices spaces) m.elems
-  pub datas : All (λ (data_segment : Data). IsDataModeValid (seeing context (seen_by_segments context)) indices spaces data_segment.mode) m.datas
+  pub datas : All (λ (data_segment : Data). IsDataModeValid (seeing context (seen_by_segments context)) indices spaces data_segment.mode)
+      m.datas
 
 -- all of a module but its types and the bodies of its functions, by these canonical indices of its
 -- types (Validation, Modules)

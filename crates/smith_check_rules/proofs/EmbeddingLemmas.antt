@@ -5,20 +5,25 @@ use Rattle.smith_syntax.specs.declared.value_type.ValType.{ValType}
 use Rattle.smith_syntax.specs.declared.value_type.ValType.TheVariants.{I32, I64, F32, F64, V128, Ref}
 use Rattle.smith_instr.specs.Contexts.{BodyContext, AreValid, AreBelow as AreValuesBelow}
 use Rattle.smith_instr.specs.InstrTypes.{HasInstrType, IsNumberOrVector, IsTaken as IsValueTaken}
-use Rattle.smith_instr.specs.Sequences.{Stacked as ValueStacked, CountsAs as CountsAsValues, IsFramed as IsValueFramed, IsStep as IsValueStep, AreTyped as AreValuesTyped, nothing as value_nothing, step as value_step, block as value_block, loop as value_loop, if_alone as value_if_alone, if_else as value_if_else, try_table as value_try_table, IsBodyTyped as IsBodyValueTyped}
+use Rattle.smith_instr.specs.Sequences.{Stacked as ValueStacked, CountsAs as CountsAsValues, IsFramed as IsValueFramed}
+use Rattle.smith_instr.specs.Sequences.{IsStep as IsValueStep, AreTyped as AreValuesTyped, nothing as value_nothing, step as value_step}
+use Rattle.smith_instr.specs.Sequences.{block as value_block, loop as value_loop, if_alone as value_if_alone, if_else as value_if_else}
+use Rattle.smith_instr.specs.Sequences.{try_table as value_try_table, IsBodyTyped as IsBodyValueTyped}
 use Rattle.smith_instr.specs.declared.instr.Instr.{Instr}
 use Rattle.smith_instr.specs.declared.instr.Instr.TheVariants as instr
 use Rattle.smith_instr.specs.declared.reference.ReferenceInstr.TheVariants as reference
 use Rattle.smith_check_rules.specs.Slots.{AreBelow, values, IsSlotValid, AreSlotsValid}
 use Rattle.smith_check_rules.specs.StackTypes.{IsNumeric, IsTaken, HasStackType}
-use Rattle.smith_check_rules.specs.Sequences.{stacked, CountsAs, IsFramed, IsStep, AreTyped, nothing, step, block, loop, if_alone, if_else, try_table, IsBodyTyped}
+use Rattle.smith_check_rules.specs.Sequences.{stacked, CountsAs, IsFramed, IsStep, AreTyped, nothing, step, block, loop, if_alone, if_else}
+use Rattle.smith_check_rules.specs.Sequences.{try_table, IsBodyTyped}
 use Rattle.smith_check_rules.specs.declared.slot.Slot.TheVariants.{Value}
 
 pub values_append : (xs ys : List ValType) → values (xs ++ ys) ≡ values xs ++ values ys
 values_append [] ys = refl
 values_append (x ∷ xs) ys = ap (λ zs. Value x ∷ zs) (values_append xs ys)
 
-pub values_below : (context : BodyContext) (xs ys : List ValType) → AreValuesBelow context xs ys → AreBelow context.types (values xs) (values ys)
+pub values_below : (context : BodyContext) (xs ys : List ValType) → AreValuesBelow context xs ys → AreBelow context.types (values xs)
+    (values ys)
 values_below context [] [] below = tt
 values_below context [] (y ∷ ys) below = absurd below
 values_below context (x ∷ xs) [] below = absurd below
@@ -28,10 +33,13 @@ pub values_valid : (context : BodyContext) (types : List ValType) → AreValid c
 values_valid context types valid = All-map (IsSlotValid context) Value types valid
 
 counts : {context : BodyContext} {xs ys : List ValType} → CountsAsValues context xs ys → CountsAs context (values xs) (values ys)
-counts {context = context} {xs = xs} {ys = ys} c = record { below = values_below context xs ys c.below; valid = values_valid context ys c.valid }
+counts {context = context} {xs = xs} {ys = ys} c =
+    record { below = values_below context xs ys c.below; valid = values_valid context ys c.valid }
 
-framed : {context : BodyContext} {operands results : List ValType} {set : List ℕ} {before after : ValueStacked} → IsValueFramed context operands results set before after
-    → IsFramed context (values operands) (values results) set (stacked (values before.stack) before.set) (stacked (values after.stack) after.set)
+framed : {context : BodyContext} {operands results : List ValType} {set : List ℕ} {before after : ValueStacked}
+    → IsValueFramed context operands results set before after
+    → IsFramed context (values operands) (values results) set (stacked (values before.stack) before.set)
+    (stacked (values after.stack) after.set)
 framed {context = context} {operands = operands} f = record {
   rest = values f.rest;
   taken = values f.taken;
@@ -51,11 +59,13 @@ numeric_value F64 n = tt
 numeric_value V128 n = tt
 numeric_value (Ref reference) n = absurd n
 
-value_taken : (context : BodyContext) (given : List ValType) (label : ℕ) → IsValueTaken context given label → IsTaken context (values given) label
+value_taken : (context : BodyContext) (given : List ValType) (label : ℕ) → IsValueTaken context given label
+    → IsTaken context (values given) label
 value_taken context given label (taken, there, below) = (taken, there, values_below context given taken below)
 
 -- the type of an instruction, in values
-stack_type : (context : BodyContext) (set : List ℕ) (x : Instr) (operands results : List ValType) → HasInstrType context set x operands results
+stack_type : (context : BodyContext) (set : List ℕ) (x : Instr) (operands results : List ValType)
+    → HasInstrType context set x operands results
     → HasStackType context set x (values operands) (values results)
 stack_type context set instr.Unreachable operands results (below, is, valid) =
     (values below, ap (λ xs. values xs) is ∙ values_append below [], values_valid context results valid)
@@ -69,16 +79,47 @@ stack_type context set (instr.BrTable labels other) operands results (taken, eac
   values taken,
   All-weaker (IsValueTaken context taken) (IsTaken context (values taken)) (value_taken context taken) labels each,
   value_taken context taken other last,
-  (values below, ap (λ xs. values xs) is ∙ values_append below (taken ++ I32 ∷ []) ∙ ap (λ xs. values below ++ xs) (values_append taken (I32 ∷ [])), values_valid context results valid),
+  (
+    values below,
+    ap (λ xs. values xs) is ∙ values_append below (taken ++ I32 ∷ []) ∙ ap (λ xs. values below ++ xs)
+        (values_append taken (I32 ∷ [])),
+    values_valid context results valid,
+  ),
 )
-stack_type context set (instr.BrOnNull label) operands results (taken, heap_type, at, valid, (is, also)) =
-    (taken, _, _, at, inl (heap_type, valid, refl, refl), ap (λ xs. values xs) is ∙ values_append taken _, ap (λ xs. values xs) also ∙ values_append taken _)
+stack_type context set (instr.BrOnNull label) operands results (taken, heap_type, at, valid, (is, also)) = (
+  taken,
+  _,
+  _,
+  at,
+  inl (heap_type, valid, refl, refl),
+  ap (λ xs. values xs) is ∙ values_append taken _,
+  ap (λ xs. values xs) also
+      ∙ values_append taken _,
+)
 stack_type context set instr.Return operands results (below, is, valid) =
     (values below, ap (λ xs. values xs) is ∙ values_append below context.results, values_valid context results valid)
-stack_type context set (instr.ReturnCall index) operands results (function, of, returns, (below, is, valid)) =
-    (function, of, returns, (values below, ap (λ xs. values xs) is ∙ values_append below function.params, values_valid context results valid))
-stack_type context set (instr.ReturnCallIndirect table ty) operands results (function, wide, there, of, returns, (below, is, valid)) =
-    (function, wide, there, of, returns, (values below, ap (λ xs. values xs) is ∙ values_append below _, values_valid context results valid))
+stack_type context set (instr.ReturnCall index) operands results (function, of, returns, (below, is, valid)) = (
+  function,
+  of,
+  returns,
+  (
+    values below,
+    ap (λ xs. values xs) is ∙ values_append below function.params,
+    values_valid context results valid,
+  ),
+)
+stack_type context set (instr.ReturnCallIndirect table ty) operands results (function, wide, there, of, returns, (below, is, valid)) = (
+  function,
+  wide,
+  there,
+  of,
+  returns,
+  (
+    values below,
+    ap (λ xs. values xs) is ∙ values_append below _,
+    values_valid context results valid,
+  ),
+)
 stack_type context set (instr.ReturnCallRef ty) operands results (function, of, returns, (below, is, valid)) =
     (function, of, returns, (values below, ap (λ xs. values xs) is ∙ values_append below _, values_valid context results valid))
 stack_type context set instr.Drop operands results (value, (is, also)) = (Value value, ap (λ xs. values xs) is, ap (λ xs. values xs) also)
@@ -101,11 +142,16 @@ pub typed : {context : BodyContext} {xs : List Instr} {before after : ValueStack
     → AreTyped context xs (stacked (values before.stack) before.set) (stacked (values after.stack) after.set)
 typed (value_nothing others same) = nothing (counts others) same
 typed (value_step s more) = step (stepped s) (typed more)
-typed (value_block {params = params} {results = results} is fits inner f more) = block params results is fits (typed inner) (framed f) (typed more)
-typed (value_loop {params = params} {results = results} is fits inner f more) = loop params results is fits (typed inner) (framed f) (typed more)
-typed (value_if_alone {params = params} {results = results} is fits inner same f more) = if_alone params results is fits (typed inner) (counts same) (framed f) (typed more)
-typed (value_if_else {params = params} {results = results} is fits inner other f more) = if_else params results is fits (typed inner) (typed other) (framed f) (typed more)
-typed (value_try_table {params = params} {results = results} is fits caught inner f more) = try_table params results is fits caught (typed inner) (framed f) (typed more)
+typed (value_block {params = params} {results = results} is fits inner f more) = block params results is fits (typed inner) (framed f)
+    (typed more)
+typed (value_loop {params = params} {results = results} is fits inner f more) = loop params results is fits (typed inner) (framed f)
+    (typed more)
+typed (value_if_alone {params = params} {results = results} is fits inner same f more) = if_alone params results is fits (typed inner)
+    (counts same) (framed f) (typed more)
+typed (value_if_else {params = params} {results = results} is fits inner other f more) = if_else params results is fits (typed inner)
+    (typed other) (framed f) (typed more)
+typed (value_try_table {params = params} {results = results} is fits caught inner f more) = try_table params results is fits caught
+    (typed inner) (framed f) (typed more)
 
 pub body_typed : (context : BodyContext) (body : List Instr) → IsBodyValueTyped context body → IsBodyTyped context body
 body_typed context body b = record { set = b.set; typed = typed b.typed }

@@ -16,14 +16,16 @@ use Rattle.smith_instr.specs.declared.reference.ReferenceInstr.TheVariants as re
 use Rattle.smith_check_rules.specs.Slots.{IsBelow, AreBelow, IsSlotValid, AreSlotsValid}
 use Rattle.smith_check_rules.specs.StackTypes.{IsTaken, HasStackType}
 use Rattle.smith_check_rules.specs.Sequences.{stacked, IsStep, AreTyped, nothing, step, IsBodyTyped}
-use Rattle.smith_check_rules.specs.ExampleBodies.{plain, with_two_labels, some_function, some_external, selects_any, branches_apart, branches_with_reference}
+use Rattle.smith_check_rules.specs.ExampleBodies.{plain, with_two_labels, some_function, some_external, selects_any, branches_apart}
+use Rattle.smith_check_rules.specs.ExampleBodies.{branches_with_reference}
 use Rattle.smith_check_rules.specs.declared.slot.Slot.{Slot}
 use Rattle.smith_check_rules.specs.declared.slot.Slot.TheVariants.{Bottom, SomeRef, Value}
 
 no_slots : (context : BodyContext) → AreSlotsValid context []
 no_slots context = All-nil (IsSlotValid context)
 
-more_slots : (context : BodyContext) (slot : Slot) (slots : List Slot) → IsSlotValid context slot → AreSlotsValid context slots → AreSlotsValid context (slot ∷ slots)
+more_slots : (context : BodyContext) (slot : Slot) (slots : List Slot) → IsSlotValid context slot → AreSlotsValid context slots
+    → AreSlotsValid context (slot ∷ slots)
 more_slots context slot slots first rest = All-cons (IsSlotValid context) slot slots first rest
 
 below_itself : (types : List SubType) (slot : Slot) → IsBelow types slot slot
@@ -36,8 +38,10 @@ below_themselves types [] = tt
 below_themselves types (slot ∷ slots) = (below_itself types slot, below_themselves types slots)
 
 -- one instruction on top of any values, which takes values that match its operands
-one : (context : BodyContext) (instruction : Instr) (base taken operands results : List Slot) → HasStackType context [] instruction operands results → AreBelow context.types taken operands
-    → AreSlotsValid context results → sets instruction ≡ [] → IsStep context instruction (stacked (base ++ taken) []) (stacked (base ++ results) [])
+one : (context : BodyContext) (instruction : Instr) (base taken operands results : List Slot)
+    → HasStackType context [] instruction operands results → AreBelow context.types taken operands
+    → AreSlotsValid context results → sets instruction ≡ [] → IsStep context instruction (stacked (base ++ taken) [])
+    (stacked (base ++ results) [])
 one context instruction base taken operands results typed accepted valid none = record {
   operands = operands;
   results = results;
@@ -67,8 +71,10 @@ any_selected =
       set = [];
       typed =
           step (one context instr.Unreachable [] [] [] (Bottom ∷ Bottom ∷ Value I32 ∷ []) ([], refl, bottoms) tt bottoms refl)
-          (step (one context instr.Select [] (Bottom ∷ Bottom ∷ Value I32 ∷ []) (Bottom ∷ Bottom ∷ Value I32 ∷ []) (Bottom ∷ []) (Bottom, tt, refl, refl) (tt, (tt, (tt, tt))) (more_slots context Bottom [] tt (no_slots context)) refl)
-          (step (one context (instr.Reference reference.IsNull) [] (Bottom ∷ []) (Value func ∷ []) (Value I32 ∷ []) (func ∷ [], I32 ∷ [], (Abstract false abstract.Func, (tt, λ never. cc), (refl, refl)), refl, refl) (tt, tt) index refl)
+          (step (one context instr.Select [] (Bottom ∷ Bottom ∷ Value I32 ∷ []) (Bottom ∷ Bottom ∷ Value I32 ∷ []) (Bottom ∷ [])
+          (Bottom, tt, refl, refl) (tt, (tt, (tt, tt))) (more_slots context Bottom [] tt (no_slots context)) refl)
+          (step (one context (instr.Reference reference.IsNull) [] (Bottom ∷ []) (Value func ∷ []) (Value I32 ∷ [])
+          (func ∷ [], I32 ∷ [], (Abstract false abstract.Func, (tt, λ never. cc), (refl, refl)), refl, refl) (tt, tt) index refl)
           (step (one context instr.Drop [] (Value I32 ∷ []) (Value I32 ∷ []) [] (Value I32, refl, refl) (tt, tt) (no_slots context) refl)
           (none_left context))));
     }
@@ -82,7 +88,8 @@ apart =
     let slots = more_slots context Bottom (Value I32 ∷ []) tt (more_slots context (Value I32) [] tt (no_slots context)) in
     step (one context instr.Unreachable [] [] [] (Bottom ∷ Value I32 ∷ []) ([], refl, slots) tt slots refl)
     (step (one context (instr.BrTable (0 ∷ []) 1) [] (Bottom ∷ Value I32 ∷ []) (Bottom ∷ Value I32 ∷ []) []
-    (Bottom ∷ [], both_taken context Bottom (I32 ∷ [], refl, (tt, tt)), (I64 ∷ [], refl, (tt, tt)), ([], refl, no_slots context)) (tt, (tt, tt)) (no_slots context) refl)
+    (Bottom ∷ [], both_taken context Bottom (I32 ∷ [], refl, (tt, tt)), (I64 ∷ [], refl, (tt, tt)), ([], refl, no_slots context))
+    (tt, (tt, tt)) (no_slots context) refl)
     (none_left context))
 
 pub with_reference : AreTyped (with_two_labels some_function some_external) branches_with_reference (stacked [] []) (stacked [] [])
@@ -91,8 +98,14 @@ with_reference =
     let slot = more_slots context SomeRef [] tt (no_slots context) in
     let index = more_slots context (Value I32) [] tt (no_slots context) in
     step (one context instr.Unreachable [] [] [] (SomeRef ∷ []) ([], refl, slot) tt slot refl)
-    (step (one context (instr.Reference reference.AsNonNull) [] (SomeRef ∷ []) (SomeRef ∷ []) (SomeRef ∷ []) (SomeRef, SomeRef, inr (refl, refl), refl, refl) (tt, tt) slot refl)
-    (step (one context (instr.I32Const (pos 0)) (SomeRef ∷ []) [] [] (Value I32 ∷ []) ([], I32 ∷ [], (refl, refl), refl, refl) tt index refl)
-    (step (one context (instr.BrTable (0 ∷ []) 1) [] (SomeRef ∷ Value I32 ∷ []) (SomeRef ∷ Value I32 ∷ []) []
-    (SomeRef ∷ [], both_taken context SomeRef (some_function ∷ [], refl, (tt, tt)), (some_external ∷ [], refl, (tt, tt)), ([], refl, no_slots context)) (tt, (tt, tt)) (no_slots context) refl)
+    (step (one context (instr.Reference reference.AsNonNull) [] (SomeRef ∷ []) (SomeRef ∷ []) (SomeRef ∷ [])
+    (SomeRef, SomeRef, inr (refl, refl), refl, refl) (tt, tt) slot refl)
+    (step (one context (instr.I32Const (pos 0)) (SomeRef ∷ []) [] [] (Value I32 ∷ []) ([], I32 ∷ [], (refl, refl), refl, refl) tt index
+    refl)
+    (step (one context (instr.BrTable (0 ∷ []) 1) [] (SomeRef ∷ Value I32 ∷ []) (SomeRef ∷ Value I32 ∷ []) [] (
+      SomeRef ∷ [],
+      both_taken context SomeRef (some_function ∷ [], refl, (tt, tt)),
+      (some_external ∷ [], refl, (tt, tt)),
+      ([], refl, no_slots context),
+    ) (tt, (tt, tt)) (no_slots context) refl)
     (none_left context))))

@@ -59,28 +59,38 @@ pub data AreTyped : BodyContext → List Instr → Stacked → Stacked → Type 
       → CountsAs context before.stack after.stack → after.set ≡ before.set → AreTyped context [] before after
   step : {context : BodyContext} {instruction : Instr} {more : List Instr} {before between after : Stacked}
       → IsStep context instruction before between → AreTyped context more between after → AreTyped context (instruction ∷ more) before after
-  block : {context : BodyContext} {ty : BlockType} {all body more : List Instr} (params results : List ValType) {set : List ℕ} {before between after : Stacked}
+  block : {context : BodyContext} {ty : BlockType} {all body more : List Instr} (params results : List ValType) {set : List ℕ}
+      {before between after : Stacked}
       → all ≡ instr.Block ty ∷ (body ++ instr.End ∷ more) → IsBlockType context ty params results
       → AreTyped (labelled context results) body (stacked (values params) before.set) (stacked (values results) set)
-      → IsFramed context (values params) (values results) [] before between → AreTyped context more between after → AreTyped context all before after
-  loop : {context : BodyContext} {ty : BlockType} {all body more : List Instr} (params results : List ValType) {set : List ℕ} {before between after : Stacked}
+      → IsFramed context (values params) (values results) [] before between → AreTyped context more between after
+      → AreTyped context all before after
+  loop : {context : BodyContext} {ty : BlockType} {all body more : List Instr} (params results : List ValType) {set : List ℕ}
+      {before between after : Stacked}
       → all ≡ instr.Loop ty ∷ (body ++ instr.End ∷ more) → IsBlockType context ty params results
       → AreTyped (labelled context params) body (stacked (values params) before.set) (stacked (values results) set)
-      → IsFramed context (values params) (values results) [] before between → AreTyped context more between after → AreTyped context all before after
-  if_alone : {context : BodyContext} {ty : BlockType} {all body more : List Instr} (params results : List ValType) {set : List ℕ} {before between after : Stacked}
+      → IsFramed context (values params) (values results) [] before between → AreTyped context more between after
+      → AreTyped context all before after
+  if_alone : {context : BodyContext} {ty : BlockType} {all body more : List Instr} (params results : List ValType) {set : List ℕ}
+      {before between after : Stacked}
       → all ≡ instr.If ty ∷ (body ++ instr.End ∷ more) → IsBlockType context ty params results
       → AreTyped (labelled context results) body (stacked (values params) before.set) (stacked (values results) set)
       → CountsAs context (values params) (values results)
-      → IsFramed context (values (params ++ I32 ∷ [])) (values results) [] before between → AreTyped context more between after → AreTyped context all before after
-  if_else : {context : BodyContext} {ty : BlockType} {all body other more : List Instr} (params results : List ValType) {set reset : List ℕ} {before between after : Stacked}
+      → IsFramed context (values (params ++ I32 ∷ [])) (values results) [] before between → AreTyped context more between after
+      → AreTyped context all before after
+  if_else : {context : BodyContext} {ty : BlockType} {all body other more : List Instr} (params results : List ValType) {set reset : List ℕ}
+      {before between after : Stacked}
       → all ≡ instr.If ty ∷ (body ++ instr.Else ∷ (other ++ instr.End ∷ more)) → IsBlockType context ty params results
       → AreTyped (labelled context results) body (stacked (values params) before.set) (stacked (values results) set)
       → AreTyped (labelled context results) other (stacked (values params) before.set) (stacked (values results) reset)
-      → IsFramed context (values (params ++ I32 ∷ [])) (values results) [] before between → AreTyped context more between after → AreTyped context all before after
-  try_table : {context : BodyContext} {ty : BlockType} {clauses : List Catch} {all body more : List Instr} (params results : List ValType) {set : List ℕ} {before between after : Stacked}
+      → IsFramed context (values (params ++ I32 ∷ [])) (values results) [] before between → AreTyped context more between after
+      → AreTyped context all before after
+  try_table : {context : BodyContext} {ty : BlockType} {clauses : List Catch} {all body more : List Instr} (params results : List ValType)
+      {set : List ℕ} {before between after : Stacked}
       → all ≡ instr.TryTable ty clauses ∷ (body ++ instr.End ∷ more) → IsBlockType context ty params results → All (IsCatch context) clauses
       → AreTyped (labelled context results) body (stacked (values params) before.set) (stacked (values results) set)
-      → IsFramed context (values params) (values results) [] before between → AreTyped context more between after → AreTyped context all before after
+      → IsFramed context (values params) (values results) [] before between → AreTyped context more between after
+      → AreTyped context all before after
 
 -- a body, its last `end` aside, leaves the results of its function and nothing else. At its start
 -- only the locals that are always set are set, and its only label is that of the function, to which

@@ -29,7 +29,8 @@ IsNumeric (slot.Value _) = Unit {0}
 -- Instruction Types)
 abbrev pub HasValueType : BodyContext → List ℕ → Instr → List Slot → List Slot → Type 0
 HasValueType context set instruction operands results =
-    (these : List ValType) × (those : List ValType) × HasInstrType context set instruction these those × (operands ≡ values these) × (results ≡ values those)
+    (these : List ValType) × (those : List ValType) × HasInstrType context set instruction these those × (operands ≡ values these)
+    × (results ≡ values those)
 
 -- an instruction after which control does not continue takes its operands from the top of any
 -- others, and leaves any valid types (Validation, Instructions, polymorphic instructions)
@@ -44,7 +45,8 @@ IsTaken context given label = (taken : List ValType) × IsLabel context label ta
 -- type, which may be bottom (Validation, Reference Instructions, ref.as_non_null)
 abbrev pub HasNonNull : BodyContext → Slot → Slot → Type 0
 HasNonNull context from to =
-    ((heap_type : HeapType) × IsHeapValid context heap_type × (from ≡ slot.Value (nullable_to heap_type)) × (to ≡ slot.Value (reference_to heap_type)))
+    ((heap_type : HeapType) × IsHeapValid context heap_type × (from ≡ slot.Value (nullable_to heap_type))
+    × (to ≡ slot.Value (reference_to heap_type)))
     ⊎ ((from ≡ slot.SomeRef) × (to ≡ slot.SomeRef))
 
 -- an instruction takes operands of the first list of types, the last on top, and leaves results of
@@ -71,7 +73,8 @@ HasStackType context set (instr.ReturnCall index) operands results =
     (function : FuncType) × IsFunction context index function × ReturnsFrom context function
     × Leaves context operands results (values function.params)
 HasStackType context set (instr.ReturnCallIndirect table ty) operands results =
-    (function : FuncType) × (wide : Bool) × IsFunctionTable context table wide × IsFuncAt context.types ty function × ReturnsFrom context function
+    (function : FuncType) × (wide : Bool) × IsFunctionTable context table wide × IsFuncAt context.types ty function
+    × ReturnsFrom context function
     × Leaves context operands results (values (function.params ++ address wide ∷ []))
 HasStackType context set (instr.ReturnCallRef ty) operands results =
     (function : FuncType) × IsFuncAt context.types ty function × ReturnsFrom context function

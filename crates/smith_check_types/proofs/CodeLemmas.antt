@@ -1,5 +1,6 @@
 -- A rolled group can be read again from its numbers.
-use Rattle.std.proofs.Common.{◌≡◌, ℕ, zero, suc, ◌+◌, Bool, true, false, List, [], ◌∷◌, ◌++◌, Option, Some, None, length, map, refl, sym, ap, ◌∙◌, cond, append_assoc}
+use Rattle.std.proofs.Common.{◌≡◌, ℕ, zero, suc, ◌+◌, Bool, true, false, List, [], ◌∷◌, ◌++◌, Option, Some, None, length, map, refl, sym}
+use Rattle.std.proofs.Common.{ap, ◌∙◌, cond, append_assoc}
 use Rattle.std.specs.Prelude.{◌==◌}
 use Rattle.std.specs.List.{flat_map}
 use Rattle.smith_syntax.specs.declared.value_type.AbstractHeapType.{AbstractHeapType}
@@ -15,7 +16,8 @@ use Rattle.smith_syntax.specs.declared.composite_type.FieldType.{FieldType}
 use Rattle.smith_syntax.specs.declared.composite_type.CompositeInnerType.{CompositeInnerType}
 use Rattle.smith_syntax.specs.declared.composite_type.CompositeInnerType.TheVariants.{Array, Func, Struct}
 use Rattle.smith_syntax.specs.declared.composite_type.SubType.{SubType}
-use Rattle.smith_check_types.specs.Codes.{flag_code, abstract_code, heap_codes, val_codes, storage_codes, field_codes, vals_codes, fields_codes, inner_codes, supertype_codes, type_codes, group_codes}
+use Rattle.smith_check_types.specs.Codes.{flag_code, abstract_code, heap_codes, val_codes, storage_codes, field_codes, vals_codes}
+use Rattle.smith_check_types.specs.Codes.{fields_codes, inner_codes, supertype_codes, type_codes, group_codes}
 
 -- a value read from numbers, and the numbers after it
 pub record Read (A : Type 0) : Type 0 where
@@ -44,7 +46,8 @@ abbrev pub flag_of : ℕ → Bool
 flag_of = chosen false (false ∷ true ∷ [])
 
 abbrev pub abstract_of : ℕ → AbstractHeapType
-abstract_of = chosen heap.Func (heap.Func ∷ heap.Extern ∷ heap.Any ∷ heap.None ∷ heap.NoExtern ∷ heap.NoFunc ∷ heap.Eq ∷ heap.Struct ∷ heap.Array ∷ heap.I31 ∷ heap.Exn ∷ heap.NoExn ∷ [])
+abstract_of = chosen heap.Func (heap.Func ∷ heap.Extern ∷ heap.Any ∷ heap.None ∷ heap.NoExtern ∷ heap.NoFunc ∷ heap.Eq ∷ heap.Struct
+    ∷ heap.Array ∷ heap.I31 ∷ heap.Exn ∷ heap.NoExn ∷ [])
 
 pub flag_again : (b : Bool) → flag_of (flag_code b) ≡ b
 flag_again true = refl
@@ -78,7 +81,8 @@ read_heap (n ∷ rest) = read_heap_after n rest
 read_heap [] = empty_heap
 
 pub heap_again : IsReader heap_codes read_heap
-heap_again (Abstract shared ty) rest = ap (λ s. reading (Abstract s (abstract_of (abstract_code ty))) rest) (flag_again shared) ∙ ap (λ a. reading (Abstract shared a) rest) (abstract_again ty)
+heap_again (Abstract shared ty) rest = ap (λ s. reading (Abstract s (abstract_of (abstract_code ty))) rest) (flag_again shared)
+    ∙ ap (λ a. reading (Abstract shared a) rest) (abstract_again ty)
 heap_again (Concrete index) rest = refl
 heap_again (Exact index) rest = refl
 
@@ -95,9 +99,12 @@ abbrev pub read_storage : List ℕ → Read StorageType
 read_storage (n ∷ rest) = cond (n == 5) (read_ref rest) (reading (chosen I8 numbered n) rest)
 read_storage [] = reading I8 []
 
-pub ref_again : (reference : RefType) (rest : List ℕ) → read_storage (val_codes (Ref reference) ++ rest) ≡ reading (Val (Ref reference)) rest
+pub ref_again : (reference : RefType) (rest : List ℕ) → read_storage (val_codes (Ref reference) ++ rest) ≡ reading (Val (Ref reference))
+    rest
 ref_again reference rest =
-    ap (λ (found : Read HeapType). reading (Val (Ref (record { nullable = flag_of (flag_code reference.nullable); heap_type = found.value }))) found.rest) (heap_again reference.heap_type rest)
+    ap (λ (found : Read HeapType). reading
+    (Val (Ref (record { nullable = flag_of (flag_code reference.nullable); heap_type = found.value }))) found.rest)
+    (heap_again reference.heap_type rest)
     ∙ ap (λ n. reading (Val (Ref (record reference { nullable = n }))) rest) (flag_again reference.nullable)
 
 pub storage_again : IsReader storage_codes read_storage
@@ -128,7 +135,8 @@ read_field [] = reading (record { element_type = I8; mutable = false }) []
 
 pub field_again : IsReader field_codes read_field
 field_again field rest =
-    ap (λ (found : Read StorageType). reading (record { element_type = found.value; mutable = flag_of (flag_code field.mutable) }) found.rest) (storage_again field.element_type rest)
+    ap (λ (found : Read StorageType). reading (record { element_type = found.value; mutable = flag_of (flag_code field.mutable) })
+    found.rest) (storage_again field.element_type rest)
     ∙ ap (λ m. reading (record field { mutable = m }) rest) (flag_again field.mutable)
 
 -- a list of a known length
@@ -142,7 +150,8 @@ pub many_again : {A : Type 0} (codes : A → List ℕ) (read : List ℕ → Read
 many_again codes read reads [] rest = refl
 many_again {A = A} codes read reads (x ∷ xs) rest =
     ap (λ numbers. read_many read (suc (length xs)) numbers) (append_assoc (codes x) (flat_map codes xs) rest)
-    ∙ ap (λ (first : Read A). let others = read_many read (length xs) first.rest in reading (first.value ∷ others.value) others.rest) (reads x (flat_map codes xs ++ rest))
+    ∙ ap (λ (first : Read A). let others = read_many read (length xs) first.rest in reading (first.value ∷ others.value) others.rest)
+    (reads x (flat_map codes xs ++ rest))
     ∙ ap (λ (others : Read (List A)). reading (x ∷ others.value) others.rest) (many_again codes read reads xs rest)
 
 abbrev pub read_list : {A : Type 0} → (List ℕ → Read A) → List ℕ → Read (List A)
@@ -170,12 +179,17 @@ read_inner (n ∷ rest) = read_inner_after n rest
 read_inner [] = read_func []
 
 pub inner_again : IsReader inner_codes read_inner
-inner_again (Array array) rest = ap (λ (found : Read FieldType). reading (Array (record { 0 = found.value })) found.rest) (field_again array.0 rest)
+inner_again (Array array) rest = ap (λ (found : Read FieldType). reading (Array (record { 0 = found.value })) found.rest)
+    (field_again array.0 rest)
 inner_again (Func function) rest =
     ap read_func (append_assoc (vals_codes function.params) (vals_codes function.results) rest)
-    ∙ ap (λ (params : Read (List ValType)). let results = read_list read_value params.rest in reading (Func (record { params = params.value; results = results.value })) results.rest) (values_again function.params (vals_codes function.results ++ rest))
-    ∙ ap (λ (results : Read (List ValType)). reading (Func (record { params = function.params; results = results.value })) results.rest) (values_again function.results rest)
-inner_again (Struct structure) rest = ap (λ (found : Read (List FieldType)). reading (Struct (record { fields = found.value })) found.rest) (fields_again structure.fields rest)
+    ∙ ap (λ (params : Read (List ValType)). let results = read_list read_value params.rest in
+    reading (Func (record { params = params.value; results = results.value })) results.rest)
+    (values_again function.params (vals_codes function.results ++ rest))
+    ∙ ap (λ (results : Read (List ValType)). reading (Func (record { params = function.params; results = results.value })) results.rest)
+    (values_again function.results rest)
+inner_again (Struct structure) rest = ap (λ (found : Read (List FieldType)). reading (Struct (record { fields = found.value })) found.rest)
+    (fields_again structure.fields rest)
 
 abbrev pub read_supertype_after : ℕ → List ℕ → Read (Option ℕ)
 read_supertype_after zero rest = reading None rest
@@ -192,7 +206,8 @@ supertype_again (Some index) rest = refl
 
 abbrev pub with_inner : Bool → Option ℕ → Bool → Read CompositeInnerType → Read SubType
 with_inner is_final supertype shared found =
-    reading (record { is_final = is_final; supertype = supertype; composite_type = record { inner = found.value; shared = shared } }) found.rest
+    reading (record { is_final = is_final; supertype = supertype; composite_type = record { inner = found.value; shared = shared } })
+    found.rest
 
 abbrev pub read_composite : Bool → Option ℕ → List ℕ → Read SubType
 read_composite is_final supertype (shared ∷ rest) = with_inner is_final supertype (flag_of shared) (read_inner rest)
@@ -207,7 +222,8 @@ type_again t rest =
     let shared = flag_code t.composite_type.shared in
     let inner = inner_codes t.composite_type.inner in
     ap (λ numbers. read_type (flag_code t.is_final ∷ numbers)) (append_assoc (supertype_codes t.supertype) (shared ∷ inner) rest)
-    ∙ ap (λ (found : Read (Option ℕ)). read_composite (flag_of (flag_code t.is_final)) found.value found.rest) (supertype_again t.supertype (shared ∷ inner ++ rest))
+    ∙ ap (λ (found : Read (Option ℕ)). read_composite (flag_of (flag_code t.is_final)) found.value found.rest)
+    (supertype_again t.supertype (shared ∷ inner ++ rest))
     ∙ ap (with_inner (flag_of (flag_code t.is_final)) t.supertype (flag_of shared)) (inner_again t.composite_type.inner rest)
     ∙ ap (λ f. with_inner f t.supertype (flag_of shared) (reading t.composite_type.inner rest)) (flag_again t.is_final)
     ∙ ap (λ s. with_inner t.is_final t.supertype s (reading t.composite_type.inner rest)) (flag_again t.composite_type.shared)

@@ -1,5 +1,6 @@
 -- A map from the numbers of groups to where they are first.
-use Rattle.std.proofs.Common.{◌≡◌, ℕ, zero, suc, ◌+◌, ◌-◌, ◌<◌, ◌≤◌, Bool, true, false, List, [], ◌∷◌, ◌++◌, Option, Some, None, Ordering, Less, Equal, Greater, cond, length, refl, sym, ap, subst, ◌∙◌, arith, append_assoc}
+use Rattle.std.proofs.Common.{◌≡◌, ℕ, zero, suc, ◌+◌, ◌-◌, ◌<◌, ◌≤◌, Bool, true, false, List, [], ◌∷◌, ◌++◌, Option, Some, None, Ordering}
+use Rattle.std.proofs.Common.{Less, Equal, Greater, cond, length, refl, sym, ap, subst, ◌∙◌, arith, append_assoc}
 use Rattle.std.specs.Prelude.{bytes_eq}
 use Rattle.std.specs.Global.{Vec}
 use Rattle.std.specs.BTreeMap.{BTreeMap, get_by, is_at, insert_entry}
@@ -26,7 +27,8 @@ cmp_items x y = slice_cmp nat_cmp x.items y.items
 pub kept_start : (starts : BTreeMap (Vec ℕ) ℕ) (codes : List ℕ) (start : ℕ) → known_start starts codes ≡ Some start
     → (other : List ℕ) → known_start starts other ≡ cond (bytes_eq codes other) (Some start) (known_start starts other)
 kept_start starts codes start known other =
-    elim (bytes_eq codes other) as (λ b. bytes_eq codes other ≡ b → known_start starts other ≡ cond b (Some start) (known_start starts other)) [
+    elim (bytes_eq codes other) as (λ b. bytes_eq codes other ≡ b → known_start starts other ≡ cond b (Some start)
+    (known_start starts other)) [
       | true ↦ λ h. ap (known_start starts) (sym (same_bytes codes other h)) ∙ known
       | false ↦ λ h. refl
     ] refl
@@ -86,10 +88,12 @@ numbers-next start (suc count) =
     let later : start + suc count ≡ (start + 1) + count = omega arith in
     rw later (ap (λ (l : List ℕ). start ∷ l) (numbers-next (start + 1) count))
 
-pub numbers_turn : (old now new : List ℕ) (start index : ℕ) → start ≤ index → new ≡ now ++ index ∷ [] → now ≡ old ++ numbers_from start (index - start) → new ≡ old ++ numbers_from start (index + 1 - start)
+pub numbers_turn : (old now new : List ℕ) (start index : ℕ) → start ≤ index → new ≡ now ++ index ∷ []
+    → now ≡ old ++ numbers_from start (index - start) → new ≡ old ++ numbers_from start (index + 1 - start)
 numbers_turn old now new start index past is was =
     let at : start + (index - start) ≡ index = omega (arith, past) in
     let next : suc (index - start) ≡ index + 1 - start = omega (arith, past) in
     is ∙ ap (λ (l : List ℕ). l ++ index ∷ []) was ∙ append_assoc old (numbers_from start (index - start)) (index ∷ [])
     ∙ ap (λ (l : List ℕ). old ++ l)
-    (ap (λ (n : ℕ). numbers_from start (index - start) ++ n ∷ []) (sym at) ∙ numbers-next start (index - start) ∙ ap (numbers_from start) next)
+    (ap (λ (n : ℕ). numbers_from start (index - start) ++ n ∷ []) (sym at) ∙ numbers-next start (index - start) ∙ ap (numbers_from start)
+    next)

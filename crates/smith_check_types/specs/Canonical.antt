@@ -1,7 +1,8 @@
 -- Equal types: types of equal groups are equal, whatever their indices. The sections Validation,
 -- Conventions, Rolling and Unrolling, and Validation, Types, Recursive Types, of the WebAssembly Core
 -- Specification 3.0.
-use Rattle.std.specs.Prelude.{◌≡◌, ℕ, ◌+◌, ◌-◌, ◌^◌, ◌<◌, ◌≤◌, nat_lt, List, [], ◌∷◌, ◌++◌, map, length, Some, slice_get, slice_index, if◌then◌else◌}
+use Rattle.std.specs.Prelude.{◌≡◌, ℕ, ◌+◌, ◌-◌, ◌^◌, ◌<◌, ◌≤◌, nat_lt, List, [], ◌∷◌, ◌++◌, map, length, Some, slice_get, slice_index}
+use Rattle.std.specs.Prelude.{if◌then◌else◌}
 use Rattle.smith_syntax.specs.declared.composite_type.SubType.{SubType}
 use Rattle.smith_check_types.specs.Renamed.{renamed}
 

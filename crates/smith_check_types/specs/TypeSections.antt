@@ -47,7 +47,8 @@ AreMembersInScope end index (t ∷ types) = IsTypeInScope end index t × AreMemb
 -- groups, the first of which starts at `start` (Validation, Modules)
 abbrev pub AreGroupsInScope : ℕ → List (List SubType) → Type 0
 AreGroupsInScope start [] = Unit {0}
-AreGroupsInScope start (group ∷ groups) = AreMembersInScope (start + length group) start group × AreGroupsInScope (start + length group) groups
+AreGroupsInScope start (group ∷ groups) = AreMembersInScope (start + length group) start group × AreGroupsInScope (start + length group)
+    groups
 
 -- a valid type section: what it refers to is in scope, and its types are valid by their canonical
 -- indices: enabled, each below a supertype that is not final, and in matching it (Validation, Modules)

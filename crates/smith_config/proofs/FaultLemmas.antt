@@ -68,7 +68,8 @@ passes-no_fault config none =
           let h = free (place_of count) (MinAboveMax count) (listed_pair count) (omega (arith, place_of-lt count)) in
           let kept : ¬ (maximum_of config count < minimum_of config count) = λ above. h (used, above) in
           omega arith;
-      few = λ count. let h = free (11 + place_of count) (MaxTooLarge count) (listed_most count) (omega (arith, place_of-lt count)) in omega arith;
+      few = λ count. let h = free (11 + place_of count) (MaxTooLarge count) (listed_most count) (omega (arith, place_of-lt count)) in
+          omega arith;
       memory32 = let h = free 22 Memory32Bytes refl (omega arith) in omega arith;
       memory64 = let h = free 23 Memory64Bytes refl (omega arith) in omega arith;
     }
@@ -98,16 +99,31 @@ of_each P h Memories = h.1.1.1.1.1.1.1.1.1.0
 of_each P h Tables = h.1.1.1.1.1.1.1.1.1.1.0
 
 each_of : (P : Count → Type 0) → ((count : Count) → P count) → Each P counts
-each_of P h = (h Types, (h Imports, (h Tags, (h Funcs, (h Globals, (h Exports, (h ElementSegments, (h Elements, (h DataSegments, (h Memories, (h Tables, tt)))))))))))
+each_of P h = (
+  h Types,
+  (
+    h Imports,
+    (
+      h Tags,
+      (
+        h Funcs,
+        (h Globals, (h Exports, (h ElementSegments, (h Elements, (h DataSegments, (h Memories, (h Tables, tt))))))),
+      ),
+    ),
+  ),
+)
 
-pub in_order : (config : Config) (count : Count) → (BoundsApply config count → minimum_of config count ≤ maximum_of config count) → AreBoundsInOrder config count
+pub in_order : (config : Config) (count : Count) → (BoundsApply config count → minimum_of config count ≤ maximum_of config count)
+    → AreBoundsInOrder config count
 in_order config count kept = record { kept = kept }
 
-pub kept_in_order : (config : Config) (count : Count) → AreBoundsInOrder config count → BoundsApply config count → minimum_of config count ≤ maximum_of config count
+pub kept_in_order : (config : Config) (count : Count) → AreBoundsInOrder config count → BoundsApply config count
+    → minimum_of config count ≤ maximum_of config count
 kept_in_order config count ordered = ordered.kept
 
 pub passes_by : (config : Config) → Each (AreBoundsInOrder config) counts
-    → Each (λ count. maximum_of config count ≤ 2 ^ 31) counts × ((config.max_memory32_bytes ≤ 2 ^ 32) × (config.max_memory64_bytes ≤ 2 ^ 64)) → Passes config
+    → Each (λ count. maximum_of config count ≤ 2 ^ 31) counts
+    × ((config.max_memory32_bytes ≤ 2 ^ 32) × (config.max_memory64_bytes ≤ 2 ^ 64)) → Passes config
 passes_by config ordered few = record {
   ordered = λ count. (of_each (AreBoundsInOrder config) ordered count).kept;
   few = of_each _ few.0;
@@ -118,5 +134,6 @@ passes_by config ordered few = record {
 pub ordered_counts : (config : Config) → Passes config → Each (AreBoundsInOrder config) counts
 ordered_counts config p = each_of (AreBoundsInOrder config) (λ count. record { kept = p.ordered count })
 
-pub few_counts : (config : Config) → Passes config → Each (λ count. maximum_of config count ≤ 2 ^ 31) counts × ((config.max_memory32_bytes ≤ 2 ^ 32) × (config.max_memory64_bytes ≤ 2 ^ 64))
+pub few_counts : (config : Config) → Passes config → Each (λ count. maximum_of config count ≤ 2 ^ 31) counts
+    × ((config.max_memory32_bytes ≤ 2 ^ 32) × (config.max_memory64_bytes ≤ 2 ^ 64))
 few_counts config p = (each_of _ p.few, (p.memory32, p.memory64))

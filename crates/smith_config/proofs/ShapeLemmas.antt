@@ -10,7 +10,8 @@ use Rattle.smith_bytes.specs.declared.error.ShapeFault.{ShapeFault}
 use Rattle.smith_bytes.specs.declared.error.ShapeFault.TheVariants as fault
 use Rattle.smith_syntax.specs.Features.{Features, every_feature}
 use Rattle.smith_types.specs.GroupedTypes.{GroupedTypes}
-use Rattle.smith_types.specs.ValidTypes.{IsHeapTypeValid, IsRefTypeValid, IsValTypeValid, IsTypeValid, IsGroupValid, AreTypesValid, IsShareable, values_of}
+use Rattle.smith_types.specs.ValidTypes.{IsHeapTypeValid, IsRefTypeValid, IsValTypeValid, IsTypeValid, IsGroupValid, AreTypesValid}
+use Rattle.smith_types.specs.ValidTypes.{IsShareable, values_of}
 use Rattle.smith_types.specs.Entities.{AreLimitsValid, most_elements, IsTableValid, IsMemoryValid, IsGlobalValid}
 use Rattle.smith_types.specs.Flags.{IsInnerEnabled}
 use Rattle.smith_types.specs.Imports.{EntitySpaces}
@@ -63,7 +64,8 @@ module _ (features : Features) where
   type_right : (types : List SubType) (end : ℕ) (t : SubType) → IsTypeValid features types end t → IsTypeValid every_feature types end t
   type_right types end t h = record {
     enabled = record { inner = inner_right t.composite_type.inner; not_final = λ _. refl; supertype = λ _. refl; shared = λ _. refl };
-    values = All-weaker (IsValTypeValid features end) (IsValTypeValid every_feature end) (value_right end) (values_of t.composite_type.inner) h.values;
+    values = All-weaker (IsValTypeValid features end) (IsValTypeValid every_feature end) (value_right end)
+        (values_of t.composite_type.inner) h.values;
     declared = h.declared;
     shareable = h.shareable;
   }
@@ -78,14 +80,16 @@ module _ (features : Features) where
   types_right space h = record {
     covered = h.covered;
     orderly = h.orderly;
-    groups = All-weaker (IsGroupValid features space.types) (IsGroupValid every_feature space.types) (group_right space.types) space.groups h.groups;
+    groups = All-weaker (IsGroupValid features space.types) (IsGroupValid every_feature space.types) (group_right space.types) space.groups
+        h.groups;
   }
 
   memory_right : (memory : MemoryType) → IsMemoryValid features memory → IsMemoryValid every_feature memory
   memory_right memory h = search rules
 
 -- a property of all parts of each item holds for the parts of all items
-all_flat_map : {A B : Type 0} (P : B → Type 0) (f : A → List B) (items : List A) → Each (λ item. All P (f item)) items → All P (flat_map f items)
+all_flat_map : {A B : Type 0} (P : B → Type 0) (f : A → List B) (items : List A) → Each (λ item. All P (f item)) items
+    → All P (flat_map f items)
 all_flat_map P f [] each = All-nil P
 all_flat_map P f (item ∷ items) each = All-append P (f item) (flat_map f items) each.0 (all_flat_map P f items each.1)
 
@@ -99,9 +103,11 @@ before_map P f [] each = tt
 before_map P f (item ∷ items) each = (each.0, before_map P f items each.1)
 
 -- each type is valid for the end of all types
-types_valid : (features : Features) (space : GroupedTypes) → AreTypesValid features space → All (IsTypeValid features space.types (length space.types)) space.types
+types_valid : (features : Features) (space : GroupedTypes) → AreTypesValid features space
+    → All (IsTypeValid features space.types (length space.types)) space.types
 types_valid features space valid i d inside =
-    AreTypesOpen-at features (length space.types) space (AreTypesOpen-start features (length space.types) space (omega arith) valid) i (get_or space.types i d) (slice_get-get_or space.types i d inside)
+    AreTypesOpen-at features (length space.types) space (AreTypesOpen-start features (length space.types) space (omega arith) valid) i
+    (get_or space.types i d) (slice_get-get_or space.types i d inside)
 
 -- the value types of types, tables and globals are valid
 values_valid : (features : Features) (shape : Shape) → AreTypesValid features (space_of shape.groups)
@@ -123,14 +129,16 @@ values_valid features shape types tables globals =
 
 -- tables and globals, if their value types have a property
 entity_values : (P : ValType → Type 0) (shape : Shape) → All P (shape_values shape)
-    → All (λ (table : TableType). P (Ref table.element_type)) (shape_spaces shape).tables × All (λ (global : GlobalType). P global.val_type) (shape_spaces shape).globals
+    → All (λ (table : TableType). P (Ref table.element_type)) (shape_spaces shape).tables × All (λ (global : GlobalType). P global.val_type)
+    (shape_spaces shape).globals
 entity_values P shape values =
     let of_types : List ValType = flat_map (λ (t : SubType). values_of t.composite_type.inner) (shape_types shape) in
     let of_table : TableType → ValType = λ table. Ref table.element_type in
     let of_global : GlobalType → ValType = λ global. global.val_type in
     let tables = (shape_spaces shape).tables in
     let globals = (shape_spaces shape).globals in
-    let following = (parts_of_all P of_types (map of_table tables ++ map of_global globals) (recursion_from_All P (shape_values shape) values)).1 in
+    let following = (parts_of_all P of_types (map of_table tables ++ map of_global globals)
+    (recursion_from_All P (shape_values shape) values)).1 in
     let apart = parts_of_all P (map of_table tables) (map of_global globals) following in (
       All-from_recursion (λ (table : TableType). P (Ref table.element_type)) tables (before_map P of_table tables apart.0),
       All-from_recursion (λ (global : GlobalType). P global.val_type) globals (before_map P of_global globals apart.1),
@@ -142,7 +150,8 @@ counts_on AvailableImports shape = tt
 counts_on Exports shape = record { tags = λ _. refl; several_tables = λ _. refl; several_memories = λ _. refl }
 counts_on ModuleShape shape = record { tags = λ _. refl; several_tables = λ _. refl; several_memories = λ _. refl }
 
-plain_kept : (which : Which) (config : Config) (shape : Shape) → ¬ HasShapeFault which config shape fault.NotPlain → ¬ ¬ (which ≡ Exports → IsPlain shape)
+plain_kept : (which : Which) (config : Config) (shape : Shape) → ¬ HasShapeFault which config shape fault.NotPlain
+    → ¬ ¬ (which ≡ Exports → IsPlain shape)
 plain_kept AvailableImports config shape none = λ no. no (λ other. cc other)
 plain_kept Exports config shape none = λ no. none (refl, λ plain. no (λ _. plain))
 plain_kept ModuleShape config shape none = λ no. no (λ other. cc other)
@@ -163,33 +172,50 @@ module _ (which : Which) (config : Config) (shape : Shape) where
       record {
         types = types_right features (space_of shape.groups) valid.consistent.types;
         values = values_valid every_feature shape (types_right features (space_of shape.groups) valid.consistent.types)
-            (All-weaker (IsTableValid features types) (λ (table : TableType). IsValTypeValid every_feature (length types) (Ref table.element_type))
+            (All-weaker (IsTableValid features types) (λ (table : TableType). IsValTypeValid every_feature (length types)
+            (Ref table.element_type))
             (λ table h. (refl, reference_right features (length types) table.element_type h.element)) spaces.tables entities.tables)
-            (All-weaker (IsGlobalValid features types) (λ (global : GlobalType). IsValTypeValid every_feature (length types) global.val_type)
+            (All-weaker (IsGlobalValid features types) (λ (global : GlobalType). IsValTypeValid every_feature (length types)
+            global.val_type)
             (λ global h. value_right features (length types) global.val_type h.value) spaces.globals entities.globals);
-        tables = All-weaker (IsTableValid features types) (λ (table : TableType). IsTrue table.shared → IsShareable types (Ref table.element_type)) (λ table h shared. (h.shared shared).1) spaces.tables entities.tables;
-        globals = All-weaker (IsGlobalValid features types) (λ (global : GlobalType). IsTrue global.shared → IsShareable types global.val_type) (λ global h shared. (h.shared shared).1) spaces.globals entities.globals;
+        tables = All-weaker (IsTableValid features types) (λ (table : TableType). IsTrue table.shared
+            → IsShareable types (Ref table.element_type)) (λ table h shared. (h.shared shared).1) spaces.tables entities.tables;
+        globals = All-weaker (IsGlobalValid features types) (λ (global : GlobalType). IsTrue global.shared
+            → IsShareable types global.val_type) (λ global h shared. (h.shared shared).1) spaces.globals entities.globals;
       }
 
   limits_are_right : IsShapeValid which config shape → AreLimitsRight shape
   limits_are_right valid =
       let entities = valid.consistent.entities in
       record {
-        tables = All-weaker (IsTableValid features types) (λ (table : TableType). AreLimitsValid (most_elements table.table64) table.minimum table.maximum) (λ table h. h.limits) spaces.tables entities.tables;
-        memories = All-weaker (IsMemoryValid features) (IsMemoryValid every_feature) (memory_right features) spaces.memories entities.memories;
+        tables = All-weaker (IsTableValid features types) (λ (table : TableType). AreLimitsValid (most_elements table.table64) table.minimum
+            table.maximum) (λ table h. h.limits) spaces.tables entities.tables;
+        memories = All-weaker (IsMemoryValid features) (IsMemoryValid every_feature) (memory_right features) spaces.memories
+            entities.memories;
         shallow = valid.consistent.shallow;
       }
 
   features_are_on : IsShapeValid which config shape → AreFeaturesOn which features shape
   features_are_on valid =
       let entities = valid.consistent.entities in
-      record { types = valid.consistent.types; tables = entities.tables; memories = entities.memories; globals = entities.globals; counts = valid.counts }
+      record {
+        types = valid.consistent.types;
+        tables = entities.tables;
+        memories = entities.memories;
+        globals = entities.globals;
+        counts = valid.counts;
+      }
 
   -- a valid shape has no fault
   pub no_fault : IsShapeValid which config shape → (found : ShapeFault) → ¬ HasShapeFault which config shape found
   no_fault valid fault.TooLong = λ wrong. wrong valid.short
   no_fault valid fault.BadType = λ wrong. wrong (types_are_right valid)
-  no_fault valid fault.Index = λ wrong. wrong (record { funcs = valid.consistent.entities.funcs; tags = valid.consistent.entities.tags; exports = valid.consistent.exports.stand })
+  no_fault valid fault.Index =
+      λ wrong. wrong (record {
+        funcs = valid.consistent.entities.funcs;
+        tags = valid.consistent.entities.tags;
+        exports = valid.consistent.exports.stand;
+      })
   no_fault valid fault.Limit = λ wrong. wrong (limits_are_right valid)
   no_fault valid fault.Feature = λ wrong. wrong.1 (features_are_on valid)
   no_fault valid fault.DuplicateExport = λ wrong. wrong valid.consistent.exports.distinct
@@ -204,7 +230,13 @@ module _ (which : Which) (config : Config) (shape : Shape) where
         types = right.types;
         tables = λ i d inside.
             let element = values.0 i d inside in
-            record { limits = limits.tables i d inside; element = element.1; element_enabled = λ _. refl; table64 = λ _. refl; shared = λ shared. (refl, right.tables i d inside shared) };
+            record {
+              limits = limits.tables i d inside;
+              element = element.1;
+              element_enabled = λ _. refl;
+              table64 = λ _. refl;
+              shared = λ shared. (refl, right.tables i d inside shared);
+            };
         memories = limits.memories;
         globals = λ i d inside. record { value = values.1 i d inside; shared = λ shared. (refl, right.globals i d inside shared) };
         counts = counts_on which shape;
@@ -229,7 +261,13 @@ module _ (which : Which) (config : Config) (shape : Shape) where
               consistent = record {
                 types = on.types;
                 shallow = limits.shallow;
-                entities = record { tags = indices.tags; funcs = indices.funcs; tables = on.tables; memories = on.memories; globals = on.globals };
+                entities = record {
+                  tags = indices.tags;
+                  funcs = indices.funcs;
+                  tables = on.tables;
+                  memories = on.memories;
+                  globals = on.globals;
+                };
                 exports = record { stand = indices.exports; distinct = distinct };
               };
               counts = on.counts;

@@ -18,7 +18,8 @@ IsNonNullable _ = ⊥
 
 -- a non-nullable reference, unless `non_nullable_enabled` is on and it is grounded
 abbrev pub IsUngrounded : Config → Context → ValType → Type 0
-IsUngrounded config context (Ref reference) = (reference.nullable ≡ false) × (IsTrue config.non_nullable_enabled → ¬ IsGrounded context reference.heap_type)
+IsUngrounded config context (Ref reference) = (reference.nullable ≡ false) × (IsTrue config.non_nullable_enabled
+    → ¬ IsGrounded context reference.heap_type)
 IsUngrounded config context _ = ⊥
 
 -- a value type that is not a non-nullable reference, or is a grounded one with

@@ -5,7 +5,11 @@ use Rattle.smith_config.specs.Shapes.{Shapes, in_use}
 
 -- the shapes in effect: a module shape replaces the others
 abbrev pub shapes_of : Config → Shapes
-shapes_of config = in_use (record { available_imports = config.available_imports; exports = config.exports; module_shape = config.module_shape })
+shapes_of config = in_use (record {
+  available_imports = config.available_imports;
+  exports = config.exports;
+  module_shape = config.module_shape;
+})
 
 -- no shape is given
 pub record HasNoShapes (config : Config) : Type 0 where

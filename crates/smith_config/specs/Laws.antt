@@ -8,5 +8,7 @@ use Rattle.smith_config.specs.ShapeFaults.{HasShapeFault}
 
 -- a valid shape has no fault, and a shape without a fault is not invalid
 pub record ShapesAreValidOrFaulty : Type 0 where
-  pub faultless : (which : Which) (config : Config) (shape : Shape) → IsShapeValid which config shape → (fault : ShapeFault) → ¬ HasShapeFault which config shape fault
-  pub valid : (which : Which) (config : Config) (shape : Shape) → ((fault : ShapeFault) → ¬ HasShapeFault which config shape fault) → ¬ ¬ IsShapeValid which config shape
+  pub faultless : (which : Which) (config : Config) (shape : Shape) → IsShapeValid which config shape → (fault : ShapeFault)
+      → ¬ HasShapeFault which config shape fault
+  pub valid : (which : Which) (config : Config) (shape : Shape) → ((fault : ShapeFault) → ¬ HasShapeFault which config shape fault)
+      → ¬ ¬ IsShapeValid which config shape

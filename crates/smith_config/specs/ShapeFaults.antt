@@ -11,7 +11,8 @@ use Rattle.smith_types.specs.GroupedTypes.{GroupedTypes}
 use Rattle.smith_types.specs.Imports.{EntitySpaces}
 use Rattle.smith_types.specs.HeldValues.{values_in}
 use Rattle.smith_types.specs.ValidTypes.{AreTypesValid, IsValTypeValid, IsShareable}
-use Rattle.smith_types.specs.Entities.{AreLimitsValid, most_elements, IsTagValid, IsFuncTypeIndex, IsTableValid, IsMemoryValid, IsGlobalValid}
+use Rattle.smith_types.specs.Entities.{AreLimitsValid, most_elements, IsTagValid, IsFuncTypeIndex, IsTableValid, IsMemoryValid}
+use Rattle.smith_types.specs.Entities.{IsGlobalValid}
 use Rattle.smith_types.specs.Exports.{AreDistinct, AreExportsStanding}
 use Rattle.smith_syntax.specs.declared.value_type.ValType.TheVariants.{Ref}
 use Rattle.smith_syntax.specs.declared.entity_type.ExportKind.{ExportKind}
@@ -70,14 +71,16 @@ HasShapeFault which config shape fault.TooLong = IsShort shape → ⊥
 HasShapeFault which config shape fault.BadType = AreTypesRight shape → ⊥
 HasShapeFault which config shape fault.Index = AreIndicesRight shape → ⊥
 HasShapeFault which config shape fault.Limit = AreLimitsRight shape → ⊥
-HasShapeFault which config shape fault.Feature = AreFeaturesOn which every_feature shape × (AreFeaturesOn which (features_of config) shape → ⊥)
+HasShapeFault which config shape fault.Feature = AreFeaturesOn which every_feature shape × (AreFeaturesOn which (features_of config) shape
+    → ⊥)
 HasShapeFault which config shape fault.DuplicateExport = AreDistinct (map (λ (one : List ℕ × ExportKind × ℕ). one.0) shape.exports) → ⊥
 HasShapeFault which config shape fault.NotPlain = (which ≡ Exports) × (IsPlain shape → ⊥)
 HasShapeFault which config shape fault.LeftOut = HasNothingLeftOut shape → ⊥
 
 -- the faults, in the order of the check
 abbrev pub shape_faults : List ShapeFault
-shape_faults = fault.TooLong ∷ fault.BadType ∷ fault.Index ∷ fault.Limit ∷ fault.Feature ∷ fault.DuplicateExport ∷ fault.NotPlain ∷ fault.LeftOut ∷ []
+shape_faults = fault.TooLong ∷ fault.BadType ∷ fault.Index ∷ fault.Limit ∷ fault.Feature ∷ fault.DuplicateExport ∷ fault.NotPlain
+    ∷ fault.LeftOut ∷ []
 
 -- the shape has this fault, and none of those before it
 pub record IsFirstShapeFault (which : Which) (config : Config) (shape : Shape) (found : ShapeFault) : Type 0 where

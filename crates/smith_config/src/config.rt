@@ -244,8 +244,8 @@ pub struct Config {
     /// Whether NaN results are made canonical. Defaults to `false`. Ignored: no result is changed.
     pub canonicalize_nans: bool,
 
-    /// Whether custom sections are generated. Defaults to `false`. Ignored: modules here have no
-    /// custom sections.
+    /// Whether custom sections are drawn. Defaults to `false`. Only the bytes of a module in the
+    /// binary format can depend on it: the sections stand between those of the module.
     pub generate_custom_sections: bool,
 
     /// The minimum length of an encoded unsigned integer, in bytes, up to five. Defaults to 1. Only

@@ -1,5 +1,6 @@
 -- The names that these proofs cite, passed on from one place.
-pub use Rattle.std.proofs.Common.{[], ap, arith, drop, false, inl, inr, IsTrue, length, length-append, List, None, Option, refl, rules, Some, subst, suc, sym, take, true, zero, ℕ, ◌++◌, ◌+◌, ◌<◌, ◌^◌, ◌∙◌, ◌∷◌, ◌≡◌, ◌≤◌, ◌⊎◌}
+pub use Rattle.std.proofs.Common.{[], ap, arith, drop, false, inl, inr, IsTrue, length, length-append, List, None, Option, refl, rules}
+pub use Rattle.std.proofs.Common.{Some, subst, suc, sym, take, true, zero, ℕ, ◌++◌, ◌+◌, ◌<◌, ◌^◌, ◌∙◌, ◌∷◌, ◌≡◌, ◌≤◌, ◌⊎◌}
 pub use Rattle.std.proofs.lemmas.Grind.{common_steps}
 pub use Rattle.std.proofs.lemmas.List.Elements.{All-cons, All-from_recursion, All-head, All-nil, All-push}
 pub use Rattle.std.proofs.lemmas.Option.{same_Some, slice_get_within}
@@ -12,19 +13,23 @@ pub use Rattle.smith_bytes.specs.declared.error.Which.TheVariants.{ModuleShape}
 pub use Rattle.smith_config.proofs.FirstFaultLemmas.{first_bad_type, first_too_long}
 unfoldable pub use Rattle.smith_config.specs.Arbitrary.{config_at, instruction_kinds_at, maximums_at, proposals_at, rules_at, sizes_at}
 pub use Rattle.smith_config.specs.Config.{default_config}
-pub use Rattle.smith_config.specs.ExampleShapes.{before, chain, empty_shape, exported_table, memory_passed_on, of_types, one_of_each_kind, passed_on}
+pub use Rattle.smith_config.specs.ExampleShapes.{before, chain, empty_shape, exported_table, memory_passed_on, of_types, one_of_each_kind}
+pub use Rattle.smith_config.specs.ExampleShapes.{passed_on}
 pub use Rattle.smith_config.specs.Faults.{faults, HasFault}
 pub use Rattle.smith_config.specs.Features.{features_of}
 pub use Rattle.smith_config.specs.ShapeFaults.{AreTypesRight, HasShapeFault, shape_faults}
-pub use Rattle.smith_config.specs.Shapes.{HasNothingLeftOut, IsConsistent, IsInnerShort, IsPlain, IsShallow, IsShort, IsValTypeIncluded, shape_spaces, space_of}
+pub use Rattle.smith_config.specs.Shapes.{HasNothingLeftOut, IsConsistent, IsInnerShort, IsPlain, IsShallow, IsShort, IsValTypeIncluded}
+pub use Rattle.smith_config.specs.Shapes.{shape_spaces, space_of}
 pub use Rattle.smith_config.specs.declared.config.Config.{Config}
 pub use Rattle.smith_config.specs.declared.shape.Shape.{Shape}
 pub use Rattle.smith_types.proofs.ListLemmas.{slice_get-grown, slice_get-last}
 pub use Rattle.smith_types.proofs.SpaceLemmas.{HasDepth-le, IsOrderly-push}
 pub use Rattle.smith_types.proofs.ValidityLemmas.{AreTypesValid-single, no_types}
-pub use Rattle.smith_types.specs.Entities.{AreEntitiesValid, AreLimitsValid, IsFuncTypeIndex, IsGlobalValid, IsMemoryValid, IsTableValid, IsTagValid}
+pub use Rattle.smith_types.specs.Entities.{AreEntitiesValid, AreLimitsValid, IsFuncTypeIndex, IsGlobalValid, IsMemoryValid, IsTableValid}
+pub use Rattle.smith_types.specs.Entities.{IsTagValid}
 pub use Rattle.smith_types.specs.ExampleEntities.{constant_global, memory, table}
-pub use Rattle.smith_types.specs.ExampleTypes.{anyref, constant, empty_struct, final_type, func, giving, nullable, open_type, plain, plain_func, range, referring_type, shared_type, struct, taking}
+pub use Rattle.smith_types.specs.ExampleTypes.{anyref, constant, empty_struct, final_type, func, giving, nullable, open_type, plain}
+pub use Rattle.smith_types.specs.ExampleTypes.{plain_func, range, referring_type, shared_type, struct, taking}
 pub use Rattle.smith_types.specs.Exports.{AreDistinct, AreExportsStanding, AreExportsValid, IsEntityAt}
 pub use Rattle.smith_syntax.specs.Features.{every_feature, Features}
 pub use Rattle.smith_types.specs.Flags.{funcref}

@@ -1,5 +1,8 @@
 -- Lemmas for the examples of shapes.
-use Rattle.smith_config_examples.proofs.Common.{rules, ℕ, List, [], ◌∷◌, refl, arith, codes, All-cons, All-nil, Features, IsOrderly, IsTypeValid, AreTypesValid, EntitySpaces, IsFuncTypeIndex, AreEntitiesValid, IsEntityAt, AreExportsStanding, AreExportsValid, SubType, EntityType, ExportKind, final_type, plain_func, range, AreTypesValid-single, no_types, IsShallow}
+use Rattle.smith_config_examples.proofs.Common.{rules, ℕ, List, [], ◌∷◌, refl, arith, codes, All-cons, All-nil, Features, IsOrderly}
+use Rattle.smith_config_examples.proofs.Common.{IsTypeValid, AreTypesValid, EntitySpaces, IsFuncTypeIndex, AreEntitiesValid, IsEntityAt}
+use Rattle.smith_config_examples.proofs.Common.{AreExportsStanding, AreExportsValid, SubType, EntityType, ExportKind, final_type}
+use Rattle.smith_config_examples.proofs.Common.{plain_func, range, AreTypesValid-single, no_types, IsShallow}
 use Rattle.smith_syntax.specs.declared.entity_type.EntityType.TheVariants as entity
 use Rattle.smith_syntax.specs.declared.entity_type.ExportKind.TheVariants as kind
 use Rattle.smith_config_examples.proofs.ChainExamples.{shallow_if_few}
@@ -28,14 +31,16 @@ module _ (features : Features) where
   pub entities_valid : AreEntitiesValid features one_type one_func
   entities_valid = record {
     tags = search rules;
-    funcs = All-cons (IsFuncTypeIndex one_type) 0 [] (record { params = []; results = [] }, (final_type plain_func, refl, refl)) (All-nil (IsFuncTypeIndex one_type));
+    funcs = All-cons (IsFuncTypeIndex one_type) 0 [] (record { params = []; results = [] }, (final_type plain_func, refl, refl))
+        (All-nil (IsFuncTypeIndex one_type));
     tables = search rules;
     memories = search rules;
     globals = search rules;
   }
 
 -- a single export of an existing entity is valid
-pub stand_alone : (spaces : EntitySpaces) (one : List ℕ × ExportKind × ℕ) (ty : EntityType) → IsEntityAt spaces one.1 one.2 ty → AreExportsStanding spaces (one ∷ [])
+pub stand_alone : (spaces : EntitySpaces) (one : List ℕ × ExportKind × ℕ) (ty : EntityType) → IsEntityAt spaces one.1 one.2 ty
+    → AreExportsStanding spaces (one ∷ [])
 stand_alone spaces one ty h =
     let P : List ℕ × ExportKind × ℕ → Type 0 = λ one. (ty : EntityType) × IsEntityAt spaces one.1 one.2 ty in
     All-cons P one [] (ty, h) (All-nil P)

@@ -1,5 +1,8 @@
 -- Lemmas for the examples of faulty shapes: types that are not valid.
-use Rattle.smith_config_examples.proofs.Common.{◌≡◌, ◌<◌, true, false, List, [], ◌∷◌, Some, None, refl, sym, subst, arith, All-head, same_Some, Features, IsAlike, IsTypeValid, IsGroupValid, AreTypesValid, IsShareable, Val, SubType, open_type, final_type, shared_type, struct, empty_struct, plain_func, constant, range, anyref, referring_type, referring_after, space_of}
+use Rattle.smith_config_examples.proofs.Common.{◌≡◌, ◌<◌, true, false, List, [], ◌∷◌, Some, None, refl, sym, subst, arith, All-head}
+use Rattle.smith_config_examples.proofs.Common.{same_Some, Features, IsAlike, IsTypeValid, IsGroupValid, AreTypesValid, IsShareable, Val}
+use Rattle.smith_config_examples.proofs.Common.{SubType, open_type, final_type, shared_type, struct, empty_struct, plain_func, constant}
+use Rattle.smith_config_examples.proofs.Common.{range, anyref, referring_type, referring_after, space_of}
 use Rattle.smith_syntax.specs.declared.value_type.AbstractHeapType.TheVariants as heap
 
 module _ (features : Features) where
@@ -8,7 +11,8 @@ module _ (features : Features) where
 
   pub below_another_kind : ¬ AreTypesValid features (space_of ((open_type None plain_func ∷ open_type (Some 0) empty_struct ∷ []) ∷ []))
   below_another_kind valid =
-      let alike : IsAlike (open_type (Some 0) empty_struct) (open_type None plain_func) = (valid.orderly.under 1 0 (open_type (Some 0) empty_struct) refl refl).1 (open_type None plain_func) refl in
+      let alike : IsAlike (open_type (Some 0) empty_struct) (open_type None plain_func) =
+      (valid.orderly.under 1 0 (open_type (Some 0) empty_struct) refl refl).1 (open_type None plain_func) refl in
       let never : heap.Struct ≡ heap.Func = alike.kind in
       cc never
 
@@ -16,7 +20,8 @@ module _ (features : Features) where
   below_a_final_type valid =
       let types : List SubType = final_type empty_struct ∷ open_type (Some 0) empty_struct ∷ [] in
       let group : IsGroupValid features types (range 0 2) = valid.groups 0 (range 0 2) (omega arith) in
-      let second : IsTypeValid features types 2 (open_type (Some 0) empty_struct) = group.members 1 (open_type (Some 0) empty_struct) (omega arith) (omega arith) refl in
+      let second : IsTypeValid features types 2 (open_type (Some 0) empty_struct) = group.members 1 (open_type (Some 0) empty_struct)
+      (omega arith) (omega arith) refl in
       let (supertype, at, h) = second.declared 0 refl in
       let same : final_type empty_struct ≡ supertype = same_Some (final_type empty_struct) supertype at in
       let never : true ≡ false = subst (λ (t : SubType). t.is_final ≡ false) (sym same) h.not_final in
@@ -34,11 +39,13 @@ module _ (features : Features) where
       cc never
 
 -- a type that is not final requires garbage collection
-pub not_final_without_gc : (features : Features) → features.gc ≡ false → ¬ AreTypesValid features (space_of ((open_type None plain_func ∷ []) ∷ []))
+pub not_final_without_gc : (features : Features) → features.gc ≡ false
+    → ¬ AreTypesValid features (space_of ((open_type None plain_func ∷ []) ∷ []))
 not_final_without_gc features off valid =
     let types : List SubType = open_type None plain_func ∷ [] in
     let group : IsGroupValid features types (range 0 1) = valid.groups 0 (range 0 1) (omega arith) in
-    let first : IsTypeValid features types 1 (open_type None plain_func) = group.members 0 (open_type None plain_func) (omega arith) (omega arith) refl in
+    let first : IsTypeValid features types 1 (open_type None plain_func) = group.members 0 (open_type None plain_func) (omega arith)
+    (omega arith) refl in
     let on : features.gc ≡ true = first.enabled.not_final refl in
     let never : false ≡ true = subst (λ b. b ≡ true) off on in
     cc never

@@ -1,5 +1,6 @@
 -- A text of digits is read as the number that it denotes.
-use Rattle.std.proofs.Common.{◌≡◌, ℕ, ◌+◌, ◌<◌, ◌≤◌, ◌^◌, List, [], ◌∷◌, Bool, true, false, ◌&&◌, ◌==◌, cond, nat_lt, Ok, Err, length, refl, sym, arith}
+use Rattle.std.proofs.Common.{◌≡◌, ℕ, ◌+◌, ◌<◌, ◌≤◌, ◌^◌, List, [], ◌∷◌, Bool, true, false, ◌&&◌, ◌==◌, cond, nat_lt, Ok, Err, length, refl}
+use Rattle.std.proofs.Common.{sym, arith}
 use Rattle.std.specs.List.{list_all}
 use Rattle.std.specs.Int.{IsInRange}
 use Rattle.std.specs.Char.{is_ascii_digit, digit_value}
@@ -45,19 +46,23 @@ no_plus (c ∷ cs) h =
     let least : 48 ≤ c = (inside c (both (is_ascii_digit c) (list_all is_ascii_digit cs) digits).0).0 in
     let other : (c == 43) ≡ false = grind (arith, least) in rw other refl
 
-pub parsed : (text : List ℕ) (most n : ℕ) → are_digits text ≡ true → n ≡ digits_value 10 (without_leading_plus text) → n ≤ most → Ok n ≡ number_of most text
+pub parsed : (text : List ℕ) (most n : ℕ) → are_digits text ≡ true → n ≡ digits_value 10 (without_leading_plus text) → n ≤ most
+    → Ok n ≡ number_of most text
 parsed text most n h read small =
     let plain = no_plus text h in
     let value : digits_value 10 text ≡ n = sym (rw plain at read) in
     let fits : nat_lt most n ≡ false = grind (arith, small) in rw (h, value, fits) refl
 
-pub parsed_large : (text : List ℕ) (most n : ℕ) → are_digits text ≡ true → n ≡ digits_value 10 (without_leading_plus text) → most < n → Err OutOfRange ≡ number_of most text
+pub parsed_large : (text : List ℕ) (most n : ℕ) → are_digits text ≡ true → n ≡ digits_value 10 (without_leading_plus text) → most < n
+    → Err OutOfRange ≡ number_of most text
 parsed_large text most n h read large =
     let plain = no_plus text h in
     let value : digits_value 10 text ≡ n = sym (rw plain at read) in
     let exceeds : nat_lt most n ≡ true = grind (arith, large) in rw (h, value, exceeds) refl
 
-pub unparsed : (text : List ℕ) (most : ℕ) → are_digits text ≡ true → ¬ (IsNumeral 10 (without_leading_plus text) × (digits_value 10 (without_leading_plus text) < 2 ^ 128)) → most < 2 ^ 128 → Err OutOfRange ≡ number_of most text
+pub unparsed : (text : List ℕ) (most : ℕ) → are_digits text ≡ true
+    → ¬ (IsNumeral 10 (without_leading_plus text) × (digits_value 10 (without_leading_plus text) < 2 ^ 128)) → most < 2 ^ 128
+    → Err OutOfRange ≡ number_of most text
 unparsed text most h unread small =
     let plain = no_plus text h in
     let unread_here : ¬ (IsNumeral 10 text × (digits_value 10 text < 2 ^ 128)) = rw plain at unread in

@@ -6,11 +6,13 @@ use Rattle.json.specs.Token.{Token, begin_object, end_object, begin_array, end_a
 use Rattle.json.specs.Json.{read_key}
 use Rattle.smith_config_json.specs.Objects.{is_given}
 
-any_name : (given : List (Bor (List ℕ))) (name : List ℕ) → list_any (λ other. bytes_eq other.now name) given ≡ is_given (map (λ other. other.now) given) name
+any_name : (given : List (Bor (List ℕ))) (name : List ℕ) → list_any (λ other. bytes_eq other.now name) given
+    ≡ is_given (map (λ other. other.now) given) name
 any_name [] name = refl
 any_name (x ∷ xs) name = ap (λ b. bytes_eq x.now name || b) (any_name xs name)
 
-pub given_name : (lent given : List (Bor (List ℕ))) (name : List ℕ) (answer : Bool) → lent ≡ given → answer ≡ list_any (λ other. bytes_eq other.now name) lent → is_given (map (λ other. other.now) given) name ≡ answer
+pub given_name : (lent given : List (Bor (List ℕ))) (name : List ℕ) (answer : Bool) → lent ≡ given
+    → answer ≡ list_any (λ other. bytes_eq other.now name) lent → is_given (map (λ other. other.now) given) name ≡ answer
 given_name lent given name answer same found = sym (any_name given name) ∙ sym (rw same at found)
 
 pub shorter_by_key : (ts rest : List Token) (k : Option (List ℕ)) → read_key ts ≡ Some (k, rest) → length ts ≡ suc (length rest)

@@ -11,10 +11,25 @@ use Rattle.smith_config_json.specs.declared.place.Flag.{Flag}
 use Rattle.smith_config_json.specs.declared.place.Number.{Number}
 use Rattle.smith_config_json.specs.declared.place.Place.TheVariants as place
 use Rattle.smith_config_json.specs.declared.place.Number.TheVariants as number
-use Rattle.smith_config_json.specs.declared.place.Size.TheVariants.{MinTypes, MaxTypes, MinImports, MaxImports, MinTags, MaxTags, MinFuncs, MaxFuncs, MinGlobals, MaxGlobals, MinExports, MaxExports, MinElementSegments, MaxElementSegments, MinElements, MaxElements, MinDataSegments, MaxDataSegments, MaxMemories, MaxTables, MaxInstructions, MaxAliases, MaxComponents, MaxInstances, MaxModules, MaxNestingDepth, MaxValues}
+use Rattle.smith_config_json.specs.declared.place.Size.TheVariants.{MinTypes, MaxTypes, MinImports, MaxImports, MinTags, MaxTags, MinFuncs}
+use Rattle.smith_config_json.specs.declared.place.Size.TheVariants.{MaxFuncs, MinGlobals, MaxGlobals, MinExports, MaxExports}
+use Rattle.smith_config_json.specs.declared.place.Size.TheVariants.{MinElementSegments, MaxElementSegments, MinElements, MaxElements}
+use Rattle.smith_config_json.specs.declared.place.Size.TheVariants.{MinDataSegments, MaxDataSegments, MaxMemories, MaxTables}
+use Rattle.smith_config_json.specs.declared.place.Size.TheVariants.{MaxInstructions, MaxAliases, MaxComponents, MaxInstances, MaxModules}
+use Rattle.smith_config_json.specs.declared.place.Size.TheVariants.{MaxNestingDepth, MaxValues}
 use Rattle.smith_config_json.specs.declared.place.Word.TheVariants.{MinMemories, MinTables, MaxTypeSize, ConstExprFuel}
 use Rattle.smith_config_json.specs.declared.place.Long.TheVariants.{MaxMemory32Bytes, MaxTableElements}
-use Rattle.smith_config_json.specs.declared.place.Flag.TheVariants.{MemoryMaxSizeRequired, TableMaxSizeRequired, LimitArraysInConstExprs, AllowStartExport, ExportEverything, AllowFloats, DisallowTraps, AllowInvalidFuncs, ReferenceTypesEnabled, GcEnabled, CustomDescriptorsEnabled, MultiValueEnabled, BulkMemoryEnabled, SimdEnabled, ExceptionsEnabled, ThreadsEnabled, SharedEverythingThreadsEnabled, Memory64Enabled, CustomPageSizesEnabled, ExtendedConstEnabled, CompactImportsEnabled, RelaxedSimdEnabled, SaturatingFloatToIntEnabled, SignExtensionOpsEnabled, TailCallEnabled, WideArithmeticEnabled, AcquireReleaseAtomicsEnabled, MultibyteArrayAccessEnabled, NonNullableEnabled, CanonicalizeNans, GenerateCustomSections}
+use Rattle.smith_config_json.specs.declared.place.Flag.TheVariants.{MemoryMaxSizeRequired, TableMaxSizeRequired, LimitArraysInConstExprs}
+use Rattle.smith_config_json.specs.declared.place.Flag.TheVariants.{AllowStartExport, ExportEverything, AllowFloats, DisallowTraps}
+use Rattle.smith_config_json.specs.declared.place.Flag.TheVariants.{AllowInvalidFuncs, ReferenceTypesEnabled, GcEnabled}
+use Rattle.smith_config_json.specs.declared.place.Flag.TheVariants.{CustomDescriptorsEnabled, MultiValueEnabled, BulkMemoryEnabled}
+use Rattle.smith_config_json.specs.declared.place.Flag.TheVariants.{SimdEnabled, ExceptionsEnabled, ThreadsEnabled}
+use Rattle.smith_config_json.specs.declared.place.Flag.TheVariants.{SharedEverythingThreadsEnabled, Memory64Enabled, CustomPageSizesEnabled}
+use Rattle.smith_config_json.specs.declared.place.Flag.TheVariants.{ExtendedConstEnabled, CompactImportsEnabled, RelaxedSimdEnabled}
+use Rattle.smith_config_json.specs.declared.place.Flag.TheVariants.{SaturatingFloatToIntEnabled, SignExtensionOpsEnabled, TailCallEnabled}
+use Rattle.smith_config_json.specs.declared.place.Flag.TheVariants.{WideArithmeticEnabled, AcquireReleaseAtomicsEnabled}
+use Rattle.smith_config_json.specs.declared.place.Flag.TheVariants.{MultibyteArrayAccessEnabled, NonNullableEnabled, CanonicalizeNans}
+use Rattle.smith_config_json.specs.declared.place.Flag.TheVariants.{GenerateCustomSections}
 use Rattle.smith_config_json.specs.Fields.{Setter, Table, Field, whole, truth, kinds, choices, file, preset}
 
 -- a configuration with a number of type `usize` set

@@ -4,7 +4,8 @@ use Rattle.std.specs.Prelude.{ℕ, List, [], ◌∷◌, ◌^◌, true, false, Op
 use Rattle.std.specs.Borrow.{Bor}
 use Rattle.smith_config.specs.declared.config.Config.{Config}
 use Rattle.smith_config_json.specs.declared.preset.Preset.{Preset}
-use Rattle.smith_config_json.specs.declared.preset.Preset.TheVariants.{Run, Version1, Version2, Version3, Proposals, Wabt, Binaryen, V8, SpiderMonkey, JavaScriptCore}
+use Rattle.smith_config_json.specs.declared.preset.Preset.TheVariants.{Run, Version1, Version2, Version3, Proposals, Wabt, Binaryen, V8}
+use Rattle.smith_config_json.specs.declared.preset.Preset.TheVariants.{SpiderMonkey, JavaScriptCore}
 use Rattle.smith_config_json.specs.Fields.{Table, named}
 
 -- version 3.0 of the standard: all of its features and none of a proposal beyond it

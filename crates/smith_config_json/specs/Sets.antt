@@ -37,7 +37,8 @@ Sets None config ts r = r ≡ Err UnknownField
 Sets (Some (whole most set)) config ts r = r ≡ set_to set config (drop 1 ts) (whole_value most (first ts))
 Sets (Some (truth set)) config ts r = r ≡ set_to set config (drop 1 ts) (truth_value (first ts))
 Sets (Some (kinds set)) config ts r =
-    (v : Result (Option InstructionKinds) Fault) × (rest : List Token) × AreKinds (first ts) (drop 1 ts) v rest × (r ≡ set_to set config rest v)
+    (v : Result (Option InstructionKinds) Fault) × (rest : List Token) × AreKinds (first ts) (drop 1 ts) v rest
+    × (r ≡ set_to set config rest v)
 Sets (Some (choices set)) config ts r = r ≡ set_choices set config (first ts) (drop 1 ts)
 Sets (Some file) config ts r = r ≡ outcome (file_value (first ts)) config (drop 1 ts)
 Sets (Some preset) config ts r = r ≡ outcome (preset_value (first ts)) config (drop 1 ts)

@@ -1,5 +1,6 @@
 -- The values that tokens denote, for the fields that take them. Rules of this project.
-use Rattle.std.specs.Prelude.{◌≡◌, ℕ, ◌-◌, ◌^◌, nat_lt, List, [], ◌∷◌, drop, Bool, false, true, ◌==◌, ◌&&◌, if◌then◌else◌, Option, Some, None, option_map, Result, Ok, Err, length}
+use Rattle.std.specs.Prelude.{◌≡◌, ℕ, ◌-◌, ◌^◌, nat_lt, List, [], ◌∷◌, drop, Bool, false, true, ◌==◌, ◌&&◌, if◌then◌else◌, Option, Some}
+use Rattle.std.specs.Prelude.{None, option_map, Result, Ok, Err, length}
 use Rattle.std.specs.List.{list_all}
 use Rattle.std.specs.Char.{is_ascii_digit}
 use Rattle.std.specs.Str.Parse.{digits_value}
@@ -46,7 +47,8 @@ are_digits text = if length text == 0 then false else list_all is_ascii_digit te
 
 -- the number that digits denote, if it is at most `most`
 abbrev pub number_of : ℕ → List ℕ → Result ℕ Fault
-number_of most text = if are_digits text then (if nat_lt most (digits_value 10 text) then Err OutOfRange else Ok (digits_value 10 text)) else Err WrongType
+number_of most text = if are_digits text then (if nat_lt most (digits_value 10 text) then Err OutOfRange else Ok (digits_value 10 text))
+    else Err WrongType
 
 -- a whole number of at most `most`, or none at null
 abbrev pub whole_value : ℕ → Token → Result (Option ℕ) Fault
@@ -91,7 +93,8 @@ IsListed t v = v ≡ Err (unwanted t)
 -- the list
 pub data AreListed : InstructionKinds → List Token → Result InstructionKinds Fault → List Token → Type 0 where
   ends : {all : InstructionKinds} {ts : List Token} → IsListed (first ts) (Ok None) → AreListed all ts (Ok all) (drop 1 ts)
-  refuses : {all : InstructionKinds} {ts : List Token} {fault : Fault} → IsListed (first ts) (Err fault) → AreListed all ts (Err fault) (drop 1 ts)
+  refuses : {all : InstructionKinds} {ts : List Token} {fault : Fault} → IsListed (first ts) (Err fault)
+      → AreListed all ts (Err fault) (drop 1 ts)
   names : {all : InstructionKinds} {ts rest : List Token} {v : Result InstructionKinds Fault} (kind : InstructionKind) →
       IsListed (first ts) (Ok (Some kind)) → AreListed (with_kind all true kind) (drop 1 ts) v rest → AreListed all ts v rest
 

@@ -1,5 +1,6 @@
 -- Small sections, and files that are refused.
-use Rattle.std.proofs.Common.{◌≡◌, ℕ, ◌+◌, ◌<◌, ◌≤◌, true, false, List, [], ◌∷◌, ◌++◌, length, drop, refl, sym, ap, subst, ◌∙◌, arith, length-append}
+use Rattle.std.proofs.Common.{◌≡◌, ℕ, ◌+◌, ◌<◌, ◌≤◌, true, false, List, [], ◌∷◌, ◌++◌, length, drop, refl, sym, ap, subst, ◌∙◌, arith}
+use Rattle.std.proofs.Common.{length-append}
 use Rattle.std.specs.Prelude.{IsUtf8}
 use Rattle.std.specs.List.{concat}
 use Rattle.std.proofs.lemmas.Str.{IsUtf8-from_ascii}
@@ -9,7 +10,8 @@ use Rattle.smith_binary.specs.Spelling.Spelling.{any}
 use Rattle.smith_binary.proofs.NumberLemmas.{unsigned_last}
 use Rattle.smith_binary.proofs.UnambiguousLemmas.{same_head}
 use Rattle.smith_binary.proofs.WrittenLemmas.{each_byte}
-use Rattle.smith_custom_sections.specs.CustomSections.{AreDueIn, AreWovenIn, IsAny, IsContentIn, IsPlainFile, IsPlainSection, IsWithCustomsIn}
+use Rattle.smith_custom_sections.specs.CustomSections.{AreDueIn, AreWovenIn, IsAny, IsContentIn, IsPlainFile, IsPlainSection}
+use Rattle.smith_custom_sections.specs.CustomSections.{IsWithCustomsIn}
 use Rattle.smith_custom_sections.specs.ExampleCustoms.{after_preamble, custom}
 use Rattle.smith_custom_sections.specs.WithoutCustoms.{IsLeftOf, IsNamed, IsWithoutCustoms}
 use Rattle.smith_custom_sections.proofs.WovenLemmas.{none_left}
@@ -48,7 +50,8 @@ small_name name text small = record {
 }
 
 -- the first byte of a section is its identifier
-section_head : {Content : List ℕ → Type 0} {id byte : ℕ} {bytes piece : List ℕ} (rest : List ℕ) → IsSection id Content piece → byte ∷ bytes ≡ piece ++ rest → byte ≡ id
+section_head : {Content : List ℕ → Type 0} {id byte : ℕ} {bytes piece : List ℕ} (rest : List ℕ) → IsSection id Content piece
+    → byte ∷ bytes ≡ piece ++ rest → byte ≡ id
 section_head rest h whole =
     same_head (whole ∙ ap (λ (p : List ℕ). p ++ rest) (h.whole ∙ ap (λ (p : List ℕ). p ++ h.second) h.is_first))
 
@@ -122,7 +125,8 @@ section_goes (one ∷ others) bytes h same =
     omega (arith, first, joined, ap length same)
 
 pub custom_left : IsWithoutCustoms (after_preamble (0x00 ∷ 0x01 ∷ 0x00 ∷ [])) (after_preamble (0x00 ∷ 0x01 ∷ 0x00 ∷ [])) → ⊥
-custom_left h = custom_stays h.left (0x01 ∷ 0x00 ∷ []) (after (0x00 ∷ 0x01 ∷ 0x00 ∷ []) h.sections) (sym (after (0x00 ∷ 0x01 ∷ 0x00 ∷ []) h.others))
+custom_left h = custom_stays h.left (0x01 ∷ 0x00 ∷ []) (after (0x00 ∷ 0x01 ∷ 0x00 ∷ []) h.sections)
+    (sym (after (0x00 ∷ 0x01 ∷ 0x00 ∷ []) h.others))
 
 pub section_left_out : IsWithoutCustoms (after_preamble (0x01 ∷ 0x01 ∷ 0x00 ∷ [])) (after_preamble []) → ⊥
 section_left_out h = section_goes h.left (0x01 ∷ 0x00 ∷ []) (after (0x01 ∷ 0x01 ∷ 0x00 ∷ []) h.sections) (sym (after [] h.others))
@@ -152,7 +156,13 @@ type_file = record {
 
 -- the content of a custom section without a name
 unnamed : (place : ℕ) (bytes : List ℕ) → IsContentIn any (custom place [] bytes) (0x00 ∷ bytes)
-unnamed place bytes = record { first = 0x00 ∷ []; second = bytes; is_first = small_name [] no_text (omega arith); is_second = refl; whole = refl }
+unnamed place bytes = record {
+  first = 0x00 ∷ [];
+  second = bytes;
+  is_first = small_name [] no_text (omega arith);
+  is_second = refl;
+  whole = refl;
+}
 
 front_due : AreDueIn any (custom 5 [] [] ∷ custom 0 [] (7 ∷ []) ∷ []) false 0 (0x00 ∷ 0x02 ∷ 0x00 ∷ 0x07 ∷ [])
 unfolding Each

@@ -33,7 +33,8 @@ woven_whole {new = new} customs pieces file none plain one two =
       without = left_of_woven inserted;
     }
 
-pub file_written : {empty between new : Output} (customs : List CustomSection) (pieces : List (List ℕ)) (file front back bytes : List ℕ) (least : ℕ)
+pub file_written : {empty between new : Output} (customs : List CustomSection) (pieces : List (List ℕ)) (file front back bytes : List ℕ)
+    (least : ℕ)
     → empty ≡ record { bytes = []; least = least } → IsPlainFile pieces file → front ≡ take 8 file → back ≡ drop 8 file
     → Writes (λ _. Is front) empty between
     → ((all : List (List ℕ)) → Each IsPlainSection all back → Writes (λ s. AreWovenIn s customs 0 all) between new)

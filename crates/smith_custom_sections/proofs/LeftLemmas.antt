@@ -27,7 +27,8 @@ left_one {bytes = bytes} {piece = piece} h = record {
   is = append-nil bytes;
 }
 
-each_append : {A : Type 0} (Item : A → List ℕ → Type 0) (xs ys : List A) (a b : List ℕ) → Each Item xs a → Each Item ys b → Each Item (xs ++ ys) (a ++ b)
+each_append : {A : Type 0} (Item : A → List ℕ → Type 0) (xs ys : List A) (a b : List ℕ) → Each Item xs a → Each Item ys b
+    → Each Item (xs ++ ys) (a ++ b)
 unfolding Each
 each_append Item [] ys a b h k = rw h k
 each_append Item (x ∷ xs) ys a b h k = record {
@@ -70,11 +71,13 @@ one_left : (custom : CustomSection) (b : Bool) (piece : List ℕ) → IsSectionI
 one_left custom true piece h = left_one (IsLeftOf.custom (named_section custom piece h) refl)
 one_left custom false piece h = left_none h
 
-due_left : (customs : List CustomSection) (at_end : Bool) (place : ℕ) (piece : List ℕ) → AreDueIn any customs at_end place piece → Left [] piece
+due_left : (customs : List CustomSection) (at_end : Bool) (place : ℕ) (piece : List ℕ) → AreDueIn any customs at_end place piece
+    → Left [] piece
 unfolding Each
 due_left [] at_end place piece h = left_none h
 due_left (custom ∷ customs) at_end place piece h =
-    left_joined (one_left custom (is_due at_end place custom) h.first h.is_first) (due_left customs at_end place h.second h.is_second) h.whole
+    left_joined (one_left custom (is_due at_end place custom) h.first h.is_first) (due_left customs at_end place h.second h.is_second)
+    h.whole
 
 -- all of the others
 section_left : {section piece : List ℕ} (bytes : List ℕ) → IsPlainSection section bytes → piece ≡ section → Left section piece
@@ -98,14 +101,21 @@ plain_concat [] file h = h
 plain_concat (section ∷ sections) file h = h.whole ∙ rw (h.is_first.is, plain_concat sections h.second h.is_second) refl
 
 -- the file without its custom sections is the file that was
-pub left_of_woven : {customs : List CustomSection} {file bytes : List ℕ} → IsWithCustomsIn any customs file bytes → IsWithoutCustoms bytes file
+pub left_of_woven : {customs : List CustomSection} {file bytes : List ℕ} → IsWithCustomsIn any customs file bytes
+    → IsWithoutCustoms bytes file
 left_of_woven {customs = customs} h =
     let plain = h.plain in
     let woven = h.woven in
     let left = woven_left customs 0 h.sections plain.second woven.second plain.is_second woven.is_second in
     record {
       left = left.each_left;
-      sections = record { first = woven.first; second = woven.second; is_first = woven.is_first; is_second = left.each; whole = woven.whole };
+      sections = record {
+        first = woven.first;
+        second = woven.second;
+        is_first = woven.is_first;
+        is_second = left.each;
+        whole = woven.whole;
+      };
       others = record {
         first = plain.first;
         second = plain.second;

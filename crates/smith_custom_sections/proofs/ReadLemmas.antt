@@ -41,7 +41,8 @@ section_read {section = section} {rest = rest} {bytes = bytes} content after h r
     }
 
 -- a section is not malformed
-pub never_malformed : {section rest bytes : List ℕ} (fault : Fault) → StartsWith section rest bytes → content_at (drop 1 bytes) ≡ Err fault → ⊥
+pub never_malformed : {section rest bytes : List ℕ} (fault : Fault) → StartsWith section rest bytes → content_at (drop 1 bytes) ≡ Err fault
+    → ⊥
 never_malformed fault h read =
     let one = content_read h in
     let never = sym one.read ∙ read in absurd cc

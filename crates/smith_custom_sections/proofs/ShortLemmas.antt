@@ -7,7 +7,8 @@ use Rattle.smith_bytes.specs.Draws.{len_at, range_at}
 use Rattle.smith_bytes.specs.Names.{text_at}
 use Rattle.smith_bytes.proofs.GrownLemmas.{cond_both, grow_all}
 use Rattle.smith_custom_sections.specs.declared.custom_section.CustomSection.{CustomSection}
-use Rattle.smith_custom_sections.specs.CustomDraws.{IsShort, bytes_at, function_name_at, name_section_at, plain_section_at, custom_section_at, custom_sections_at}
+use Rattle.smith_custom_sections.specs.CustomDraws.{IsShort, bytes_at, function_name_at, name_section_at, plain_section_at}
+use Rattle.smith_custom_sections.specs.CustomDraws.{custom_section_at, custom_sections_at}
 
 pub text_short : (most : ℕ) (bytes : List ℕ) → length (text_at most bytes).0 ≤ most
 unfolding text_at
@@ -54,6 +55,7 @@ unfolding custom_sections_at
 sections_short bytes = grow_all IsShort (λ made. custom_section_at) (λ made bytes. section_short bytes) 0 8 [] bytes
     (λ k d below. absurd (omega (arith, below)))
 
-pub drawn_short : {rest : List ℕ} {customs : List CustomSection} (bytes : List ℕ) → custom_sections_at bytes ≡ (customs, rest) → All IsShort customs
+pub drawn_short : {rest : List ℕ} {customs : List CustomSection} (bytes : List ℕ) → custom_sections_at bytes ≡ (customs, rest)
+    → All IsShort customs
 drawn_short bytes drawn =
     subst (All IsShort) (ap (λ (p : List CustomSection × List ℕ). p.0) drawn) (sections_short bytes)

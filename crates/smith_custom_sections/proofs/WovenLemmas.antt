@@ -1,5 +1,6 @@
 -- Sections of a file that are written one after the other, with custom sections among them.
-use Rattle.std.proofs.Common.{◌≡◌, ◌≢◌, ℕ, zero, suc, ◌+◌, ◌≤◌, true, false, List, [], ◌∷◌, ◌++◌, length, drop, refl, sym, ap, subst, ◌∙◌, arith, add-one, length-append}
+use Rattle.std.proofs.Common.{◌≡◌, ◌≢◌, ℕ, zero, suc, ◌+◌, ◌≤◌, true, false, List, [], ◌∷◌, ◌++◌, length, drop, refl, sym, ap, subst, ◌∙◌}
+use Rattle.std.proofs.Common.{arith, add-one, length-append}
 use Rattle.smith_binary.specs.Pieces.{Is, Joined, Each, Output, Writes}
 use Rattle.smith_binary.specs.Spelling.{Spelling}
 use Rattle.smith_binary.proofs.WrittenLemmas.{Leads, joined_written, written_as}
@@ -53,7 +54,8 @@ pub record IsWoven (customs : List CustomSection) (pieces : List (List ℕ)) (pl
   pub plain : Each IsPlainSection (drop place pieces) left
   pub leads : Leads (λ s. AreWovenIn s customs place (drop place pieces)) (λ s. AreWovenIn s customs 0 pieces) start now
 
-pub woven_start : (customs : List CustomSection) (pieces : List (List ℕ)) (bytes : List ℕ) (start : Output) → Each IsPlainSection pieces bytes
+pub woven_start : (customs : List CustomSection) (pieces : List (List ℕ)) (bytes : List ℕ) (start : Output)
+    → Each IsPlainSection pieces bytes
     → IsWoven customs pieces 0 bytes start start
 woven_start customs pieces bytes start h = record { plain = h; leads = record { to = λ final rest. rest } }
 
@@ -62,12 +64,14 @@ drop_one zero xs x others is = rw is refl
 drop_one (suc n) [] x others is = absurd cc
 drop_one (suc n) (y ∷ ys) x others is = drop_one n ys x others is
 
-woven_cons : (s : Spelling) (customs : List CustomSection) (place after_place : ℕ) (pieces next others : List (List ℕ)) (section bytes piece : List ℕ)
+woven_cons : (s : Spelling) (customs : List CustomSection) (place after_place : ℕ) (pieces next others : List (List ℕ))
+    (section bytes piece : List ℕ)
     → pieces ≡ section ∷ others → bytes ≡ section → next ≡ others → after_place ≡ suc place
     → Joined (AreDueIn s customs false place) (Joined (Is bytes) (AreWovenIn s customs after_place next)) piece
     → AreWovenIn s customs place pieces piece
 unfolding AreWovenIn
-woven_cons s customs place after_place pieces next others section bytes piece is same rest place_is h = rw (is, sym same, sym rest, sym place_is) h
+woven_cons s customs place after_place pieces next others section bytes piece is same rest place_is h =
+    rw (is, sym same, sym rest, sym place_is) h
 
 -- one more section
 pub woven_more : {customs : List CustomSection} {pieces : List (List ℕ)} {place : ℕ} {left : List ℕ} {start now between later : Output}

@@ -19,7 +19,8 @@ is_due at_end place custom = (custom.place == place) || (at_end && nat_lt place 
 
 -- the custom sections that come at a place, in order (own rule)
 abbrev pub AreDueIn : Spelling → List CustomSection → Bool → ℕ → List ℕ → Type 0
-AreDueIn spelling customs at_end place = Each (λ (custom : CustomSection). IsSectionIfIn spelling (is_due at_end place custom) 0 (IsContentIn spelling custom)) customs
+AreDueIn spelling customs at_end place = Each (λ (custom : CustomSection). IsSectionIfIn spelling (is_due at_end place custom) 0
+    (IsContentIn spelling custom)) customs
 
 -- the sections of a file from a place on, with custom sections before, between and after them (Modules)
 unfoldable pub AreWovenIn : Spelling → List CustomSection → ℕ → List (List ℕ) → List ℕ → Type 0

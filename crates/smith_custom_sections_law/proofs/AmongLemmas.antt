@@ -1,5 +1,6 @@
 -- The custom sections of a file to which some are added.
-use Rattle.std.proofs.Common.{◌≡◌, ℕ, suc, Bool, true, false, Option, Some, None, List, [], ◌∷◌, ◌++◌, length, drop, refl, sym, ap, subst, ◌∙◌, arith, append_assoc, append-nil, length-append}
+use Rattle.std.proofs.Common.{◌≡◌, ℕ, suc, Bool, true, false, Option, Some, None, List, [], ◌∷◌, ◌++◌, length, drop, refl, sym, ap, subst}
+use Rattle.std.proofs.Common.{◌∙◌, arith, append_assoc, append-nil, length-append}
 use Rattle.smith_binary.specs.Pieces.{Is, Joined, Each, IsSection}
 use Rattle.smith_binary.specs.Spelling.Spelling.{any}
 use Rattle.smith_binary_sections.specs.Modules.{IsPreamble}
@@ -32,7 +33,8 @@ all_small (section ∷ sections) [] piece plain h =
     let none = ap length (sym h ∙ plain.whole) ∙ length-append plain.first plain.second in
     absurd (omega (arith, some, none))
 all_small (section ∷ sections) (pair ∷ pairs) piece plain h =
-    let same = same_section plain.is_first.id pair.0 plain.first h.first plain.second h.second plain.is_first.form h.is_first.1 (sym plain.whole ∙ h.whole) in (
+    let same = same_section plain.is_first.id pair.0 plain.first h.first plain.second h.second plain.is_first.form h.is_first.1
+    (sym plain.whole ∙ h.whole) in (
       record {
         pair = pair;
         form = subst (IsAnySection pair) (sym same.pieces ∙ plain.is_first.is) h.is_first;
@@ -52,7 +54,8 @@ kept_end : (after : Option ℕ) → Kept after []
 unfolding Each
 kept_end after = record { sections = []; customs = []; each = refl; among = refl }
 
-kept_custom : (after : Option ℕ) (custom : CustomSection) (b : Bool) (first second piece : List ℕ) → IsSectionIfIn any b 0 (IsContentIn any custom) first
+kept_custom : (after : Option ℕ) (custom : CustomSection) (b : Bool) (first second piece : List ℕ)
+    → IsSectionIfIn any b 0 (IsContentIn any custom) first
     → Kept after second → piece ≡ first ++ second → Kept after piece
 unfolding Each
 kept_custom after custom true first second piece h rest whole =
@@ -83,7 +86,8 @@ kept_due after (custom ∷ customs) at_end place first second piece h rest whole
     kept_custom after custom (is_due at_end place custom) h.first (h.second ++ second) piece h.is_first more
     (whole ∙ ap (λ (p : List ℕ). p ++ second) h.whole ∙ append_assoc h.first h.second second)
 
-kept_own : (after : Option ℕ) (section second piece : List ℕ) (small : IsSmall section) → Kept (Some small.pair.0) second → piece ≡ section ++ second
+kept_own : (after : Option ℕ) (section second piece : List ℕ) (small : IsSmall section) → Kept (Some small.pair.0) second
+    → piece ≡ section ++ second
     → Kept after piece
 unfolding Each
 kept_own after section second piece small rest whole = record {
@@ -96,7 +100,8 @@ kept_own after section second piece small rest whole = record {
 kept_woven : (after : Option ℕ) (customs : List CustomSection) (place : ℕ) (sections : List (List ℕ)) (woven : List ℕ) → AreSmall sections
     → AreWovenIn any customs place sections woven → Kept after woven
 unfolding AreWovenIn
-kept_woven after customs place [] woven small h = kept_due after customs true place woven [] woven h (kept_end after) (sym (append-nil woven))
+kept_woven after customs place [] woven small h = kept_due after customs true place woven [] woven h (kept_end after)
+    (sym (append-nil woven))
 kept_woven after customs place (section ∷ sections) woven small h =
     let inner = h.is_second in
     let rest = kept_woven (Some small.0.pair.0) customs (suc place) sections inner.second small.1 inner.is_second in
@@ -108,7 +113,8 @@ kept_woven after customs place (section ∷ sections) woven small h =
 pub after_preamble : {Rest : List ℕ → Type 0} {file : List ℕ} → (h : Joined IsPreamble Rest file) → drop 8 file ≡ h.second
 after_preamble h = rw (h.whole, h.is_first) refl
 
-pub kept_module : (m : Syntax) (customs : List CustomSection) (file bytes : List ℕ) → IsModuleBinary m file → IsWithCustomsIn any customs file bytes
+pub kept_module : (m : Syntax) (customs : List CustomSection) (file bytes : List ℕ) → IsModuleBinary m file
+    → IsWithCustomsIn any customs file bytes
     → IsApartFromCustoms m bytes
 kept_module m customs file bytes h k =
     let same : h.form.second ≡ k.plain.second = sym (after_preamble h.form) ∙ after_preamble k.plain in
@@ -124,7 +130,8 @@ kept_module m customs file bytes h k =
           first = k.woven.first;
           second = k.woven.second;
           is_first = k.woven.is_first;
-          is_second = (sections_stable m h.count).at customs 0 k.sections k.plain.second k.woven.second k.plain.is_second k.woven.is_second sections;
+          is_second = (sections_stable m h.count).at customs 0 k.sections k.plain.second k.woven.second k.plain.is_second k.woven.is_second
+              sections;
           whole = k.woven.whole;
         };
         bodies = h.bodies;

@@ -36,7 +36,8 @@ same_section id other_id piece other rest other_rest h k whole =
     let ids : id ≡ other_id = same_head (sym (from_id rest h) ∙ whole ∙ from_id other_rest k) in
     let other_any : IsSection id IsAny other = subst (λ (i : ℕ). IsSection i IsAny other) (sym ids) (of_any k) in
     let one : Same tt tt rest other_rest =
-    (section_is_unambiguous {A = Unit {0}} {P = λ nothing. IsAny} id nothing_whole).one tt tt piece other rest other_rest (of_any h) other_any whole in
+    (section_is_unambiguous {A = Unit {0}} {P = λ nothing. IsAny} id nothing_whole).one tt tt piece other rest other_rest
+    (of_any h) other_any whole in
     let lengths = ap length whole in
     let long : length piece ≡ length other =
     omega (arith, lengths, length-append piece rest, length-append other other_rest, ap length one.after) in
@@ -52,7 +53,8 @@ unfolding Each
 no_customs = record { all = []; form = refl }
 
 -- bytes that begin with a section that is not custom begin with no custom section
-each_none : (all : List (Unit {0})) (sections : List (List ℕ)) (first rest bytes : List ℕ) → Each IsPlainSection sections bytes → Each IsCustom all first
+each_none : (all : List (Unit {0})) (sections : List (List ℕ)) (first rest bytes : List ℕ) → Each IsPlainSection sections bytes
+    → Each IsCustom all first
     → bytes ≡ first ++ rest → first ≡ []
 unfolding Each
 each_none [] sections first rest bytes plain h whole = h

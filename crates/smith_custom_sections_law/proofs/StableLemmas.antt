@@ -1,5 +1,6 @@
 -- Sections that stay what they are when custom sections are put among them.
-use Rattle.std.proofs.Common.{◌≡◌, ℕ, suc, Bool, true, false, Option, List, [], ◌∷◌, ◌++◌, length, refl, sym, ap, subst, ◌∙◌, arith, append-nil, length-append}
+use Rattle.std.proofs.Common.{◌≡◌, ℕ, suc, Bool, true, false, Option, List, [], ◌∷◌, ◌++◌, length, refl, sym, ap, subst, ◌∙◌, arith}
+use Rattle.std.proofs.Common.{append-nil, length-append}
 use Rattle.smith_binary.specs.Pieces.{Each, IsSection}
 use Rattle.smith_binary.specs.Spelling.Spelling.{any}
 use Rattle.smith_binary_sections.specs.Sections.{IsOptionalSection, IsSectionIfIn}
@@ -21,14 +22,21 @@ one_custom custom piece h =
         content = h.is_second.content;
         is_content = record {
           name = custom.name;
-          form = record { first = content.first; second = content.second; is_first = content.is_first; is_second = tt; whole = content.whole };
+          form = record {
+            first = content.first;
+            second = content.second;
+            is_first = content.is_first;
+            is_second = tt;
+            whole = content.whole;
+          };
         };
         form = h.is_second.form;
       };
       whole = h.whole;
     }
 
-due_then : (custom : CustomSection) (b : Bool) (first second piece : List ℕ) → IsSectionIfIn any b 0 (IsContentIn any custom) first → AreCustoms second
+due_then : (custom : CustomSection) (b : Bool) (first second piece : List ℕ) → IsSectionIfIn any b 0 (IsContentIn any custom) first
+    → AreCustoms second
     → piece ≡ first ++ second → AreCustoms piece
 unfolding Each
 due_then custom true first second piece h more whole = record {
@@ -37,18 +45,21 @@ due_then custom true first second piece h more whole = record {
 }
 due_then custom false first second piece h more whole = subst AreCustoms (sym (whole ∙ ap (λ (p : List ℕ). p ++ second) h)) more
 
-pub due_customs : (customs : List CustomSection) (at_end : Bool) (place : ℕ) (piece : List ℕ) → AreDueIn any customs at_end place piece → AreCustoms piece
+pub due_customs : (customs : List CustomSection) (at_end : Bool) (place : ℕ) (piece : List ℕ) → AreDueIn any customs at_end place piece
+    → AreCustoms piece
 unfolding Each
 due_customs [] at_end place piece h = subst AreCustoms (sym h) no_customs
 due_customs (custom ∷ customs) at_end place piece h =
-    due_then custom (is_due at_end place custom) h.first h.second piece h.is_first (due_customs customs at_end place h.second h.is_second) h.whole
+    due_then custom (is_due at_end place custom) h.first h.second piece h.is_first (due_customs customs at_end place h.second h.is_second)
+    h.whole
 
 -- sections with this property have it with custom sections among them
 pub record IsStable (Holds : List ℕ → Type 0) : Type 0 where
   pub at : (customs : List CustomSection) (place : ℕ) (sections : List (List ℕ)) (piece woven : List ℕ) → Each IsPlainSection sections piece
       → AreWovenIn any customs place sections woven → Holds piece → Holds woven
 
-customs_stable : (customs : List CustomSection) (place : ℕ) (sections : List (List ℕ)) (piece woven : List ℕ) → Each IsPlainSection sections piece
+customs_stable : (customs : List CustomSection) (place : ℕ) (sections : List (List ℕ)) (piece woven : List ℕ)
+    → Each IsPlainSection sections piece
     → AreWovenIn any customs place sections woven → AreCustoms piece → AreCustoms woven
 unfolding Each AreWovenIn
 customs_stable customs place [] piece woven plain h is = due_customs customs true place woven h
@@ -62,7 +73,8 @@ pub stable_customs : IsStable AreCustoms
 stable_customs = record { at = customs_stable }
 
 -- a section that is there
-present_stable : {N : Type 0} {P More : List ℕ → Type 0} (id : ℕ) → IsStable More → (customs : List CustomSection) (place : ℕ) (sections : List (List ℕ))
+present_stable : {N : Type 0} {P More : List ℕ → Type 0} (id : ℕ) → IsStable More → (customs : List CustomSection) (place : ℕ)
+    (sections : List (List ℕ))
     (piece woven first second : List ℕ) → Each IsPlainSection sections piece → AreWovenIn any customs place sections woven
     → IsSection id P first → More second → piece ≡ first ++ second → IsThen id N P More woven
 unfolding Each AreWovenIn
@@ -89,12 +101,14 @@ present_stable {P = P} {More = More} id stable customs place (section ∷ sectio
     }
 
 -- a section that may be left out
-optional_stable : {N : Type 0} {P More : List ℕ → Type 0} (id : ℕ) → IsStable More → (customs : List CustomSection) (place : ℕ) (sections : List (List ℕ))
+optional_stable : {N : Type 0} {P More : List ℕ → Type 0} (id : ℕ) → IsStable More → (customs : List CustomSection) (place : ℕ)
+    (sections : List (List ℕ))
     (piece woven first second : List ℕ) → Each IsPlainSection sections piece → AreWovenIn any customs place sections woven
     → IsOptionalSection id N P first → More second → piece ≡ first ++ second → IsThen id N P More woven
 optional_stable id stable customs place sections piece woven first second plain h (IsOptionalSection.present is) more whole =
     present_stable id stable customs place sections piece woven first second plain h is more whole
-optional_stable {More = More} id stable customs place sections piece woven first second plain h (IsOptionalSection.absent says none) more whole =
+optional_stable {More = More} id stable customs place sections piece woven first second plain h (IsOptionalSection.absent says none) more
+    whole =
     let same : second ≡ piece = sym (whole ∙ ap (λ (p : List ℕ). p ++ second) none) in
     record {
       first = [];
@@ -110,7 +124,8 @@ optional_stable {More = More} id stable customs place sections piece woven first
       whole = refl;
     }
 
-then_stable : {N : Type 0} {P More : List ℕ → Type 0} (id : ℕ) → IsStable More → (customs : List CustomSection) (place : ℕ) (sections : List (List ℕ))
+then_stable : {N : Type 0} {P More : List ℕ → Type 0} (id : ℕ) → IsStable More → (customs : List CustomSection) (place : ℕ)
+    (sections : List (List ℕ))
     (piece woven : List ℕ) → Each IsPlainSection sections piece → AreWovenIn any customs place sections woven → IsThen id N P More piece
     → IsThen id N P More woven
 then_stable id stable customs place sections piece woven plain h is =

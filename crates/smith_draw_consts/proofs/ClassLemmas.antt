@@ -1,5 +1,6 @@
 -- The classes of the items read, and the flags of classes.
-use Rattle.std.proofs.Common.{◌≡◌, inl, inr, ℕ, ◌+◌, ◌<◌, Bool, true, false, List, [], ◌∷◌, ◌++◌, get_or, length, refl, sym, ap, ◌∙◌, subst, arith}
+use Rattle.std.proofs.Common.{◌≡◌, inl, inr, ℕ, ◌+◌, ◌<◌, Bool, true, false, List, [], ◌∷◌, ◌++◌, get_or, length, refl, sym, ap, ◌∙◌, subst}
+use Rattle.std.proofs.Common.{arith}
 use Rattle.std.specs.Prelude.{All, Option, None, Some, IfSome, not, ◌&&◌, slice_get, slice_index, if◌then◌else◌}
 use Rattle.std.proofs.lemmas.Bool.{cases_lt}
 use Rattle.std.proofs.lemmas.List.{length-append}
@@ -27,11 +28,14 @@ use Rattle.smith_draw_consts.proofs.KeptOfferLemmas.{offered_more, length_if}
 pub get_front : {A : Type 0} (xs ys : List A) (i : ℕ) (x : A) → slice_get xs i ≡ Some x → slice_get (xs ++ ys) i ≡ Some x
 get_front {A} xs ys i x at =
     let inside : i < length xs = slice_get_within xs i x at in
-    slice_get-get_or (xs ++ ys) i x (omega (arith, length-append xs ys, inside)) ∙ ap (λ (each : A). Some each) (get_or-append xs ys x i inside ∙ get_or_from_slice_get xs i x x at)
+    slice_get-get_or (xs ++ ys) i x (omega (arith, length-append xs ys, inside)) ∙ ap (λ (each : A). Some each)
+    (get_or-append xs ys x i inside ∙ get_or_from_slice_get xs i x x at)
 
 -- an element of a longer list, within the shorter one
-pub get_within_front : {A : Type 0} (xs ys : List A) (i : ℕ) (x : A) → i < length xs → slice_get (xs ++ ys) i ≡ Some x → slice_get xs i ≡ Some x
-get_within_front {A} xs ys i x inside at = slice_get-get_or xs i x inside ∙ ap (λ (each : A). Some each) (sym (get_or-append xs ys x i inside) ∙ get_or_from_slice_get (xs ++ ys) i x x at)
+pub get_within_front : {A : Type 0} (xs ys : List A) (i : ℕ) (x : A) → i < length xs → slice_get (xs ++ ys) i ≡ Some x
+    → slice_get xs i ≡ Some x
+get_within_front {A} xs ys i x inside at = slice_get-get_or xs i x inside ∙ ap (λ (each : A). Some each)
+    (sym (get_or-append xs ys x i inside) ∙ get_or_from_slice_get (xs ++ ys) i x x at)
 
 -- the last element
 pub get_last : {A : Type 0} (xs : List A) (x : A) (i : ℕ) → i ≡ length xs → slice_get (xs ++ x ∷ []) i ≡ Some x
@@ -44,14 +48,17 @@ pub same_element : {A : Type 0} (xs : List A) (i : ℕ) (x y : A) → slice_get 
 same_element xs i x y is other = sym (get_or_from_slice_get xs i x x is) ∙ get_or_from_slice_get xs i y x other
 
 -- the class that is noted has its type after
-kind_kept : (kind found : Option ValType) (old new : Classes) (k : ℕ) → IsNoted kind old new → slice_get old.kinds k ≡ Some found → slice_get new.kinds k ≡ Some found
+kind_kept : (kind found : Option ValType) (old new : Classes) (k : ℕ) → IsNoted kind old new → slice_get old.kinds k ≡ Some found
+    → slice_get new.kinds k ≡ Some found
 kind_kept kind found old new k noted at = elim noted.kinds [
   | inl same ↦ ap (λ (kinds : List (Option ValType)). slice_get kinds k) same ∙ at
   | inr more ↦ ap (λ (kinds : List (Option ValType)). slice_get kinds k) more ∙ get_front old.kinds (kind ∷ []) k found at
 ]
 
 -- an item is noted in a class of its type
-pub classes_noted : {A : Type 0} (types : List SubType) (type_of : ℕ → A → Option ValType) (xs : List A) (x : A) (kind : Option ValType) (old new : Classes) → AreClasses types type_of xs old → slice_get xs (length old.of) ≡ Some x → kind ≡ type_of (length old.of) x → IfSome kind (IsValInRange types) → IsNoted kind old new
+pub classes_noted : {A : Type 0} (types : List SubType) (type_of : ℕ → A → Option ValType) (xs : List A) (x : A) (kind : Option ValType)
+    (old new : Classes) → AreClasses types type_of xs old → slice_get xs (length old.of) ≡ Some x → kind ≡ type_of (length old.of) x
+    → IfSome kind (IsValInRange types) → IsNoted kind old new
     → AreClasses types type_of xs new
 classes_noted {A} types type_of xs x kind old new classes at is valid noted =
     let class : ℕ = noted.class.0 in
@@ -66,33 +73,41 @@ classes_noted {A} types type_of xs x kind old new classes at is valid noted =
       in_range = elim noted.kinds [
         | inl same ↦ subst (All (λ (each : Option ValType). IfSome each (IsValInRange types))) (sym same) classes.in_range
         | inr more ↦
-            subst (All (λ (each : Option ValType). IfSome each (IsValInRange types))) (sym more) (All-push (λ (each : Option ValType). IfSome each (IsValInRange types)) old.kinds kind classes.in_range valid)
+            subst (All (λ (each : Option ValType). IfSome each (IsValInRange types))) (sym more)
+            (All-push (λ (each : Option ValType). IfSome each (IsValInRange types)) old.kinds kind classes.in_range valid)
       ];
       same = λ i y within there. elim (cases_lt i (length old.of)) [
         | inl h ↦
-            let before : slice_index new.of i ≡ slice_index old.of i = ap (λ (of : List ℕ). slice_index of i) noted.class.1 ∙ get_or-append old.of (class ∷ []) 0 i h in
+            let before : slice_index new.of i ≡ slice_index old.of i = ap (λ (of : List ℕ). slice_index of i) noted.class.1
+            ∙ get_or-append old.of (class ∷ []) 0 i h in
             ap (slice_get new.kinds) before ∙ kind_kept kind (type_of i y) old new (slice_index old.of i) noted (classes.same i y h there)
         | inr h ↦
             let last : i ≡ length old.of = omega (arith, h, within, longer) in
-            let its : slice_index new.of i ≡ class = ap (slice_index new.of) last ∙ ap (λ (of : List ℕ). slice_index of (length old.of)) noted.class.1 ∙ get_or-append_seam old.of class [] 0 in
+            let its : slice_index new.of i ≡ class = ap (slice_index new.of) last ∙ ap (λ (of : List ℕ). slice_index of (length old.of))
+            noted.class.1 ∙ get_or-append_seam old.of class [] 0 in
             let item : x ≡ y = same_element xs i x y (ap (slice_get xs) last ∙ at) there in
-            ap (slice_get new.kinds) its ∙ noted.class.2 ∙ ap (λ (each : Option ValType). Some each) (is ∙ ap (type_of (length old.of)) item ∙ ap (λ (n : ℕ). type_of n y) (sym last))
+            ap (slice_get new.kinds) its ∙ noted.class.2 ∙ ap (λ (each : Option ValType). Some each) (is ∙ ap (type_of (length old.of)) item
+            ∙ ap (λ (n : ℕ). type_of n y) (sym last))
       ];
     }
 
 -- the flags of the first classes stay, as a class is added
-pub flags_noted : (types : List SubType) (wanted : ValType) (kind : Option ValType) (old new : Classes) (flags : List Bool) → IsNoted kind old new → AreFlags types wanted old.kinds flags → AreFlags types wanted new.kinds flags
+pub flags_noted : (types : List SubType) (wanted : ValType) (kind : Option ValType) (old new : Classes) (flags : List Bool)
+    → IsNoted kind old new → AreFlags types wanted old.kinds flags → AreFlags types wanted new.kinds flags
 flags_noted types wanted kind old new flags noted are = elim noted.kinds [
   | inl same ↦ subst (λ (kinds : List (Option ValType)). AreFlags types wanted kinds flags) (sym same) are
   | inr more ↦ record {
     few = omega (arith, are.few, ap length more ∙ length-append old.kinds (kind ∷ []));
     right = λ k found inside at.
-        are.right k found inside (get_within_front old.kinds (kind ∷ []) k found (omega (arith, inside, are.few)) (sym (ap (λ (kinds : List (Option ValType)). slice_get kinds k) more) ∙ at));
+        are.right k found inside (get_within_front old.kinds (kind ∷ []) k found (omega (arith, inside, are.few))
+        (sym (ap (λ (kinds : List (Option ValType)). slice_get kinds k) more) ∙ at));
   }
 ]
 
 -- one more class is tested
-pub flag_pushed : (types : List SubType) (wanted : ValType) (kinds : List (Option ValType)) (flags longer : List Bool) (flag : Bool) (kind : Option ValType) → AreFlags types wanted kinds flags → slice_get kinds (length flags) ≡ Some kind → flag ≡ is_offered types wanted kind → longer ≡ flags ++ flag ∷ []
+pub flag_pushed : (types : List SubType) (wanted : ValType) (kinds : List (Option ValType)) (flags longer : List Bool) (flag : Bool)
+    (kind : Option ValType) → AreFlags types wanted kinds flags → slice_get kinds (length flags) ≡ Some kind
+    → flag ≡ is_offered types wanted kind → longer ≡ flags ++ flag ∷ []
     → AreFlags types wanted kinds longer
 flag_pushed types wanted kinds flags longer flag kind are at is more =
     let one : length longer ≡ length flags + 1 = ap length more ∙ length-append flags (flag ∷ []) in
@@ -108,53 +123,75 @@ flag_pushed types wanted kinds flags longer flag kind are at is more =
     }
 
 -- each item has a class that was tested
-pub flag_of_each : {A : Type 0} (types : List SubType) (type_of : ℕ → A → Option ValType) (xs : List A) (d : A) (classes : Classes) (flags : List Bool) → AreClasses types type_of xs classes → length flags ≡ length classes.kinds → (i : ℕ) → i < length classes.of → slice_index classes.of i < length flags
+pub flag_of_each : {A : Type 0} (types : List SubType) (type_of : ℕ → A → Option ValType) (xs : List A) (d : A) (classes : Classes)
+    (flags : List Bool) → AreClasses types type_of xs classes → length flags ≡ length classes.kinds → (i : ℕ) → i < length classes.of
+    → slice_index classes.of i < length flags
 flag_of_each types type_of xs d classes flags are all i inside =
     let at = slice_get-get_or xs i d (omega (arith, inside, are.seen)) in
-    omega (arith, all, slice_get_within classes.kinds (slice_index classes.of i) (type_of i (get_or xs i d)) (are.same i (get_or xs i d) inside at))
+    omega (
+      arith,
+      all,
+      slice_get_within classes.kinds (slice_index classes.of i) (type_of i (get_or xs i d))
+          (are.same i (get_or xs i d) inside at),
+    )
 
 -- each item adds to the count what the flag of its class says
-tally : {A : Type 0} (types : List SubType) (wanted : ValType) (offer : ℕ → A → List Choice) (type_of : ℕ → A → Option ValType) (choice_of : ℕ → Choice) (xs : List A) (d : A) (classes : Classes) (flags : List Bool)
-    → ((i : ℕ) (x : A) → offer i x ≡ offered_if (is_offered types wanted (type_of i x)) (choice_of i)) → AreClasses types type_of xs classes → AreFlags types wanted classes.kinds flags → IsTally (offered_before offer xs) classes.of flags
+tally : {A : Type 0} (types : List SubType) (wanted : ValType) (offer : ℕ → A → List Choice) (type_of : ℕ → A → Option ValType)
+    (choice_of : ℕ → Choice) (xs : List A) (d : A) (classes : Classes) (flags : List Bool)
+    → ((i : ℕ) (x : A) → offer i x ≡ offered_if (is_offered types wanted (type_of i x)) (choice_of i)) → AreClasses types type_of xs classes
+    → AreFlags types wanted classes.kinds flags → IsTally (offered_before offer xs) classes.of flags
 tally types wanted offer type_of choice_of xs d classes flags each classed are i flag inside at =
     let x = get_or xs i d in
     let within : i < length xs = omega (arith, inside, classed.seen) in
     let class : ℕ = slice_index classes.of i in
     let kind : slice_get classes.kinds class ≡ Some (type_of i x) = classed.same i x inside (slice_get-get_or xs i d within) in
-    let right : slice_get flags class ≡ Some (is_offered types wanted (type_of i x)) = are.right class (type_of i x) (slice_get_within flags class flag at) kind in
-    let same : is_offered types wanted (type_of i x) ≡ flag = same_element flags class (is_offered types wanted (type_of i x)) flag right at in
+    let right : slice_get flags class ≡ Some (is_offered types wanted (type_of i x)) =
+    are.right class (type_of i x) (slice_get_within flags class flag at) kind in
+    let same : is_offered types wanted (type_of i x) ≡ flag = same_element flags class (is_offered types wanted (type_of i x)) flag right
+    at in
     offered_more offer xs i d within
-    ∙ ap (λ (n : ℕ). offered_before offer xs i + n) (ap length (each i x) ∙ ap (λ (b : Bool). length (offered_if b (choice_of i))) same ∙ length_if flag (choice_of i))
+    ∙ ap (λ (n : ℕ). offered_before offer xs i + n) (ap length (each i x) ∙ ap (λ (b : Bool). length (offered_if b (choice_of i))) same
+    ∙ length_if flag (choice_of i))
 
 -- an immutable global is offered as its type is
-pub readable_same : (types : List SubType) (wanted value : ValType) (mutable : Bool) → (not mutable && is_val_below types value wanted) ≡ is_offered types wanted (if mutable then None else Some value)
+pub readable_same : (types : List SubType) (wanted value : ValType) (mutable : Bool) → (not mutable && is_val_below types value wanted)
+    ≡ is_offered types wanted (if mutable then None else Some value)
 readable_same types wanted value true = refl
 readable_same types wanted value false = refl
 
 -- a global adds what the flag of its class says
-pub tally_globals : (context : Context) (wanted : ValType) (classes : Classes) (flags : List Bool) → AreClasses context.types (λ index global. readable global) context.globals classes → AreFlags context.types wanted classes.kinds flags → IsTally (offered_before (global_offers context wanted) context.globals) classes.of flags
+pub tally_globals : (context : Context) (wanted : ValType) (classes : Classes) (flags : List Bool)
+    → AreClasses context.types (λ index global. readable global) context.globals classes → AreFlags context.types wanted classes.kinds flags
+    → IsTally (offered_before (global_offers context wanted) context.globals) classes.of flags
 tally_globals context wanted classes flags =
     let d : GlobalType = record { val_type = I32; mutable = false; shared = false } in
-    tally context.types wanted (global_offers context wanted) (λ index global. readable global) (λ index. choice.Global index) context.globals d classes flags
+    tally context.types wanted (global_offers context wanted) (λ index global. readable global) (λ index. choice.Global index)
+    context.globals d classes flags
     (λ i global. ap (λ (b : Bool). offered_if b (choice.Global i)) (readable_same context.types wanted global.val_type global.mutable))
 
 -- a function adds what the flag of its class says
-pub tally_functions : (context : Context) (wanted : ValType) (classes : Classes) (flags : List Bool) → AreClasses context.types (λ function index. Some (function_reference context function index)) context.funcs classes → AreFlags context.types wanted classes.kinds flags
+pub tally_functions : (context : Context) (wanted : ValType) (classes : Classes) (flags : List Bool)
+    → AreClasses context.types (λ function index. Some (function_reference context function index)) context.funcs classes
+    → AreFlags context.types wanted classes.kinds flags
     → IsTally (offered_before (function_offers context wanted) context.funcs) classes.of flags
 tally_functions context wanted classes flags =
-    tally context.types wanted (function_offers context wanted) (λ function index. Some (function_reference context function index)) (λ function. choice.Function function) context.funcs 0 classes flags (λ i index. refl)
+    tally context.types wanted (function_offers context wanted) (λ function index. Some (function_reference context function index))
+    (λ function. choice.Function function) context.funcs 0 classes flags (λ i index. refl)
 
 -- no item is read
-pub no_classes : {A : Type 0} (types : List SubType) (type_of : ℕ → A → Option ValType) (xs : List A) (classes : Classes) → classes.kinds ≡ [] → classes.of ≡ [] → AreClasses types type_of xs classes
+pub no_classes : {A : Type 0} (types : List SubType) (type_of : ℕ → A → Option ValType) (xs : List A) (classes : Classes)
+    → classes.kinds ≡ [] → classes.of ≡ [] → AreClasses types type_of xs classes
 no_classes types type_of xs classes no_kinds no_items = record {
   seen = omega (arith, ap length no_items);
   few = omega (arith, ap length no_items, ap length no_kinds);
-  in_range = subst (All (λ (each : Option ValType). IfSome each (IsValInRange types))) (sym no_kinds) (All-nil (λ (each : Option ValType). IfSome each (IsValInRange types)));
+  in_range = subst (All (λ (each : Option ValType). IfSome each (IsValInRange types))) (sym no_kinds)
+      (All-nil (λ (each : Option ValType). IfSome each (IsValInRange types)));
   same = λ i x inside there. absurd (omega (arith, inside, ap length no_items));
 }
 
 -- no class is tested
-pub no_flags : (types : List SubType) (wanted : ValType) (kinds : List (Option ValType)) (flags : List Bool) → flags ≡ [] → AreFlags types wanted kinds flags
+pub no_flags : (types : List SubType) (wanted : ValType) (kinds : List (Option ValType)) (flags : List Bool) → flags ≡ []
+    → AreFlags types wanted kinds flags
 no_flags types wanted kinds flags none = record {
   few = omega (arith, ap length none);
   right = λ k kind inside there. absurd (omega (arith, inside, ap length none));
@@ -164,13 +201,21 @@ pub one_noted : (kind : Option ValType) (old new : Classes) → IsNoted kind old
 one_noted kind old new noted = ap length noted.class.1 ∙ length-append old.of (noted.class.0 ∷ [])
 
 -- the type that is read from a global exists
-pub readable_in_range : (types : List SubType) (value : ValType) (mutable : Bool) → IsValInRange types value → IfSome (if mutable then None else Some value) (IsValInRange types)
+pub readable_in_range : (types : List SubType) (value : ValType) (mutable : Bool) → IsValInRange types value
+    → IfSome (if mutable then None else Some value) (IsValInRange types)
 readable_in_range types value true valid = tt
 readable_in_range types value false valid = valid
 
 -- the entries stay correct, as more items are read
-pub entries_read : (context : Context) (old new : ReadItems) (kept : List KeptOffer) → ((types : List SubType) (wanted : ValType) (flags : List Bool) → AreFlags types wanted old.globals.kinds flags → AreFlags types wanted new.globals.kinds flags)
-    → ((types : List SubType) (wanted : ValType) (flags : List Bool) → AreFlags types wanted old.funcs.kinds flags → AreFlags types wanted new.funcs.kinds flags) → All (IsEntry context old) kept → All (IsEntry context new) kept
+pub entries_read : (context : Context) (old new : ReadItems) (kept : List KeptOffer)
+    → ((types : List SubType) (wanted : ValType) (flags : List Bool) → AreFlags types wanted old.globals.kinds flags
+    → AreFlags types wanted new.globals.kinds flags)
+    → ((types : List SubType) (wanted : ValType) (flags : List Bool) → AreFlags types wanted old.funcs.kinds flags
+    → AreFlags types wanted new.funcs.kinds flags) → All (IsEntry context old) kept → All (IsEntry context new) kept
 entries_read context old new kept globals funcs =
     All-weaker (IsEntry context old) (IsEntry context new)
-    (λ offer entry. record { kept = entry.kept; globals = globals context.types offer.wanted offer.global_flags entry.globals; funcs = funcs context.types offer.wanted offer.func_flags entry.funcs }) kept
+    (λ offer entry. record {
+      kept = entry.kept;
+      globals = globals context.types offer.wanted offer.global_flags entry.globals;
+      funcs = funcs context.types offer.wanted offer.func_flags entry.funcs;
+    }) kept

@@ -1,5 +1,6 @@
 -- The context of a draw, if the spaces are valid.
-use Rattle.std.proofs.Common.{◌≡◌, ℕ, ◌+◌, ◌*◌, ◌<◌, ◌≤◌, ◌^◌, if◌then◌else◌, Bool, true, false, List, [], ◌∷◌, ◌++◌, Some, length, subst, arith}
+use Rattle.std.proofs.Common.{◌≡◌, ℕ, ◌+◌, ◌*◌, ◌<◌, ◌≤◌, ◌^◌, if◌then◌else◌, Bool, true, false, List, [], ◌∷◌, ◌++◌, Some, length, subst}
+use Rattle.std.proofs.Common.{arith}
 use Rattle.std.specs.Prelude.{All, IsTrue, slice_get, ◌&&◌}
 use Rattle.std.specs.List.{AllByRecursion as Each, flat_map}
 use Rattle.std.specs.declared.ops.Range.{Range}
@@ -48,18 +49,23 @@ record IsMember (features : Features) (space : GroupedTypes) (t : SubType) : Typ
 
 module _ (features : Features) (space : GroupedTypes) (valid : AreTypesValid features space) where
   -- the value type to which a stored type unpacks
-  stored : (end : ℕ) → end ≤ length space.types → (ty : StorageType) → Each (IsValTypeValid features end) (values_of_storage ty) → IsValTypeValid features (length space.types) (unpacked ty)
+  stored : (end : ℕ) → end ≤ length space.types → (ty : StorageType) → Each (IsValTypeValid features end) (values_of_storage ty)
+      → IsValTypeValid features (length space.types) (unpacked ty)
   stored end within I8 h = tt
   stored end within I16 h = tt
   stored end within (Val value) h = IsValTypeValid-later features end (length space.types) within value h.0
 
-  each_stored : (end : ℕ) → end ≤ length space.types → (fields : List FieldType) → Each (IsValTypeValid features end) (flat_map (λ (field : FieldType). values_of_storage field.element_type) fields) → Each (IsValTypeValid features (length space.types)) (field_values fields)
+  each_stored : (end : ℕ) → end ≤ length space.types → (fields : List FieldType) → Each (IsValTypeValid features end)
+      (flat_map (λ (field : FieldType). values_of_storage field.element_type) fields) → Each (IsValTypeValid features (length space.types))
+      (field_values fields)
   each_stored end within [] h = tt
   each_stored end within (field ∷ fields) h =
-      let (front, back) = each_front (IsValTypeValid features end) (values_of_storage field.element_type) (flat_map (λ (field : FieldType). values_of_storage field.element_type) fields) h in
+      let (front, back) = each_front (IsValTypeValid features end) (values_of_storage field.element_type)
+      (flat_map (λ (field : FieldType). values_of_storage field.element_type) fields) h in
       (stored end within field.element_type front, each_stored end within fields back)
 
-  held : (end : ℕ) → end ≤ length space.types → (i : CompositeInnerType) → Each (IsValTypeValid features end) (values_of i) → Each (IsValTypeValid features (length space.types)) (field_values (fields_of i))
+  held : (end : ℕ) → end ≤ length space.types → (i : CompositeInnerType) → Each (IsValTypeValid features end) (values_of i)
+      → Each (IsValTypeValid features (length space.types)) (field_values (fields_of i))
   held end within (Array array) h = (stored end within array.0.element_type h, tt)
   held end within (Func function) h = tt
   held end within (Struct structure) h = each_stored end within structure.fields h
@@ -69,15 +75,19 @@ module _ (features : Features) (space : GroupedTypes) (valid : AreTypesValid fea
       let inside : index < length space.types = slice_get_within space.types index t at in
       let whole = valid.covered.whole in
       let (low, ends) = ends_within 0 space.groups valid.covered.consecutive in
-      let each = each_pair (IsGroupValid features space.types) (λ (g : Range ℕ). g.end ≤ length space.types) space.groups (recursion_from_All (IsGroupValid features space.types) space.groups valid.groups) (rw whole at ends) in
-      let (group, (h, within), begins, over) = group_at (λ (g : Range ℕ). IsGroupValid features space.types g × (g.end ≤ length space.types)) 0 space.groups index valid.covered.consecutive each (omega arith) (omega arith) in
+      let each = each_pair (IsGroupValid features space.types) (λ (g : Range ℕ). g.end ≤ length space.types) space.groups
+      (recursion_from_All (IsGroupValid features space.types) space.groups valid.groups) (rw whole at ends) in
+      let (group, (h, within), begins, over) = group_at (λ (g : Range ℕ). IsGroupValid features space.types g
+      × (g.end ≤ length space.types)) 0 space.groups index valid.covered.consecutive each (omega arith) (omega arith) in
       record { end = group.end; within = within; valid = h.members index t begins over at }
 
-  pub fields_valid : (index : ℕ) (t : SubType) → slice_get space.types index ≡ Some t → All (IsValTypeValid features (length space.types)) (field_values (fields_of t.composite_type.inner))
+  pub fields_valid : (index : ℕ) (t : SubType) → slice_get space.types index ≡ Some t → All (IsValTypeValid features (length space.types))
+      (field_values (fields_of t.composite_type.inner))
   fields_valid index t at =
       let member = member_at index t at in
       All-from_recursion (IsValTypeValid features (length space.types)) (field_values (fields_of t.composite_type.inner))
-      (held member.end member.within t.composite_type.inner (recursion_from_All (IsValTypeValid features member.end) (values_of t.composite_type.inner) member.valid.values))
+      (held member.end member.within t.composite_type.inner (recursion_from_All (IsValTypeValid features member.end)
+      (values_of t.composite_type.inner) member.valid.values))
 
   -- a struct type exists only with garbage collection
   pub structs_gc : (index : ℕ) (fields : List FieldType) → IsStructAt space.types index fields → IsTrue features.gc
@@ -90,7 +100,8 @@ visible_within false all imported h = h
 visible_imported : (gc allow : Bool) (all imported : ℕ) → gc ≡ false → (if gc && allow then all else imported) ≤ imported
 visible_imported gc allow all imported off = rw off (omega arith)
 
-pub scope_of : (config : Config) (spaces : Spaces) (allow : Bool) → AreSpacesValid config spaces → IsOrderly spaces.types.now.types → length spaces.types.now.types < 2 ^ 32 → IsScope (seen_by config spaces allow)
+pub scope_of : (config : Config) (spaces : Spaces) (allow : Bool) → AreSpacesValid config spaces → IsOrderly spaces.types.now.types
+    → length spaces.types.now.types < 2 ^ 32 → IsScope (seen_by config spaces allow)
 scope_of config spaces allow valid orderly few = record {
   orderly = orderly;
   few_types = few;
@@ -98,15 +109,20 @@ scope_of config spaces allow valid orderly few = record {
   few_globals = valid.few_globals;
   seen = visible_within (config.gc_enabled && allow) (length spaces.entities.globals.now) spaces.entities.imported_globals valid.imported;
   imported_seen = visible_imported config.gc_enabled allow (length spaces.entities.globals.now) spaces.entities.imported_globals;
-  funcs = All-weaker (IsFuncTypeIndex spaces.types.now.types) (λ index. index < length spaces.types.now.types) (λ index (function, (t, at, is)). slice_get_within spaces.types.now.types index t at) spaces.entities.funcs.now valid.funcs;
-  globals = All-weaker (IsGlobalValid (features_of config) spaces.types.now.types) (λ (global : GlobalType). IsValTypeValid (features_of config) (length spaces.types.now.types) global.val_type) (λ global h. h.value) spaces.entities.globals.now valid.globals;
+  funcs = All-weaker (IsFuncTypeIndex spaces.types.now.types) (λ index. index < length spaces.types.now.types)
+      (λ index (function, (t, at, is)). slice_get_within spaces.types.now.types index t at) spaces.entities.funcs.now valid.funcs;
+  globals = All-weaker (IsGlobalValid (features_of config) spaces.types.now.types)
+      (λ (global : GlobalType). IsValTypeValid (features_of config) (length spaces.types.now.types) global.val_type) (λ global h. h.value)
+      spaces.entities.globals.now valid.globals;
   structs = structs_gc (features_of config) spaces.types.now valid.types;
   fields = fields_valid (features_of config) spaces.types.now valid.types;
 }
 
 -- an expression drawn from an empty start
-pub whole_typed : (context : Context) (wanted : ValType) (fuel left : ℕ) (drawn : List ConstInstr) → IsDrawn context (wanted ∷ []) [] fuel drawn left → IsConstExpr context wanted drawn
+pub whole_typed : (context : Context) (wanted : ValType) (fuel left : ℕ) (drawn : List ConstInstr)
+    → IsDrawn context (wanted ∷ []) [] fuel drawn left → IsConstExpr context wanted drawn
 whole_typed context wanted fuel left drawn h = expression_of context wanted drawn h.puts
 
-pub whole_short : (context : Context) (wanted : ValType) (fuel left : ℕ) (drawn : List ConstInstr) → IsDrawn context (wanted ∷ []) [] fuel drawn left → length drawn ≤ 23 * (1 + fuel * widest context.types)
+pub whole_short : (context : Context) (wanted : ValType) (fuel left : ℕ) (drawn : List ConstInstr)
+    → IsDrawn context (wanted ∷ []) [] fuel drawn left → length drawn ≤ 23 * (1 + fuel * widest context.types)
 whole_short context wanted fuel left drawn h = let short = h.short in omega arith

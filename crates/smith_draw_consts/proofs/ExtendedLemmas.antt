@@ -1,5 +1,6 @@
 -- Extended constants, drawn from the last instruction to the first.
-use Rattle.std.proofs.Common.{rules, ◌≡◌, ◌⊎◌, inl, inr, Bool, ℕ, zero, suc, ◌+◌, ◌-◌, ◌≤◌, ◌<◌, List, [], ◌∷◌, ◌++◌, length, refl, sym, subst, ap, ◌∙◌, arith, append_assoc, length-append}
+use Rattle.std.proofs.Common.{rules, ◌≡◌, ◌⊎◌, inl, inr, Bool, ℕ, zero, suc, ◌+◌, ◌-◌, ◌≤◌, ◌<◌, List, [], ◌∷◌, ◌++◌, length, refl, sym}
+use Rattle.std.proofs.Common.{subst, ap, ◌∙◌, arith, append_assoc, length-append}
 use Rattle.std.specs.Prelude.{All, replicate, reverse, IsTrue}
 use Rattle.std.proofs.lemmas.List.{append-nil, replicate_more, reverse-append, length-reverse}
 use Rattle.std.proofs.lemmas.List.Elements.{All-nil, All-cons}
@@ -27,32 +28,47 @@ ends_none context wanted = record { steps = λ base. refl; enabled = All-nil (Is
 
 pub ends_adds : (context : Context) (wanted : ValType) (made : List ConstInstr) → Ends context wanted 0 made → Adds context wanted made
 ends_adds context wanted made ends =
-    record { steps = λ base. subst (λ (b : List ValType). AreStackSteps context made b (base ++ wanted ∷ [])) (append-nil base) (ends.steps base); enabled = ends.enabled }
+    record {
+      steps = λ base. subst (λ (b : List ValType). AreStackSteps context made b (base ++ wanted ∷ [])) (append-nil base)
+          (ends.steps base);
+      enabled = ends.enabled;
+    }
 
 -- a constant is prepended
-pub ends_constant : (context : Context) (wanted : ValType) (needed : ℕ) (made : List ConstInstr) (constant : ConstInstr) → HasType context constant [] wanted → IsInstrEnabled context.features context.imported_globals constant → Ends context wanted (needed + 1) made
+pub ends_constant : (context : Context) (wanted : ValType) (needed : ℕ) (made : List ConstInstr) (constant : ConstInstr)
+    → HasType context constant [] wanted → IsInstrEnabled context.features context.imported_globals constant
+    → Ends context wanted (needed + 1) made
     → Ends context wanted needed (constant ∷ made)
 ends_constant context wanted needed made constant typed enabled ends = record {
   steps = λ base.
       let under = base ++ replicate needed wanted in
       let step = one_step context constant [] wanted under [] typed tt in
-      let same : under ++ wanted ∷ [] ≡ base ++ replicate (needed + 1) wanted = append_assoc base (replicate needed wanted) (wanted ∷ []) ∙ ap (λ (ys : List ValType). base ++ ys) (replicate_more needed wanted) in
+      let same : under ++ wanted ∷ [] ≡ base ++ replicate (needed + 1) wanted = append_assoc base (replicate needed wanted) (wanted ∷ [])
+      ∙ ap (λ (ys : List ValType). base ++ ys) (replicate_more needed wanted) in
       (base ++ replicate (needed + 1) wanted, rw (← same) (rw (append-nil under) at step), ends.steps base);
   enabled = All-cons (IsInstrEnabled context.features context.imported_globals) constant made enabled ends.enabled;
 }
 
 -- an operator is prepended
-pub ends_operator : (context : Context) (wanted : ValType) (needed : ℕ) (made : List ConstInstr) (operator : ConstInstr) → HasType context operator (wanted ∷ wanted ∷ []) wanted → IsInstrEnabled context.features context.imported_globals operator → Ends context wanted (needed + 1) made
+pub ends_operator : (context : Context) (wanted : ValType) (needed : ℕ) (made : List ConstInstr) (operator : ConstInstr)
+    → HasType context operator (wanted ∷ wanted ∷ []) wanted → IsInstrEnabled context.features context.imported_globals operator
+    → Ends context wanted (needed + 1) made
     → Ends context wanted (needed + 2) (operator ∷ made)
 ends_operator context wanted needed made operator typed enabled ends = record {
   steps = λ base.
       let under = base ++ replicate needed wanted in
-      let step = one_step context operator (wanted ∷ wanted ∷ []) wanted under (wanted ∷ wanted ∷ []) typed (below_itself context wanted, (below_itself context wanted, tt)) in
-      let one : under ++ wanted ∷ [] ≡ base ++ replicate (needed + 1) wanted = append_assoc base (replicate needed wanted) (wanted ∷ []) ∙ ap (λ (ys : List ValType). base ++ ys) (replicate_more needed wanted) in
+      let step = one_step context operator (wanted ∷ wanted ∷ []) wanted under (wanted ∷ wanted ∷ []) typed (
+        below_itself context wanted,
+        (below_itself context wanted, tt),
+      ) in
+      let one : under ++ wanted ∷ [] ≡ base ++ replicate (needed + 1) wanted = append_assoc base (replicate needed wanted) (wanted ∷ [])
+      ∙ ap (λ (ys : List ValType). base ++ ys) (replicate_more needed wanted) in
       let more : needed + 1 + 1 ≡ needed + 2 = omega arith in
       let both : replicate needed wanted ++ wanted ∷ wanted ∷ [] ≡ replicate (needed + 2) wanted =
-      sym (append_assoc (replicate needed wanted) (wanted ∷ []) (wanted ∷ [])) ∙ ap (λ (ys : List ValType). ys ++ wanted ∷ []) (replicate_more needed wanted) ∙ replicate_more (needed + 1) wanted ∙ ap (λ (n : ℕ). replicate n wanted) more in
-      let two : under ++ wanted ∷ wanted ∷ [] ≡ base ++ replicate (needed + 2) wanted = append_assoc base (replicate needed wanted) (wanted ∷ wanted ∷ []) ∙ ap (λ (ys : List ValType). base ++ ys) both in
+      sym (append_assoc (replicate needed wanted) (wanted ∷ []) (wanted ∷ [])) ∙ ap (λ (ys : List ValType). ys ++ wanted ∷ [])
+      (replicate_more needed wanted) ∙ replicate_more (needed + 1) wanted ∙ ap (λ (n : ℕ). replicate n wanted) more in
+      let two : under ++ wanted ∷ wanted ∷ [] ≡ base ++ replicate (needed + 2) wanted = append_assoc base (replicate needed wanted)
+      (wanted ∷ wanted ∷ []) ∙ ap (λ (ys : List ValType). base ++ ys) both in
       (base ++ replicate (needed + 1) wanted, rw (← one, ← two) step, ends.steps base);
   enabled = All-cons (IsInstrEnabled context.features context.imported_globals) operator made enabled ends.enabled;
 }
@@ -67,7 +83,8 @@ pub record IsExtending (wanted : ValType) (wide : Bool) (needed : ℕ) (drawn : 
   pub so_far : extended_within (23 - length drawn) wanted needed (reverse drawn) bytes ≡ extended_at wanted start
   pub left : KeepsPieces start bytes
 
-pub extending_none : (wanted : ValType) (wide : Bool) (bytes : List ℕ) → (wanted ≡ I32) ⊎ (wanted ≡ I64) → wide ≡ is_wide wanted → IsExtending wanted wide 1 [] bytes bytes
+pub extending_none : (wanted : ValType) (wide : Bool) (bytes : List ℕ) → (wanted ≡ I32) ⊎ (wanted ≡ I64) → wide ≡ is_wide wanted
+    → IsExtending wanted wide 1 [] bytes bytes
 unfolding extended_at
 extending_none wanted wide bytes number width = record {
   number = number;
@@ -80,22 +97,29 @@ extending_none wanted wide bytes number width = record {
 }
 
 -- a constant has the type
-constant_typed : (context : Context) (wanted : ValType) (bytes : List ℕ) → (wanted ≡ I32) ⊎ (wanted ≡ I64) → HasType context (constant_at wanted bytes).0 [] wanted × IsInstrEnabled context.features context.imported_globals (constant_at wanted bytes).0
+constant_typed : (context : Context) (wanted : ValType) (bytes : List ℕ) → (wanted ≡ I32) ⊎ (wanted ≡ I64)
+    → HasType context (constant_at wanted bytes).0 [] wanted × IsInstrEnabled context.features context.imported_globals
+    (constant_at wanted bytes).0
 unfolding constant_at
 constant_typed context wanted bytes (inl is) = rw is ((refl, refl), tt)
 constant_typed context wanted bytes (inr is) = rw is ((refl, refl), tt)
 
-operator_typed : (context : Context) (wanted : ValType) (wide : Bool) (operator : Operator) → IsTrue context.features.extended_const → wide ≡ is_wide wanted → (wanted ≡ I32) ⊎ (wanted ≡ I64)
-    → HasType context (operation wide operator) (wanted ∷ wanted ∷ []) wanted × IsInstrEnabled context.features context.imported_globals (operation wide operator)
+operator_typed : (context : Context) (wanted : ValType) (wide : Bool) (operator : Operator) → IsTrue context.features.extended_const
+    → wide ≡ is_wide wanted → (wanted ≡ I32) ⊎ (wanted ≡ I64)
+    → HasType context (operation wide operator) (wanted ∷ wanted ∷ []) wanted × IsInstrEnabled context.features context.imported_globals
+    (operation wide operator)
 operator_typed context wanted wide operator on width number = search rules
 
-turn_constant : (most needed : ℕ) (wanted : ValType) (made : List ConstInstr) (bytes middle after : List ℕ) (constant : ConstInstr) → operator_at (length made) bytes ≡ (None, middle) → constant_at wanted middle ≡ (constant, after)
+turn_constant : (most needed : ℕ) (wanted : ValType) (made : List ConstInstr) (bytes middle after : List ℕ) (constant : ConstInstr)
+    → operator_at (length made) bytes ≡ (None, middle) → constant_at wanted middle ≡ (constant, after)
     → extended_within (suc most) wanted (suc needed) made bytes ≡ extended_within most wanted needed (constant ∷ made) after
 unfolding extended_within
 turn_constant most needed wanted made bytes middle after constant none draws = rw (none, draws) refl
 
-turn_operator : (most needed : ℕ) (wanted : ValType) (made : List ConstInstr) (bytes : List ℕ) (operator : Operator) (middle : List ℕ) → operator_at (length made) bytes ≡ (Some operator, middle)
-    → extended_within (suc most) wanted (suc needed) made bytes ≡ extended_within most wanted (suc (suc needed)) (operation (is_wide wanted) operator ∷ made) middle
+turn_operator : (most needed : ℕ) (wanted : ValType) (made : List ConstInstr) (bytes : List ℕ) (operator : Operator) (middle : List ℕ)
+    → operator_at (length made) bytes ≡ (Some operator, middle)
+    → extended_within (suc most) wanted (suc needed) made bytes ≡ extended_within most wanted (suc (suc needed))
+    (operation (is_wide wanted) operator ∷ made) middle
 unfolding extended_within
 turn_operator most needed wanted made bytes operator middle some = rw some refl
 
@@ -105,10 +129,14 @@ stopped zero wanted made bytes = refl
 stopped (suc most) wanted made bytes = refl
 
 -- one turn that draws a constant
-pub extending_constant : {wanted : ValType} {wide : Bool} {needed less : ℕ} {drawn more : List ConstInstr} {start bytes middle after : List ℕ} {constant : ConstInstr}
-    → IsExtending wanted wide needed drawn start bytes → less + 1 ≡ needed → operator_at (length drawn) bytes ≡ (None, middle) → constant_at wanted middle ≡ (constant, after) → more ≡ drawn ++ constant ∷ [] → KeepsPieces bytes middle → KeepsPieces middle after
+pub extending_constant : {wanted : ValType} {wide : Bool} {needed less : ℕ} {drawn more : List ConstInstr}
+    {start bytes middle after : List ℕ} {constant : ConstInstr}
+    → IsExtending wanted wide needed drawn start bytes → less + 1 ≡ needed → operator_at (length drawn) bytes ≡ (None, middle)
+    → constant_at wanted middle ≡ (constant, after) → more ≡ drawn ++ constant ∷ [] → KeepsPieces bytes middle
+    → KeepsPieces middle after
     → IsExtending wanted wide less more start after
-extending_constant {wanted = wanted} {wide = wide} {needed = needed} {less = less} {drawn = drawn} {more = more} {start = start} {bytes = bytes} {middle = middle} {after = after} {constant = constant} now one none draws longer p q =
+extending_constant {wanted = wanted} {wide = wide} {needed = needed} {less = less} {drawn = drawn} {more = more} {start = start}
+    {bytes = bytes} {middle = middle} {after = after} {constant = constant} now one none draws longer p q =
     let back : reverse more ≡ constant ∷ reverse drawn = ap reverse longer ∙ reverse-append drawn (constant ∷ []) in
     let len : length more ≡ length drawn + 1 = rw longer (simp length-append refl) in
     let few = now.few in
@@ -125,23 +153,29 @@ extending_constant {wanted = wanted} {wide = wide} {needed = needed} {less = les
       ends = λ context on.
           let typed = constant_typed context wanted middle now.number in
           let is : (constant_at wanted middle).0 ≡ constant = ap (λ (d : ConstInstr × List ℕ). d.0) draws in
-          rw back (ends_constant context wanted less (reverse drawn) constant (rw is at typed.0) (rw is at typed.1) (rw one (now.ends context on)));
+          rw back (ends_constant context wanted less (reverse drawn) constant (rw is at typed.0) (rw is at typed.1)
+          (rw one (now.ends context on)));
       so_far = rw back (sym turn ∙ (rw (fuel, need) at now.so_far));
       left = λ whole h. q whole (p whole (now.left whole h));
     }
 
 -- one turn that draws an operator
-pub extending_operator : {wanted : ValType} {wide : Bool} {needed : ℕ} {operator : Operator} {drawn more : List ConstInstr} {start bytes middle : List ℕ} {instruction : ConstInstr}
-    → IsExtending wanted wide needed drawn start bytes → 0 < needed → operator_at (length drawn) bytes ≡ (Some operator, middle) → (10 < length drawn → Some operator ≡ None) → instruction ≡ operation wide operator → more ≡ drawn ++ instruction ∷ [] → KeepsPieces bytes middle
+pub extending_operator : {wanted : ValType} {wide : Bool} {needed : ℕ} {operator : Operator} {drawn more : List ConstInstr}
+    {start bytes middle : List ℕ} {instruction : ConstInstr}
+    → IsExtending wanted wide needed drawn start bytes → 0 < needed → operator_at (length drawn) bytes ≡ (Some operator, middle)
+    → (10 < length drawn → Some operator ≡ None) → instruction ≡ operation wide operator → more ≡ drawn ++ instruction ∷ []
+    → KeepsPieces bytes middle
     → IsExtending wanted wide (needed + 1) more start middle
-extending_operator {wanted = wanted} {wide = wide} {needed = needed} {operator = operator} {drawn = drawn} {more = more} {start = start} {bytes = bytes} {middle = middle} {instruction = instruction} now some found limit is longer p =
+extending_operator {wanted = wanted} {wide = wide} {needed = needed} {operator = operator} {drawn = drawn} {more = more} {start = start}
+    {bytes = bytes} {middle = middle} {instruction = instruction} now some found limit is longer p =
     let never : Some operator ≡ None → ⊥ = λ same. cc same in
     let back : reverse more ≡ instruction ∷ reverse drawn = ap reverse longer ∙ reverse-append drawn (instruction ∷ []) in
     let len : length more ≡ length drawn + 1 = rw longer (simp length-append refl) in
     let few = now.few in
     let most = now.most in
     let less = needed - 1 in
-    let short : length drawn ≤ 10 = elim (before_or_not 10 (length drawn)) [ inl above ↦ absurd (never (limit above)) | inr below ↦ below ] in
+    let short : length drawn ≤ 10 = elim (before_or_not 10 (length drawn)) [ inl above ↦ absurd (never (limit above)) | inr below ↦ below ]
+    in
     let fuel : 23 - length drawn ≡ suc (23 - length more) = omega arith in
     let need : needed ≡ suc less = omega arith in
     let up : suc (suc less) ≡ needed + 1 = omega arith in
@@ -157,15 +191,21 @@ extending_operator {wanted = wanted} {wide = wide} {needed = needed} {operator =
       most = omega arith;
       ends = λ context on.
           let typed = operator_typed context wanted wide operator on now.width now.number in
-          rw (back, ← two) (ends_operator context wanted less (reverse drawn) instruction (rw is typed.0) (rw is typed.1) (rw down (now.ends context on)));
+          rw (back, ← two) (ends_operator context wanted less (reverse drawn) instruction (rw is typed.0) (rw is typed.1)
+          (rw down (now.ends context on)));
       so_far = rw (back, named, ← up) (sym turn ∙ (rw (fuel, need) at now.so_far));
       left = λ whole h. p whole (now.left whole h);
     }
 
 -- no further value is needed
-pub extending_done : {wanted : ValType} {wide : Bool} {needed : ℕ} {drawn : List ConstInstr} {start bytes : List ℕ} → IsExtending wanted wide needed drawn start bytes → needed ≡ 0 → extended_at wanted start ≡ (reverse drawn, bytes)
+pub extending_done : {wanted : ValType} {wide : Bool} {needed : ℕ} {drawn : List ConstInstr} {start bytes : List ℕ}
+    → IsExtending wanted wide needed drawn start bytes → needed ≡ 0 → extended_at wanted start ≡ (reverse drawn, bytes)
 extending_done {wanted = wanted} {needed = needed} {drawn = drawn} {start = start} {bytes = bytes} now done =
-    sym now.so_far ∙ ap (λ (n : ℕ). extended_within (23 - length drawn) wanted n (reverse drawn) bytes) done ∙ stopped (23 - length drawn) wanted (reverse drawn) bytes
+    sym now.so_far ∙ ap (λ (n : ℕ). extended_within (23 - length drawn) wanted n (reverse drawn) bytes) done ∙ stopped (23 - length drawn)
+    wanted (reverse drawn) bytes
 
-pub extending_adds : {wanted : ValType} {wide : Bool} {needed : ℕ} {drawn : List ConstInstr} {start bytes : List ℕ} → IsExtending wanted wide needed drawn start bytes → needed ≡ 0 → (context : Context) → IsTrue context.features.extended_const → Adds context wanted (reverse drawn)
-extending_adds {wanted = wanted} {needed = needed} {drawn = drawn} now done context on = ends_adds context wanted (reverse drawn) (rw (← done) (now.ends context on))
+pub extending_adds : {wanted : ValType} {wide : Bool} {needed : ℕ} {drawn : List ConstInstr} {start bytes : List ℕ}
+    → IsExtending wanted wide needed drawn start bytes → needed ≡ 0 → (context : Context) → IsTrue context.features.extended_const
+    → Adds context wanted (reverse drawn)
+extending_adds {wanted = wanted} {needed = needed} {drawn = drawn} now done context on = ends_adds context wanted (reverse drawn)
+    (rw (← done) (now.ends context on))

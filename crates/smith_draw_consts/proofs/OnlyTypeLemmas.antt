@@ -1,5 +1,6 @@
 -- The types whose created values are below a type without subtypes: that type alone.
-use Rattle.std.proofs.Common.{◌≡◌, inl, inr, ℕ, zero, suc, ◌+◌, ◌<◌, Bool, true, false, List, [], ◌∷◌, ◌++◌, Some, get_or, length, refl, sym, ap, ◌∙◌, arith}
+use Rattle.std.proofs.Common.{◌≡◌, inl, inr, ℕ, zero, suc, ◌+◌, ◌<◌, Bool, true, false, List, [], ◌∷◌, ◌++◌, Some, get_or, length, refl}
+use Rattle.std.proofs.Common.{sym, ap, ◌∙◌, arith}
 use Rattle.std.specs.Prelude.{Result, slice_get, nat_lt, ◌&&◌, ◌||◌, ◌==◌, if◌then◌else◌}
 use Rattle.std.specs.List.{AllByRecursion as ByRecursion}
 use Rattle.std.proofs.lemmas.Bool.Decides.{eqb_tells}
@@ -28,13 +29,15 @@ listed_turn true first rest none = cc
 listed_turn false first rest none = none
 
 -- the index of a type that passes a test is listed
-listed : (test : SubType → Bool) (first k : ℕ) (types : List SubType) (t : SubType) → slice_get types k ≡ Some t → test t ≡ true → indices_from test first types ≡ [] → ⊥
+listed : (test : SubType → Bool) (first k : ℕ) (types : List SubType) (t : SubType) → slice_get types k ≡ Some t → test t ≡ true
+    → indices_from test first types ≡ [] → ⊥
 listed test first k [] t at holds none = cc
 listed test first zero (u ∷ types) t at holds none =
     let same : test u ≡ true = ap test (same_Some u t at) ∙ holds in
     let found = rw same at none in
     cc
-listed test first (suc k) (u ∷ types) t at holds none = listed test (first + 1) k types t at holds (listed_turn (test u) first (indices_from test (first + 1) types) none)
+listed test first (suc k) (u ∷ types) t at holds none = listed test (first + 1) k types t at holds
+    (listed_turn (test u) first (indices_from test (first + 1) types) none)
 
 index_itself : (j : ℕ) → (j == j) ≡ true
 index_itself j = elim (eqb_tells j j) [ inl (test, is) ↦ test | inr (test, other) ↦ absurd (other refl) ]
@@ -71,27 +74,39 @@ same_where i j more none holds = elim (eqb_tells i j) [
   | inr (test, other) ↦ let wrong : false ≡ true = sym none ∙ rw test at holds in cc
 ]
 
-created_below : (types : List SubType) (descriptors : Bool) (i j : ℕ) → direct_subtypes types j ≡ [] → is_heap_below types (if descriptors then Exact i else Concrete i) (Concrete j) ≡ true → i ≡ j
+created_below : (types : List SubType) (descriptors : Bool) (i j : ℕ) → direct_subtypes types j ≡ []
+    → is_heap_below types (if descriptors then Exact i else Concrete i) (Concrete j) ≡ true → i ≡ j
 unfolding is_heap_below
 created_below types true i j none holds = same_where i j (names j (ancestors types i)) (never_named types j none i) holds
 created_below types false i j none holds = same_where i j (names j (ancestors types i)) (never_named types j none i) holds
 
-created_exactly : (types : List SubType) (descriptors : Bool) (i j : ℕ) → is_heap_below types (if descriptors then Exact i else Concrete i) (Exact j) ≡ true → i ≡ j
+created_exactly : (types : List SubType) (descriptors : Bool) (i j : ℕ) → is_heap_below types (if descriptors then Exact i else Concrete i)
+    (Exact j) ≡ true → i ≡ j
 unfolding is_heap_below
-created_exactly types true i j holds = elim (eqb_tells i j) [ inl (test, is) ↦ is | inr (test, other) ↦ let wrong : false ≡ true = sym test ∙ holds in cc ]
+created_exactly types true i j holds = elim (eqb_tells i j) [
+  | inl (test, is) ↦ is
+  | inr (test, other) ↦ let wrong : false ≡ true = sym test
+      ∙ holds in cc
+]
 created_exactly types false i j holds = cc
 
 -- a reference to a created value is below a reference to a type without subtypes only if it is that
 -- of this type
-pub concrete_alone : (context : Context) (nullable : Bool) (j : ℕ) → IsValInRange context.types (Ref (record { nullable = nullable; heap_type = Concrete j })) → length (direct_subtypes context.types j) ≡ 0 → IsOnlyType context (Ref (record { nullable = nullable; heap_type = Concrete j })) j
+pub concrete_alone : (context : Context) (nullable : Bool) (j : ℕ)
+    → IsValInRange context.types (Ref (record { nullable = nullable; heap_type = Concrete j })) → length (direct_subtypes context.types j)
+    ≡ 0 → IsOnlyType context (Ref (record { nullable = nullable; heap_type = Concrete j })) j
 concrete_alone context nullable j inside none = record {
   there = inside;
-  only = λ i holds. created_below context.types context.features.custom_descriptors i j (nil_from_length (direct_subtypes context.types j) none) holds;
+  only = λ i holds. created_below context.types context.features.custom_descriptors i j
+      (nil_from_length (direct_subtypes context.types j) none) holds;
 }
 
 -- the same holds for a reference to an exact type
-pub exact_alone : (context : Context) (nullable : Bool) (j : ℕ) → IsValInRange context.types (Ref (record { nullable = nullable; heap_type = Exact j })) → IsOnlyType context (Ref (record { nullable = nullable; heap_type = Exact j })) j
-exact_alone context nullable j inside = record { there = inside; only = λ i holds. created_exactly context.types context.features.custom_descriptors i j holds }
+pub exact_alone : (context : Context) (nullable : Bool) (j : ℕ)
+    → IsValInRange context.types (Ref (record { nullable = nullable; heap_type = Exact j }))
+    → IsOnlyType context (Ref (record { nullable = nullable; heap_type = Exact j })) j
+exact_alone context nullable j inside =
+    record { there = inside; only = λ i holds. created_exactly context.types context.features.custom_descriptors i j holds }
 
 off_where : (b : Bool) → (b ≡ true → ⊥) → b ≡ false
 off_where true never = absurd (never refl)
@@ -102,37 +117,48 @@ and_off true b off = off
 and_off false b off = refl
 
 -- a type that isn't below the wanted one offers nothing
-other_offers : (context : Context) (wanted : ValType) (fuel : ℕ) (arrays : Bool) (index : ℕ) (i : CompositeInnerType) → is_val_below context.types (created context index) wanted ≡ false → type_offers context wanted fuel arrays index i ≡ []
+other_offers : (context : Context) (wanted : ValType) (fuel : ℕ) (arrays : Bool) (index : ℕ) (i : CompositeInnerType)
+    → is_val_below context.types (created context index) wanted ≡ false → type_offers context wanted fuel arrays index i ≡ []
 other_offers context wanted fuel false index (inner.Struct structure) off = rw off refl
 other_offers context wanted fuel false index (inner.Array array) off = refl
 other_offers context wanted fuel false index (inner.Func function) off = refl
 other_offers context wanted fuel true index (inner.Struct structure) off = refl
-other_offers context wanted fuel true index (inner.Array array) off = rw (and_off (nat_lt 0 fuel) (is_val_below context.types (created context index) wanted) off) refl
+other_offers context wanted fuel true index (inner.Array array) off =
+    rw (and_off (nat_lt 0 fuel) (is_val_below context.types (created context index) wanted) off) refl
 other_offers context wanted fuel true index (inner.Func function) off = refl
 
 -- past an item that alone offers choices, nothing is offered
-none_past : {A B : Type 0} (offer : ℕ → A → List B) (index : ℕ) → ((i : ℕ) (x : A) → (i ≡ index → ⊥) → offer i x ≡ []) → (start : ℕ) (xs : List A) → index < start → each_from offer start xs ≡ []
+none_past : {A B : Type 0} (offer : ℕ → A → List B) (index : ℕ) → ((i : ℕ) (x : A) → (i ≡ index → ⊥) → offer i x ≡ [])
+    → (start : ℕ) (xs : List A) → index < start → each_from offer start xs ≡ []
 none_past offer index none start [] past = refl
 none_past offer index none start (x ∷ xs) past =
-    ap (λ ys. ys ++ each_from offer (start + 1) xs) (none start x (λ same. absurd (omega (arith, same, past)))) ∙ none_past offer index none (start + 1) xs (omega (arith, past))
+    ap (λ ys. ys ++ each_from offer (start + 1) xs) (none start x (λ same. absurd (omega (arith, same, past)))) ∙ none_past offer index none
+    (start + 1) xs (omega (arith, past))
 
 -- if one item alone offers choices, all together offer its choices
-each_only : {A B : Type 0} (offer : ℕ → A → List B) (index : ℕ) → ((i : ℕ) (x : A) → (i ≡ index → ⊥) → offer i x ≡ []) → (start : ℕ) (xs : List A) (k : ℕ) (d : A) → start + k ≡ index → k < length xs → each_from offer start xs ≡ offer index (get_or xs k d)
+each_only : {A B : Type 0} (offer : ℕ → A → List B) (index : ℕ) → ((i : ℕ) (x : A) → (i ≡ index → ⊥) → offer i x ≡ [])
+    → (start : ℕ) (xs : List A) (k : ℕ) (d : A) → start + k ≡ index → k < length xs → each_from offer start xs ≡ offer index (get_or xs k d)
 each_only offer index none start [] k d is inside = absurd (omega arith)
 each_only offer index none start (x ∷ xs) zero d is inside =
     let here : start ≡ index = omega (arith, is) in
-    ap (λ ys. offer start x ++ ys) (none_past offer index none (start + 1) xs (omega (arith, here))) ∙ append-nil (offer start x) ∙ ap (λ (n : ℕ). offer n x) here
+    ap (λ ys. offer start x ++ ys) (none_past offer index none (start + 1) xs (omega (arith, here))) ∙ append-nil (offer start x)
+    ∙ ap (λ (n : ℕ). offer n x) here
 each_only offer index none start (x ∷ xs) (suc k) d is inside =
-    ap (λ ys. ys ++ each_from offer (start + 1) xs) (none start x (λ same. absurd (omega (arith, same, is)))) ∙ each_only offer index none (start + 1) xs k d (omega (arith, is)) (omega (arith, inside))
+    ap (λ ys. ys ++ each_from offer (start + 1) xs) (none start x (λ same. absurd (omega (arith, same, is)))) ∙ each_only offer index none
+    (start + 1) xs k d (omega (arith, is)) (omega (arith, inside))
 
 -- the ways to create a value are those by the only type
-only_ways : (context : Context) (wanted : ValType) (fuel : ℕ) (arrays : Bool) (index : ℕ) (d : SubType) → IsOnlyType context wanted index → types_offers context wanted fuel arrays ≡ ways_by context wanted fuel arrays index (get_or context.types index d)
+only_ways : (context : Context) (wanted : ValType) (fuel : ℕ) (arrays : Bool) (index : ℕ) (d : SubType) → IsOnlyType context wanted index
+    → types_offers context wanted fuel arrays ≡ ways_by context wanted fuel arrays index (get_or context.types index d)
 only_ways context wanted fuel arrays index d is =
     each_only (ways_by context wanted fuel arrays) index
-    (λ i t other. other_offers context wanted fuel arrays i t.composite_type.inner (off_where (is_val_below context.types (created context i) wanted) (λ holds. other (is.only i holds))))
+    (λ i t other. other_offers context wanted fuel arrays i t.composite_type.inner
+    (off_where (is_val_below context.types (created context i) wanted) (λ holds. other (is.only i holds))))
     0 context.types index d (omega arith) is.there
 
-pub past_only : (context : Context) (wanted : ValType) (fuel : ℕ) (arrays : Bool) (index place : ℕ) (types : List SubType) (d : SubType) (result : Result ℕ Choice) → types ≡ context.types → IsOnlyType context wanted index → result ≡ past (ways_by context wanted fuel arrays index (get_or types index d)) place
+pub past_only : (context : Context) (wanted : ValType) (fuel : ℕ) (arrays : Bool) (index place : ℕ) (types : List SubType) (d : SubType)
+    (result : Result ℕ Choice) → types ≡ context.types → IsOnlyType context wanted index
+    → result ≡ past (ways_by context wanted fuel arrays index (get_or types index d)) place
     → result ≡ past (types_offers context wanted fuel arrays) place
 past_only context wanted fuel arrays index place types d result same is found =
     found

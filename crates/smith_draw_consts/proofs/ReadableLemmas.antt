@@ -1,5 +1,6 @@
 -- The globals that an expression may read are those that are listed.
-use Rattle.std.proofs.Common.{◌≡◌, ◌⊎◌, inl, inr, ℕ, zero, suc, ◌+◌, ◌<◌, ◌≤◌, Bool, true, false, List, [], ◌∷◌, ◌++◌, Some, length, take, drop, refl, sym, ◌∙◌, subst, arith}
+use Rattle.std.proofs.Common.{◌≡◌, ◌⊎◌, inl, inr, ℕ, zero, suc, ◌+◌, ◌<◌, ◌≤◌, Bool, true, false, List, [], ◌∷◌, ◌++◌, Some, length, take}
+use Rattle.std.proofs.Common.{drop, refl, sym, ◌∙◌, subst, arith}
 use Rattle.std.proofs.lemmas.List.{append-nil, at_drop_all}
 use Rattle.std.specs.Prelude.{◌↔◌, ◌&&◌, not, slice_get}
 use Rattle.std.specs.List.{Contains}
@@ -39,16 +40,19 @@ passing test start xs = each_from (λ index x. offered_if (test x) index) start 
 abbrev Passes : {A : Type 0} → (A → Bool) → ℕ → List A → ℕ → Type 0
 Passes {A} test start xs index = (k : ℕ) × (x : A) × (slice_get xs k ≡ Some x) × (test x ≡ true) × (index ≡ start + k)
 
-passes_later : {A : Type 0} (test : A → Bool) (start : ℕ) (x : A) (xs : List A) (index : ℕ) → Passes test (start + 1) xs index → Passes test start (x ∷ xs) index
+passes_later : {A : Type 0} (test : A → Bool) (start : ℕ) (x : A) (xs : List A) (index : ℕ) → Passes test (start + 1) xs index
+    → Passes test start (x ∷ xs) index
 passes_later test start x xs index (k, y, at, passes, same) = (suc k, y, at, passes, omega arith)
 
-passes_first : {A : Type 0} (test : A → Bool) (start : ℕ) (x : A) (xs : List A) (index : ℕ) (b : Bool) → test x ≡ b → (Among index (passing test (start + 1) xs) → Passes test (start + 1) xs index)
+passes_first : {A : Type 0} (test : A → Bool) (start : ℕ) (x : A) (xs : List A) (index : ℕ) (b : Bool) → test x ≡ b
+    → (Among index (passing test (start + 1) xs) → Passes test (start + 1) xs index)
     → Among index (offered_if b start ++ passing test (start + 1) xs) → Passes test start (x ∷ xs) index
 passes_first test start x xs index true is later (inl same) = (0, x, refl, is, omega arith)
 passes_first test start x xs index true is later (inr more) = passes_later test start x xs index (later more)
 passes_first test start x xs index false is later more = passes_later test start x xs index (later more)
 
-passed : {A : Type 0} (test : A → Bool) (start : ℕ) (xs : List A) (index : ℕ) → Among index (passing test start xs) → Passes test start xs index
+passed : {A : Type 0} (test : A → Bool) (start : ℕ) (xs : List A) (index : ℕ) → Among index (passing test start xs)
+    → Passes test start xs index
 passed test start [] index h = absurd h
 passed test start (x ∷ xs) index h = passes_first test start x xs index (test x) refl (passed test (start + 1) xs index) h
 
@@ -56,7 +60,8 @@ unless_first : (b : Bool) (start index : ℕ) (more : List ℕ) → Among index 
 unless_first true start index more h = inr h
 unless_first false start index more h = h
 
-passing_at : {A : Type 0} (test : A → Bool) (start : ℕ) (xs : List A) (k index : ℕ) (x : A) → slice_get xs k ≡ Some x → test x ≡ true → start + k ≡ index → Among index (passing test start xs)
+passing_at : {A : Type 0} (test : A → Bool) (start : ℕ) (xs : List A) (k index : ℕ) (x : A) → slice_get xs k ≡ Some x → test x ≡ true
+    → start + k ≡ index → Among index (passing test start xs)
 passing_at test start [] k index x at passes is = cc
 passing_at test start (y ∷ xs) zero index x at passes is =
     let here : test y ≡ true = subst (λ z. test z ≡ true) (sym (same_Some y x at)) passes in
@@ -82,12 +87,15 @@ not_decides true = (λ e. cc, λ e. cc)
 not_decides false = (λ e. refl, λ e. refl)
 
 test_decides : (context : Context) → IsOrderly context.types → (wanted : ValType) (global : GlobalType)
-    → Decides (not global.mutable && is_val_below context.types global.val_type wanted) ((global.mutable ≡ false) × IsValBelow context.types global.val_type wanted)
+    → Decides (not global.mutable && is_val_below context.types global.val_type wanted) ((global.mutable ≡ false)
+    × IsValBelow context.types global.val_type wanted)
 test_decides context orderly wanted global =
-    Decides-and (not global.mutable) (is_val_below context.types global.val_type wanted) (not_decides global.mutable) (val_decides context.types orderly global.val_type wanted)
+    Decides-and (not global.mutable) (is_val_below context.types global.val_type wanted) (not_decides global.mutable)
+    (val_decides context.types orderly global.val_type wanted)
 
 -- an index is listed if and only if its global may be read
-pub readable_listed : (context : Context) → IsOrderly context.types → (wanted : ValType) (index : ℕ) → Contains (readable_globals context wanted) index ↔ IsReadable context wanted index
+pub readable_listed : (context : Context) → IsOrderly context.types → (wanted : ValType) (index : ℕ)
+    → Contains (readable_globals context wanted) index ↔ IsReadable context wanted index
 readable_listed context orderly wanted index =
     let test = λ (global : GlobalType). not global.mutable && is_val_below context.types global.val_type wanted in
     let seen = take context.visible context.globals in (
@@ -100,14 +108,21 @@ readable_listed context orderly wanted index =
       λ (value, (global, there, inside, immutable, same), below).
           let lower : IsValBelow context.types global.val_type wanted = subst (λ v. IsValBelow context.types v wanted) (sym same) below in
           let passes = (test_decides context orderly wanted global).1 (immutable, lower) in
-          contained (readable_globals context wanted) index (passing_at test 0 seen index index global (stands_in_front context.visible context.globals index global inside there) passes (omega arith)),
+          contained (readable_globals context wanted) index
+          (passing_at test 0 seen index index global (stands_in_front context.visible context.globals index global inside there) passes
+          (omega arith)),
     )
 
 -- the same for a list made by a loop over the visible globals
-pub listed_readable : (context : Context) → IsOrderly context.types → (wanted : ValType) (listed : List ℕ) (n : ℕ) → length (take context.visible context.globals) ≤ n
-    → listed ++ each_from (λ index (global : GlobalType). offered_if (not global.mutable && is_val_below context.types global.val_type wanted) index) n (drop n (take context.visible context.globals)) ≡ readable_globals context wanted
+pub listed_readable : (context : Context) → IsOrderly context.types → (wanted : ValType) (listed : List ℕ) (n : ℕ)
+    → length (take context.visible context.globals) ≤ n
+    → listed ++ each_from (λ index (global : GlobalType). offered_if (not global.mutable && is_val_below context.types global.val_type
+    wanted) index) n (drop n (take context.visible context.globals)) ≡ readable_globals context wanted
     → (index : ℕ) → Contains listed index ↔ IsReadable context wanted index
 listed_readable context orderly wanted listed n done made index =
-    let rest = λ (globals : List GlobalType). listed ++ each_from (λ index (global : GlobalType). offered_if (not global.mutable && is_val_below context.types global.val_type wanted) index) n globals in
-    let whole : listed ≡ readable_globals context wanted = sym (append-nil listed) ∙ sym (at_drop_all rest (take context.visible context.globals) n done) ∙ made in
+    let rest = λ (globals : List GlobalType). listed ++ each_from
+    (λ index (global : GlobalType). offered_if (not global.mutable && is_val_below context.types global.val_type wanted) index) n
+    globals in
+    let whole : listed ≡ readable_globals context wanted =
+    sym (append-nil listed) ∙ sym (at_drop_all rest (take context.visible context.globals) n done) ∙ made in
     rw whole (readable_listed context orderly wanted index)

@@ -1,5 +1,6 @@
 -- Properties of a list that is grown by draws that may be refused, for every draw.
-use Rattle.std.proofs.Common.{◌≡◌, ℕ, zero, suc, ◌+◌, ◌≤◌, Bool, true, false, List, [], ◌∷◌, ◌++◌, length, ltb, refl, arith, length-append, Result, Ok}
+use Rattle.std.proofs.Common.{◌≡◌, ℕ, zero, suc, ◌+◌, ◌≤◌, Bool, true, false, List, [], ◌∷◌, ◌++◌, length, ltb, refl, arith, length-append}
+use Rattle.std.proofs.Common.{Result, Ok}
 use Rattle.std.specs.Prelude.{IfOk}
 use Rattle.std.proofs.lemmas.Bool.{cond_both, ltb-false, lt-ltb}
 use Rattle.smith_bytes.specs.Growth.{goes_at}
@@ -14,18 +15,21 @@ stops_by true bytes off = cc
 stops_by false bytes off = refl
 
 -- a grown list has at most as many items as it had and may gain
-pub try_grow_most : {A : Type 0} (draw : List A → List ℕ → Result (A × List ℕ) Error) (least most top : ℕ) (made : List A) (bytes : List ℕ) → length made + most ≤ top → IfOk (try_grow_at draw least most made bytes) (λ grown. length grown.0 ≤ top)
+pub try_grow_most : {A : Type 0} (draw : List A → List ℕ → Result (A × List ℕ) Error) (least most top : ℕ) (made : List A) (bytes : List ℕ)
+    → length made + most ≤ top → IfOk (try_grow_at draw least most made bytes) (λ grown. length grown.0 ≤ top)
 unfolding try_grow_at
 try_grow_most draw least zero top made bytes le = omega arith
 try_grow_most {A = A} draw least (suc most) top made bytes le =
     let go = goes_at (ltb (length made) least) bytes in
     let Most = λ (grown : List A × List ℕ). length grown.0 ≤ top in
     cond_both go.0 _ _ (λ (r : Result (List A × List ℕ) Error). IfOk r Most)
-    (λ on. following Most _ _ (λ x. try_grow_most draw least most top (made ++ x.0 ∷ []) x.1 (omega (arith, length-append made (x.0 ∷ [])))))
+    (λ on. following Most _ _ (λ x. try_grow_most draw least most top (made ++ x.0 ∷ []) x.1
+    (omega (arith, length-append made (x.0 ∷ [])))))
     (λ off. omega arith)
 
 -- a grown list has at least `least` items if that many may be added
-pub try_grow_least : {A : Type 0} (draw : List A → List ℕ → Result (A × List ℕ) Error) (least most : ℕ) (made : List A) (bytes : List ℕ) → least ≤ length made + most → IfOk (try_grow_at draw least most made bytes) (λ grown. least ≤ length grown.0)
+pub try_grow_least : {A : Type 0} (draw : List A → List ℕ → Result (A × List ℕ) Error) (least most : ℕ) (made : List A) (bytes : List ℕ)
+    → least ≤ length made + most → IfOk (try_grow_at draw least most made bytes) (λ grown. least ≤ length grown.0)
 unfolding try_grow_at
 try_grow_least draw least zero made bytes le = omega arith
 try_grow_least {A = A} draw least (suc most) made bytes le =
@@ -36,7 +40,8 @@ try_grow_least {A = A} draw least (suc most) made bytes le =
     (λ off. ltb-false (length made) least (stops_by (ltb (length made) least) bytes off))
 
 -- a piece that ends the list before its first item is read
-pub try_grow_none : {A : Type 0} (draw : List A → List ℕ → Result (A × List ℕ) Error) (most : ℕ) (piece after : List ℕ) → SpellsNone most piece → try_grow_at draw 0 most [] (piece ++ after) ≡ Ok ([], after)
+pub try_grow_none : {A : Type 0} (draw : List A → List ℕ → Result (A × List ℕ) Error) (most : ℕ) (piece after : List ℕ)
+    → SpellsNone most piece → try_grow_at draw 0 most [] (piece ++ after) ≡ Ok ([], after)
 unfolding try_grow_at
 try_grow_none draw zero piece after spelled = rw spelled refl
 try_grow_none draw (suc most) piece after spelled =

@@ -51,7 +51,8 @@ made_at context config draw wanted s choice =
     let extended = extended_at wanted s.bytes in
     let node = node_at context.types wanted choice s.bytes in
     if is_extended choice then Some (state_of (s.made ++ extended.0) (s.fuel - 1) extended.1)
-    else option_map (add_instruction node.0.instruction) (operands_at (operand_at config draw) node.0.operands (state_of s.made (s.fuel - 1) node.1))
+    else option_map (add_instruction node.0.instruction) (operands_at (operand_at config draw) node.0.operands
+    (state_of s.made (s.fuel - 1) node.1))
 
 -- the draw after a choice, if there is one
 abbrev pub after_choice : Context → Config → (ValType → State → Option State) → ValType → State → Option Choice → Option State

@@ -1,5 +1,6 @@
 -- The choices offered for a constant expression of a type, in order. Rules of this project.
-use Rattle.std.specs.Prelude.{ℕ, zero, suc, Result, Ok, Err, ◌+◌, Bool, true, false, not, ◌&&◌, ◌||◌, ◌==◌, nat_lt, List, [], ◌∷◌, ◌++◌, length, take, if◌then◌else◌}
+use Rattle.std.specs.Prelude.{ℕ, zero, suc, Result, Ok, Err, ◌+◌, Bool, true, false, not, ◌&&◌, ◌||◌, ◌==◌, nat_lt, List, [], ◌∷◌, ◌++◌}
+use Rattle.std.specs.Prelude.{length, take, if◌then◌else◌}
 use Rattle.smith_syntax.specs.declared.value_type.AbstractHeapType.TheVariants as heap
 use Rattle.smith_syntax.specs.declared.value_type.HeapType.{HeapType}
 use Rattle.smith_syntax.specs.declared.value_type.HeapType.TheVariants.{Abstract}
@@ -35,25 +36,31 @@ is_integer _ = false
 
 -- a visible immutable global whose type is a subtype of the wanted type
 abbrev pub global_offers : Context → ValType → ℕ → GlobalType → List Choice
-global_offers context wanted index global = offered_if (not global.mutable && is_val_below context.types global.val_type wanted) (choice.Global index)
+global_offers context wanted index global = offered_if (not global.mutable && is_val_below context.types global.val_type wanted)
+    (choice.Global index)
 
 -- a function whose reference is a subtype of the wanted type
 abbrev pub function_offers : Context → ValType → ℕ → ℕ → List Choice
-function_offers context wanted function index = offered_if (is_val_below context.types (function_reference context function index) wanted) (choice.Function function)
+function_offers context wanted function index = offered_if (is_val_below context.types (function_reference context function index) wanted)
+    (choice.Function function)
 
 -- the ways to create a struct with these fields, given the remaining fuel
 abbrev pub struct_ways : ℕ → ℕ → List FieldType → List Choice
-struct_ways fuel index fields = offered_if (nat_lt 0 fuel || (length fields == 0)) (choice.Struct index) ++ offered_if (are_defaultable fields) (choice.StructDefault index)
+struct_ways fuel index fields = offered_if (nat_lt 0 fuel || (length fields == 0)) (choice.Struct index) ++ offered_if
+    (are_defaultable fields) (choice.StructDefault index)
 
 -- the ways to create an array with this element
 abbrev pub array_ways : ℕ → FieldType → List Choice
-array_ways index element = choice.Array index ∷ choice.FixedArray index ∷ offered_if (is_defaultable (unpacked element.element_type)) (choice.ArrayDefault index)
+array_ways index element = choice.Array index ∷ choice.FixedArray index ∷ offered_if (is_defaultable (unpacked element.element_type))
+    (choice.ArrayDefault index)
 
 -- the ways to create a value of a type whose created reference is a subtype of the wanted type: of
 -- a struct, or with fuel of an array
 abbrev pub type_offers : Context → ValType → ℕ → Bool → ℕ → CompositeInnerType → List Choice
-type_offers context wanted fuel false index (inner.Struct structure) = if is_val_below context.types (created context index) wanted then struct_ways fuel index structure.fields else []
-type_offers context wanted fuel true index (inner.Array array) = if nat_lt 0 fuel && is_val_below context.types (created context index) wanted then array_ways index array.0 else []
+type_offers context wanted fuel false index (inner.Struct structure) = if is_val_below context.types (created context index) wanted then
+    struct_ways fuel index structure.fields else []
+type_offers context wanted fuel true index (inner.Array array) = if nat_lt 0 fuel && is_val_below context.types (created context index)
+    wanted then array_ways index array.0 else []
 type_offers context wanted fuel arrays index _ = []
 
 -- the same, given the type at the index
@@ -79,7 +86,8 @@ abbrev pub other_offers : Config → Context → RefType → ℕ → List Choice
 other_offers config context wanted fuel =
     if nat_lt 0 fuel then
     offered_if (is_val_below context.types (reference_to (Abstract false heap.I31)) (Ref wanted)) choice.I31
-    ++ (offered_if (context.features.shared_everything_threads && is_val_below context.types (reference_to (Abstract true heap.I31)) (Ref wanted)) choice.SharedI31
+    ++ (offered_if (context.features.shared_everything_threads && is_val_below context.types (reference_to (Abstract true heap.I31))
+    (Ref wanted)) choice.SharedI31
     ++ conversions config wanted)
     else []
 
@@ -91,7 +99,8 @@ created_offers config context wanted fuel =
 -- for a reference: functions, and values that can be created
 abbrev pub reference_offers : Config → Context → ValType → ℕ → List Choice
 reference_offers config context (Ref wanted) fuel =
-    each_from (function_offers context (Ref wanted)) 0 context.funcs ++ (if context.features.gc then created_offers config context wanted fuel else [])
+    each_from (function_offers context (Ref wanted)) 0 context.funcs ++ (if context.features.gc then created_offers config context wanted
+    fuel else [])
 reference_offers config context _ fuel = []
 
 -- a constant, or null if permitted, and an extended constant if enabled
@@ -102,11 +111,14 @@ constant_offers context wanted =
 -- all choices offered
 unfoldable pub offers : Config → Context → ValType → ℕ → List Choice
 offers config context wanted fuel =
-    each_from (global_offers context wanted) 0 (take context.visible context.globals) ++ (constant_offers context wanted ++ reference_offers config context wanted fuel)
+    each_from (global_offers context wanted) 0 (take context.visible context.globals) ++
+    (constant_offers context wanted ++ reference_offers config context wanted fuel)
 
 -- the indices of the visible immutable globals whose type is a subtype of the wanted type
 abbrev pub readable_globals : Context → ValType → List ℕ
-readable_globals context wanted = each_from (λ index (global : GlobalType). offered_if (not global.mutable && is_val_below context.types global.val_type wanted) index) 0 (take context.visible context.globals)
+readable_globals context wanted =
+    each_from (λ index (global : GlobalType). offered_if (not global.mutable && is_val_below context.types global.val_type wanted) index) 0
+    (take context.visible context.globals)
 
 -- a search in a list for the item at a position: that item as an `Err`, or as `Ok` the position
 -- counted from the end of the list

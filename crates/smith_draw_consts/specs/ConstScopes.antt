@@ -41,12 +41,14 @@ pub record IsScope (context : Context) : Type 0 where
   pub funcs : All (λ index. index < length context.types) context.funcs
   pub globals : All (λ (global : GlobalType). IsValTypeValid context.features (length context.types) global.val_type) context.globals
   pub structs : (index : ℕ) (fields : List FieldType) → IsStructAt context.types index fields → IsTrue context.features.gc
-  pub fields : (index : ℕ) (t : SubType) → slice_get context.types index ≡ Some t → All (IsValTypeValid context.features (length context.types)) (field_values (fields_of t.composite_type.inner))
+  pub fields : (index : ℕ) (t : SubType) → slice_get context.types index ≡ Some t
+      → All (IsValTypeValid context.features (length context.types)) (field_values (fields_of t.composite_type.inner))
 
 -- the end of the globals that may be read: after the imported globals, or after all globals if that
 -- is allowed (Validation, Modules) with garbage collection (own rule)
 abbrev pub visible_end : Config → Spaces → Bool → ℕ
-visible_end config spaces allow_defined = if config.gc_enabled && allow_defined then length spaces.entities.globals.now else spaces.entities.imported_globals
+visible_end config spaces allow_defined = if config.gc_enabled && allow_defined then length spaces.entities.globals.now else
+    spaces.entities.imported_globals
 
 -- the context of an expression over spaces (Validation, Contexts)
 abbrev pub seen_by : Config → Spaces → Bool → Context

@@ -1,5 +1,6 @@
 -- The instructions added by each step of drawing a constant expression.
-use Rattle.std.specs.Prelude.{◌≡◌, ◌⊎◌, ℕ, ◌+◌, ◌*◌, ◌≤◌, ◌<◌, true, IsTrue, Option, List, Some, None, Result, Ok, Err, length, map, slice_get, All}
+use Rattle.std.specs.Prelude.{◌≡◌, ◌⊎◌, ℕ, ◌+◌, ◌*◌, ◌≤◌, ◌<◌, true, IsTrue, Option, List, Some, None, Result, Ok, Err, length, map}
+use Rattle.std.specs.Prelude.{slice_get, All}
 use Rattle.smith_types.specs.Expressions.{Context, HasType}
 use Rattle.smith_types.specs.Flags.{IsInstrEnabled}
 use Rattle.smith_types.specs.Subtyping.{IsValBelow}
@@ -25,7 +26,8 @@ operand_type (Value value) = value
 operand_type Length = I32
 
 -- values of these types are appended to the old instructions, and the fuel that this takes
-pub record IsDrawn (context : Context) (values : List ValType) (old : List ConstInstr) (fuel : ℕ) (new : List ConstInstr) (left : ℕ) : Type 0 where
+pub record IsDrawn (context : Context) (values : List ValType) (old : List ConstInstr) (fuel : ℕ) (new : List ConstInstr) (left : ℕ) : Type
+    0 where
   pub puts : Puts context values old new
   pub spent : left ≤ fuel
   pub short : length new + 23 * widest context.types * left ≤ length old + 23 * length values + 23 * widest context.types * fuel
@@ -39,7 +41,8 @@ pub record IsNode (config : Config) (context : Context) (wanted : ValType) (fuel
   pub paid : 0 < length node.operands → 0 < fuel
   pub few : length node.operands ≤ widest context.types
   pub valid : All (λ operand. IsValTypeValid context.features (length context.types) (operand_type operand)) node.operands
-  pub lacks : (operand : Operand) (place : ℕ) → slice_get node.operands place ≡ Some operand → MayLack config context (operand_type operand) → MayLack config context wanted
+  pub lacks : (operand : Operand) (place : ℕ) → slice_get node.operands place ≡ Some operand → MayLack config context (operand_type operand)
+      → MayLack config context wanted
 
 -- each node of a choice has the wanted type; an extended constant has an integer type and is
 -- enabled
@@ -56,5 +59,6 @@ Reads (Err errors.EmptyChoose) new read = read ≡ None
 Reads (Err _) new read = ⊥
 
 -- a value, by its definition at any depth above the fuel
-pub record ReadsValue (context : Context) (config : Config) (wanted : ValType) (old new : State) (result : Result (Unit {0}) Error) : Type 0 where
-  pub exact : (depth : ℕ) → old.fuel < depth → Reads result new (expression_at context config depth wanted old)
+pub record ReadsValue (context : Context) (config : Config) (wanted : ValType) (old new : State) (result : Result (Unit {0}) Error) : Type 0
+  where
+    pub exact : (depth : ℕ) → old.fuel < depth → Reads result new (expression_at context config depth wanted old)

@@ -26,7 +26,8 @@ pub record IsOperandDrawn (context : Context) (config : Config) (operand : Opera
 
 -- a node was chosen for an operand: its operands are drawn next, and its instruction is appended
 -- after them
-pub record IsOperandBegun (context : Context) (config : Config) (operand : Operand) (todo : List Task) (old : State) (todo' : List Task) (new : State) : Type 0 where
+pub record IsOperandBegun (context : Context) (config : Config) (operand : Operand) (todo : List Task) (old : State) (todo' : List Task)
+    (new : State) : Type 0 where
   pub node : Node
   pub bytes : List ℕ
   pub state : new ≡ state_of old.made (old.fuel - 1) bytes
@@ -34,11 +35,14 @@ pub record IsOperandBegun (context : Context) (config : Config) (operand : Opera
   pub fits : IsNode config context (operand_type operand) old.fuel node
   pub some : 0 < length node.operands
   pub read : (depth : ℕ) → old.fuel < depth
-      → operand_at config (expression_at context config depth) operand old ≡ option_map (add_instruction node.instruction) (operands_at (operand_at config (expression_at context config (depth - 1))) node.operands (state_of old.made (old.fuel - 1) bytes))
+      → operand_at config (expression_at context config depth) operand old ≡ option_map (add_instruction node.instruction)
+      (operands_at (operand_at config (expression_at context config (depth - 1))) node.operands
+      (state_of old.made (old.fuel - 1) bytes))
 
 -- a task was carried out, and the remaining tasks became these
 abbrev pub IsStep : Context → Config → Task → List Task → State → List Task → State → Type 0
-IsStep context config (Draw operand) todo old todo' new = ((todo' ≡ todo) × IsOperandDrawn context config operand old new) ⊎ IsOperandBegun context config operand todo old todo' new
+IsStep context config (Draw operand) todo old todo' new = ((todo' ≡ todo) × IsOperandDrawn context config operand old new)
+    ⊎ IsOperandBegun context config operand todo old todo' new
 IsStep context config (Write instruction) todo old todo' new = (todo' ≡ todo) × (new ≡ add_instruction instruction old)
 
 -- a step adds at most the operands of one node and its instruction to the tasks, and makes them
@@ -54,5 +58,6 @@ pub record IsOperandLacking (context : Context) (config : Config) (operand : Ope
 
 -- the errors of a task
 abbrev pub MayRefuseTask : Context → Config → Task → State → Error → Type 0
-MayRefuseTask context config (Draw operand) old e = (e ≡ errors.Memory) ⊎ ((e ≡ errors.EmptyChoose) × IsOperandLacking context config operand old)
+MayRefuseTask context config (Draw operand) old e = (e ≡ errors.Memory)
+    ⊎ ((e ≡ errors.EmptyChoose) × IsOperandLacking context config operand old)
 MayRefuseTask context config (Write instruction) old e = e ≡ errors.Memory

@@ -45,7 +45,8 @@ operator_at count bytes =
 
 -- an instruction put before the existing ones, then the rest of the draw; the instruction is a
 -- constant if there is no operator
-abbrev pub extended_by : (ℕ → List ConstInstr → List ℕ → List ConstInstr × List ℕ) → ValType → ℕ → List ConstInstr → Option Operator → List ℕ → List ConstInstr × List ℕ
+abbrev pub extended_by : (ℕ → List ConstInstr → List ℕ → List ConstInstr × List ℕ) → ValType → ℕ → List ConstInstr → Option Operator
+    → List ℕ → List ConstInstr × List ℕ
 extended_by rest wanted needed made None bytes = let constant = constant_at wanted bytes in rest needed (constant.0 ∷ made) constant.1
 extended_by rest wanted needed made (Some operator) bytes = rest (suc (suc needed)) (operation (is_wide wanted) operator ∷ made) bytes
 

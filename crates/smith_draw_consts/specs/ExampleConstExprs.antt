@@ -16,7 +16,15 @@ use Rattle.smith_draw_consts.specs.ConstOffers.{readable_globals}
 
 -- only these types
 abbrev pub context_of_types : List SubType → Context
-context_of_types types = record { features = usual_features; types = types; funcs = []; globals = []; imported_funcs = 0; imported_globals = 0; visible = 0 }
+context_of_types types = record {
+  features = usual_features;
+  types = types;
+  funcs = [];
+  globals = [];
+  imported_funcs = 0;
+  imported_globals = 0;
+  visible = 0;
+}
 
 -- a struct with one packed field of a byte
 abbrev pub packed_struct : SubType
@@ -28,7 +36,8 @@ packed_array = final_type (array (constant I8))
 
 -- if all globals are mutable, none is readable
 abbrev pub MutableGlobalsAreNotRead : Type 0
-MutableGlobalsAreNotRead = (context : Context) (wanted : ValType) → All (λ (global : GlobalType). global.mutable ≡ true) context.globals → readable_globals context wanted ≡ []
+MutableGlobalsAreNotRead = (context : Context) (wanted : ValType) → All (λ (global : GlobalType). global.mutable ≡ true) context.globals
+    → readable_globals context wanted ≡ []
 
 -- nothing is defined so far
 pub record IsNothing (spaces : Spaces) : Type 0 where
@@ -44,12 +53,15 @@ NothingIsValid = (config : Config) (spaces : Spaces) → IsNothing spaces → Ar
 
 -- a function without its type is not valid
 abbrev pub AFunctionNeedsItsType : Type 0
-AFunctionNeedsItsType = (config : Config) (spaces : Spaces) → spaces.types.now.types ≡ [] → spaces.entities.funcs.now ≡ 0 ∷ [] → ¬ AreSpacesValid config spaces
+AFunctionNeedsItsType = (config : Config) (spaces : Spaces) → spaces.types.now.types ≡ [] → spaces.entities.funcs.now ≡ 0 ∷ []
+    → ¬ AreSpacesValid config spaces
 
 -- a global of a vector type is not valid without its feature
 abbrev pub AGlobalNeedsItsFeature : Type 0
-AGlobalNeedsItsFeature = (config : Config) (spaces : Spaces) → config.simd_enabled ≡ false → spaces.entities.globals.now ≡ constant_global V128 ∷ [] → ¬ AreSpacesValid config spaces
+AGlobalNeedsItsFeature = (config : Config) (spaces : Spaces) → config.simd_enabled ≡ false → spaces.entities.globals.now
+    ≡ constant_global V128 ∷ [] → ¬ AreSpacesValid config spaces
 
 -- there are no more imported globals than globals
 abbrev pub ImportedGlobalsStand : Type 0
-ImportedGlobalsStand = (config : Config) (spaces : Spaces) → spaces.entities.globals.now ≡ [] → spaces.entities.imported_globals ≡ 1 → ¬ AreSpacesValid config spaces
+ImportedGlobalsStand = (config : Config) (spaces : Spaces) → spaces.entities.globals.now ≡ [] → spaces.entities.imported_globals ≡ 1
+    → ¬ AreSpacesValid config spaces

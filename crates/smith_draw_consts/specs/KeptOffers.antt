@@ -1,5 +1,6 @@
 -- The record of the globals and functions that are offered, kept for many draws.
-use Rattle.std.specs.Prelude.{◌≡◌, ℕ, ◌+◌, ◌*◌, ◌/◌, ◌<◌, ◌≤◌, ◌≢◌, ◌⊎◌, min, Bool, true, false, IsTrue, Option, None, Some, IfSome, List, [], ◌∷◌, ◌++◌, map, take, length, slice_get, slice_index, All, if◌then◌else◌}
+use Rattle.std.specs.Prelude.{◌≡◌, ℕ, ◌+◌, ◌*◌, ◌/◌, ◌<◌, ◌≤◌, ◌≢◌, ◌⊎◌, min, Bool, true, false, IsTrue, Option, None, Some, IfSome, List}
+use Rattle.std.specs.Prelude.{[], ◌∷◌, ◌++◌, map, take, length, slice_get, slice_index, All, if◌then◌else◌}
 use Rattle.std.specs.Borrow.{Bor}
 use Rattle.std.specs.List.{range_with_len}
 use Rattle.smith_types.specs.Subtyping.{IsValInRange}
@@ -57,11 +58,13 @@ is_offered types wanted (Some value) = is_val_below types value wanted
 
 -- the classes of the first items of a list: each of these is of its class, and the types of the
 -- classes exist
-pub record AreClasses {A : Type 0} (types : List SubType) (type_of : ℕ → A → Option ValType) (xs : List A) (classes : Classes) : Type 0 where
-  pub seen : length classes.of ≤ length xs
-  pub few : length classes.kinds ≤ length classes.of
-  pub in_range : All (λ kind. IfSome kind (IsValInRange types)) classes.kinds
-  pub same : (i : ℕ) (x : A) → i < length classes.of → slice_get xs i ≡ Some x → slice_get classes.kinds (slice_index classes.of i) ≡ Some (type_of i x)
+pub record AreClasses {A : Type 0} (types : List SubType) (type_of : ℕ → A → Option ValType) (xs : List A) (classes : Classes) : Type 0
+  where
+    pub seen : length classes.of ≤ length xs
+    pub few : length classes.kinds ≤ length classes.of
+    pub in_range : All (λ kind. IfSome kind (IsValInRange types)) classes.kinds
+    pub same : (i : ℕ) (x : A) → i < length classes.of → slice_get xs i ≡ Some x → slice_get classes.kinds (slice_index classes.of i)
+        ≡ Some (type_of i x)
 
 -- one more item is in a class of its type
 pub record IsNoted (kind : Option ValType) (old new : Classes) : Type 0 where
@@ -71,11 +74,13 @@ pub record IsNoted (kind : Option ValType) (old new : Classes) : Type 0 where
 -- whether the items of each of the first classes are offered for a value of the wanted type
 pub record AreFlags (types : List SubType) (wanted : ValType) (kinds : List (Option ValType)) (flags : List Bool) : Type 0 where
   pub few : length flags ≤ length kinds
-  pub right : (k : ℕ) (kind : Option ValType) → k < length flags → slice_get kinds k ≡ Some kind → slice_get flags k ≡ Some (is_offered types wanted kind)
+  pub right : (k : ℕ) (kind : Option ValType) → k < length flags → slice_get kinds k ≡ Some kind
+      → slice_get flags k ≡ Some (is_offered types wanted kind)
 
 -- the number of items on offer grows with each item whose class is offered
 abbrev pub IsTally : (ℕ → ℕ) → List ℕ → List Bool → Type 0
-IsTally before classes flags = (i : ℕ) (flag : Bool) → i < length classes → slice_get flags (slice_index classes i) ≡ Some flag → before (i + 1) ≡ before i + (if flag then 1 else 0)
+IsTally before classes flags = (i : ℕ) (flag : Bool) → i < length classes → slice_get flags (slice_index classes i) ≡ Some flag
+    → before (i + 1) ≡ before i + (if flag then 1 else 0)
 
 -- the classes of globals and of functions are correct
 pub record AreItemsRead (context : Context) (items : ReadItems) : Type 0 where
@@ -154,7 +159,8 @@ AreWaysFor kept place wanted = (ways : KeptWays) × (slice_get kept place ≡ So
 
 -- the entry at this position counts all ways
 abbrev pub AreWaysWholeAt : Context → List KeptWays → ℕ → ValType → ℕ → Type 0
-AreWaysWholeAt context kept place wanted fuel = (ways : KeptWays) × (slice_get kept place ≡ Some ways) × AreWaysWhole context wanted fuel ways
+AreWaysWholeAt context kept place wanted fuel = (ways : KeptWays) × (slice_get kept place ≡ Some ways)
+    × AreWaysWhole context wanted fuel ways
 
 -- so does the entry at this position, if there is one
 abbrev pub HasCountedWays : Context → ValType → ℕ → Option ℕ → Option KeptTypes → Type 0

@@ -6,7 +6,8 @@ use Rattle.smith_bytes.specs.declared.error.Error.{Error}
 
 -- a list after at most `most` more items, each drawn after the items before it; refused as soon as
 -- one of these draws is
-unfoldable pub try_grow_at : {A : Type 0} → (List A → List ℕ → Result (A × List ℕ) Error) → ℕ → ℕ → List A → List ℕ → Result (List A × List ℕ) Error
+unfoldable pub try_grow_at : {A : Type 0} → (List A → List ℕ → Result (A × List ℕ) Error) → ℕ → ℕ → List A → List ℕ
+    → Result (List A × List ℕ) Error
 try_grow_at draw least zero made bytes = Ok (made, bytes)
 try_grow_at draw least (suc most) made bytes =
     let go = goes_at (nat_lt (length made) least) bytes in

@@ -1,5 +1,6 @@
 -- One iteration of the loop that exports every item.
-use Rattle.std.proofs.Common.{◌≡◌, ℕ, ◌+◌, ◌-◌, ◌<◌, ◌≤◌, true, false, List, [], ◌∷◌, ◌++◌, length, drop, map, refl, sym, ap, arith, length-append, append-nil, append_assoc, nat_lt, lt-ltb, le-ltb, subst, ◌∙◌}
+use Rattle.std.proofs.Common.{◌≡◌, ℕ, ◌+◌, ◌-◌, ◌<◌, ◌≤◌, true, false, List, [], ◌∷◌, ◌++◌, length, drop, map, refl, sym, ap, arith}
+use Rattle.std.proofs.Common.{length-append, append-nil, append_assoc, nat_lt, lt-ltb, le-ltb, subst, ◌∙◌}
 use Rattle.std.specs.Prelude.{Ok, Err, Some, All, slice_get}
 use Rattle.std.specs.HashSet.{HashSet, IsEmpty}
 use Rattle.std.specs.declared.string.String.{String}
@@ -19,16 +20,20 @@ use Rattle.smith_draw_contents.specs.Exported.{AreExportsFit}
 use Rattle.smith_draw_contents.proofs.ExportsFitLemmas.{none_fit, fit_push}
 
 -- the items before a place are exported, and the draws from here on complete the whole
-pub record AreExporting {S : Type 0} (config : Config) (types : List SubType) (spaces : EntitySpaces) (imports : ℕ) (items : List Item) (place : ℕ) (exports : List Export) (size : ℕ) (names : HashSet (String Global) S) (start bytes : List ℕ) : Type 0 where
+pub record AreExporting {S : Type 0} (config : Config) (types : List SubType) (spaces : EntitySpaces) (imports : ℕ) (items : List Item)
+    (place : ℕ) (exports : List Export) (size : ℕ) (names : HashSet (String Global) S) (start bytes : List ℕ) : Type 0 where
   pub fit : AreExportsFit config types spaces imports exports size
   pub items_are : map item_of exports ++ drop place items ≡ items
   pub count_is : length exports ≡ place
   pub names_are : HasNames names exports
-  pub so_far : exports_of_items config types spaces imports (drop place items) exports bytes ≡ exports_of_items config types spaces imports items [] start
+  pub so_far : exports_of_items config types spaces imports (drop place items) exports bytes ≡ exports_of_items config types spaces imports
+      items [] start
   pub left : KeepsPieces start bytes
 
 -- no item yet
-pub none_exporting : {S : Type 0} {names : HashSet (String Global) S} (config : Config) (types : List SubType) (spaces : EntitySpaces) (imports : ℕ) (items : List Item) (start : List ℕ) → imports ≤ config.max_type_size → IsEmpty names → AreExporting config types spaces imports items 0 [] imports names start start
+pub none_exporting : {S : Type 0} {names : HashSet (String Global) S} (config : Config) (types : List SubType) (spaces : EntitySpaces)
+    (imports : ℕ) (items : List Item) (start : List ℕ) → imports ≤ config.max_type_size → IsEmpty names
+    → AreExporting config types spaces imports items 0 [] imports names start start
 none_exporting config types spaces imports items start within empty = record {
   fit = none_fit config types spaces imports within;
   items_are = refl;
@@ -38,49 +43,65 @@ none_exporting config types spaces imports items start within empty = record {
   left = λ whole h. h;
 }
 
-module _ {S : Type 0} {config : Config} {types : List SubType} {spaces : EntitySpaces} {imports place : ℕ} {items : List Item} {exports : List Export} {size : ℕ} {names : HashSet (String Global) S} {start bytes : List ℕ} where
+module _ {S : Type 0} {config : Config} {types : List SubType} {spaces : EntitySpaces} {imports place : ℕ} {items : List Item}
+    {exports : List Export} {size : ℕ} {names : HashSet (String Global) S} {start bytes : List ℕ} where
   -- all items are exported
-  pub exporting_full : AreExporting config types spaces imports items place exports size names start bytes → length items ≤ place → exports_of_items config types spaces imports items [] start ≡ Ok (exports, bytes)
+  pub exporting_full : AreExporting config types spaces imports items place exports size names start bytes → length items ≤ place
+      → exports_of_items config types spaces imports items [] start ≡ Ok (exports, bytes)
   unfolding exports_of_items
   exporting_full now full =
       let none : drop place items ≡ [] = drop_all place items full in
       let one : exports_of_items config types spaces imports (drop place items) exports bytes ≡ Ok (exports, bytes) = rw none refl in
       sym now.so_far ∙ one
 
-  pub exported_all : AreExporting config types spaces imports items place exports size names start bytes → length items ≤ place → map item_of exports ≡ items
+  pub exported_all : AreExporting config types spaces imports items place exports size names start bytes → length items ≤ place
+      → map item_of exports ≡ items
   exported_all now full =
       let none : drop place items ≡ [] = drop_all place items full in
       sym (append-nil (map item_of exports)) ∙ (ap (λ (l : List Item). map item_of exports ++ l) (sym none) ∙ now.items_are)
 
   -- one more is drawn, or is too large
-  module _ {name : List ℕ} {item : Item} {after : List ℕ} (now : AreExporting config types spaces imports items place exports size names start bytes) (at : slice_get items place ≡ Some item) (drawn : export_name_at exports bytes ≡ (name, after)) where
+  module _ {name : List ℕ} {item : Item} {after : List ℕ} (now : AreExporting config types spaces imports items place exports size names
+      start bytes) (at : slice_get items place ≡ Some item) (drawn : export_name_at exports bytes ≡ (name, after)) where
     rest : drop place items ≡ item ∷ drop (place + 1) items
-    rest = drop_more items place item (slice_get_within items place item at) ∙ ap (λ (one : Item). one ∷ drop (place + 1) items) (get_or_from_slice_get items place item item at)
+    rest = drop_more items place item (slice_get_within items place item at) ∙ ap (λ (one : Item). one ∷ drop (place + 1) items)
+        (get_or_from_slice_get items place item item at)
 
-    larger : imports + exported_size types spaces (exports ++ (name, item.0, item.1) ∷ []) ≡ size + (item_size types spaces item.0 item.1 + 1)
+    larger : imports + exported_size types spaces (exports ++ (name, item.0, item.1) ∷ [])
+        ≡ size + (item_size types spaces item.0 item.1 + 1)
     larger =
         let more = sum_by-append (λ (each : Export). item_size types spaces each.1 each.2 + 1) exports ((name, item.0, item.1) ∷ []) in
         omega (arith, more, now.fit.type_size)
 
-    pub exporting_refused : config.max_type_size - size < item_size types spaces item.0 item.1 + 1 → exports_of_items config types spaces imports items [] start ≡ Err TypeSize
+    pub exporting_refused : config.max_type_size - size < item_size types spaces item.0 item.1 + 1
+        → exports_of_items config types spaces imports items [] start ≡ Err TypeSize
     unfolding exports_of_items
     exporting_refused large =
-        let over : nat_lt config.max_type_size (imports + exported_size types spaces (exports ++ (name, item.0, item.1) ∷ [])) ≡ true = lt-ltb _ _ (omega (arith, larger, now.fit.within, large)) in
-        let turn : exports_of_items config types spaces imports (drop place items) exports bytes ≡ Err TypeSize = rw (rest, drawn, over) refl in
+        let over : nat_lt config.max_type_size (imports + exported_size types spaces (exports ++ (name, item.0, item.1) ∷ [])) ≡ true =
+        lt-ltb _ _ (omega (arith, larger, now.fit.within, large)) in
+        let turn : exports_of_items config types spaces imports (drop place items) exports bytes ≡ Err TypeSize =
+        rw (rest, drawn, over) refl in
         sym now.so_far ∙ turn
 
-    pub exporting_more : {more : List Export} {more_size : ℕ} {more_names : HashSet (String Global) S} → item_size types spaces item.0 item.1 + 1 ≤ config.max_type_size - size → is_exported exports name ≡ false → HasNames more_names (exports ++ (name, item.0, item.1) ∷ [])
-        → All (λ (each : Item). IsStanding spaces each.0 each.1) items → more ≡ exports ++ (name, item.0, item.1) ∷ [] → more_size ≡ size + (item_size types spaces item.0 item.1 + 1) → KeepsPieces bytes after
+    pub exporting_more : {more : List Export} {more_size : ℕ} {more_names : HashSet (String Global) S}
+        → item_size types spaces item.0 item.1 + 1 ≤ config.max_type_size - size → is_exported exports name ≡ false
+        → HasNames more_names (exports ++ (name, item.0, item.1) ∷ [])
+        → All (λ (each : Item). IsStanding spaces each.0 each.1) items → more ≡ exports ++ (name, item.0, item.1) ∷ []
+        → more_size ≡ size + (item_size types spaces item.0 item.1 + 1) → KeepsPieces bytes after
         → AreExporting config types spaces imports items (place + 1) more more_size more_names start after
     unfolding exports_of_items
     exporting_more room fresh known stand longer grown p =
         let one : Export = (name, item.0, item.1) in
-        let stands : IsStanding spaces item.0 item.1 = subst (λ (each : Item). IsStanding spaces each.0 each.1) (get_or_from_slice_get items place item item at) (stand place item (slice_get_within items place item at)) in
-        let fits : nat_lt config.max_type_size (imports + exported_size types spaces (exports ++ (name, item.0, item.1) ∷ [])) ≡ false = le-ltb _ _ (omega (arith, larger, now.fit.within, room)) in
-        let turn : exports_of_items config types spaces imports (drop place items) exports bytes ≡ exports_of_items config types spaces imports (drop (place + 1) items) (exports ++ (name, item.0, item.1) ∷ []) after = rw (rest, drawn, fits) refl in
+        let stands : IsStanding spaces item.0 item.1 = subst (λ (each : Item). IsStanding spaces each.0 each.1)
+        (get_or_from_slice_get items place item item at) (stand place item (slice_get_within items place item at)) in
+        let fits : nat_lt config.max_type_size (imports + exported_size types spaces (exports ++ (name, item.0, item.1) ∷ [])) ≡ false =
+        le-ltb _ _ (omega (arith, larger, now.fit.within, room)) in
+        let turn : exports_of_items config types spaces imports (drop place items) exports bytes ≡ exports_of_items config types spaces
+        imports (drop (place + 1) items) (exports ++ (name, item.0, item.1) ∷ []) after = rw (rest, drawn, fits) refl in
         rw (longer, grown) (record {
           fit = fit_push one now.fit fresh stands (omega (arith, now.fit.within, room));
-          items_are = rw map-append (append_assoc (map item_of exports) (item ∷ []) (drop (place + 1) items) ∙ (ap (λ (l : List Item). map item_of exports ++ l) (sym rest) ∙ now.items_are));
+          items_are = rw map-append (append_assoc (map item_of exports) (item ∷ []) (drop (place + 1) items)
+              ∙ (ap (λ (l : List Item). map item_of exports ++ l) (sym rest) ∙ now.items_are));
           count_is = simp length-append (omega (arith, now.count_is));
           names_are = known;
           so_far = sym turn ∙ now.so_far;

@@ -19,15 +19,19 @@ most_without_traps : (config : Config) (table : TableType) → IsTrue config.dis
 most_without_traps config table on = rw on refl
 
 -- a constant
-pub constant_placed : (config : Config) (context : Context) (table : TableType) (drawn most : ℕ) (offset : Offset) (hint : Option ℕ) → drawn ≤ most → most ≡ most_offset config table → IsOffsetValid context table.table64 offset
-    → ((count least : ℕ) → drawn + count ≤ least → IsOffsetInside offset count least) → (IsTrue config.disallow_traps → hint ≡ Some (table.minimum - drawn)) → IsPlaced config context table offset hint
+pub constant_placed : (config : Config) (context : Context) (table : TableType) (drawn most : ℕ) (offset : Offset) (hint : Option ℕ)
+    → drawn ≤ most → most ≡ most_offset config table → IsOffsetValid context table.table64 offset
+    → ((count least : ℕ) → drawn + count ≤ least → IsOffsetInside offset count least)
+    → (IsTrue config.disallow_traps → hint ≡ Some (table.minimum - drawn)) → IsPlaced config context table offset hint
 constant_placed config context table drawn most offset hint within same valid inside hinted = record {
   valid = valid;
-  inside = λ on. rw (hinted on) (inside (table.minimum - drawn) table.minimum (omega (arith, within, same, most_without_traps config table on)));
+  inside = λ on. rw (hinted on)
+      (inside (table.minimum - drawn) table.minimum (omega (arith, within, same, most_without_traps config table on)));
 }
 
 -- the value of a global, which is read only without `disallow_traps`
-pub global_placed : (config : Config) (context : Context) (table : TableType) {globals : List ℕ} (bytes : List ℕ) {after : List ℕ} {index : ℕ} → TellOffsets context table.table64 globals → (IsTrue config.disallow_traps → globals ≡ []) → 0 < length globals
+pub global_placed : (config : Config) (context : Context) (table : TableType) {globals : List ℕ} (bytes : List ℕ) {after : List ℕ}
+    {index : ℕ} → TellOffsets context table.table64 globals → (IsTrue config.disallow_traps → globals ≡ []) → 0 < length globals
     → chosen_at 0 globals bytes ≡ (index, after) → IsPlaced config context table (Global index) None
 global_placed config context table {globals = globals} bytes tell none some chosen =
     let Tells = λ (global : ℕ). IsVisible context global (address_type table.table64) in

@@ -18,14 +18,19 @@ use Rattle.smith_types.proofs.ListLemmas.{mapped_at}
 use Rattle.smith_types.proofs.DistinctLemmas.{distinct_push}
 
 -- no export fits after imports that fit
-pub none_fit : (config : Config) (types : List SubType) (spaces : EntitySpaces) (imports : ℕ) → imports ≤ config.max_type_size → AreExportsFit config types spaces imports [] imports
+pub none_fit : (config : Config) (types : List SubType) (spaces : EntitySpaces) (imports : ℕ) → imports ≤ config.max_type_size
+    → AreExportsFit config types spaces imports [] imports
 none_fit config types spaces imports within = record {
-  valid = record { stand = All-nil (λ (one : Export). IsStanding spaces one.1 one.2); distinct = record { once = λ i j item at there. absurd cc } };
+  valid = record {
+    stand = All-nil (λ (one : Export). IsStanding spaces one.1 one.2);
+    distinct = record { once = λ i j item at there. absurd cc };
+  };
   type_size = omega arith;
   within = within;
 }
 
-not_there : (exports : List Export) (name : List ℕ) → is_exported exports name ≡ false → (i : ℕ) → slice_get (map (λ (one : Export). one.0) exports) i ≡ Some name → ⊥
+not_there : (exports : List Export) (name : List ℕ) → is_exported exports name ≡ false → (i : ℕ)
+    → slice_get (map (λ (one : Export). one.0) exports) i ≡ Some name → ⊥
 not_there exports name fresh i there =
     let (other, at, alike) = mapped_at exports i name there in
     let same : bytes_eq other.0 name ≡ true = (bytes_eq-Decides other.0 name).1 alike in
@@ -33,17 +38,21 @@ not_there exports name fresh i there =
     absurd (cc (sym fresh ∙ taken))
 
 -- one more export of an existing item under a new name is valid too
-pub valid_push : {spaces : EntitySpaces} {exports : List Export} (one : Export) → AreExportsValid spaces exports → is_exported exports one.0 ≡ false → IsStanding spaces one.1 one.2 → AreExportsValid spaces (exports ++ one ∷ [])
+pub valid_push : {spaces : EntitySpaces} {exports : List Export} (one : Export) → AreExportsValid spaces exports → is_exported exports one.0
+    ≡ false → IsStanding spaces one.1 one.2 → AreExportsValid spaces (exports ++ one ∷ [])
 valid_push {spaces = spaces} {exports = exports} one valid fresh stands =
     let P = λ (each : Export). IsStanding spaces each.1 each.2 in
     record {
       stand = All-append P exports (one ∷ []) valid.stand (All-cons P one [] stands (All-nil P));
-      distinct = rw map-append (distinct_push (map (λ (each : Export). each.0) exports) one.0 valid.distinct (not_there exports one.0 fresh));
+      distinct = rw map-append (distinct_push (map (λ (each : Export). each.0) exports) one.0 valid.distinct
+          (not_there exports one.0 fresh));
     }
 
 -- one more export under a new name fits too, of an existing item for which there is room
-pub fit_push : {config : Config} {types : List SubType} {spaces : EntitySpaces} {imports : ℕ} {exports : List Export} {size : ℕ} (one : Export) → AreExportsFit config types spaces imports exports size → is_exported exports one.0 ≡ false
-    → IsStanding spaces one.1 one.2 → size + (item_size types spaces one.1 one.2 + 1) ≤ config.max_type_size → AreExportsFit config types spaces imports (exports ++ one ∷ []) (size + (item_size types spaces one.1 one.2 + 1))
+pub fit_push : {config : Config} {types : List SubType} {spaces : EntitySpaces} {imports : ℕ} {exports : List Export} {size : ℕ}
+    (one : Export) → AreExportsFit config types spaces imports exports size → is_exported exports one.0 ≡ false
+    → IsStanding spaces one.1 one.2 → size + (item_size types spaces one.1 one.2 + 1) ≤ config.max_type_size
+    → AreExportsFit config types spaces imports (exports ++ one ∷ []) (size + (item_size types spaces one.1 one.2 + 1))
 fit_push {types = types} {spaces = spaces} {exports = exports} one fit fresh stands room =
     let more = sum_by-append (λ (each : Export). item_size types spaces each.1 each.2 + 1) exports (one ∷ []) in
     record {

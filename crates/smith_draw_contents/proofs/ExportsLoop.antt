@@ -1,5 +1,6 @@
 -- One iteration of the loop that draws exports.
-use Rattle.std.proofs.Common.{◌≡◌, ℕ, suc, ◌+◌, ◌-◌, ◌<◌, ◌≤◌, Bool, true, false, List, [], ◌∷◌, ◌++◌, length, refl, sym, ap, arith, length-append, nat_lt, ◌∙◌}
+use Rattle.std.proofs.Common.{◌≡◌, ℕ, suc, ◌+◌, ◌-◌, ◌<◌, ◌≤◌, Bool, true, false, List, [], ◌∷◌, ◌++◌, length, refl, sym, ap, arith}
+use Rattle.std.proofs.Common.{length-append, nat_lt, ◌∙◌}
 use Rattle.std.specs.HashSet.{HashSet, IsEmpty}
 use Rattle.std.specs.declared.string.String.{String}
 use Rattle.std.specs.declared.alloc.Global.{Global}
@@ -14,15 +15,19 @@ use Rattle.smith_draw_contents.specs.Exported.{IsCandidate, AreExported}
 use Rattle.smith_draw_contents.proofs.ExportsFitLemmas.{none_fit, fit_push}
 
 -- `count` exports are drawn, and the draws from here on complete the whole
-pub record IsExporting {S : Type 0} (config : Config) (types : List SubType) (spaces : EntitySpaces) (imports count : ℕ) (exports : List Export) (size : ℕ) (names : HashSet (String Global) S) (start bytes : List ℕ) : Type 0 where
+pub record IsExporting {S : Type 0} (config : Config) (types : List SubType) (spaces : EntitySpaces) (imports count : ℕ)
+    (exports : List Export) (size : ℕ) (names : HashSet (String Global) S) (start bytes : List ℕ) : Type 0 where
   pub count_is : length exports ≡ count
   pub kept : AreExported config types spaces imports exports size
   pub names_are : HasNames names exports
-  pub so_far : exports_from config types spaces imports (config.max_exports - count) exports bytes ≡ exports_from config types spaces imports config.max_exports [] start
+  pub so_far : exports_from config types spaces imports (config.max_exports - count) exports bytes ≡ exports_from config types spaces
+      imports config.max_exports [] start
   pub left : KeepsPieces start bytes
 
 -- no export yet
-pub none_exported : {S : Type 0} {names : HashSet (String Global) S} (config : Config) (types : List SubType) (spaces : EntitySpaces) (imports : ℕ) (start : List ℕ) → imports ≤ config.max_type_size → IsEmpty names → IsExporting config types spaces imports 0 [] imports names start start
+pub none_exported : {S : Type 0} {names : HashSet (String Global) S} (config : Config) (types : List SubType) (spaces : EntitySpaces)
+    (imports : ℕ) (start : List ℕ) → imports ≤ config.max_type_size → IsEmpty names → IsExporting config types spaces imports 0 [] imports
+    names start start
 none_exported {names = names} config types spaces imports start within empty =
     let all : config.max_exports - 0 ≡ config.max_exports = omega arith in
     record {
@@ -34,8 +39,11 @@ none_exported {names = names} config types spaces imports start within empty =
     }
 
 -- exports with one more
-kept_more : {config : Config} {types : List SubType} {spaces : EntitySpaces} {imports : ℕ} {exports : List Export} {size left : ℕ} (one : Export) → AreExported config types spaces imports exports size → length exports < config.max_exports → left ≡ config.max_type_size - size → is_exported exports one.0 ≡ false
-    → IsCandidate types spaces left one.1 one.2 → AreExported config types spaces imports (exports ++ one ∷ []) (size + (item_size types spaces one.1 one.2 + 1))
+kept_more : {config : Config} {types : List SubType} {spaces : EntitySpaces} {imports : ℕ} {exports : List Export} {size left : ℕ}
+    (one : Export) → AreExported config types spaces imports exports size → length exports < config.max_exports
+    → left ≡ config.max_type_size - size → is_exported exports one.0 ≡ false
+    → IsCandidate types spaces left one.1 one.2 → AreExported config types spaces imports (exports ++ one ∷ [])
+    (size + (item_size types spaces one.1 one.2 + 1))
 kept_more {types = types} {spaces = spaces} {exports = exports} one kept room left_is fresh candidate =
     let longer = length-append exports (one ∷ []) in
     record {
@@ -43,31 +51,39 @@ kept_more {types = types} {spaces = spaces} {exports = exports} one kept room le
       most = omega (arith, longer);
     }
 
-module _ {S : Type 0} {config : Config} {types : List SubType} {spaces : EntitySpaces} {imports count : ℕ} {exports : List Export} {size : ℕ} {names : HashSet (String Global) S} {start bytes : List ℕ} where
+module _ {S : Type 0} {config : Config} {types : List SubType} {spaces : EntitySpaces} {imports count : ℕ} {exports : List Export}
+    {size : ℕ} {names : HashSet (String Global) S} {start bytes : List ℕ} where
   -- the drawn bool ends the exports
-  pub export_stop : {b : Bool} {after : List ℕ} → IsExporting config types spaces imports count exports size names start bytes → count < config.max_exports → goes_at (nat_lt count config.min_exports) bytes ≡ (b, after) → b ≡ false
+  pub export_stop : {b : Bool} {after : List ℕ} → IsExporting config types spaces imports count exports size names start bytes
+      → count < config.max_exports → goes_at (nat_lt count config.min_exports) bytes ≡ (b, after) → b ≡ false
       → exports_from config types spaces imports config.max_exports [] start ≡ (exports, after)
   unfolding exports_from
   export_stop {after = after} now room go off =
       let k : config.max_exports - count ≡ suc (config.max_exports - (count + 1)) = omega arith in
       let len = now.count_is in
-      let one : exports_from config types spaces imports (config.max_exports - count) exports bytes ≡ (exports, after) = rw (k, len, go, off) refl in
+      let one : exports_from config types spaces imports (config.max_exports - count) exports bytes ≡ (exports, after) =
+      rw (k, len, go, off) refl in
       sym now.so_far ∙ one
 
   -- there was no candidate
-  pub export_end : {b offered : Bool} {left : ℕ} {after : List ℕ} → IsExporting config types spaces imports count exports size names start bytes → count < config.max_exports → goes_at (nat_lt count config.min_exports) bytes ≡ (b, after) → b ≡ true
-      → left ≡ config.max_type_size - size → offered ≡ nat_lt 0 (length (offered_kinds types spaces left)) → offered ≡ false → exports_from config types spaces imports config.max_exports [] start ≡ (exports, after)
+  pub export_end : {b offered : Bool} {left : ℕ} {after : List ℕ} → IsExporting config types spaces imports count exports size names start
+      bytes → count < config.max_exports → goes_at (nat_lt count config.min_exports) bytes ≡ (b, after) → b ≡ true
+      → left ≡ config.max_type_size - size → offered ≡ nat_lt 0 (length (offered_kinds types spaces left)) → offered ≡ false
+      → exports_from config types spaces imports config.max_exports [] start ≡ (exports, after)
   unfolding exports_from
   export_end {left = left} {after = after} now room go on left_is offers none =
       let k : config.max_exports - count ≡ suc (config.max_exports - (count + 1)) = omega arith in
       let len = now.count_is in
-      let same : config.max_type_size - (imports + exported_size types spaces exports) ≡ left = sym (left_is ∙ ap (λ s. config.max_type_size - s) now.kept.fit.type_size) in
+      let same : config.max_type_size - (imports + exported_size types spaces exports) ≡ left =
+      sym (left_is ∙ ap (λ s. config.max_type_size - s) now.kept.fit.type_size) in
       let no_more : nat_lt 0 (length (offered_kinds types spaces left)) ≡ false = sym offers ∙ none in
-      let one : exports_from config types spaces imports (config.max_exports - count) exports bytes ≡ (exports, after) = rw (k, len, go, on, same, no_more) refl in
+      let one : exports_from config types spaces imports (config.max_exports - count) exports bytes ≡ (exports, after) =
+      rw (k, len, go, on, same, no_more) refl in
       sym now.so_far ∙ one
 
   -- no more may be drawn
-  pub export_full : IsExporting config types spaces imports count exports size names start bytes → config.max_exports ≤ count → exports_from config types spaces imports config.max_exports [] start ≡ (exports, bytes)
+  pub export_full : IsExporting config types spaces imports count exports size names start bytes → config.max_exports ≤ count
+      → exports_from config types spaces imports config.max_exports [] start ≡ (exports, bytes)
   unfolding exports_from
   export_full now full =
       let k : config.max_exports - count ≡ 0 = omega arith in
@@ -75,16 +91,23 @@ module _ {S : Type 0} {config : Config} {types : List SubType} {spaces : EntityS
       sym now.so_far ∙ one
 
   -- one more was drawn
-  pub export_more : {b offered : Bool} {left more_size : ℕ} {mid after : List ℕ} {one : Export} {more : List Export} {more_names : HashSet (String Global) S} → IsExporting config types spaces imports count exports size names start bytes → count < config.max_exports → goes_at (nat_lt count config.min_exports) bytes ≡ (b, mid) → b ≡ true
-      → left ≡ config.max_type_size - size → offered ≡ nat_lt 0 (length (offered_kinds types spaces left)) → offered ≡ true → export_at types spaces left exports mid ≡ (one, after) → is_exported exports one.0 ≡ false → HasNames more_names (exports ++ one ∷ []) → IsCandidate types spaces left one.1 one.2
-      → more ≡ exports ++ one ∷ [] → more_size ≡ size + (item_size types spaces one.1 one.2 + 1) → KeepsPieces bytes mid → KeepsPieces mid after → IsExporting config types spaces imports (count + 1) more more_size more_names start after
+  pub export_more : {b offered : Bool} {left more_size : ℕ} {mid after : List ℕ} {one : Export} {more : List Export}
+      {more_names : HashSet (String Global) S} → IsExporting config types spaces imports count exports size names start bytes
+      → count < config.max_exports → goes_at (nat_lt count config.min_exports) bytes ≡ (b, mid) → b ≡ true
+      → left ≡ config.max_type_size - size → offered ≡ nat_lt 0 (length (offered_kinds types spaces left)) → offered ≡ true
+      → export_at types spaces left exports mid ≡ (one, after) → is_exported exports one.0 ≡ false
+      → HasNames more_names (exports ++ one ∷ []) → IsCandidate types spaces left one.1 one.2
+      → more ≡ exports ++ one ∷ [] → more_size ≡ size + (item_size types spaces one.1 one.2 + 1) → KeepsPieces bytes mid
+      → KeepsPieces mid after → IsExporting config types spaces imports (count + 1) more more_size more_names start after
   unfolding exports_from
   export_more {left = left} {after = after} {one = one} now room go on left_is offers some drawn fresh known fit longer larger p q =
       let k : config.max_exports - count ≡ suc (config.max_exports - (count + 1)) = omega arith in
       let len = now.count_is in
-      let same : config.max_type_size - (imports + exported_size types spaces exports) ≡ left = sym (left_is ∙ ap (λ s. config.max_type_size - s) now.kept.fit.type_size) in
+      let same : config.max_type_size - (imports + exported_size types spaces exports) ≡ left =
+      sym (left_is ∙ ap (λ s. config.max_type_size - s) now.kept.fit.type_size) in
       let there : nat_lt 0 (length (offered_kinds types spaces left)) ≡ true = sym offers ∙ some in
-      let turn : exports_from config types spaces imports (config.max_exports - count) exports bytes ≡ exports_from config types spaces imports (config.max_exports - (count + 1)) (exports ++ one ∷ []) after = rw (k, len, go, on, same, there, drawn) refl in
+      let turn : exports_from config types spaces imports (config.max_exports - count) exports bytes ≡ exports_from config types spaces
+      imports (config.max_exports - (count + 1)) (exports ++ one ∷ []) after = rw (k, len, go, on, same, there, drawn) refl in
       rw (longer, larger) (record {
         count_is = simp length-append (omega arith);
         kept = kept_more one now.kept (omega arith) left_is fresh fit;

@@ -1,5 +1,6 @@
 -- Offered indices, as more are offered or left out.
-use Rattle.std.proofs.Common.{◌≡◌, ℕ, zero, suc, ◌+◌, ◌<◌, ◌≤◌, ◌⊎◌, true, false, List, [], ◌∷◌, ◌++◌, Some, length, get_or, refl, sym, subst, arith, length-append, inl, inr, add-one}
+use Rattle.std.proofs.Common.{◌≡◌, ℕ, zero, suc, ◌+◌, ◌<◌, ◌≤◌, ◌⊎◌, true, false, List, [], ◌∷◌, ◌++◌, Some, length, get_or, refl, sym}
+use Rattle.std.proofs.Common.{subst, arith, length-append, inl, inr, add-one}
 use Rattle.std.specs.Prelude.{All, slice_get, nat_le}
 use Rattle.std.specs.List.{AllWithin}
 use Rattle.std.specs.List.Sorted.{IsPartitionPoint}
@@ -18,14 +19,17 @@ last_or_before : (n m : ℕ) → n < suc m → (n < m) ⊎ (n ≡ m)
 last_or_before n m h = elim (leb_tells m n) [ inl at_least ↦ inr (omega (arith, at_least)) | inr below ↦ inl (omega (arith, below)) ]
 
 -- the offered index at a place comes after those that are left out before it
-offered_at : (skipped : List ℕ) (count place : ℕ) → place < count → slice_get (first_offered skipped count) place ≡ Some (place + count_up_to place skipped)
+offered_at : (skipped : List ℕ) (count place : ℕ) → place < count → slice_get (first_offered skipped count) place
+    ≡ Some (place + count_up_to place skipped)
 offered_at skipped zero place inside = absurd (omega arith)
 offered_at skipped (suc count) place inside =
     let index = λ (n : ℕ). n + count_up_to n skipped in
     elim (last_or_before place count inside) [
-      | inl before ↦ slice_get-grown (first_offered skipped count) (index count ∷ []) place (index place) (offered_at skipped count place before)
+      | inl before ↦ slice_get-grown (first_offered skipped count) (index count ∷ []) place (index place)
+          (offered_at skipped count place before)
       | inr last ↦
-          let here : slice_get (first_offered skipped count ++ index count ∷ []) count ≡ Some (index count) = rw length_offered at (slice_get-last (first_offered skipped count) (index count)) in
+          let here : slice_get (first_offered skipped count ++ index count ∷ []) count ≡ Some (index count) =
+          rw length_offered at (slice_get-last (first_offered skipped count) (index count)) in
           subst (λ (n : ℕ). slice_get (first_offered skipped count ++ index count ∷ []) n ≡ Some (index n)) (sym last) here
     ]
 
@@ -48,35 +52,46 @@ count_other n most (x ∷ numbers) above = rw (count_other n most numbers above)
 -- leaving out an index after all offered ones moves none of them
 offered_same : (skipped : List ℕ) (end count : ℕ) → count ≤ end → first_offered (skipped ++ end ∷ []) count ≡ first_offered skipped count
 offered_same skipped end zero few = refl
-offered_same skipped end (suc count) few = rw (offered_same skipped end count (omega arith), count_other end count skipped (omega arith)) refl
+offered_same skipped end (suc count) few = rw (offered_same skipped end count (omega arith), count_other end count skipped (omega arith))
+    refl
 
 -- if a list is divided at a place, the number of counted items is that place
-count_divided : (most : ℕ) (numbers : List ℕ) (n : ℕ) → n ≤ length numbers → AllWithin (λ x. nat_le x most ≡ true) numbers 0 n → AllWithin (λ x. nat_le x most ≡ false) numbers n (length numbers) → count_up_to most numbers ≡ n
+count_divided : (most : ℕ) (numbers : List ℕ) (n : ℕ) → n ≤ length numbers → AllWithin (λ x. nat_le x most ≡ true) numbers 0 n
+    → AllWithin (λ x. nat_le x most ≡ false) numbers n (length numbers) → count_up_to most numbers ≡ n
 count_divided most [] n few before following = omega arith
 count_divided most (x ∷ numbers) zero few before following =
     let first : nat_le x most ≡ false = following 0 x (omega arith) (omega arith) in
-    let rest = count_divided most numbers 0 (omega arith) (λ k d low high. absurd (omega arith)) (λ k d low high. following (suc k) d (omega arith) (omega arith)) in
+    let rest = count_divided most numbers 0 (omega arith) (λ k d low high. absurd (omega arith))
+    (λ k d low high. following (suc k) d (omega arith) (omega arith)) in
     rw first rest
 count_divided most (x ∷ numbers) (suc n) few before following =
     let first : nat_le x most ≡ true = before 0 x (omega arith) (omega arith) in
-    let rest = count_divided most numbers n (omega arith) (λ k d low high. before (suc k) d (omega arith) (omega arith)) (λ k d low high. following (suc k) d (omega arith) (omega arith)) in
+    let rest = count_divided most numbers n (omega arith) (λ k d low high. before (suc k) d (omega arith) (omega arith))
+    (λ k d low high. following (suc k) d (omega arith) (omega arith)) in
     rw first (omega (arith, rest))
 
 module _ (count : ℕ) (skipped : List ℕ) (now : AreSkipped count skipped) where
   -- one more index is offered
-  pub one_offered : indices_beside (count + 1) skipped ≡ record { end = count + length skipped + 1; offered = first_offered skipped count ++ (count + length skipped) ∷ [] }
+  pub one_offered : indices_beside (count + 1) skipped ≡ record {
+    end = count + length skipped + 1;
+    offered = first_offered skipped count ++
+        (count + length skipped) ∷ [];
+  }
   one_offered =
       let end : suc count + length skipped ≡ count + length skipped + 1 = omega arith in
       rw (add-one count, count_all count skipped now.below, end) refl
 
   -- one more is left out
-  pub one_left_out : (longer : List ℕ) → longer ≡ skipped ++ count ∷ [] → indices_beside count longer ≡ record { end = count + length skipped + 1; offered = first_offered skipped count }
+  pub one_left_out : (longer : List ℕ) → longer ≡ skipped ++ count ∷ [] → indices_beside count longer
+      ≡ record { end = count + length skipped + 1; offered = first_offered skipped count }
   one_left_out longer same =
       let end : count + (length skipped + 1) ≡ count + length skipped + 1 = omega arith in
       rw (same, offered_same skipped count count (omega arith), length-append) (rw end refl)
 
   -- the offered index at a place
-  pub found_at : (place below : ℕ) → place < count → below ≤ length skipped → IsPartitionPoint (λ x. nat_le x place ≡ true) (λ x. nat_le x place ≡ false) skipped below → place + below ≡ get_or (first_offered skipped count) place 0
+  pub found_at : (place below : ℕ) → place < count → below ≤ length skipped → IsPartitionPoint (λ x. nat_le x place ≡ true)
+      (λ x. nat_le x place ≡ false) skipped below → place + below ≡ get_or (first_offered skipped count) place 0
   found_at place below inside few divided =
-      let here : slice_get (first_offered skipped count) place ≡ Some (place + below) = rw (← count_divided place skipped below few divided.0 divided.1) (offered_at skipped count place inside) in
+      let here : slice_get (first_offered skipped count) place ≡ Some (place + below) =
+      rw (← count_divided place skipped below few divided.0 divided.1) (offered_at skipped count place inside) in
       sym (get_or_from_slice_get (first_offered skipped count) place (place + below) 0 here)

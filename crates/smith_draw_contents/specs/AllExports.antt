@@ -10,7 +10,8 @@ use Rattle.smith_draw_contents.specs.Exporting.{export_name_at, free_exports_at}
 
 -- exports of these items after others, each with a name; refused if imports and exports together
 -- exceed the type size
-unfoldable pub exports_of_items : Config → List SubType → EntitySpaces → ℕ → List Item → List Export → List ℕ → Result (List Export × List ℕ) Why
+unfoldable pub exports_of_items : Config → List SubType → EntitySpaces → ℕ → List Item → List Export → List ℕ
+    → Result (List Export × List ℕ) Why
 exports_of_items config types spaces imports [] exports bytes = Ok (exports, bytes)
 exports_of_items config types spaces imports (item ∷ items) exports bytes =
     let name = export_name_at exports bytes in

@@ -1,5 +1,6 @@
 -- The data segments that the bytes produce. Rules of this project.
-use Rattle.std.specs.Prelude.{ℕ, ◌+◌, ◌-◌, ◌*◌, ◌^◌, ◌≤◌, ◌==◌, ◌&&◌, not, min, nat_lt, Bool, true, false, List, [], ◌∷◌, ◌++◌, None, length, take, slice_index, Result, Ok, Err, if◌then◌else◌}
+use Rattle.std.specs.Prelude.{ℕ, ◌+◌, ◌-◌, ◌*◌, ◌^◌, ◌≤◌, ◌==◌, ◌&&◌, not, min, nat_lt, Bool, true, false, List, [], ◌∷◌, ◌++◌, None}
+use Rattle.std.specs.Prelude.{length, take, slice_index, Result, Ok, Err, if◌then◌else◌}
 use Rattle.std.specs.Int.{cast_signed, w32, w64}
 use Rattle.smith_bytes.specs.declared.error.Count.TheVariants as counts
 use Rattle.smith_bytes.specs.declared.error.Why.{Why}
@@ -123,7 +124,8 @@ data_segment_at config targets bytes =
     if passive.0 then (record { kind = Passive; init = init.0 }, passive.1) else active_at config targets init.0 passive.1
 
 unfoldable pub data_segments_at : Config → Targets → List ℕ → List DataSegment × List ℕ
-data_segments_at config targets bytes = grow_at (λ _. data_segment_at config targets) config.min_data_segments config.max_data_segments [] bytes
+data_segments_at config targets bytes = grow_at (λ _. data_segment_at config targets) config.min_data_segments config.max_data_segments []
+    bytes
 
 -- the data segments for these memories, in a context with the visible globals; none if there is no
 -- bulk memory and no memory may be copied into

@@ -70,7 +70,8 @@ pub record IsPlaced (config : Config) (context : Context) (table : TableType) (o
 abbrev pub IsKindDrawn : Config → Context → KindChoice → ElementKind × Option ℕ → Type 0
 IsKindDrawn config context choice.Passive drawn = drawn.0 ≡ element_kind.Passive
 IsKindDrawn config context choice.Declared drawn = drawn.0 ≡ element_kind.Declared
-IsKindDrawn config context (choice.Active index table) drawn = (offset : Offset) × (drawn.0 ≡ element_kind.Active index offset) × IsPlaced config context table offset drawn.1
+IsKindDrawn config context (choice.Active index table) drawn = (offset : Offset) × (drawn.0 ≡ element_kind.Active index offset)
+    × IsPlaced config context table offset drawn.1
 
 -- items of a type fit the table, if they are copied into one
 abbrev pub FitsTable : List SubType → KindChoice → RefType → Type 0

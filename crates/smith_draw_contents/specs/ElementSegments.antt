@@ -1,5 +1,6 @@
 -- The element segments that the bytes produce. Rules of this project.
-use Rattle.std.specs.Prelude.{ℕ, zero, suc, ◌-◌, min, Bool, true, false, not, ◌&&◌, ◌==◌, nat_lt, Option, Some, None, option_to_list, ok_or, unwrap_or, List, [], ◌∷◌, ◌++◌, length, slice_get, sum_by, Result, Ok, Err, if◌then◌else◌}
+use Rattle.std.specs.Prelude.{ℕ, zero, suc, ◌-◌, min, Bool, true, false, not, ◌&&◌, ◌==◌, nat_lt, Option, Some, None, option_to_list, ok_or}
+use Rattle.std.specs.Prelude.{unwrap_or, List, [], ◌∷◌, ◌++◌, length, slice_get, sum_by, Result, Ok, Err, if◌then◌else◌}
 use Rattle.std.specs.Int.{cast_signed, w32, w64}
 use Rattle.std.specs.List.{list_any}
 use Rattle.smith_bytes.specs.declared.error.Count.TheVariants as counts
@@ -70,7 +71,8 @@ unfoldable pub table_kinds_at : Config → List KindChoice → ℕ → List Tabl
 table_kinds_at config choices index [] bytes = (choices, bytes)
 table_kinds_at config choices index (table ∷ tables) bytes =
     let offered = is_offered_at table bytes in
-    table_kinds_at config (if offered.0 then with_named config index table (with_unnamed index table choices) else choices) (suc index) tables offered.1
+    table_kinds_at config (if offered.0 then with_named config index table (with_unnamed index table choices) else choices)
+    (suc index) tables offered.1
 
 -- the kinds without a table
 abbrev pub kept_kinds : Config → List KindChoice
@@ -171,12 +173,14 @@ expression_item_at config context ty bytes = ok_or (const_expr_at config context
 
 -- at most `most` items as expressions
 unfoldable pub drawn_expressions_at : Config → Context → RefType → ℕ → List ℕ → Result (List (List ConstInstr) × List ℕ) Error
-drawn_expressions_at config context ty most bytes = try_grow_at (λ _. expression_item_at config context ty) config.min_elements most [] bytes
+drawn_expressions_at config context ty most bytes = try_grow_at (λ _. expression_item_at config context ty) config.min_elements most []
+    bytes
 
 -- the same, refused if `most` items are fewer than required
 unfoldable pub expressions_at : Config → Context → RefType → ℕ → List ℕ → Result (List (List ConstInstr) × List ℕ) Error
 expressions_at config context ty most bytes =
-    if nat_lt most config.min_elements then Err (IncorrectFormat (Unmet counts.Elements)) else drawn_expressions_at config context ty most bytes
+    if nat_lt most config.min_elements then Err (IncorrectFormat (Unmet counts.Elements)) else drawn_expressions_at config context ty most
+    bytes
 
 -- at most `most` items of a segment with items of a type
 unfoldable pub items_at : Config → Context → RefType → ℕ → List ℕ → Result (Elements × List ℕ) Error
@@ -203,7 +207,8 @@ element_segment_at config context kinds total bytes = do
   Ok (record { kind = kind.0.0; ty = ty.0; items = items.0 }, items.1)
 
 -- at most `most` segments of these kinds, after those made before
-unfoldable pub element_segments_at : Config → Context → List KindChoice → ℕ → List ElementSegment → List ℕ → Result (List ElementSegment × List ℕ) Error
+unfoldable pub element_segments_at : Config → Context → List KindChoice → ℕ → List ElementSegment → List ℕ
+    → Result (List ElementSegment × List ℕ) Error
 element_segments_at config context kinds zero made bytes = Ok (made, bytes)
 element_segments_at config context kinds (suc most) made bytes =
     let go = goes_at (nat_lt (length made) config.min_element_segments) bytes in
@@ -217,5 +222,6 @@ element_segments_at config context kinds (suc most) made bytes =
 unfoldable pub all_element_segments_at : Config → Context → List TableType → List ℕ → Result (List ElementSegment × List ℕ) Error
 all_element_segments_at config context tables bytes =
     let kinds = element_kinds_at config tables bytes in
-    if length kinds.0 == 0 then (if config.min_element_segments == 0 then Ok ([], kinds.1) else Err (IncorrectFormat (Unmet counts.ElementSegments)))
+    if length kinds.0 == 0 then (if config.min_element_segments == 0 then Ok ([], kinds.1) else Err
+    (IncorrectFormat (Unmet counts.ElementSegments)))
     else element_segments_at config context kinds.0 config.max_element_segments [] kinds.1

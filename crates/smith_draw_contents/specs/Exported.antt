@@ -65,13 +65,15 @@ pub record IsCandidate (types : List SubType) (spaces : EntitySpaces) (left : �
   pub fits : item_size types spaces of_kind index + 1 < left
 
 -- exports are valid; the type size is that of imports and exports, and within the bound
-pub record AreExportsFit (config : Config) (types : List SubType) (spaces : EntitySpaces) (imports : ℕ) (exports : List Export) (size : ℕ) : Type 0 where
+pub record AreExportsFit (config : Config) (types : List SubType) (spaces : EntitySpaces) (imports : ℕ) (exports : List Export)
+    (size : ℕ) : Type 0 where
   pub valid : AreExportsValid spaces exports
   pub type_size : size ≡ imports + exported_size types spaces exports
   pub within : size ≤ config.max_type_size
 
 -- exports that are drawn freely: no more than the maximum
-pub record AreExported (config : Config) (types : List SubType) (spaces : EntitySpaces) (imports : ℕ) (exports : List Export) (size : ℕ) : Type 0 where
+pub record AreExported (config : Config) (types : List SubType) (spaces : EntitySpaces) (imports : ℕ) (exports : List Export)
+    (size : ℕ) : Type 0 where
   pub fit : AreExportsFit config types spaces imports exports size
   pub most : length exports ≤ config.max_exports
 
@@ -83,7 +85,8 @@ MayRunOut config = (config.max_type_size ≤ 42 * (config.max_imports + config.m
 -- errors of exports that are drawn freely: lack of memory, or a minimum above zero that may stay
 -- unmet
 abbrev pub MayRefuseFree : Config → Error → Type 0
-MayRefuseFree config e = (e ≡ errors.Memory) ⊎ ((e ≡ errors.IncorrectFormat (Unmet counts.Exports)) × (0 < config.min_exports) × (HasNoShapes config → MayRunOut config))
+MayRefuseFree config e = (e ≡ errors.Memory) ⊎ ((e ≡ errors.IncorrectFormat (Unmet counts.Exports)) × (0 < config.min_exports)
+    × (HasNoShapes config → MayRunOut config))
 
 -- errors of the exports of every item: lack of memory, or exports that are too large together
 abbrev pub MayRefuseAll : Error → Type 0
@@ -100,4 +103,5 @@ pub record MayDrawExports (config : Config) (types : List SubType) (spaces : Ent
 -- errors of the step of exports: those of every item if everything is exported, else those of
 -- exports that are drawn freely
 abbrev pub MayRefuseExports : Config → Error → Type 0
-MayRefuseExports config e = ((config.export_everything ≡ true) × MayRefuseAll e) ⊎ ((config.export_everything ≡ false) × MayRefuseFree config e)
+MayRefuseExports config e = ((config.export_everything ≡ true) × MayRefuseAll e)
+    ⊎ ((config.export_everything ≡ false) × MayRefuseFree config e)

@@ -1,5 +1,6 @@
 -- The exports that are drawn. Rules of this project.
-use Rattle.std.specs.Prelude.{◌≡◌, ℕ, zero, suc, ◌+◌, ◌-◌, Bool, ◌&&◌, max, nat_lt, List, [], ◌∷◌, ◌++◌, length, Result, Ok, Err, if◌then◌else◌}
+use Rattle.std.specs.Prelude.{◌≡◌, ℕ, zero, suc, ◌+◌, ◌-◌, Bool, ◌&&◌, max, nat_lt, List, [], ◌∷◌, ◌++◌, length, Result, Ok, Err}
+use Rattle.std.specs.Prelude.{if◌then◌else◌}
 use Rattle.std.specs.Fmt.{decimal}
 use Rattle.std.specs.HashSet.{HashSet, contains_text, hash_set_len}
 use Rattle.std.specs.List.{list_any}
@@ -65,7 +66,8 @@ candidate_row types spaces left of_kind = (of_kind, nat_lt 0 (length (candidates
 abbrev pub candidate_rows : List SubType → EntitySpaces → ℕ → List (ExportKind × Bool)
 candidate_rows types spaces left =
     candidate_row types spaces left kind.Func
-    ∷ (candidate_row types spaces left kind.Table ∷ (candidate_row types spaces left kind.Memory ∷ (candidate_row types spaces left kind.Global ∷ [])))
+    ∷ (candidate_row types spaces left kind.Table ∷
+    (candidate_row types spaces left kind.Memory ∷ (candidate_row types spaces left kind.Global ∷ [])))
 
 -- the kinds that have a candidate
 abbrev pub offered_kinds : List SubType → EntitySpaces → ℕ → List ExportKind

@@ -26,7 +26,8 @@ unnamed_kinds tables indices =
 
 -- each table by its index, with bulk memory
 abbrev pub named_kinds : Config → List TableType → List ℕ → List KindChoice
-named_kinds config tables indices = if config.bulk_memory_enabled then map (λ index. choice.Active (Some index) (table_at tables index)) indices else []
+named_kinds config tables indices = if config.bulk_memory_enabled then map (λ index. choice.Active (Some index) (table_at tables index))
+    indices else []
 
 -- the kinds that are offered if the tables of these indices are
 abbrev pub kinds_over : Config → List TableType → List ℕ → List KindChoice

@@ -29,7 +29,9 @@ module _ (types more : List SubType) (orderly : IsOrderly types) where
   at_same i inside = ap supertype_of (in_front types more i inside)
 
   -- the ancestors of a type stay the same
-  within_turn_same : (n i : ℕ) (o : Option ℕ) → supertype_at types i ≡ o → supertype_at (types ++ more) i ≡ o → ((s : ℕ) → o ≡ Some s → ancestors_within n (types ++ more) s ≡ ancestors_within n types s) → ancestors_within (suc n) (types ++ more) i ≡ ancestors_within (suc n) types i
+  within_turn_same : (n i : ℕ) (o : Option ℕ) → supertype_at types i ≡ o → supertype_at (types ++ more) i ≡ o
+      → ((s : ℕ) → o ≡ Some s → ancestors_within n (types ++ more) s ≡ ancestors_within n types s)
+      → ancestors_within (suc n) (types ++ more) i ≡ ancestors_within (suc n) types i
   within_turn_same n i None e e' same = rw (e, e', ancestors_within) refl
   within_turn_same n i (Some s) e e' same = rw (e, e', ancestors_within) (ap (λ xs. Concrete s ∷ xs) (same s refl))
 
@@ -43,7 +45,8 @@ module _ (types more : List SubType) (orderly : IsOrderly types) where
   unfolding ancestors
   ancestors_same i inside =
       let longer : length (types ++ more) ≡ length types + length more = length-append types more in
-      within_same (length (types ++ more)) i inside ∙ within_enough types orderly (length (types ++ more)) (length types) i (omega (arith, longer)) (omega arith)
+      within_same (length (types ++ more)) i inside ∙ within_enough types orderly (length (types ++ more)) (length types) i
+      (omega (arith, longer)) (omega arith)
 
   heap_same : (a b : HeapType) → IsInRange types a → IsInRange types b → is_heap_below (types ++ more) a b ≡ is_heap_below types a b
   unfolding is_heap_below
@@ -58,5 +61,6 @@ module _ (types more : List SubType) (orderly : IsOrderly types) where
   heap_same (Exact i) (Exact j) lower upper = refl
 
   pub value_same : (a b : ValType) → IsValInRange types a → IsValInRange types b → is_val_below (types ++ more) a b ≡ is_val_below types a b
-  value_same (Ref a) (Ref b) lower upper = ap (λ (below : Bool). (not a.nullable || b.nullable) && below) (heap_same a.heap_type b.heap_type lower upper)
+  value_same (Ref a) (Ref b) lower upper = ap (λ (below : Bool). (not a.nullable || b.nullable) && below)
+      (heap_same a.heap_type b.heap_type lower upper)
   value_same a b lower upper = search rules

@@ -1,5 +1,6 @@
 -- One iteration of the loop over the defined globals.
-use Rattle.std.proofs.Common.{◌≡◌, ℕ, ◌+◌, ◌-◌, ◌≤◌, ◌<◌, Bool, true, false, ◌&&◌, nat_lt, List, [], ◌∷◌, ◌++◌, length, map, inl, inr, refl, sym, ap, subst, ◌∙◌, arith, append_assoc, length-append, append-nil}
+use Rattle.std.proofs.Common.{◌≡◌, ℕ, ◌+◌, ◌-◌, ◌≤◌, ◌<◌, Bool, true, false, ◌&&◌, nat_lt, List, [], ◌∷◌, ◌++◌, length, map, inl, inr, refl}
+use Rattle.std.proofs.Common.{sym, ap, subst, ◌∙◌, arith, append_assoc, length-append, append-nil}
 use Rattle.std.specs.Prelude.{Option, Some, None, Result, Ok, Err, ok_or, if◌then◌else◌}
 use Rattle.smith_bytes.specs.Steps.{◌>>=◌}
 use Rattle.smith_bytes.specs.declared.error.Error.{Error}
@@ -23,7 +24,8 @@ use Rattle.smith_types.proofs.ListLemmas.{slice_get-grown, slice_get-last, slice
 use Rattle.smith_types.proofs.ExpressionGrowthLemmas.{IsConstExpr-grown}
 use Rattle.smith_config.specs.declared.config.Config.{Config}
 use Rattle.smith_config.specs.Features.{features_of}
-use Rattle.smith_draw_definitions.specs.Definitions.{InitialiserScope, Global, context_at, global_scope, globals_of, initialised_at, global_at, globals_at}
+use Rattle.smith_draw_definitions.specs.Definitions.{InitialiserScope, Global, context_at, global_scope, globals_of, initialised_at}
+use Rattle.smith_draw_definitions.specs.Definitions.{global_at, globals_at}
 use Rattle.smith_config.specs.Granted.{HasGroundedValue}
 use Rattle.smith_draw_definitions.specs.Defined.{AreAdded, IsGlobalInitialised, AreGlobalsDefined, drawn_over}
 use Rattle.smith_draw_definitions.proofs.ExtensionLemmas.{all_kept}
@@ -38,7 +40,8 @@ abbrev AreNoFloats : List GlobalType → Type 0
 AreNoFloats globals = All (λ (global : GlobalType). IsNoFloat global.val_type) globals
 
 -- properties of the globals so far, n of them defined
-pub record AreDefining (config : Config) (standing : InitialiserScope) (before : List GlobalType) (old : List (ℕ × List ConstInstr)) (n : ℕ) (globals : List GlobalType) (initials : List (ℕ × List ConstInstr)) (start bytes : List ℕ) : Type 0 where
+pub record AreDefining (config : Config) (standing : InitialiserScope) (before : List GlobalType) (old : List (ℕ × List ConstInstr)) (n : ℕ)
+    (globals : List GlobalType) (initials : List (ℕ × List ConstInstr)) (start bytes : List ℕ) : Type 0 where
   pub made : List Global
   pub globals_are : globals ≡ globals_of before made
   pub initials_are : initials ≡ old ++ map (λ (one : Global). one.1) made
@@ -47,10 +50,12 @@ pub record AreDefining (config : Config) (standing : InitialiserScope) (before :
   pub defined : AreGlobalsDefined config standing before old → AreGlobalsDefined config standing globals initials
   pub floats : config.allow_floats ≡ false → AreNoFloats before → AreNoFloats globals
   pub grounded : All (λ (one : Global). HasGroundedValue config (drawn_over config standing) one.0) made
-  pub constants : config.allow_floats ≡ false → All HasNoFloat standing.types → All (All GivesNoFloat) (expressions old) → All (All GivesNoFloat) (expressions initials)
+  pub constants : config.allow_floats ≡ false → All HasNoFloat standing.types → All (All GivesNoFloat) (expressions old)
+      → All (All GivesNoFloat) (expressions initials)
 
 -- the number of globals
-pub count_is : {config : Config} {standing : InitialiserScope} {before : List GlobalType} {old : List (ℕ × List ConstInstr)} {n : ℕ} {globals : List GlobalType} {initials : List (ℕ × List ConstInstr)} {start bytes : List ℕ}
+pub count_is : {config : Config} {standing : InitialiserScope} {before : List GlobalType} {old : List (ℕ × List ConstInstr)} {n : ℕ}
+    {globals : List GlobalType} {initials : List (ℕ × List ConstInstr)} {start bytes : List ℕ}
     → AreDefining config standing before old n globals initials start bytes → length globals ≡ length before + n
 count_is {before = before} now =
     let lens = length-append before (map (λ (one : Global). one.0) now.made) in
@@ -58,7 +63,9 @@ count_is {before = before} now =
     ap length now.globals_are ∙ lens ∙ ap (λ (k : ℕ). length before + k) (length-map now.made (λ (one : Global). one.0) ∙ len)
 
 -- before the first iteration
-pub none_made : (config : Config) (standing : InitialiserScope) (before : List GlobalType) (old : List (ℕ × List ConstInstr)) (start : List ℕ) → All (IsGlobalValid (features_of config) standing.types) before → AreDefining config standing before old 0 before old start start
+pub none_made : (config : Config) (standing : InitialiserScope) (before : List GlobalType) (old : List (ℕ × List ConstInstr))
+    (start : List ℕ) → All (IsGlobalValid (features_of config) standing.types) before → AreDefining config standing before old 0 before old
+    start start
 none_made config standing before old start valid = record {
   made = [];
   globals_are = sym (append-nil before);
@@ -73,7 +80,8 @@ none_made config standing before old start valid = record {
 
 module _ (config : Config) (standing : InitialiserScope) (globals : List GlobalType) (global : GlobalType) where
   -- a context stays as large when a global is added
-  context_grown : (visible : ℕ) → IsContextGrown (context_at config standing globals visible) (context_at config standing (globals ++ global ∷ []) visible)
+  context_grown : (visible : ℕ) → IsContextGrown (context_at config standing globals visible)
+      (context_at config standing (globals ++ global ∷ []) visible)
   context_grown visible = record {
     features = refl;
     types = all_kept standing.types;
@@ -85,18 +93,21 @@ module _ (config : Config) (standing : InitialiserScope) (globals : List GlobalT
   }
 
   -- an initialiser stays valid when a global is added
-  kept : (place index : ℕ) (initial : List ConstInstr) → IsGlobalInitialised config standing globals place index initial → IsGlobalInitialised config standing (globals ++ global ∷ []) place index initial
+  kept : (place index : ℕ) (initial : List ConstInstr) → IsGlobalInitialised config standing globals place index initial
+      → IsGlobalInitialised config standing (globals ++ global ∷ []) place index initial
   kept place index initial h =
       let visible = if config.gc_enabled then index else length standing.imported_globals in
       record {
         in_order = h.in_order;
         global = h.global;
         stands = slice_get-grown globals (global ∷ []) index h.global h.stands;
-        initialised = IsConstExpr-grown (context_at config standing globals visible) (context_at config standing (globals ++ global ∷ []) visible) (context_grown visible) h.global.val_type initial h.initialised;
+        initialised = IsConstExpr-grown (context_at config standing globals visible)
+            (context_at config standing (globals ++ global ∷ []) visible) (context_grown visible) h.global.val_type initial h.initialised;
       }
 
   -- one more is defined
-  defined_more : (initials : List (ℕ × List ConstInstr)) (initial : List ConstInstr) → AreGlobalsDefined config standing globals initials → IsConstExpr (global_scope config standing globals) global.val_type initial
+  defined_more : (initials : List (ℕ × List ConstInstr)) (initial : List ConstInstr) → AreGlobalsDefined config standing globals initials
+      → IsConstExpr (global_scope config standing globals) global.val_type initial
       → AreGlobalsDefined config standing (globals ++ global ∷ []) (initials ++ (length globals, initial) ∷ [])
   defined_more initials initial now typed =
       let visible = if config.gc_enabled then length globals else length standing.imported_globals in
@@ -104,22 +115,26 @@ module _ (config : Config) (standing : InitialiserScope) (globals : List GlobalT
         in_order = now.count;
         global = global;
         stands = slice_get-last globals global;
-        initialised = IsConstExpr-grown (global_scope config standing globals) (context_at config standing (globals ++ global ∷ []) visible) (context_grown visible) global.val_type initial typed;
+        initialised = IsConstExpr-grown (global_scope config standing globals) (context_at config standing (globals ++ global ∷ []) visible)
+            (context_grown visible) global.val_type initial typed;
       } in
       record {
         count = omega (arith, now.count, length-append globals (global ∷ []), length-append initials ((length globals, initial) ∷ []));
         each = λ place index other at. elim (slice_get-push initials (length globals, initial) place (index, other) at) [
           | inl was ↦ kept place index other (now.each place index other was)
-          | inr (is, same) ↦ subst (λ (one : ℕ × List ConstInstr). IsGlobalInitialised config standing (globals ++ global ∷ []) place one.0 one.1) same
+          | inr (is, same) ↦ subst (λ (one : ℕ × List ConstInstr). IsGlobalInitialised config standing (globals ++ global ∷ []) place one.0
+              one.1) same
               (subst (λ (n : ℕ). IsGlobalInitialised config standing (globals ++ global ∷ []) n (length globals) initial) (sym is) added)
         ];
       }
 
 -- a global is drawn in the context of those so far
-drawn_in : (config : Config) (standing : InitialiserScope) (before : List GlobalType) (made : List Global) (globals : List GlobalType) (bytes : List ℕ) → globals ≡ globals_of before made
+drawn_in : (config : Config) (standing : InitialiserScope) (before : List GlobalType) (made : List Global) (globals : List GlobalType)
+    (bytes : List ℕ) → globals ≡ globals_of before made
     → global_at config standing before made bytes ≡ initialised_at config (global_scope config standing globals) bytes
 unfolding global_at
-drawn_in config standing before made globals bytes are = ap (λ (standing_globals : List GlobalType). initialised_at config (global_scope config standing standing_globals) bytes) (sym are)
+drawn_in config standing before made globals bytes are =
+    ap (λ (standing_globals : List GlobalType). initialised_at config (global_scope config standing standing_globals) bytes) (sym are)
 
 -- its index is the number of globals before it
 abbrev with_initial : GlobalType → ℕ → List ConstInstr × List ℕ → Result (Global × List ℕ) Error
@@ -132,27 +147,34 @@ index_of global count (Some initial) one after is =
     let pair : ((global, (count, initial.0)), initial.1) ≡ (one, after) = cc in
     sym (ap (λ (r : Global × List ℕ). r.0.1.0) pair)
 
-index_is : (config : Config) (context : Context) (bytes : List ℕ) (one : Global) (after : List ℕ) → initialised_at config context bytes ≡ Ok (one, after) → one.1.0 ≡ length context.globals
+index_is : (config : Config) (context : Context) (bytes : List ℕ) (one : Global) (after : List ℕ) → initialised_at config context bytes
+    ≡ Ok (one, after) → one.1.0 ≡ length context.globals
 unfolding initialised_at
 index_is config context bytes one after drawn =
     let global = global_type_at config (without_globals context) bytes in
     index_of global.0 (length context.globals) (const_expr_at config context global.0.val_type global.1) one after drawn
 
 -- there is nothing to choose from for the initialiser of a global
-pub global_lacks : (config : Config) (context : Context) (bytes mid : List ℕ) (global : GlobalType) → global_type_at config (without_globals context) bytes ≡ (global, mid) → const_expr_at config context global.val_type mid ≡ None
+pub global_lacks : (config : Config) (context : Context) (bytes mid : List ℕ) (global : GlobalType)
+    → global_type_at config (without_globals context) bytes ≡ (global, mid) → const_expr_at config context global.val_type mid ≡ None
     → initialised_at config context bytes ≡ Err EmptyChoose
 unfolding initialised_at
 global_lacks config context bytes mid global typed none = rw (typed, none) refl
 
 -- one more global was drawn
-pub define_more : {config : Config} {standing : InitialiserScope} {before : List GlobalType} {old : List (ℕ × List ConstInstr)} {n : ℕ} {globals more : List GlobalType} {initials longer : List (ℕ × List ConstInstr)} {start bytes mid after : List ℕ} {b : Bool} {one : Global}
+pub define_more : {config : Config} {standing : InitialiserScope} {before : List GlobalType} {old : List (ℕ × List ConstInstr)} {n : ℕ}
+    {globals more : List GlobalType} {initials longer : List (ℕ × List ConstInstr)} {start bytes mid after : List ℕ} {b : Bool}
+    {one : Global}
     → AreDefining config standing before old n globals initials start bytes → n < config.max_globals - length before
-    → goes_at (nat_lt n (config.min_globals - length before)) bytes ≡ (b, mid) → b ≡ true → initialised_at config (global_scope config standing globals) mid ≡ Ok (one, after)
+    → goes_at (nat_lt n (config.min_globals - length before)) bytes ≡ (b, mid) → b ≡ true
+    → initialised_at config (global_scope config standing globals) mid ≡ Ok (one, after)
     → IsGlobalValid (features_of config) standing.types one.0 → IsConstExpr (global_scope config standing globals) one.0.val_type one.1.1
-    → (config.allow_floats ≡ false → IsNoFloat one.0.val_type) → HasGroundedValue config (drawn_over config standing) one.0 → (config.allow_floats ≡ false → All HasNoFloat standing.types → All GivesNoFloat one.1.1)
+    → (config.allow_floats ≡ false → IsNoFloat one.0.val_type) → HasGroundedValue config (drawn_over config standing) one.0
+    → (config.allow_floats ≡ false → All HasNoFloat standing.types → All GivesNoFloat one.1.1)
     → more ≡ globals ++ one.0 ∷ [] → longer ≡ initials ++ one.1 ∷ [] → KeepsPieces bytes mid → KeepsPieces mid after
     → AreDefining config standing before old (n + 1) more longer start after
-define_more {config = config} {standing = standing} {before = before} {old = old} {globals = globals} {initials = initials} {mid = mid} {after = after} {one = one} now fewer go odd drawn valid typed calm grounded plain next last p q =
+define_more {config = config} {standing = standing} {before = before} {old = old} {globals = globals} {initials = initials} {mid = mid}
+    {after = after} {one = one} now fewer go odd drawn valid typed calm grounded plain next last p q =
     let following = drawn_in config standing before now.made globals mid now.globals_are ∙ drawn in
     let place = index_is config (global_scope config standing globals) mid one after drawn in
     rw (next, last) (record {
@@ -165,15 +187,19 @@ define_more {config = config} {standing = standing} {before = before} {old = old
           ∙ ap (λ (xs : List (ℕ × List ConstInstr)). old ++ xs) (sym (map-append (λ (g : Global). g.1) now.made (one ∷ []))));
       defining = tried_go now.defining fewer go odd following refl p q;
       valid = All-push (IsGlobalValid (features_of config) standing.types) globals one.0 now.valid valid;
-      defined = λ stood. subst (λ (k : ℕ). AreGlobalsDefined config standing (globals ++ one.0 ∷ []) (initials ++ (k, one.1.1) ∷ [])) (sym place) (defined_more config standing globals one.0 initials one.1.1 (now.defined stood) typed);
+      defined = λ stood. subst (λ (k : ℕ). AreGlobalsDefined config standing (globals ++ one.0 ∷ []) (initials ++ (k, one.1.1) ∷ []))
+          (sym place) (defined_more config standing globals one.0 initials one.1.1 (now.defined stood) typed);
       floats = λ off imported. All-push (λ (g : GlobalType). IsNoFloat g.val_type) globals one.0 (now.floats off imported) (calm off);
       grounded = All-push (λ (g : Global). HasGroundedValue config (drawn_over config standing) g.0) now.made one now.grounded grounded;
-      constants = λ off types stood. rw (map-append (λ (i : ℕ × List ConstInstr). i.1) initials (one.1 ∷ [])) (All-push (All GivesNoFloat) (expressions initials) one.1.1 (now.constants off types stood) (plain off types));
+      constants = λ off types stood. rw (map-append (λ (i : ℕ × List ConstInstr). i.1) initials (one.1 ∷ []))
+          (All-push (All GivesNoFloat) (expressions initials) one.1.1 (now.constants off types stood) (plain off types));
     })
 
 -- the globals that were drawn are added
-pub globals_added : {config : Config} {standing : InitialiserScope} {before : List GlobalType} {old : List (ℕ × List ConstInstr)} {n : ℕ} {globals : List GlobalType} {initials : List (ℕ × List ConstInstr)} {start bytes : List ℕ}
-    → AreDefining config standing before old n globals initials start bytes → AreAdded (HasGroundedValue config (drawn_over config standing)) before globals
+pub globals_added : {config : Config} {standing : InitialiserScope} {before : List GlobalType} {old : List (ℕ × List ConstInstr)} {n : ℕ}
+    {globals : List GlobalType} {initials : List (ℕ × List ConstInstr)} {start bytes : List ℕ}
+    → AreDefining config standing before old n globals initials start bytes
+    → AreAdded (HasGroundedValue config (drawn_over config standing)) before globals
 globals_added {config = config} {standing = standing} now = record {
   more = map (λ (one : Global). one.0) now.made;
   parts = now.globals_are;
@@ -181,23 +207,29 @@ globals_added {config = config} {standing = standing} now = record {
 }
 
 -- a global was refused
-pub define_refused : {config : Config} {standing : InitialiserScope} {before : List GlobalType} {old : List (ℕ × List ConstInstr)} {n : ℕ} {globals : List GlobalType} {initials : List (ℕ × List ConstInstr)} {start bytes mid : List ℕ} {b : Bool} {e : Error}
+pub define_refused : {config : Config} {standing : InitialiserScope} {before : List GlobalType} {old : List (ℕ × List ConstInstr)} {n : ℕ}
+    {globals : List GlobalType} {initials : List (ℕ × List ConstInstr)} {start bytes mid : List ℕ} {b : Bool} {e : Error}
     → AreDefining config standing before old n globals initials start bytes → n < config.max_globals - length before
-    → goes_at (nat_lt n (config.min_globals - length before)) bytes ≡ (b, mid) → b ≡ true → initialised_at config (global_scope config standing globals) mid ≡ Err e → globals_at config standing before old start ≡ Err e
+    → goes_at (nat_lt n (config.min_globals - length before)) bytes ≡ (b, mid) → b ≡ true
+    → initialised_at config (global_scope config standing globals) mid ≡ Err e → globals_at config standing before old start ≡ Err e
 unfolding globals_at
 define_refused {config = config} {standing = standing} {before = before} {globals = globals} {mid = mid} now fewer go odd refused =
     rw (tried_refused now.defining fewer go odd (drawn_in config standing before now.made globals mid now.globals_are ∙ refused)) refl
 
 -- no global was drawn
-pub define_stop : {config : Config} {standing : InitialiserScope} {before : List GlobalType} {old : List (ℕ × List ConstInstr)} {n : ℕ} {globals : List GlobalType} {initials : List (ℕ × List ConstInstr)} {start bytes after : List ℕ} {b : Bool}
+pub define_stop : {config : Config} {standing : InitialiserScope} {before : List GlobalType} {old : List (ℕ × List ConstInstr)} {n : ℕ}
+    {globals : List GlobalType} {initials : List (ℕ × List ConstInstr)} {start bytes after : List ℕ} {b : Bool}
     → AreDefining config standing before old n globals initials start bytes → n < config.max_globals - length before
-    → goes_at (nat_lt n (config.min_globals - length before)) bytes ≡ (b, after) → b ≡ false → globals_at config standing before old start ≡ Ok ((globals, initials), after)
+    → goes_at (nat_lt n (config.min_globals - length before)) bytes ≡ (b, after) → b ≡ false → globals_at config standing before old start
+    ≡ Ok ((globals, initials), after)
 unfolding globals_at
 define_stop now fewer go even = rw (tried_stop now.defining fewer go even, now.globals_are, now.initials_are) refl
 
 -- no more globals may be drawn
-pub define_full : {config : Config} {standing : InitialiserScope} {before : List GlobalType} {old : List (ℕ × List ConstInstr)} {n : ℕ} {globals : List GlobalType} {initials : List (ℕ × List ConstInstr)} {start bytes after : List ℕ}
+pub define_full : {config : Config} {standing : InitialiserScope} {before : List GlobalType} {old : List (ℕ × List ConstInstr)} {n : ℕ}
+    {globals : List GlobalType} {initials : List (ℕ × List ConstInstr)} {start bytes after : List ℕ}
     → AreDefining config standing before old n globals initials start bytes → config.max_globals - length before ≤ n
-    → after ≡ (if nat_lt 0 (length before) && nat_lt 0 config.max_globals then (bool_at bytes).1 else bytes) → globals_at config standing before old start ≡ Ok ((globals, initials), after)
+    → after ≡ (if nat_lt 0 (length before) && nat_lt 0 config.max_globals then (bool_at bytes).1 else bytes)
+    → globals_at config standing before old start ≡ Ok ((globals, initials), after)
 unfolding globals_at
 define_full now all asked = rw (tried_full now.defining all asked, now.globals_are, now.initials_are) refl

@@ -1,5 +1,6 @@
 -- One iteration of the loop over the exports that a shape fixes.
-use Rattle.std.proofs.Common.{◌≡◌, ◌∙◌, ◌⊎◌, ℕ, zero, suc, ◌+◌, ◌-◌, ◌<◌, ◌≤◌, Bool, true, false, List, [], ◌∷◌, ◌++◌, length, map, drop, take, get_or, inl, inr, refl, sym, ap, subst, arith, append_assoc}
+use Rattle.std.proofs.Common.{◌≡◌, ◌∙◌, ◌⊎◌, ℕ, zero, suc, ◌+◌, ◌-◌, ◌<◌, ◌≤◌, Bool, true, false, List, [], ◌∷◌, ◌++◌, length, map, drop}
+use Rattle.std.proofs.Common.{take, get_or, inl, inr, refl, sym, ap, subst, arith, append_assoc}
 use Rattle.std.specs.Prelude.{All, Some, slice_get, sum_by, Result, Ok, Err, IsErrAnd}
 use Rattle.std.specs.List.{Any, AllZip}
 use Rattle.std.proofs.lemmas.List.{drop_all, drop_more, take_all, take_more}
@@ -33,7 +34,8 @@ use Rattle.smith_module_rules.specs.ShapeImports.{count_in}
 use Rattle.smith_module_rules.specs.ExportedItems.{IsStanding, Export}
 use Rattle.smith_draw_definitions.proofs.RequiredLimitLemmas.{no_limits, limits_both, no_types, types_both}
 use Rattle.smith_draw_definitions.specs.Defined.{StandsAfter, drawn_beside}
-use Rattle.smith_draw_definitions.specs.Required.{AddsLimitsOf, AddsTypesOf, IsKeptType, MayRequire, MayDefineMore, IsRequiredMore, AreRequired, MayLackIn, MayRefuseExported, MayRefuseRequired}
+use Rattle.smith_draw_definitions.specs.Required.{AddsLimitsOf, AddsTypesOf, IsKeptType, MayRequire, MayDefineMore, IsRequiredMore}
+use Rattle.smith_draw_definitions.specs.Required.{AreRequired, MayLackIn, MayRefuseExported, MayRefuseRequired}
 use Rattle.smith_bytes.specs.Steps.{Returns, is_memory}
 use Rattle.smith_draw_definitions.specs.RequiredExports.{Required, entity_of, standing_with, export_required_at, required_from, required_at}
 use Rattle.smith_module_rules.specs.ShapesKept.{IsSameExport, IsSameFuncType}
@@ -41,7 +43,8 @@ use Rattle.smith_draw_definitions.specs.declared.definitions.Definitions.{Defini
 use Rattle.smith_draw_definitions.proofs.ExtensionLemmas.{all_kept}
 
 pub extends_both : {A : Type 0} {first second third : List A} → Extends first second → Extends second third → Extends first third
-extends_both {first = first} one two = record { more = one.more ++ two.more; parts = two.parts ∙ (ap (λ xs. xs ++ two.more) one.parts ∙ append_assoc first one.more two.more) }
+extends_both {first = first} one two =
+    record { more = one.more ++ two.more; parts = two.parts ∙ (ap (λ xs. xs ++ two.more) one.parts ∙ append_assoc first one.more two.more) }
 
 grown_both : {first second third : EntitySpaces} → AreSpacesGrown first second → AreSpacesGrown second third → AreSpacesGrown first third
 grown_both one two = record {
@@ -53,62 +56,82 @@ grown_both one two = record {
 }
 
 -- the same types stay the same as types are added
-same_func_grown : (types more_types theirs : List SubType) → Extends types more_types → (index other : ℕ) → IsSameFuncType types theirs index other → IsSameFuncType more_types theirs index other
+same_func_grown : (types more_types theirs : List SubType) → Extends types more_types → (index other : ℕ)
+    → IsSameFuncType types theirs index other → IsSameFuncType more_types theirs index other
 same_func_grown types more_types theirs longer index other h =
     record {
       mine = h.mine;
       yours = h.yours;
-      stands = subst (λ all. slice_get all index ≡ Some h.mine) (sym longer.parts) (slice_get-grown types longer.more index h.mine h.stands);
+      stands = subst (λ all. slice_get all index ≡ Some h.mine) (sym longer.parts)
+          (slice_get-grown types longer.more index h.mine h.stands);
       stood = h.stood;
       final = h.final;
       root = h.root;
       same = h.same;
     }
 
-kept_grown : (own_types : Bool) (types more_types theirs : List SubType) → Extends types more_types → (mine yours : EntityType) → IsKeptType own_types types theirs mine yours → IsKeptType own_types more_types theirs mine yours
+kept_grown : (own_types : Bool) (types more_types theirs : List SubType) → Extends types more_types → (mine yours : EntityType)
+    → IsKeptType own_types types theirs mine yours → IsKeptType own_types more_types theirs mine yours
 kept_grown false types more_types theirs longer mine yours h = h
-kept_grown true types more_types theirs longer (entity.Func index) (entity.Func other) h = same_func_grown types more_types theirs longer index other h
-kept_grown true types more_types theirs longer (entity.Tag index) (entity.Tag other) h = same_func_grown types more_types theirs longer index other h
+kept_grown true types more_types theirs longer (entity.Func index) (entity.Func other) h =
+    same_func_grown types more_types theirs longer index other h
+kept_grown true types more_types theirs longer (entity.Tag index) (entity.Tag other) h =
+    same_func_grown types more_types theirs longer index other h
 kept_grown true types more_types theirs longer mine yours h = h
 
 -- an item of a list counts
 some_counted : (f : Export → ℕ) (xs : List Export) (i : ℕ) (x : Export) → i < length xs → x ≡ get_or xs i x → f x ≡ 1 → 0 < sum_by f xs
 some_counted f [] i x inside is counted = absurd (omega arith)
-some_counted f (y ∷ xs) zero x inside is counted = let same : f y ≡ 1 = ap f (sym is) ∙ counted in let sum = sum_by-cons f y xs in omega (arith, same, sum)
-some_counted f (y ∷ xs) (suc i) x inside is counted = let later = some_counted f xs i x (omega arith) is counted in let sum = sum_by-cons f y xs in omega (arith, later, sum)
+some_counted f (y ∷ xs) zero x inside is counted = let same : f y ≡ 1 = ap f (sym is) ∙ counted in let sum = sum_by-cons f y xs in
+    omega (arith, same, sum)
+some_counted f (y ∷ xs) (suc i) x inside is counted = let later = some_counted f xs i x (omega arith) is counted in
+    let sum = sum_by-cons f y xs in omega (arith, later, sum)
 
-refused_part : {X Y A B : Type 0} (of_part : X → A) (of_whole : Y → B) (e : Error) (part : Result A Error) (whole : Result B Error) → Returns is_memory of_part (Err e) part → ((one : Error) → part ≡ Err one → whole ≡ Err one) → Returns is_memory of_whole (Err e) whole
+refused_part : {X Y A B : Type 0} (of_part : X → A) (of_whole : Y → B) (e : Error) (part : Result A Error) (whole : Result B Error)
+    → Returns is_memory of_part (Err e) part → ((one : Error) → part ≡ Err one → whole ≡ Err one) → Returns is_memory of_whole (Err e) whole
 refused_part of_part of_whole errors.Memory part whole given passes = tt
 refused_part of_part of_whole e part whole given passes = passes e given
 
 -- a refusal of a part is a refusal of the whole
-pub refused_by : {X Y A B : Type 0} (of_part : X → A) (of_whole : Y → B) (e : Error) (part : Result A Error) (whole : Result B Error) (result : Result Y Error) → Returns is_memory of_part (Err e) part → ((one : Error) → part ≡ Err one → whole ≡ Err one)
+pub refused_by : {X Y A B : Type 0} (of_part : X → A) (of_whole : Y → B) (e : Error) (part : Result A Error) (whole : Result B Error)
+    (result : Result Y Error) → Returns is_memory of_part (Err e) part → ((one : Error) → part ≡ Err one → whole ≡ Err one)
     → IsErrAnd result (λ y. y ≡ e) → Returns is_memory of_whole result whole
 refused_by of_part of_whole e part whole (Ok y) given passes h = absurd h
-refused_by {X = X} of_part of_whole e part whole (Err own) given passes h = refused_part of_part of_whole own part whole (subst (λ (one : Error). Returns is_memory of_part (Err one) part) (sym h) given) passes
+refused_by {X = X} of_part of_whole e part whole (Err own) given passes h = refused_part of_part of_whole own part whole
+    (subst (λ (one : Error). Returns is_memory of_part (Err one) part) (sym h) given) passes
 
 -- the exports before a place are made, and making the others completes the whole
-pub record AreRequiring (own_types : Bool) (config : Config) (shape : Shape) (old_types : GroupedTypes) (old : EntitySpaces) (old_defined : Definitions) (place : ℕ) (types : GroupedTypes) (spaces : EntitySpaces) (defined : Definitions) (exports : List Export) (start bytes : List ℕ) : Type 0 where
-  pub so_far : required_from own_types config shape (drop place shape.exports) (standing_with types spaces defined exports) bytes ≡ required_at own_types config shape old_types old old_defined start
-  pub same : AllZip (IsSameExport (IsKeptType own_types types.types (shape_types shape)) spaces (shape_spaces shape)) exports (take place shape.exports)
+pub record AreRequiring (own_types : Bool) (config : Config) (shape : Shape) (old_types : GroupedTypes) (old : EntitySpaces)
+    (old_defined : Definitions) (place : ℕ) (types : GroupedTypes) (spaces : EntitySpaces) (defined : Definitions) (exports : List Export)
+    (start bytes : List ℕ) : Type 0 where
+  pub so_far : required_from own_types config shape (drop place shape.exports) (standing_with types spaces defined exports) bytes
+      ≡ required_at own_types config shape old_types old old_defined start
+  pub same : AllZip (IsSameExport (IsKeptType own_types types.types (shape_types shape)) spaces (shape_spaces shape)) exports
+      (take place shape.exports)
   pub types_grown : Extends old_types.types types.types
   pub groups_grown : Extends old_types.groups types.groups
   pub types_most : length types.types ≤ length old_types.types + place
   pub spaces_grown : AreSpacesGrown old spaces
-  pub counted : (count : Count) → (count ≡ counts.Types → ⊥) → count_in spaces count ≡ count_in old count + sum_by (λ (each : Export). counts_as count each.1) (take place shape.exports)
-  pub types_counted : length types.types ≤ length old_types.types + sum_by (λ (each : Export). counts_as counts.Types each.1) (take place shape.exports)
+  pub counted : (count : Count) → (count ≡ counts.Types → ⊥) → count_in spaces count ≡ count_in old count + sum_by
+      (λ (each : Export). counts_as count each.1) (take place shape.exports)
+  pub types_counted : length types.types ≤ length old_types.types + sum_by (λ (each : Export). counts_as counts.Types each.1)
+      (take place shape.exports)
   pub limits : AddsLimitsOf shape old spaces
   pub unchanged : own_types ≡ false → types ≡ old_types
-  pub lacking : HoldsUngroundedField config (drawn_beside config types.types spaces defined) → HoldsUngroundedField config (drawn_beside config old_types.types old old_defined)
+  pub lacking : HoldsUngroundedField config (drawn_beside config types.types spaces defined)
+      → HoldsUngroundedField config (drawn_beside config old_types.types old old_defined)
   pub types_of : AddsTypesOf shape old_types.types types.types
   pub few_values : All (HasFewValues most_listed) old_types.types → All (HasFewValues most_listed) types.types
   pub may : MayDefineMore config types spaces defined (length shape.exports - place)
   pub shape_may : MayRequire own_types config shape types
-  pub stands : (imported : EntitySpaces) → StandsAfter config imported old_types old old_defined → StandsAfter config imported types spaces defined
+  pub stands : (imported : EntitySpaces) → StandsAfter config imported old_types old old_defined
+      → StandsAfter config imported types spaces defined
   pub left : KeepsPieces start bytes
 
 -- none is made yet
-pub none_required : (own_types : Bool) (config : Config) (shape : Shape) (types : GroupedTypes) (spaces : EntitySpaces) (defined : Definitions) (start : List ℕ) → MayRequire own_types config shape types → MayDefineMore config types spaces defined (length shape.exports)
+pub none_required : (own_types : Bool) (config : Config) (shape : Shape) (types : GroupedTypes) (spaces : EntitySpaces)
+    (defined : Definitions) (start : List ℕ) → MayRequire own_types config shape types → MayDefineMore config types spaces defined
+    (length shape.exports)
     → AreRequiring own_types config shape types spaces defined 0 types spaces defined [] start start
 none_required own_types config shape types spaces defined start shape_may may = record {
   so_far = refl;
@@ -116,7 +139,13 @@ none_required own_types config shape types spaces defined start shape_may may = 
   types_grown = all_kept types.types;
   groups_grown = all_kept types.groups;
   types_most = omega arith;
-  spaces_grown = record { tags = all_kept spaces.tags; funcs = all_kept spaces.funcs; tables = all_kept spaces.tables; memories = all_kept spaces.memories; globals = all_kept spaces.globals };
+  spaces_grown = record {
+    tags = all_kept spaces.tags;
+    funcs = all_kept spaces.funcs;
+    tables = all_kept spaces.tables;
+    memories = all_kept spaces.memories;
+    globals = all_kept spaces.globals;
+  };
   counted = λ count other. omega arith;
   types_counted = omega arith;
   limits = no_limits shape spaces;
@@ -130,17 +159,21 @@ none_required own_types config shape types spaces defined start shape_may may = 
   left = λ whole h. h;
 }
 
-module _ {own_types : Bool} {config : Config} {shape : Shape} {old_types types : GroupedTypes} {old spaces : EntitySpaces} {old_defined defined : Definitions} {place : ℕ} {exports : List Export} {start bytes : List ℕ}
+module _ {own_types : Bool} {config : Config} {shape : Shape} {old_types types : GroupedTypes} {old spaces : EntitySpaces}
+    {old_defined defined : Definitions} {place : ℕ} {exports : List Export} {start bytes : List ℕ}
     (now : AreRequiring own_types config shape old_types old old_defined place types spaces defined exports start bytes) where
   -- all are made
-  pub required_full : length shape.exports ≤ place → required_at own_types config shape old_types old old_defined start ≡ Ok (standing_with types spaces defined exports, bytes)
+  pub required_full : length shape.exports ≤ place → required_at own_types config shape old_types old old_defined start
+      ≡ Ok (standing_with types spaces defined exports, bytes)
   unfolding required_from
   required_full full =
       let none : drop place shape.exports ≡ [] = drop_all place shape.exports full in
-      let one : required_from own_types config shape (drop place shape.exports) (standing_with types spaces defined exports) bytes ≡ Ok (standing_with types spaces defined exports, bytes) = rw none refl in
+      let one : required_from own_types config shape (drop place shape.exports) (standing_with types spaces defined exports) bytes
+      ≡ Ok (standing_with types spaces defined exports, bytes) = rw none refl in
       sym now.so_far ∙ one
 
-  pub all_required : length shape.exports ≤ place → AreRequired own_types config shape old_types old old_defined types spaces defined exports
+  pub all_required : length shape.exports ≤ place → AreRequired own_types config shape old_types old old_defined types spaces defined
+      exports
   all_required full = record {
     same = rw (take_all place shape.exports full) at now.same;
     types_grown = now.types_grown;
@@ -162,12 +195,14 @@ module _ {own_types : Bool} {config : Config} {shape : Shape} {old_types types :
     rest = drop_more shape.exports place one inside ∙ ap (λ (each : Export). each ∷ drop (place + 1) shape.exports) (sym is)
 
     abbrev turn : Result (Required × List ℕ) Error
-    turn = export_required_at own_types config shape one (standing_with types spaces defined exports) bytes (entity_of (shape_spaces shape) one.1 one.2)
+    turn = export_required_at own_types config shape one (standing_with types spaces defined exports) bytes
+        (entity_of (shape_spaces shape) one.1 one.2)
 
     pub required_refused : (e : Error) → turn ≡ Err e → required_at own_types config shape old_types old old_defined start ≡ Err e
     unfolding required_from
     required_refused e refused =
-        let here : required_from own_types config shape (drop place shape.exports) (standing_with types spaces defined exports) bytes ≡ Err e = rw (rest, refused) refl in
+        let here : required_from own_types config shape (drop place shape.exports) (standing_with types spaces defined exports) bytes
+        ≡ Err e = rw (rest, refused) refl in
         sym now.so_far ∙ here
 
     pub room_for_one : MayDefineMore config types spaces defined 1
@@ -179,14 +214,23 @@ module _ {own_types : Bool} {config : Config} {shape : Shape} {old_types types :
           valid = may.valid;
           entities = may.entities;
           within = may.within;
-          room = record { tags = omega (arith, room.tags); funcs = omega (arith, room.funcs); tables = omega (arith, room.tables); memories = omega (arith, room.memories); globals = omega (arith, room.globals) };
+          room = record {
+            tags = omega (arith, room.tags);
+            funcs = omega (arith, room.funcs);
+            tables = omega (arith, room.tables);
+            memories = omega (arith, room.memories);
+            globals = omega (arith, room.globals);
+          };
         }
 
-    pub required_more : {more_types : GroupedTypes} {later : EntitySpaces} {fuller : Definitions} {made : Export} {longer : List Export} {after : List ℕ} → turn ≡ Ok (standing_with more_types later fuller (exports ++ made ∷ []), after)
-        → IsRequiredMore own_types config shape types spaces defined more_types later fuller one made → longer ≡ exports ++ made ∷ [] → KeepsPieces bytes after
+    pub required_more : {more_types : GroupedTypes} {later : EntitySpaces} {fuller : Definitions} {made : Export} {longer : List Export}
+        {after : List ℕ} → turn ≡ Ok (standing_with more_types later fuller (exports ++ made ∷ []), after)
+        → IsRequiredMore own_types config shape types spaces defined more_types later fuller one made → longer ≡ exports ++ made ∷ []
+        → KeepsPieces bytes after
         → AreRequiring own_types config shape old_types old old_defined (place + 1) more_types later fuller longer start after
     unfolding required_from
-    required_more {more_types = more_types} {later = later} {fuller = fuller} {made = made} {longer = longer} {after = after} drawn more pushed p =
+    required_more {more_types = more_types} {later = later} {fuller = fuller} {made = made} {longer = longer} {after = after} drawn more
+        pushed p =
         let R = IsSameExport (IsKeptType own_types types.types (shape_types shape)) spaces (shape_spaces shape) in
         let S = IsSameExport (IsKeptType own_types more_types.types (shape_types shape)) later (shape_spaces shape) in
         let still : (mine yours : Export) → R mine yours → S mine yours = λ mine yours h. record {
@@ -198,14 +242,20 @@ module _ {own_types : Bool} {config : Config} {shape : Shape} {old_types types :
           yours_is = h.yours_is;
           same = kept_grown own_types types.types more_types.types (shape_types shape) more.types_grown h.mine h.yours h.same;
         } in
-        let front : take (place + 1) shape.exports ≡ take place shape.exports ++ one ∷ [] = take_more shape.exports place one inside ∙ ap (λ (each : Export). take place shape.exports ++ each ∷ []) (sym is) in
-        let here : required_from own_types config shape (drop place shape.exports) (standing_with types spaces defined exports) bytes ≡ required_from own_types config shape (drop (place + 1) shape.exports) (standing_with more_types later fuller (exports ++ made ∷ [])) after = rw (rest, drawn) refl in
-        let sum : (count : Count) → sum_by (λ (each : Export). counts_as count each.1) (take (place + 1) shape.exports) ≡ sum_by (λ (each : Export). counts_as count each.1) (take place shape.exports) + counts_as count one.1 =
-        λ count. ap (sum_by (λ (each : Export). counts_as count each.1)) front ∙ sum_by_push (λ (each : Export). counts_as count each.1) (take place shape.exports) one in
+        let front : take (place + 1) shape.exports ≡ take place shape.exports ++ one ∷ [] = take_more shape.exports place one inside
+        ∙ ap (λ (each : Export). take place shape.exports ++ each ∷ []) (sym is) in
+        let here : required_from own_types config shape (drop place shape.exports) (standing_with types spaces defined exports) bytes
+        ≡ required_from own_types config shape (drop (place + 1) shape.exports)
+        (standing_with more_types later fuller (exports ++ made ∷ [])) after = rw (rest, drawn) refl in
+        let sum : (count : Count) → sum_by (λ (each : Export). counts_as count each.1) (take (place + 1) shape.exports)
+        ≡ sum_by (λ (each : Export). counts_as count each.1) (take place shape.exports) + counts_as count one.1 =
+        λ count. ap (sum_by (λ (each : Export). counts_as count each.1)) front ∙ sum_by_push (λ (each : Export). counts_as count each.1)
+        (take place shape.exports) one in
         let steps : length shape.exports - place ≡ (length shape.exports - (place + 1)) + 1 = omega (arith, inside) in
         rw pushed (record {
           so_far = sym here ∙ now.so_far;
-          same = rw front (all_zipped_more S exports (take place shape.exports) made one (AllZip-weaker R S still exports (take place shape.exports) now.same) more.same);
+          same = rw front (all_zipped_more S exports (take place shape.exports) made one
+              (AllZip-weaker R S still exports (take place shape.exports) now.same) more.same);
           types_grown = extends_both now.types_grown more.types_grown;
           groups_grown = extends_both now.groups_grown more.groups_grown;
           types_most = omega (arith, now.types_most, more.types_most);
@@ -224,34 +274,47 @@ module _ {own_types : Bool} {config : Config} {shape : Shape} {old_types types :
         })
 
     pub one_stands : IsStanding (shape_spaces shape) one.1 one.2
-    one_stands = subst (λ (each : Export). IsStanding (shape_spaces shape) each.1 each.2) (sym is) (now.shape_may.valid.consistent.exports.stand place one inside)
+    one_stands = subst (λ (each : Export). IsStanding (shape_spaces shape) each.1 each.2) (sym is)
+        (now.shape_may.valid.consistent.exports.stand place one inside)
 
-    lacking_for : (e : Error) → (e ≡ errors.Memory) ⊎ ((e ≡ errors.EmptyChoose) × (Any IsNonNullable (shape_values shape) ⊎ HoldsUngroundedField config (drawn_beside config types.types spaces defined)))
-        → (e ≡ errors.Memory) ⊎ ((e ≡ errors.EmptyChoose) × (Any IsNonNullable (shape_values shape) ⊎ HoldsUngroundedField config (drawn_beside config old_types.types old old_defined)))
+    lacking_for : (e : Error) → (e ≡ errors.Memory)
+        ⊎ ((e ≡ errors.EmptyChoose)
+        × (Any IsNonNullable (shape_values shape) ⊎ HoldsUngroundedField config (drawn_beside config types.types spaces defined)))
+        → (e ≡ errors.Memory)
+        ⊎ ((e ≡ errors.EmptyChoose)
+        × (Any IsNonNullable (shape_values shape) ⊎ HoldsUngroundedField config (drawn_beside config old_types.types old old_defined)))
     lacking_for e (inl memory) = inl memory
     lacking_for e (inr (empty, inl strict)) = inr (empty, inl strict)
     lacking_for e (inr (empty, inr holds)) = inr (empty, inr (now.lacking holds))
 
-    pub refused_for : (e : Error) → MayRefuseExported config (drawn_beside config types.types spaces defined) shape one e → MayRefuseRequired config (drawn_beside config old_types.types old old_defined) shape e
-    refused_for (errors.IncorrectFormat SeveralMemories) (counted, few) = (some_counted (λ (each : Export). counts_as counts.Memories each.1) shape.exports place one inside is counted, few)
-    refused_for (errors.IncorrectFormat SeveralTables) (counted, few) = (some_counted (λ (each : Export). counts_as counts.Tables each.1) shape.exports place one inside is counted, few)
+    pub refused_for : (e : Error) → MayRefuseExported config (drawn_beside config types.types spaces defined) shape one e
+        → MayRefuseRequired config (drawn_beside config old_types.types old old_defined) shape e
+    refused_for (errors.IncorrectFormat SeveralMemories) (counted, few) =
+        (some_counted (λ (each : Export). counts_as counts.Memories each.1) shape.exports place one inside is counted, few)
+    refused_for (errors.IncorrectFormat SeveralTables) (counted, few) =
+        (some_counted (λ (each : Export). counts_as counts.Tables each.1) shape.exports place one inside is counted, few)
     refused_for e refused = lacking_for e refused
 
 -- exports that are the same as valid ones, of existing entities, are valid
-stand_so : (IsSame : EntityType → EntityType → Type 0) (ours theirs : EntitySpaces) (exports others : List Export) → AllZip (IsSameExport IsSame ours theirs) exports others → AreExportsStanding ours exports
+stand_so : (IsSame : EntityType → EntityType → Type 0) (ours theirs : EntitySpaces) (exports others : List Export)
+    → AllZip (IsSameExport IsSame ours theirs) exports others → AreExportsStanding ours exports
 stand_so IsSame ours theirs [] others same = All-nil (λ (one : Export). IsStanding ours one.1 one.2)
 stand_so IsSame ours theirs (one ∷ exports) [] same = absurd same
 stand_so IsSame ours theirs (one ∷ exports) (other ∷ others) same =
-    All-cons (λ (each : Export). IsStanding ours each.1 each.2) one exports (same.0.mine, same.0.mine_is) (stand_so IsSame ours theirs exports others same.1)
+    All-cons (λ (each : Export). IsStanding ours each.1 each.2) one exports (same.0.mine, same.0.mine_is)
+    (stand_so IsSame ours theirs exports others same.1)
 
-named_so : (IsSame : EntityType → EntityType → Type 0) (ours theirs : EntitySpaces) (exports others : List Export) → AllZip (IsSameExport IsSame ours theirs) exports others
+named_so : (IsSame : EntityType → EntityType → Type 0) (ours theirs : EntitySpaces) (exports others : List Export)
+    → AllZip (IsSameExport IsSame ours theirs) exports others
     → map (λ (one : Export). one.0) others ≡ map (λ (one : Export). one.0) exports
 named_so IsSame ours theirs [] [] same = refl
 named_so IsSame ours theirs [] (other ∷ others) same = absurd same
 named_so IsSame ours theirs (one ∷ exports) [] same = absurd same
-named_so IsSame ours theirs (one ∷ exports) (other ∷ others) same = λ i. sym same.0.name i ∷ named_so IsSame ours theirs exports others same.1 i
+named_so IsSame ours theirs (one ∷ exports) (other ∷ others) same = λ i. sym same.0.name i ∷ named_so IsSame ours theirs exports others
+    same.1 i
 
-pub valid_so : (IsSame : EntityType → EntityType → Type 0) (ours theirs : EntitySpaces) (exports others : List Export) → AllZip (IsSameExport IsSame ours theirs) exports others → AreExportsValid theirs others → AreExportsValid ours exports
+pub valid_so : (IsSame : EntityType → EntityType → Type 0) (ours theirs : EntitySpaces) (exports others : List Export)
+    → AllZip (IsSameExport IsSame ours theirs) exports others → AreExportsValid theirs others → AreExportsValid ours exports
 valid_so IsSame ours theirs exports others same valid = record {
   stand = stand_so IsSame ours theirs exports others same;
   distinct = subst AreDistinct (named_so IsSame ours theirs exports others same) valid.distinct;
@@ -262,7 +325,9 @@ not_empty : (e : Error) (A : Type 0) → (A → ⊥) → (e ≡ errors.Memory) �
 not_empty e A none (inl memory) = memory
 not_empty e A none (inr (empty, holds)) = absurd (none holds)
 
-pub only_memory : (config : Config) (context : Context) (shape : Shape) (e : Error) → (MayLackIn config context shape → ⊥) → config.reference_types_enabled ≡ true → 2 ≤ config.max_memories → MayRefuseRequired config context shape e → e ≡ errors.Memory
-only_memory config context shape (errors.IncorrectFormat SeveralMemories) none on several (counted, few) = absurd (omega (arith, few, several))
+pub only_memory : (config : Config) (context : Context) (shape : Shape) (e : Error) → (MayLackIn config context shape → ⊥)
+    → config.reference_types_enabled ≡ true → 2 ≤ config.max_memories → MayRefuseRequired config context shape e → e ≡ errors.Memory
+only_memory config context shape (errors.IncorrectFormat SeveralMemories) none on several (counted, few) =
+    absurd (omega (arith, few, several))
 only_memory config context shape (errors.IncorrectFormat SeveralTables) none on several (counted, off) = absurd (cc (sym on ∙ off))
 only_memory config context shape e none on several refused = not_empty e (MayLackIn config context shape) none refused

@@ -1,5 +1,6 @@
 -- Properties of an index space with its definitions after its imports.
-use Rattle.std.specs.Prelude.{◌≡◌, ℕ, ◌+◌, ◌-◌, ◌<◌, ◌≤◌, ◌^◌, ◌⊎◌, max, Option, Some, List, [], ◌++◌, map, length, slice_get, All, if◌then◌else◌}
+use Rattle.std.specs.Prelude.{◌≡◌, ℕ, ◌+◌, ◌-◌, ◌<◌, ◌≤◌, ◌^◌, ◌⊎◌, max, Option, Some, List, [], ◌++◌, map, length, slice_get, All}
+use Rattle.std.specs.Prelude.{if◌then◌else◌}
 use Rattle.std.specs.List.{flat_map}
 use Rattle.smith_bytes.specs.declared.error.Error.{Error}
 use Rattle.smith_bytes.specs.declared.error.Error.TheVariants as errors
@@ -93,16 +94,20 @@ scope_of_spaces spaces = record {
 }
 
 -- an initialiser is that of the global of this index, which comes after the imported ones
-pub record IsGlobalInitialised (config : Config) (standing : InitialiserScope) (globals : List GlobalType) (place index : ℕ) (initial : List ConstInstr) : Type 0 where
+pub record IsGlobalInitialised (config : Config) (standing : InitialiserScope) (globals : List GlobalType) (place index : ℕ)
+    (initial : List ConstInstr) : Type 0 where
   pub in_order : index ≡ length standing.imported_globals + place
   pub global : GlobalType
   pub stands : slice_get globals index ≡ Some global
-  pub initialised : IsConstExpr (context_at config standing globals (if config.gc_enabled then index else length standing.imported_globals)) global.val_type initial
+  pub initialised : IsConstExpr (context_at config standing globals (if config.gc_enabled then index else length standing.imported_globals))
+      global.val_type initial
 
 -- each initialiser is that of a global after the imported ones
-pub record AreGlobalsDefined (config : Config) (standing : InitialiserScope) (globals : List GlobalType) (initials : List (ℕ × List ConstInstr)) : Type 0 where
+pub record AreGlobalsDefined (config : Config) (standing : InitialiserScope) (globals : List GlobalType)
+    (initials : List (ℕ × List ConstInstr)) : Type 0 where
   pub count : length globals ≡ length standing.imported_globals + length initials
-  pub each : (place index : ℕ) (initial : List ConstInstr) → slice_get initials place ≡ Some (index, initial) → IsGlobalInitialised config standing globals place index initial
+  pub each : (place index : ℕ) (initial : List ConstInstr) → slice_get initials place ≡ Some (index, initial)
+      → IsGlobalInitialised config standing globals place index initial
 
 -- nothing is defined
 abbrev pub nothing_defined : Definitions
@@ -136,7 +141,8 @@ abbrev pub scope_in : List SubType → EntitySpaces → EntitySpaces → Initial
 scope_in types imported spaces = scope_over types spaces.funcs (length imported.funcs) imported.globals
 
 -- the types, the entities that follow these imports, and each initialiser at its place are valid
-pub record StandsAfter (config : Config) (imported : EntitySpaces) (space : GroupedTypes) (spaces : EntitySpaces) (defined : Definitions) : Type 0 where
+pub record StandsAfter (config : Config) (imported : EntitySpaces) (space : GroupedTypes) (spaces : EntitySpaces)
+    (defined : Definitions) : Type 0 where
   pub types : AreTypesValid (features_of config) space
   pub entities : AreEntitiesValid (features_of config) space.types spaces
   pub counts : AreCountsEnabled (features_of config) spaces
@@ -162,11 +168,13 @@ pub record AreFilled (config : Config) (before spaces : EntitySpaces) : Type 0 w
   pub each_memory : AreAdded (IsMemoryWithin config) before.memories spaces.memories
 
 -- index spaces have definitions after the items before, valid whatever was imported
-pub record AreDefinedMore (config : Config) (space : GroupedTypes) (before : EntitySpaces) (so_far : Definitions) (spaces : EntitySpaces) (defined : Definitions) : Type 0 where
+pub record AreDefinedMore (config : Config) (space : GroupedTypes) (before : EntitySpaces) (so_far : Definitions) (spaces : EntitySpaces)
+    (defined : Definitions) : Type 0 where
   pub filled : AreFilled config before spaces
   pub grounded_tables : AreAdded (HasGroundedElements config (drawn_beside config space.types spaces defined)) before.tables spaces.tables
   pub grounded_globals : AreAdded (HasGroundedValue config (drawn_beside config space.types spaces defined)) before.globals spaces.globals
-  pub stands : (imported : EntitySpaces) → StandsAfter config imported space before so_far → StandsAfter config imported space spaces defined
+  pub stands : (imported : EntitySpaces) → StandsAfter config imported space before so_far
+      → StandsAfter config imported space spaces defined
 
 -- no global and no constant of the definitions is a float
 pub record HaveNoFloats (spaces : EntitySpaces) (defined : Definitions) : Type 0 where

@@ -23,7 +23,8 @@ pub record IsTableFit (config : Config) (standing : InitialiserScope) (one : Tab
   pub floats : All HasNoFloat standing.types → All (All GivesNoFloat) (initial_of one.1)
 
 -- the drawn tables follow the tables before, each with its initialiser, if any
-pub record AreTablesDrawn (config : Config) (standing : InitialiserScope) (before space : List TableType) (old initials : List (Option (List ConstInstr))) : Type 0 where
+pub record AreTablesDrawn (config : Config) (standing : InitialiserScope) (before space : List TableType)
+    (old initials : List (Option (List ConstInstr))) : Type 0 where
   pub drawn : List Table
   pub tables : space ≡ before ++ map (λ (one : Table). one.0) drawn
   pub initialisers : initials ≡ old ++ map (λ (one : Table). one.1) drawn

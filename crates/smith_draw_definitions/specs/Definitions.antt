@@ -1,6 +1,7 @@
 -- The items of each kind that are defined after the items before, and the bytes that they take.
 -- Rules of this project.
-use Rattle.std.specs.Prelude.{ℕ, ◌+◌, ◌-◌, Bool, ◌&&◌, ◌==◌, nat_lt, nat_le, Option, List, [], ◌++◌, map, take, length, Result, Ok, Err, ok_or, if◌then◌else◌}
+use Rattle.std.specs.Prelude.{ℕ, ◌+◌, ◌-◌, Bool, ◌&&◌, ◌==◌, nat_lt, nat_le, Option, List, [], ◌++◌, map, take, length, Result, Ok, Err}
+use Rattle.std.specs.Prelude.{ok_or, if◌then◌else◌}
 use Rattle.smith_bytes.specs.declared.error.Count.{Count}
 use Rattle.smith_bytes.specs.declared.error.Count.TheVariants as counts
 use Rattle.smith_bytes.specs.declared.error.Error.{Error}
@@ -42,7 +43,8 @@ unfoldable pub items_defined_at : {A : Type 0} → (List A → List ℕ → A ×
 items_defined_at draw least most before bytes = past_maximum_at most before (grow_at draw (least - before) (most - before) [] bytes)
 
 -- the same for draws that may be refused
-unfoldable pub items_tried_at : {A : Type 0} → (List A → List ℕ → Result (A × List ℕ) Error) → ℕ → ℕ → ℕ → List ℕ → Result (List A × List ℕ) Error
+unfoldable pub items_tried_at : {A : Type 0} → (List A → List ℕ → Result (A × List ℕ) Error) → ℕ → ℕ → ℕ → List ℕ
+    → Result (List A × List ℕ) Error
 items_tried_at draw least most before bytes = do
   grown ← try_grow_at draw (least - before) (most - before) [] bytes
   Ok (past_maximum_at most before grown)
@@ -71,7 +73,8 @@ tags_at config types before bytes = type_indices_at counts.Tags (tag_types confi
 
 -- the types of functions are function types that are not shared
 unfoldable pub funcs_at : Config → List SubType → List ℕ → List ℕ → Result (List ℕ × List ℕ) Error
-funcs_at config types before bytes = type_indices_at counts.Funcs (types_for uses.DefinedFunc types) config.min_funcs config.max_funcs before bytes
+funcs_at config types before bytes = type_indices_at counts.Funcs (types_for uses.DefinedFunc types) config.min_funcs config.max_funcs
+    before bytes
 
 unfoldable pub memories_at : Config → List MemoryType → List ℕ → List MemoryType × List ℕ
 memories_at config before bytes =
@@ -125,7 +128,8 @@ table_at config standing bytes = do
   Ok ((table.0, initial.0), initial.1)
 
 -- the tables after those before, and their initialisers after those before
-unfoldable pub tables_at : Config → InitialiserScope → List TableType → List (Option (List ConstInstr)) → List ℕ → Result ((List TableType × List (Option (List ConstInstr))) × List ℕ) Error
+unfoldable pub tables_at : Config → InitialiserScope → List TableType → List (Option (List ConstInstr)) → List ℕ
+    → Result ((List TableType × List (Option (List ConstInstr))) × List ℕ) Error
 tables_at config standing before initials bytes = do
   drawn ← items_tried_at (λ _. table_at config standing) config.min_tables config.max_tables (length before) bytes
   Ok ((before ++ map (λ (one : Table). one.0) drawn.0, initials ++ map (λ (one : Table). one.1) drawn.0), drawn.1)
@@ -151,14 +155,16 @@ unfoldable pub global_at : Config → InitialiserScope → List GlobalType → L
 global_at config standing before defined = initialised_at config (global_scope config standing (globals_of before defined))
 
 -- the globals after those before, and their indices and initialisers after those before
-unfoldable pub globals_at : Config → InitialiserScope → List GlobalType → List (ℕ × List ConstInstr) → List ℕ → Result ((List GlobalType × List (ℕ × List ConstInstr)) × List ℕ) Error
+unfoldable pub globals_at : Config → InitialiserScope → List GlobalType → List (ℕ × List ConstInstr) → List ℕ
+    → Result ((List GlobalType × List (ℕ × List ConstInstr)) × List ℕ) Error
 globals_at config standing before initials bytes = do
   drawn ← items_tried_at (global_at config standing before) config.min_globals config.max_globals (length before) bytes
   Ok ((globals_of before drawn.0, initials ++ map (λ (one : Global). one.1) drawn.0), drawn.1)
 
 -- the definitions in index spaces after the items before, with these initialisers of tables and
 -- globals
-abbrev pub defined_in : EntitySpaces → Definitions → EntitySpaces → List (Option (List ConstInstr)) → List (ℕ × List ConstInstr) → Definitions
+abbrev pub defined_in : EntitySpaces → Definitions → EntitySpaces → List (Option (List ConstInstr)) → List (ℕ × List ConstInstr)
+    → Definitions
 defined_in before defined spaces tables globals = record {
   num_tags = defined.num_tags + (length spaces.tags - length before.tags);
   num_funcs = defined.num_funcs + (length spaces.funcs - length before.funcs);
@@ -169,11 +175,13 @@ defined_in before defined spaces tables globals = record {
 
 -- the index spaces that the bytes produce after the items before, and their definitions; entities
 -- that are not defined are imported
-unfoldable pub definitions_at : Config → List SubType → EntitySpaces → Definitions → List ℕ → Result ((EntitySpaces × Definitions) × List ℕ) Error
+unfoldable pub definitions_at : Config → List SubType → EntitySpaces → Definitions → List ℕ → Result ((EntitySpaces × Definitions) × List ℕ)
+    Error
 definitions_at config types before defined bytes = do
   tags ← tags_at config types before.tags bytes
   funcs ← funcs_at config types before.funcs tags.1
-  let standing = scope_among types funcs.0 (length before.funcs - defined.num_funcs) (length before.globals - length defined.globals) before.globals
+  let standing = scope_among types funcs.0 (length before.funcs - defined.num_funcs) (length before.globals - length defined.globals)
+      before.globals
   tables ← tables_at config standing before.tables defined.tables funcs.1
   let memories = memories_at config before.memories tables.1
   globals ← globals_at config standing before.globals defined.globals memories.1

@@ -64,12 +64,15 @@ IsInitialised config types spaces old new (entity.Tag index) = new ≡ record ol
 IsInitialised config types spaces old new (entity.Func index) = new ≡ record old { num_funcs = old.num_funcs + 1 }
 IsInitialised config types spaces old new (entity.Memory memory) = new ≡ record old { num_memories = old.num_memories + 1 }
 IsInitialised config types spaces old new (entity.Table table) =
-    (initial : Option (List ConstInstr)) × (new ≡ with_table old initial) × IsTableInitialised (scope_beside config types spaces old false) table initial
+    (initial : Option (List ConstInstr)) × (new ≡ with_table old initial) × IsTableInitialised (scope_beside config types spaces old false)
+    table initial
 IsInitialised config types spaces old new (entity.Global global) =
-    (initial : List ConstInstr) × (new ≡ with_global old (length spaces.globals) initial) × IsConstExpr (scope_beside config types spaces old true) global.val_type initial
+    (initial : List ConstInstr) × (new ≡ with_global old (length spaces.globals) initial)
+    × IsConstExpr (scope_beside config types spaces old true) global.val_type initial
 
 -- an entity is defined after the existing ones
-pub record IsDefinedMore (config : Config) (types : List SubType) (spaces : EntitySpaces) (defined : Definitions) (more_spaces : EntitySpaces) (more : Definitions) (added : EntityType) : Type 0 where
+pub record IsDefinedMore (config : Config) (types : List SubType) (spaces : EntitySpaces) (defined : Definitions)
+    (more_spaces : EntitySpaces) (more : Definitions) (added : EntityType) : Type 0 where
   pub spaces_are : more_spaces ≡ with_entity spaces added
   pub initialised : IsInitialised config types spaces defined more added
   pub alone : several config spaces added ≡ None
@@ -82,13 +85,16 @@ IsNeverNull _ = ⊥
 
 -- errors of an initialiser of an entity: lack of memory, or there may be nothing to choose from
 abbrev pub MayRefuseInitial : Config → Context → EntityType → Error → Type 0
-MayRefuseInitial config context added e = (e ≡ errors.Memory) ⊎ ((e ≡ errors.EmptyChoose) × (IsNeverNull added ⊎ HoldsUngroundedField config context))
+MayRefuseInitial config context added e = (e ≡ errors.Memory)
+    ⊎ ((e ≡ errors.EmptyChoose) × (IsNeverNull added ⊎ HoldsUngroundedField config context))
 
 -- errors of an entity: those of its initialiser, and a second memory or a second table without its
 -- feature
 abbrev pub MayRefuseEntity : Config → Context → EntityType → Error → Type 0
-MayRefuseEntity config context added (errors.IncorrectFormat SeveralMemories) = (counts_as counts.Memories (entity_kind added) ≡ 1) × (config.max_memories ≤ 1)
-MayRefuseEntity config context added (errors.IncorrectFormat SeveralTables) = (counts_as counts.Tables (entity_kind added) ≡ 1) × (config.reference_types_enabled ≡ false)
+MayRefuseEntity config context added (errors.IncorrectFormat SeveralMemories) = (counts_as counts.Memories (entity_kind added) ≡ 1)
+    × (config.max_memories ≤ 1)
+MayRefuseEntity config context added (errors.IncorrectFormat SeveralTables) = (counts_as counts.Tables (entity_kind added) ≡ 1)
+    × (config.reference_types_enabled ≡ false)
 MayRefuseEntity config context added e = MayRefuseInitial config context added e
 
 -- the use of the shape of a module, by whether an entity has its own type
@@ -113,7 +119,8 @@ pub record AddsLimitsOf (shape : Shape) (old new : EntitySpaces) : Type 0 where
   pub globals : All (λ global. Contains old.globals global ⊎ Contains (shape_spaces shape).globals global) new.globals
 
 -- the properties that an export of a shape, and the definition for it, preserve
-pub record IsRequiredMore (own_types : Bool) (config : Config) (shape : Shape) (old_types : GroupedTypes) (old : EntitySpaces) (old_defined : Definitions) (types : GroupedTypes) (spaces : EntitySpaces) (defined : Definitions) (one made : Export) : Type 0 where
+pub record IsRequiredMore (own_types : Bool) (config : Config) (shape : Shape) (old_types : GroupedTypes) (old : EntitySpaces)
+    (old_defined : Definitions) (types : GroupedTypes) (spaces : EntitySpaces) (defined : Definitions) (one made : Export) : Type 0 where
   pub same : IsSameExport (IsKeptType own_types types.types (shape_types shape)) spaces (shape_spaces shape) made one
   pub types_grown : Extends old_types.types types.types
   pub groups_grown : Extends old_types.groups types.groups
@@ -123,26 +130,33 @@ pub record IsRequiredMore (own_types : Bool) (config : Config) (shape : Shape) (
   pub types_counted : length types.types ≤ length old_types.types + counts_as counts.Types one.1
   pub limits : AddsLimitsOf shape old spaces
   pub unchanged : own_types ≡ false → types ≡ old_types
-  pub lacking : HoldsUngroundedField config (drawn_beside config types.types spaces defined) → HoldsUngroundedField config (drawn_beside config old_types.types old old_defined)
+  pub lacking : HoldsUngroundedField config (drawn_beside config types.types spaces defined)
+      → HoldsUngroundedField config (drawn_beside config old_types.types old old_defined)
   pub types_of : AddsTypesOf shape old_types.types types.types
   pub few_values : All (HasFewValues most_listed) old_types.types → All (HasFewValues most_listed) types.types
   pub may : (more : ℕ) → MayDefineMore config old_types old old_defined (more + 1) → MayDefineMore config types spaces defined more
-  pub stands : (imported : EntitySpaces) → StandsAfter config imported old_types old old_defined → StandsAfter config imported types spaces defined
+  pub stands : (imported : EntitySpaces) → StandsAfter config imported old_types old old_defined
+      → StandsAfter config imported types spaces defined
 
 -- the exports of a shape are made: the same in order, valid, of entities defined after those before
-pub record AreRequired (own_types : Bool) (config : Config) (shape : Shape) (old_types : GroupedTypes) (old : EntitySpaces) (old_defined : Definitions) (types : GroupedTypes) (spaces : EntitySpaces) (defined : Definitions) (exports : List Export) : Type 0 where
-  pub same : AllZip (IsSameExport (IsKeptType own_types types.types (shape_types shape)) spaces (shape_spaces shape)) exports shape.exports
-  pub types_grown : Extends old_types.types types.types
-  pub groups_grown : Extends old_types.groups types.groups
-  pub spaces_grown : AreSpacesGrown old spaces
-  pub counted : (count : Count) → (count ≡ counts.Types → ⊥) → count_in spaces count ≡ count_in old count + items_of_exports count shape
-  pub types_counted : length types.types ≤ length old_types.types + items_of_exports counts.Types shape
-  pub limits : AddsLimitsOf shape old spaces
-  pub unchanged : own_types ≡ false → types ≡ old_types
-  pub lacking : HoldsUngroundedField config (drawn_beside config types.types spaces defined) → HoldsUngroundedField config (drawn_beside config old_types.types old old_defined)
-  pub types_of : AddsTypesOf shape old_types.types types.types
-  pub few_values : All (HasFewValues most_listed) old_types.types → All (HasFewValues most_listed) types.types
-  pub stands : (imported : EntitySpaces) → StandsAfter config imported old_types old old_defined → StandsAfter config imported types spaces defined
+pub record AreRequired (own_types : Bool) (config : Config) (shape : Shape) (old_types : GroupedTypes) (old : EntitySpaces)
+    (old_defined : Definitions) (types : GroupedTypes) (spaces : EntitySpaces) (defined : Definitions) (exports : List Export) : Type 0
+  where
+    pub same : AllZip (IsSameExport (IsKeptType own_types types.types (shape_types shape)) spaces (shape_spaces shape)) exports
+        shape.exports
+    pub types_grown : Extends old_types.types types.types
+    pub groups_grown : Extends old_types.groups types.groups
+    pub spaces_grown : AreSpacesGrown old spaces
+    pub counted : (count : Count) → (count ≡ counts.Types → ⊥) → count_in spaces count ≡ count_in old count + items_of_exports count shape
+    pub types_counted : length types.types ≤ length old_types.types + items_of_exports counts.Types shape
+    pub limits : AddsLimitsOf shape old spaces
+    pub unchanged : own_types ≡ false → types ≡ old_types
+    pub lacking : HoldsUngroundedField config (drawn_beside config types.types spaces defined)
+        → HoldsUngroundedField config (drawn_beside config old_types.types old old_defined)
+    pub types_of : AddsTypesOf shape old_types.types types.types
+    pub few_values : All (HasFewValues most_listed) old_types.types → All (HasFewValues most_listed) types.types
+    pub stands : (imported : EntitySpaces) → StandsAfter config imported old_types old old_defined
+        → StandsAfter config imported types spaces defined
 
 -- a shape holds a reference that is not nullable, or a type holds one that is neither nullable nor,
 -- with `non_nullable_enabled`, grounded
@@ -151,13 +165,17 @@ MayLackIn config context shape = Any IsNonNullable (shape_values shape) ⊎ Hold
 
 -- errors of an export of a shape, over these types and functions
 abbrev pub MayRefuseExported : Config → Context → Shape → Export → Error → Type 0
-MayRefuseExported config context shape one (errors.IncorrectFormat SeveralMemories) = (counts_as counts.Memories one.1 ≡ 1) × (config.max_memories ≤ 1)
-MayRefuseExported config context shape one (errors.IncorrectFormat SeveralTables) = (counts_as counts.Tables one.1 ≡ 1) × (config.reference_types_enabled ≡ false)
+MayRefuseExported config context shape one (errors.IncorrectFormat SeveralMemories) = (counts_as counts.Memories one.1 ≡ 1)
+    × (config.max_memories ≤ 1)
+MayRefuseExported config context shape one (errors.IncorrectFormat SeveralTables) = (counts_as counts.Tables one.1 ≡ 1)
+    × (config.reference_types_enabled ≡ false)
 MayRefuseExported config context shape one e = (e ≡ errors.Memory) ⊎ ((e ≡ errors.EmptyChoose) × MayLackIn config context shape)
 
 -- errors of the exports of a shape, over these types and functions: there is such a reference, or
 -- the shape has a memory or a table that may not follow others
 abbrev pub MayRefuseRequired : Config → Context → Shape → Error → Type 0
-MayRefuseRequired config context shape (errors.IncorrectFormat SeveralMemories) = (0 < items_of_exports counts.Memories shape) × (config.max_memories ≤ 1)
-MayRefuseRequired config context shape (errors.IncorrectFormat SeveralTables) = (0 < items_of_exports counts.Tables shape) × (config.reference_types_enabled ≡ false)
+MayRefuseRequired config context shape (errors.IncorrectFormat SeveralMemories) = (0 < items_of_exports counts.Memories shape)
+    × (config.max_memories ≤ 1)
+MayRefuseRequired config context shape (errors.IncorrectFormat SeveralTables) = (0 < items_of_exports counts.Tables shape)
+    × (config.reference_types_enabled ≡ false)
 MayRefuseRequired config context shape e = (e ≡ errors.Memory) ⊎ ((e ≡ errors.EmptyChoose) × MayLackIn config context shape)

@@ -1,6 +1,7 @@
 -- The exports that the bytes produce if a shape fixes them: each is of an entity that is defined
 -- for it. Rules of this project.
-use Rattle.std.specs.Prelude.{ℕ, ◌+◌, ◌-◌, Bool, true, false, not, ◌&&◌, nat_lt, nat_le, List, [], ◌∷◌, ◌++◌, Option, Some, None, option_map, length, slice_get, Result, Ok, Err, if◌then◌else◌}
+use Rattle.std.specs.Prelude.{ℕ, ◌+◌, ◌-◌, Bool, true, false, not, ◌&&◌, nat_lt, nat_le, List, [], ◌∷◌, ◌++◌, Option, Some, None}
+use Rattle.std.specs.Prelude.{option_map, length, slice_get, Result, Ok, Err, if◌then◌else◌}
 use Rattle.smith_bytes.specs.declared.error.Error.{Error}
 use Rattle.smith_bytes.specs.declared.error.Error.TheVariants as errors
 use Rattle.smith_bytes.specs.declared.error.Why.{Why}
@@ -43,8 +44,10 @@ next_index spaces kind.Tag = length spaces.tags
 -- the reason why an entity may not follow others: a second memory, or a second table, without its
 -- feature
 abbrev pub several : Config → EntitySpaces → EntityType → Option Why
-several config spaces (entity.Memory memory) = if nat_lt 0 (length spaces.memories) && nat_le config.max_memories 1 then Some SeveralMemories else None
-several config spaces (entity.Table table) = if nat_lt 0 (length spaces.tables) && not config.reference_types_enabled then Some SeveralTables else None
+several config spaces (entity.Memory memory) = if nat_lt 0 (length spaces.memories) && nat_le config.max_memories 1 then Some
+    SeveralMemories else None
+several config spaces (entity.Table table) = if nat_lt 0 (length spaces.tables) && not config.reference_types_enabled then Some
+    SeveralTables else None
 several config spaces _ = None
 
 -- the context of an initialiser after these entities; those that are not defined are imported;
@@ -76,14 +79,19 @@ with_global defined index initial = record defined { globals = defined.globals +
 
 -- the definitions with one more entity, which follows these: a table and a global have an
 -- initialiser
-unfoldable pub defined_with_at : Config → List SubType → EntitySpaces → Definitions → EntityType → List ℕ → Result (Definitions × List ℕ) Error
+unfoldable pub defined_with_at : Config → List SubType → EntitySpaces → Definitions → EntityType → List ℕ
+    → Result (Definitions × List ℕ) Error
 defined_with_at config types spaces defined (entity.Tag index) bytes = Ok (record defined { num_tags = defined.num_tags + 1 }, bytes)
 defined_with_at config types spaces defined (entity.Func index) bytes = Ok (record defined { num_funcs = defined.num_funcs + 1 }, bytes)
-defined_with_at config types spaces defined (entity.Memory memory) bytes = Ok (record defined { num_memories = defined.num_memories + 1 }, bytes)
+defined_with_at config types spaces defined (entity.Memory memory) bytes = Ok (
+  record defined { num_memories = defined.num_memories + 1 },
+  bytes,
+)
 defined_with_at config types spaces defined (entity.Table table) bytes =
     made_of (with_table defined) (table_init_at config (scope_beside config types spaces defined false) table.element_type bytes)
 defined_with_at config types spaces defined (entity.Global global) bytes =
-    made_of (with_global defined (length spaces.globals)) (const_expr_at config (scope_beside config types spaces defined true) global.val_type bytes)
+    made_of (with_global defined (length spaces.globals)) (const_expr_at config (scope_beside config types spaces defined true)
+    global.val_type bytes)
 
 -- the result of a step, or the refusal for this reason, if any
 abbrev pub unless : {A : Type 0} → Option Why → Result A Error → Result A Error
@@ -96,14 +104,17 @@ then_with f (Err e) = Err e
 
 -- index spaces with one more entity, and their definitions, unless the entity may not follow the
 -- others
-unfoldable pub entity_required_at : Config → List SubType → EntitySpaces → Definitions → EntityType → List ℕ → Result ((EntitySpaces × Definitions) × List ℕ) Error
+unfoldable pub entity_required_at : Config → List SubType → EntitySpaces → Definitions → EntityType → List ℕ
+    → Result ((EntitySpaces × Definitions) × List ℕ) Error
 entity_required_at config types spaces defined one bytes =
-    unless (several config spaces one) (then_with (λ more. (with_entity spaces one, more)) (defined_with_at config types spaces defined one bytes))
+    unless (several config spaces one) (then_with (λ more. (with_entity spaces one, more))
+    (defined_with_at config types spaces defined one bytes))
 
 -- types with one more, in a group of its own
 abbrev pub with_own_group : GroupedTypes → Option SubType → GroupedTypes
 with_own_group space None = space
-with_own_group space (Some t) = let types = space.types ++ t ∷ [] in record { types = types; groups = space.groups ++ next_group types space.groups ∷ [] }
+with_own_group space (Some t) = let types = space.types ++ t ∷ [] in
+    record { types = types; groups = space.groups ++ next_group types space.groups ∷ [] }
 
 -- the types, with that of an entity over other types added: the type of a function or a tag
 abbrev pub with_type_of : List SubType → GroupedTypes → EntityType → GroupedTypes
@@ -143,7 +154,8 @@ abbrev pub export_required_at : Bool → Config → Shape → Export → Require
 export_required_at own_types config shape one now bytes None = Ok (now, bytes)
 export_required_at own_types config shape one now bytes (Some theirs) =
     let types = types_over own_types (shape_types shape) now.types theirs in
-    then_with (λ (more : EntitySpaces × Definitions). standing_with types more.0 more.1 (now.exports ++ (one.0, one.1, next_index now.spaces one.1) ∷ []))
+    then_with (λ (more : EntitySpaces × Definitions). standing_with types more.0 more.1
+    (now.exports ++ (one.0, one.1, next_index now.spaces one.1) ∷ []))
     (entity_required_at config types.types now.spaces now.defined (entity_over own_types now.types theirs) bytes)
 
 -- the rest of the draws, after the result of a step
@@ -155,7 +167,8 @@ and_then f (Err e) = Err e
 unfoldable pub required_from : Bool → Config → Shape → List Export → Required → List ℕ → Result (Required × List ℕ) Error
 required_from own_types config shape [] now bytes = Ok (now, bytes)
 required_from own_types config shape (one ∷ more) now bytes =
-    and_then (required_from own_types config shape more) (export_required_at own_types config shape one now bytes (entity_of (shape_spaces shape) one.1 one.2))
+    and_then (required_from own_types config shape more) (export_required_at own_types config shape one now bytes
+    (entity_of (shape_spaces shape) one.1 one.2))
 
 -- the state with the exports of a shape, after the existing entities
 abbrev pub required_at : Bool → Config → Shape → GroupedTypes → EntitySpaces → Definitions → List ℕ → Result (Required × List ℕ) Error

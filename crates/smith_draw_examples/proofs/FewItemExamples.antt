@@ -9,6 +9,8 @@ use Rattle.smith_draw_consts.specs.declared.few_items.FewItems.{FewItems}
 use Rattle.smith_draw_examples.specs.ExampleKeptOffers.{HasFew}
 
 pub global_at : (context : Context) (few : FewItems) (kinds : List (Option ValType)) (funcs : List ℕ) (i : ℕ) (global : GlobalType)
-    → HasFew few kinds funcs → AreFewRead context few → i < length kinds → slice_get context.globals i ≡ Some global → slice_get kinds i ≡ Some (readable global)
+    → HasFew few kinds funcs → AreFewRead context few → i < length kinds → slice_get context.globals i ≡ Some global
+    → slice_get kinds i ≡ Some (readable global)
 global_at context few kinds funcs i global has are inside at =
-    ap (λ (all : List (Option ValType)). slice_get all i) (sym has.0) ∙ are.globals.same i global (omega (arith, inside, ap length has.0)) at
+    ap (λ (all : List (Option ValType)). slice_get all i) (sym has.0) ∙ are.globals.same i global (omega (arith, inside, ap length has.0))
+    at

@@ -47,7 +47,8 @@ HasClasses classes kinds of = (classes.kinds ≡ kinds) × (classes.of ≡ of)
 
 -- they are correct for an immutable, a mutable and an immutable global
 abbrev pub AreGlobalClasses : Classes → Type 0
-AreGlobalClasses classes = AreClasses context_types (λ index global. readable global) (constant_global I32 ∷ variable_global I32 ∷ constant_global I32 ∷ []) classes
+AreGlobalClasses classes = AreClasses context_types (λ index global. readable global)
+    (constant_global I32 ∷ variable_global I32 ∷ constant_global I32 ∷ []) classes
 
 -- each number of the list is recorded as its sum with its place
 abbrev pub AreSums : List ℕ → List ℕ → Type 0

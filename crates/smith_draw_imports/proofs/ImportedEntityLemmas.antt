@@ -27,16 +27,22 @@ use Rattle.smith_config.specs.Granted.{HasGroundedElements, HasGroundedValue}
 use Rattle.smith_draw_types.proofs.FuncSizeLemmas.{small_at}
 use Rattle.smith_draw_imports.specs.ImportedEntities.{import_scope, kind_rows}
 
-kind_offered : (config : Config) (types : List SubType) (spaces : EntitySpaces) (bytes : List ℕ) (of_kind : ExportKind) (after : List ℕ) → 0 < length (enabled (kind_rows config types spaces)) → chosen_at kind.Memory (enabled (kind_rows config types spaces)) bytes ≡ (of_kind, after)
+kind_offered : (config : Config) (types : List SubType) (spaces : EntitySpaces) (bytes : List ℕ) (of_kind : ExportKind) (after : List ℕ)
+    → 0 < length (enabled (kind_rows config types spaces)) → chosen_at kind.Memory (enabled (kind_rows config types spaces)) bytes
+    ≡ (of_kind, after)
     → MayImportKind config types spaces of_kind
 kind_offered config types spaces bytes of_kind after some chosen =
     let P = MayImportKind config types spaces in
-    let rows : ByRecursion (λ (r : ExportKind × Bool). IsTrue r.1 → P r.0) (kind_rows config types spaces) = ((λ on. on), ((λ on. on), ((λ on. on), ((λ on. on), ((λ on. on), tt))))) in
-    let each = enabled_all P (kind_rows config types spaces) (All-from_recursion (λ (r : ExportKind × Bool). IsTrue r.1 → P r.0) (kind_rows config types spaces) rows) in
-    subst (λ (drawn : ExportKind × List ℕ). P drawn.0) chosen (chosen_of P kind.Memory (enabled (kind_rows config types spaces)) bytes some each)
+    let rows : ByRecursion (λ (r : ExportKind × Bool). IsTrue r.1 → P r.0) (kind_rows config types spaces) =
+    ((λ on. on), ((λ on. on), ((λ on. on), ((λ on. on), ((λ on. on), tt))))) in
+    let each = enabled_all P (kind_rows config types spaces) (All-from_recursion (λ (r : ExportKind × Bool). IsTrue r.1 → P r.0)
+    (kind_rows config types spaces) rows) in
+    subst (λ (drawn : ExportKind × List ℕ). P drawn.0) chosen (chosen_of P kind.Memory (enabled (kind_rows config types spaces)) bytes some
+    each)
 
 -- the kind chosen from a table with the rows of the kinds may be imported
-pub row_offered : (config : Config) (types : List SubType) (spaces : EntitySpaces) (table : List (ExportKind × Bool)) (bytes after : List ℕ) (of_kind : ExportKind) (count : ℕ) → table ≡ kind_rows config types spaces → count ≡ length (enabled table) → (count ≡ 0 → ⊥)
+pub row_offered : (config : Config) (types : List SubType) (spaces : EntitySpaces) (table : List (ExportKind × Bool)) (bytes after : List ℕ)
+    (of_kind : ExportKind) (count : ℕ) → table ≡ kind_rows config types spaces → count ≡ length (enabled table) → (count ≡ 0 → ⊥)
     → chosen_at kind.Memory (enabled table) bytes ≡ (of_kind, after) → MayImportKind config types spaces of_kind
 row_offered config types spaces table bytes after of_kind count is size some chosen =
     let filled : 0 < length (enabled table) = omega arith in
@@ -52,14 +58,21 @@ second_holds true b both = both
 second_holds false b both = absurd cc
 
 -- an entity other than a table and a global has no references to ground
-pub fit_without_references : (config : Config) (types : List SubType) (spaces : EntitySpaces) (added : EntityType) → IsEntityFit config types added → table_of added ≡ [] → global_of added ≡ [] → IsFitBeside config types spaces added
+pub fit_without_references : (config : Config) (types : List SubType) (spaces : EntitySpaces) (added : EntityType)
+    → IsEntityFit config types added → table_of added ≡ [] → global_of added ≡ [] → IsFitBeside config types spaces added
 fit_without_references config types spaces added fit no_table no_global =
     let Elements = HasGroundedElements config (import_scope config types spaces) in
     let Values = HasGroundedValue config (import_scope config types spaces) in
-    record { entity = fit; grounded_tables = subst (All Elements) (sym no_table) (All-nil Elements); grounded_globals = subst (All Values) (sym no_global) (All-nil Values) }
+    record {
+      entity = fit;
+      grounded_tables = subst (All Elements) (sym no_table) (All-nil Elements);
+      grounded_globals = subst (All Values)
+          (sym no_global) (All-nil Values);
+    }
 
 module _ (config : Config) (space : GroupedTypes) (may : MayImport config space) where
-  pub tag_fit : (index : ℕ) → IsTrue config.exceptions_enabled → IsTagValid space.types index → IsEntityFit config space.types (entity.Tag index)
+  pub tag_fit : (index : ℕ) → IsTrue config.exceptions_enabled → IsTagValid space.types index
+      → IsEntityFit config space.types (entity.Tag index)
   tag_fit index on valid = record {
     valid = record {
       tags = All-cons (IsTagValid space.types) index [] valid (All-nil (IsTagValid space.types));
@@ -93,14 +106,16 @@ module _ (config : Config) (space : GroupedTypes) (may : MayImport config space)
     typed = slice_get_within space.types index t at;
   }
 
-  pub global_fit : (global : GlobalType) → IsGlobalValid (features_of config) space.types global → (config.allow_floats ≡ false → HasNoFloatValue global) → IsEntityFit config space.types (entity.Global global)
+  pub global_fit : (global : GlobalType) → IsGlobalValid (features_of config) space.types global
+      → (config.allow_floats ≡ false → HasNoFloatValue global) → IsEntityFit config space.types (entity.Global global)
   global_fit global valid floats = record {
     valid = record {
       tags = All-nil (IsTagValid space.types);
       funcs = All-nil (IsFuncTypeIndex space.types);
       tables = All-nil (IsTableValid (features_of config) space.types);
       memories = All-nil (IsMemoryValid (features_of config));
-      globals = All-cons (IsGlobalValid (features_of config) space.types) global [] valid (All-nil (IsGlobalValid (features_of config) space.types));
+      globals = All-cons (IsGlobalValid (features_of config) space.types) global [] valid
+          (All-nil (IsGlobalValid (features_of config) space.types));
     };
     tag = λ some. absurd (omega arith);
     tables = All-nil (IsTableWithin config);
@@ -110,7 +125,8 @@ module _ (config : Config) (space : GroupedTypes) (may : MayImport config space)
     typed = tt;
   }
 
-  pub memory_fit : (memory : MemoryType) → IsMemoryValid (features_of config) memory → IsMemoryWithin config memory → IsEntityFit config space.types (entity.Memory memory)
+  pub memory_fit : (memory : MemoryType) → IsMemoryValid (features_of config) memory → IsMemoryWithin config memory
+      → IsEntityFit config space.types (entity.Memory memory)
   memory_fit memory valid within = record {
     valid = record {
       tags = All-nil (IsTagValid space.types);
@@ -127,12 +143,14 @@ module _ (config : Config) (space : GroupedTypes) (may : MayImport config space)
     typed = tt;
   }
 
-  pub table_fit : (table : TableType) → IsTableValid (features_of config) space.types table → IsTableWithin config table → IsEntityFit config space.types (entity.Table table)
+  pub table_fit : (table : TableType) → IsTableValid (features_of config) space.types table → IsTableWithin config table
+      → IsEntityFit config space.types (entity.Table table)
   table_fit table valid within = record {
     valid = record {
       tags = All-nil (IsTagValid space.types);
       funcs = All-nil (IsFuncTypeIndex space.types);
-      tables = All-cons (IsTableValid (features_of config) space.types) table [] valid (All-nil (IsTableValid (features_of config) space.types));
+      tables = All-cons (IsTableValid (features_of config) space.types) table [] valid
+          (All-nil (IsTableValid (features_of config) space.types));
       memories = All-nil (IsMemoryValid (features_of config));
       globals = All-nil (IsGlobalValid (features_of config) space.types);
     };

@@ -50,5 +50,6 @@ module _ {S : Type 0} where
 
   -- a set has one more pair
   pub record AddsPair (old new : HashSet (String Global × String Global) S) (from name : List ℕ) : Type 0 where
-    pub has : (other_from other_name : List ℕ) → has_pair new other_from other_name ≡ ((bytes_eq other_from from && bytes_eq other_name name) || has_pair old other_from other_name)
+    pub has : (other_from other_name : List ℕ) → has_pair new other_from other_name
+        ≡ ((bytes_eq other_from from && bytes_eq other_name name) || has_pair old other_from other_name)
     pub size : hash_set_len new ≡ hash_set_len old + 1

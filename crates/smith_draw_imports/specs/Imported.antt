@@ -9,7 +9,8 @@ use Rattle.smith_types.specs.Entities.{AreEntitiesValid}
 use Rattle.smith_types.specs.Exports.{AreDistinct, entity_kind}
 use Rattle.smith_types.specs.Flags.{IsImportsEnabled}
 use Rattle.smith_types.specs.Floats.{HasNoFloatValue}
-use Rattle.smith_types.specs.Imports.{EntitySpaces, IsImportsValid, flattened, imported_spaces, tag_of, table_of, memory_of, global_of, entity_spaces}
+use Rattle.smith_types.specs.Imports.{EntitySpaces, IsImportsValid, flattened, imported_spaces, tag_of, table_of, memory_of, global_of}
+use Rattle.smith_types.specs.Imports.{entity_spaces}
 use Rattle.smith_types.specs.EntitySpaces.{spaces_in, with_entity}
 use Rattle.smith_types.specs.Sizes.{IsTyped, size_in}
 use Rattle.smith_types.specs.GroupedTypes.{GroupedTypes}
@@ -98,8 +99,10 @@ pub record AreImportsFit (config : Config) (types : List SubType) (distinct : Bo
   pub most : length imports ≤ config.max_imports
   pub type_size : sizes types imports ≤ config.max_type_size
   pub small : sizes types imports ≤ 42 * length imports
-  pub grounded_tables : All (HasGroundedElements config (import_scope config types (imported_spaces imports))) (imported_spaces imports).tables
-  pub grounded_globals : All (HasGroundedValue config (import_scope config types (imported_spaces imports))) (imported_spaces imports).globals
+  pub grounded_tables : All (HasGroundedElements config (import_scope config types (imported_spaces imports)))
+      (imported_spaces imports).tables
+  pub grounded_globals : All (HasGroundedValue config (import_scope config types (imported_spaces imports)))
+      (imported_spaces imports).globals
   pub floats : config.allow_floats ≡ false → All HasNoFloatValue (imported_spaces imports).globals
   pub apart : IsTrue distinct → AreDistinct {A = List ℕ × List ℕ} (map (λ (one : Import). (one.«module», one.name)) imports)
 
@@ -139,7 +142,8 @@ MayEndAt config spaces size = (config.max_type_size < size + 42) ⊎ ((of_kind :
 abbrev pub MayEnd : Config → ℕ → Type 0
 MayEnd config count =
     (config.max_type_size < 42 * (count + 1))
-    ⊎ ((config.max_tags ≤ count) ⊎ ((config.max_funcs ≤ count) ⊎ ((config.max_globals ≤ count) ⊎ ((config.max_memories ≤ count) ⊎ (config.max_tables ≤ count)))))
+    ⊎ ((config.max_tags ≤ count)
+    ⊎ ((config.max_funcs ≤ count) ⊎ ((config.max_globals ≤ count) ⊎ ((config.max_memories ≤ count) ⊎ (config.max_tables ≤ count)))))
 
 -- a group is compact
 abbrev pub IsCompact : Imports → Type 0
@@ -171,7 +175,8 @@ pub record IsImported (config : Config) (types : List SubType) (distinct : Bool)
 
 -- errors of the step of imports: lack of memory, or a minimum above zero that may stay unmet
 abbrev pub MayRefuseImports : Config → Error → Type 0
-MayRefuseImports config e = (e ≡ errors.Memory) ⊎ ((e ≡ errors.IncorrectFormat (Unmet counts.Imports)) × (0 < config.min_imports) × MayLackImports config)
+MayRefuseImports config e = (e ≡ errors.Memory) ⊎ ((e ≡ errors.IncorrectFormat (Unmet counts.Imports)) × (0 < config.min_imports)
+    × MayLackImports config)
 
 -- there is no import
 unfoldable pub SpellsNoImport : Config → List Imports → List ℕ → Type 0

@@ -42,7 +42,8 @@ kind_row config types spaces of_kind = (of_kind, may_import config types of_kind
 abbrev pub kind_rows : Config → List SubType → EntitySpaces → List (ExportKind × Bool)
 kind_rows config types spaces =
     kind_row config types spaces kind.Tag ∷ (kind_row config types spaces kind.Func
-    ∷ (kind_row config types spaces kind.Global ∷ (kind_row config types spaces kind.Memory ∷ (kind_row config types spaces kind.Table ∷ []))))
+    ∷ (kind_row config types spaces kind.Global ∷
+    (kind_row config types spaces kind.Memory ∷ (kind_row config types spaces kind.Table ∷ []))))
 
 -- a kind of which one more may be imported, if there is one
 unfoldable pub kind_at : Config → List SubType → EntitySpaces → List ℕ → Option ExportKind × List ℕ
@@ -65,8 +66,10 @@ import_scope config types spaces = record {
 
 -- an entity of a kind
 unfoldable pub entity_of_kind_at : Config → Context → ExportKind → List ℕ → EntityType × List ℕ
-entity_of_kind_at config context kind.Tag bytes = let index = chosen_at 0 (types_for uses.Tag context.types) bytes in (entity.Tag index.0, index.1)
-entity_of_kind_at config context kind.Func bytes = let index = chosen_at 0 (types_for uses.ImportedFunc context.types) bytes in (entity.Func index.0, index.1)
+entity_of_kind_at config context kind.Tag bytes = let index = chosen_at 0 (types_for uses.Tag context.types) bytes in
+    (entity.Tag index.0, index.1)
+entity_of_kind_at config context kind.Func bytes = let index = chosen_at 0 (types_for uses.ImportedFunc context.types) bytes in
+    (entity.Func index.0, index.1)
 entity_of_kind_at config context kind.Global bytes = let global = global_type_at config context bytes in (entity.Global global.0, global.1)
 entity_of_kind_at config context kind.Memory bytes = let memory = memtype_at config bytes in (entity.Memory memory.0, memory.1)
 entity_of_kind_at config context kind.Table bytes = let table = table_type_at config context bytes in (entity.Table table.0, table.1)
@@ -84,9 +87,11 @@ unfoldable pub entity_at : Config → List SubType → EntitySpaces → ℕ → 
 entity_at config types spaces size bytes =
     let chosen = kind_at config types spaces bytes in
     option_map_or
-    (λ of_kind. let drawn = entity_of_kind_at config (import_scope config types spaces) of_kind chosen.1 in ((if fits config types size drawn.0 then Some drawn.0 else None), drawn.1))
+    (λ of_kind. let drawn = entity_of_kind_at config (import_scope config types spaces) of_kind chosen.1 in
+    ((if fits config types size drawn.0 then Some drawn.0 else None), drawn.1))
     chosen.0 (None, chosen.1)
 
 -- the same entity once more, if its kind has room and it fits
 abbrev pub again : Config → List SubType → EntitySpaces → ℕ → EntityType → Option EntityType
-again config types spaces size added = if has_room config spaces (entity_kind added) && fits config types size added then Some added else None
+again config types spaces size added = if has_room config spaces (entity_kind added) && fits config types size added then Some added else
+    None

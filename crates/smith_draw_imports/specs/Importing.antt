@@ -1,7 +1,8 @@
 -- The groups of imports that the bytes produce in the step of imports, and the bytes left. The
 -- index spaces, the type size and the names taken so far are computed from the imports drawn
 -- before.
-use Rattle.std.specs.Prelude.{ℕ, zero, suc, ◌+◌, ◌-◌, Bool, true, false, nat_lt, ◌==◌, Option, List, [], ◌∷◌, ◌++◌, length, Result, Ok, Err, if◌then◌else◌}
+use Rattle.std.specs.Prelude.{ℕ, zero, suc, ◌+◌, ◌-◌, Bool, true, false, nat_lt, ◌==◌, Option, List, [], ◌∷◌, ◌++◌, length, Result, Ok, Err}
+use Rattle.std.specs.Prelude.{if◌then◌else◌}
 use Rattle.std.specs.Option.{option_map_or}
 use Rattle.smith_bytes.specs.declared.error.Count.TheVariants as counts
 use Rattle.smith_bytes.specs.declared.error.Why.{Why}
@@ -49,7 +50,8 @@ fill_at config types distinct before (suc most) group bytes =
     let next = next_entity_at config types (imported_spaces imports) (sizes types imports) group go.1 in
     let name = import_name_at distinct imports (module_name group) next.1 in
     if go.0
-    then option_map_or (λ added. fill_at config types distinct before most (with_import group name.0 added) name.1) next.0 (false, (group, next.1))
+    then option_map_or (λ added. fill_at config types distinct before most (with_import group name.0 added) name.1) next.0
+    (false, (group, next.1))
     else (true, (group, go.1))
 
 -- groups followed by another, unless that one has no import

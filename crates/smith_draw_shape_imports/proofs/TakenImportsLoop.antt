@@ -10,11 +10,13 @@ use Rattle.smith_draw_shape_imports.specs.AvailableImports.{picked_at}
 use Rattle.smith_module_rules.specs.ShapeImports.{is_fitting}
 
 -- taking imports from here on completes the whole
-pub record IsPicking (config : Config) (types : List SubType) (taken more : List Import) (bytes : List ℕ) (total : List Import × List ℕ) : Type 0 where
+pub record IsPicking (config : Config) (types : List SubType) (taken more : List Import) (bytes : List ℕ)
+    (total : List Import × List ℕ) : Type 0 where
   pub so_far : picked_at config types taken more bytes ≡ total
 
 -- the next of the offered imports
-pub offered_next : (offered : List Import) (i : ℕ) (one d : Import) → i < length offered → one ≡ get_or offered i d → drop i offered ≡ one ∷ drop (i + 1) offered
+pub offered_next : (offered : List Import) (i : ℕ) (one d : Import) → i < length offered → one ≡ get_or offered i d
+    → drop i offered ≡ one ∷ drop (i + 1) offered
 offered_next offered i one d inside read = drop_more offered i d inside ∙ ap (λ (x : Import). x ∷ drop (i + 1) offered) (sym read)
 
 module _ {config : Config} {types : List SubType} {taken more : List Import} {bytes : List ℕ} {total : List Import × List ℕ} where
@@ -24,13 +26,15 @@ module _ {config : Config} {types : List SubType} {taken more : List Import} {by
       let one : picked_at config types taken more bytes ≡ (taken, bytes) = rw none refl in
       sym now.so_far ∙ one
 
-  pub picked_not : {mid : List ℕ} {b : Bool} (one : Import) (rest : List Import) → IsPicking config types taken more bytes total → more ≡ one ∷ rest → bool_at bytes ≡ (b, mid) → b ≡ false → IsPicking config types taken rest mid total
+  pub picked_not : {mid : List ℕ} {b : Bool} (one : Import) (rest : List Import) → IsPicking config types taken more bytes total
+      → more ≡ one ∷ rest → bool_at bytes ≡ (b, mid) → b ≡ false → IsPicking config types taken rest mid total
   unfolding picked_at
   picked_not {mid = mid} one rest now next drawn off =
       let turn : picked_at config types taken more bytes ≡ picked_at config types taken rest mid = rw (next, drawn, off) refl in
       record { so_far = sym turn ∙ now.so_far }
 
-  pub picked_one : {mid : List ℕ} {b : Bool} (one : Import) (rest new : List Import) → IsPicking config types taken more bytes total → more ≡ one ∷ rest → bool_at bytes ≡ (b, mid) → b ≡ true
+  pub picked_one : {mid : List ℕ} {b : Bool} (one : Import) (rest new : List Import) → IsPicking config types taken more bytes total
+      → more ≡ one ∷ rest → bool_at bytes ≡ (b, mid) → b ≡ true
       → new ≡ (if is_fitting config types taken one then taken ++ one ∷ [] else taken) → IsPicking config types new rest mid total
   unfolding picked_at
   picked_one {mid = mid} one rest new now next drawn on is =

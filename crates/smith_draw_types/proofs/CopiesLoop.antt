@@ -1,5 +1,6 @@
 -- One turn of the loop that clones a group.
-use Rattle.std.proofs.Common.{◌≡◌, ℕ, ◌+◌, ◌-◌, ◌^◌, ◌<◌, ◌≤◌, List, [], ◌∷◌, ◌++◌, Some, get_or, length, take, drop, sym, ap, ◌∙◌, arith, append_assoc, length-drop}
+use Rattle.std.proofs.Common.{◌≡◌, ℕ, ◌+◌, ◌-◌, ◌^◌, ◌<◌, ◌≤◌, List, [], ◌∷◌, ◌++◌, Some, get_or, length, take, drop, sym, ap, ◌∙◌, arith}
+use Rattle.std.proofs.Common.{append_assoc, length-drop}
 use Rattle.std.specs.Prelude.{slice_get}
 use Rattle.std.specs.declared.ops.Range.{Range}
 use Rattle.std.specs.List.{AllByRecursion as Each}
@@ -12,7 +13,8 @@ use Rattle.smith_types.specs.Types.{AreConsecutive, next_start}
 use Rattle.smith_types.proofs.ValidityLemmas.{ends_within}
 
 -- the first types of a group are appended to the types
-pub copied : (old now more : List SubType) (start end n : ℕ) (t : SubType) → start ≤ n → n < end → end ≤ length old → now ≡ old ++ take (n - start) (drop start old) → t ≡ get_or now n t → more ≡ now ++ t ∷ []
+pub copied : (old now more : List SubType) (start end n : ℕ) (t : SubType) → start ≤ n → n < end → end ≤ length old
+    → now ≡ old ++ take (n - start) (drop start old) → t ≡ get_or now n t → more ≡ now ++ t ∷ []
     → more ≡ old ++ take (n + 1 - start) (drop start old)
 copied old now more start end n t low high inside so_far at longer =
     let front = take (n - start) (drop start old) in
@@ -20,13 +22,17 @@ copied old now more start end n t low high inside so_far at longer =
     let one : n + 1 - start ≡ n - start + 1 = omega arith in
     let place : start + (n - start) ≡ n = omega arith in
     let here : get_or (drop start old) (n - start) t ≡ t =
-    get_or-drop start old (n - start) t ∙ ap (λ (k : ℕ). get_or old k t) place ∙ sym (get_or_append_left old front t n (omega arith)) ∙ ap (λ (ts : List SubType). get_or ts n t) (sym so_far) ∙ sym at in
+    get_or-drop start old (n - start) t ∙ ap (λ (k : ℕ). get_or old k t) place ∙ sym (get_or_append_left old front t n (omega arith))
+    ∙ ap (λ (ts : List SubType). get_or ts n t) (sym so_far) ∙ sym at in
     let next : take (n + 1 - start) (drop start old) ≡ front ++ t ∷ [] =
-    ap (λ (k : ℕ). take k (drop start old)) one ∙ take_more (drop start old) (n - start) t (omega arith) ∙ ap (λ (x : SubType). front ++ x ∷ []) here in
-    longer ∙ ap (λ (ts : List SubType). ts ++ t ∷ []) so_far ∙ append_assoc old front (t ∷ []) ∙ ap (λ (ts : List SubType). old ++ ts) (sym next)
+    ap (λ (k : ℕ). take k (drop start old)) one ∙ take_more (drop start old) (n - start) t (omega arith)
+    ∙ ap (λ (x : SubType). front ++ x ∷ []) here in
+    longer ∙ ap (λ (ts : List SubType). ts ++ t ∷ []) so_far ∙ append_assoc old front (t ∷ []) ∙ ap (λ (ts : List SubType). old ++ ts)
+    (sym next)
 
 -- an existing type may be appended again
-pub copy_follows : (space : GroupedTypes) (n : ℕ) (t : SubType) → IsSound space → n < length space.types → t ≡ get_or space.types n t → length space.types + 1 < 2 ^ 32 → MayFollow space.types t
+pub copy_follows : (space : GroupedTypes) (n : ℕ) (t : SubType) → IsSound space → n < length space.types → t ≡ get_or space.types n t
+    → length space.types + 1 < 2 ^ 32 → MayFollow space.types t
 copy_follows space n t sound inside at room = record {
   below = λ s up.
       let here : slice_get space.types n ≡ Some t = slice_get-get_or space.types n t inside ∙ ap Some (sym at) in
@@ -46,9 +52,11 @@ pub record IsWithin (space : GroupedTypes) (g : Range ℕ) : Type 0 where
   pub inside : g.end ≤ length space.types
 
 -- each group lies within the types
-pub group_within : (space : GroupedTypes) (k : ℕ) (d : Range ℕ) → AreConsecutive 0 space.groups → next_start space.groups ≤ length space.types → k < length space.groups → IsWithin space (get_or space.groups k d)
+pub group_within : (space : GroupedTypes) (k : ℕ) (d : Range ℕ) → AreConsecutive 0 space.groups
+    → next_start space.groups ≤ length space.types → k < length space.groups → IsWithin space (get_or space.groups k d)
 group_within space k d consecutive within lt =
-    let ends = All-from_recursion (λ (g : Range ℕ). g.end ≤ next_start space.groups) space.groups (ends_within 0 space.groups consecutive).1 k d lt in
+    let ends = All-from_recursion (λ (g : Range ℕ). g.end ≤ next_start space.groups) space.groups (ends_within 0 space.groups consecutive).1
+    k d lt in
     record {
       ordered = All-from_recursion (λ (g : Range ℕ). g.start ≤ g.end) space.groups (ordered 0 space.groups consecutive) k d lt;
       inside = omega (arith, ends);

@@ -1,6 +1,7 @@
 -- A record of functions that was made over fewer types: no function grounds a type that was added,
 -- and each earlier heap type is grounded as before.
-use Rattle.std.proofs.Common.{◌≡◌, ℕ, ◌<◌, ◌≤◌, ◌++◌, Bool, true, false, List, Some, IsTrue, ◌↔◌, take, drop, length, sym, [], ◌∷◌, append-nil, append_assoc, ◌∙◌, subst, ap, arith, length-append}
+use Rattle.std.proofs.Common.{◌≡◌, ℕ, ◌<◌, ◌≤◌, ◌++◌, Bool, true, false, List, Some, IsTrue, ◌↔◌, take, drop, length, sym, [], ◌∷◌}
+use Rattle.std.proofs.Common.{append-nil, append_assoc, ◌∙◌, subst, ap, arith, length-append}
 use Rattle.std.specs.Prelude.{slice_get, nat_le, if◌then◌else◌}
 use Rattle.std.proofs.lemmas.List.{length-take-le, take-append-drop, take-append-le, get_or-take, take_all}
 use Rattle.std.proofs.lemmas.Option.{IfSome_then, slice_get-get_or, get_or_from_slice_get}
@@ -62,8 +63,10 @@ module _ (types : List SubType) (orderly : IsOrderly types) (n : ℕ) (within : 
   below_before i false (Exact j) before below = absurd (by_cases_from_below types orderly (Concrete i) (Exact j) below)
 
   reference_before : (i : ℕ) (defined descriptors : Bool) (ty : HeapType) → i < n
-      → IsValBelow types (if defined then reference_to (if descriptors then Exact i else Concrete i) else reference_to (Concrete i)) (reference_to ty)
-      → IsValBelow (take n types) (if defined then reference_to (if descriptors then Exact i else Concrete i) else reference_to (Concrete i)) (reference_to ty) × IsInRange (take n types) ty
+      → IsValBelow types (if defined then reference_to (if descriptors then Exact i else Concrete i) else reference_to (Concrete i))
+      (reference_to ty)
+      → IsValBelow (take n types) (if defined then reference_to (if descriptors then Exact i else Concrete i) else reference_to
+      (Concrete i)) (reference_to ty) × IsInRange (take n types) ty
   reference_before i true descriptors ty before below =
       let (heap, inside) = below_before i descriptors ty before below.heap in (record { heap = heap; nullable = below.nullable }, inside)
   reference_before i false descriptors ty before below =
@@ -77,25 +80,42 @@ module _ (context : Context) (orderly : IsOrderly context.types) (grounds : Func
   abbrev first : Context
   first = over context (take record_over.count context.types)
 
-  grounded_first : (ty : HeapType) → IsInRange context.types ty → IsGroundedByFuncs context ty → IsGroundedByFuncs first ty × IsInRange first.types ty
+  grounded_first : (ty : HeapType) → IsInRange context.types ty → IsGroundedByFuncs context ty → IsGroundedByFuncs first ty
+      × IsInRange first.types ty
   grounded_first ty stands (function, index, at, below) =
       let reference = function_reference context function index in
-      let there = reference_within context.types index (nat_le context.imported_funcs function) context.features.custom_descriptors (val_stands context.types reference (reference_to ty) below stands) in
+      let there = reference_within context.types index (nat_le context.imported_funcs function) context.features.custom_descriptors
+      (val_stands context.types reference (reference_to ty) below stands) in
       let named : index < record_over.count = record_over.named function index at there in
-      let (before, inside) = reference_before context.types orderly record_over.count record_over.within index (nat_le context.imported_funcs function) context.features.custom_descriptors ty named below in
+      let (before, inside) = reference_before context.types orderly record_over.count record_over.within index
+      (nat_le context.imported_funcs function) context.features.custom_descriptors ty named below in
       ((function, index, at, before), inside)
 
   first_grounded : (ty : HeapType) → IsGroundedByFuncs first ty → IsGroundedByFuncs context ty
-  first_grounded ty (function, index, at, below) = (function, index, at, after context.types orderly record_over.count record_over.within (function_reference context function index) (reference_to ty) below)
+  first_grounded ty (function, index, at, below) = (
+    function,
+    index,
+    at,
+    after context.types orderly record_over.count record_over.within
+        (function_reference context function index) (reference_to ty) below,
+  )
 
   -- the record decides for the types that there were, and grounds none that was added
-  pub by_early : (ty : HeapType) (r : Bool) → IsInRange context.types ty → (IsInRange first.types ty → IsTrue r ↔ IsGroundedByFuncs first ty) → (IsTrue r → IsInRange first.types ty) → r ≡ any_from (function_grounds context ty) 0 context.funcs
+  pub by_early : (ty : HeapType) (r : Bool) → IsInRange context.types ty
+      → (IsInRange first.types ty → IsTrue r ↔ IsGroundedByFuncs first ty) → (IsTrue r → IsInRange first.types ty)
+      → r ≡ any_from (function_grounds context ty) 0 context.funcs
   by_early ty r stands decides within =
-      by_kept context ty r orderly stands (λ on. first_grounded ty ((decides (within on)).0 on), λ by. let (before, inside) = grounded_first ty stands by in (decides inside).1 before)
+      by_kept context ty r orderly stands (
+        λ on. first_grounded ty ((decides (within on)).0 on),
+        λ by. let (before, inside) = grounded_first
+            ty stands by in (decides inside).1 before,
+      )
 
 -- a record over all types
-over_all : (context : Context) (grounds : FuncGrounds) → AreFuncGrounds context grounds → AreFuncGrounds (over context (take (length context.types) context.types)) grounds
-over_all context grounds right = subst (λ (xs : List SubType). AreFuncGrounds (over context xs) grounds) (sym (take_all (length context.types) context.types (omega arith))) right
+over_all : (context : Context) (grounds : FuncGrounds) → AreFuncGrounds context grounds
+    → AreFuncGrounds (over context (take (length context.types) context.types)) grounds
+over_all context grounds right = subst (λ (xs : List SubType). AreFuncGrounds (over context xs) grounds)
+    (sym (take_all (length context.types) context.types (omega arith))) right
 
 pub whole_record : (context : Context) (grounds : FuncGrounds) → AreFuncGrounds context grounds → IsRecordOver context grounds
 whole_record context grounds right = record {
@@ -107,17 +127,30 @@ whole_record context grounds right = record {
 
 -- an early record is such a record
 pub early_record : (context : Context) (grounds : FuncGrounds) → IsEarlyRecord context grounds → IsRecordOver context grounds
-early_record context grounds early = record { count = early.count; within = early.within; right = early.right; named = λ function index at there. early.named function index at }
+early_record context grounds early = record {
+  count = early.count;
+  within = early.within;
+  right = early.right;
+  named = λ function index at there. early.named function index at;
+}
 
 -- an early record is correct at first, and stays so as types are added
-pub record_begun : (context : Context) (grounds : FuncGrounds) → AreFuncGrounds context grounds → ((function index : ℕ) → slice_get context.funcs function ≡ Some index → index < length context.types) → IsEarlyRecord context grounds
-record_begun context grounds right named = record { count = length context.types; within = omega arith; right = over_all context grounds right; named = named }
+pub record_begun : (context : Context) (grounds : FuncGrounds) → AreFuncGrounds context grounds
+    → ((function index : ℕ) → slice_get context.funcs function ≡ Some index → index < length context.types) → IsEarlyRecord context grounds
+record_begun context grounds right named = record {
+  count = length context.types;
+  within = omega arith;
+  right = over_all context grounds right;
+  named = named;
+}
 
-record_grown : (context : Context) (types : List SubType) (grounds : FuncGrounds) → Extends context.types types → IsEarlyRecord context grounds → IsEarlyRecord (over context types) grounds
+record_grown : (context : Context) (types : List SubType) (grounds : FuncGrounds) → Extends context.types types
+    → IsEarlyRecord context grounds → IsEarlyRecord (over context types) grounds
 record_grown context types grounds grown early =
     let long = length-append context.types grown.more in
     let same = ap length grown.parts in
-    let before : take early.count types ≡ take early.count context.types = ap (take early.count) grown.parts ∙ take-append-le early.count context.types grown.more early.within in
+    let before : take early.count types ≡ take early.count context.types = ap (take early.count) grown.parts ∙ take-append-le early.count
+    context.types grown.more early.within in
     record {
       count = early.count;
       within = let least = early.within in omega (arith, long, same, least);
@@ -147,7 +180,8 @@ early_families_grown context types families grown h =
       listed = families_grown context.types types h.grounds families (omega (arith, first, early.right.long, early.within)) grown h.listed;
     }
 
-pub early_grown : (context : Context) (old new : List SubType) (grounds : EarlyGrounds) → Extends old new → AreEarlyGrounds (over context old) grounds → AreEarlyGrounds (over context new) grounds
+pub early_grown : (context : Context) (old new : List SubType) (grounds : EarlyGrounds) → Extends old new
+    → AreEarlyGrounds (over context old) grounds → AreEarlyGrounds (over context new) grounds
 early_grown context old new grounds grown early = record {
   kept = IfSome_then grounds.kept early.kept (λ kept. record_grown (over context old) new kept grown);
   families = IfSome_then grounds.families early.families (λ families. early_families_grown (over context old) new families grown);
@@ -158,7 +192,8 @@ pub extends_self : {A : Type 0} (xs : List A) → Extends xs xs
 extends_self xs = record { more = []; parts = sym (append-nil xs) }
 
 pub extends_both : {A : Type 0} {xs ys zs : List A} → Extends xs ys → Extends ys zs → Extends xs zs
-extends_both {xs = xs} one two = record { more = one.more ++ two.more; parts = rw (two.parts, one.parts) (append_assoc xs one.more two.more) }
+extends_both {xs = xs} one two =
+    record { more = one.more ++ two.more; parts = rw (two.parts, one.parts) (append_assoc xs one.more two.more) }
 
 pub extends_one : {A : Type 0} {xs ys zs : List A} (x : A) → Extends xs ys → zs ≡ ys ++ x ∷ [] → Extends xs zs
 extends_one x one same = extends_both one (record { more = x ∷ []; parts = same })

@@ -1,5 +1,6 @@
 -- The grounded types among the subtypes offered, with those that are recorded at their end.
-use Rattle.std.proofs.Common.{◌≡◌, ℕ, zero, suc, ◌+◌, ◌-◌, ◌<◌, ◌≤◌, Bool, List, [], ◌∷◌, ◌++◌, map, Some, length, drop, take, refl, sym, subst, ◌∙◌, ap, arith}
+use Rattle.std.proofs.Common.{◌≡◌, ℕ, zero, suc, ◌+◌, ◌-◌, ◌<◌, ◌≤◌, Bool, List, [], ◌∷◌, ◌++◌, map, Some, length, drop, take, refl, sym}
+use Rattle.std.proofs.Common.{subst, ◌∙◌, ap, arith}
 use Rattle.std.specs.Prelude.{slice_get, filter}
 use Rattle.std.specs.Option.{option_map}
 use Rattle.std.proofs.lemmas.List.{length-append, length-map, take-append-drop}
@@ -14,7 +15,9 @@ drop_further : {A : Type 0} (n : ℕ) (xs : List A) → drop n (drop 1 xs) ≡ d
 drop_further n [] = none_left [] n (omega arith) ∙ sym (none_left [] (n + 1) (omega arith))
 drop_further n (x ∷ xs) = let next : n + 1 ≡ suc n = omega arith in rw next refl
 
-module _ (test : HeapType → Bool) (offered : List HeapType) (start before : ℕ) (indices : List ℕ) (some : 0 < start) (rest : filter test (drop start offered) ≡ map Concrete indices) (counted : before + length (filter test (drop start offered)) ≡ length (filter test (drop 1 offered))) where
+module _ (test : HeapType → Bool) (offered : List HeapType) (start before : ℕ) (indices : List ℕ) (some : 0 < start)
+    (rest : filter test (drop start offered) ≡ map Concrete indices) (counted : before + length (filter test (drop start offered))
+    ≡ length (filter test (drop 1 offered))) where
   rest_long : length (filter test (drop start offered)) ≡ length indices
   rest_long = ap (λ (l : List HeapType). length l) rest ∙ length-map indices Concrete
 
@@ -25,28 +28,37 @@ module _ (test : HeapType → Bool) (offered : List HeapType) (start before : �
   parts : filter test (drop 1 offered) ≡ filter test (take (start - 1) (drop 1 offered)) ++ filter test (drop start offered)
   parts =
       let next : start - 1 + 1 ≡ start = omega (arith, some) in
-      let later : drop (start - 1) (drop 1 offered) ≡ drop start offered = drop_further (start - 1) offered ∙ ap (λ (n : ℕ). drop n offered) next in
-      ap (filter test) (sym (take-append-drop (start - 1) (drop 1 offered))) ∙ filter-append test (take (start - 1) (drop 1 offered)) (drop (start - 1) (drop 1 offered))
+      let later : drop (start - 1) (drop 1 offered) ≡ drop start offered = drop_further (start - 1) offered ∙ ap (λ (n : ℕ). drop n offered)
+      next in
+      ap (filter test) (sym (take-append-drop (start - 1) (drop 1 offered))) ∙ filter-append test (take (start - 1) (drop 1 offered))
+      (drop (start - 1) (drop 1 offered))
       ∙ ap (λ (l : List HeapType). filter test (take (start - 1) (drop 1 offered)) ++ filter test l) later
 
   first_long : length (filter test (take (start - 1) (drop 1 offered))) ≡ before
   first_long =
-      let joined = ap (λ (l : List HeapType). length l) parts ∙ length-append (filter test (take (start - 1) (drop 1 offered))) (filter test (drop start offered)) in
+      let joined = ap (λ (l : List HeapType). length l) parts ∙ length-append (filter test (take (start - 1) (drop 1 offered)))
+      (filter test (drop start offered)) in
       omega (arith, joined, counted)
 
   -- the drawn one is among those recorded
   pub recorded_inside : (place : ℕ) → before ≤ place → place < length (filter test (drop 1 offered)) → place - before < length indices
   recorded_inside place least inside = omega (arith, least, inside, counted, rest_long)
 
-  pub recorded_found : (place found : ℕ) → before ≤ place → slice_get indices (place - before) ≡ Some found → slice_get (filter test (drop 1 offered)) place ≡ Some (Concrete found)
+  pub recorded_found : (place found : ℕ) → before ≤ place → slice_get indices (place - before) ≡ Some found
+      → slice_get (filter test (drop 1 offered)) place ≡ Some (Concrete found)
   recorded_found place found least at =
       let here : slice_get (filter test (drop start offered)) (place - before) ≡ Some (Concrete found) =
-      ap (λ (l : List HeapType). slice_get l (place - before)) rest ∙ slice_get-map Concrete indices (place - before) ∙ ap (λ o. option_map Concrete o) at in
+      ap (λ (l : List HeapType). slice_get l (place - before)) rest ∙ slice_get-map Concrete indices (place - before)
+      ∙ ap (λ o. option_map Concrete o) at in
       ap (λ (l : List HeapType). slice_get l place) parts
-      ∙ slice_get-after (filter test (take (start - 1) (drop 1 offered))) (filter test (drop start offered)) place (place - before) (Concrete found) (omega (arith, first_long, least)) here
+      ∙ slice_get-after (filter test (take (start - 1) (drop 1 offered))) (filter test (drop start offered)) place (place - before)
+      (Concrete found) (omega (arith, first_long, least)) here
 
 -- nothing follows the subtypes offered
-pub none_further : (test : HeapType → Bool) (offered : List HeapType) (count end : ℕ) → end ≡ length offered → count + length (filter test (drop end offered)) ≡ length (filter test (drop 1 offered)) → count ≡ length (filter test (drop 1 offered))
+pub none_further : (test : HeapType → Bool) (offered : List HeapType) (count end : ℕ) → end ≡ length offered
+    → count + length (filter test (drop end offered)) ≡ length (filter test (drop 1 offered))
+    → count ≡ length (filter test (drop 1 offered))
 none_further test offered count end is counted =
-    let none = subst (λ (l : List HeapType). count + length (filter test l) ≡ length (filter test (drop 1 offered))) (none_left offered end (omega (arith, is))) counted in
+    let none = subst (λ (l : List HeapType). count + length (filter test l) ≡ length (filter test (drop 1 offered)))
+    (none_left offered end (omega (arith, is))) counted in
     omega (arith, none)

@@ -24,17 +24,22 @@ pub locals_most : (config : Config) (context : Context) (bytes : List ℕ) → l
 unfolding locals_at val_types_at
 locals_most config context bytes = grow_most (λ _. val_type_at config context false (length context.types)) 0 100 100 [] bytes (omega arith)
 
-pub locals_valid : (config : Config) (context : Context) (bytes : List ℕ) → IsSanitized config → All (IsValTypeValid (features_of config) (length context.types)) (locals_at config context bytes).0
+pub locals_valid : (config : Config) (context : Context) (bytes : List ℕ) → IsSanitized config
+    → All (IsValTypeValid (features_of config) (length context.types)) (locals_at config context bytes).0
 unfolding locals_at
 locals_valid config context bytes sanitized =
-    values_valid config context.types false (length context.types) (locals_at config context bytes).0 (val_types_drawn config context false (length context.types) 100 bytes sanitized (λ no. cc))
+    values_valid config context.types false (length context.types) (locals_at config context bytes).0
+    (val_types_drawn config context false (length context.types) 100 bytes sanitized (λ no. cc))
 
-pub locals_no_float : (config : Config) (context : Context) (bytes : List ℕ) → config.allow_floats ≡ false → All IsNoFloat (locals_at config context bytes).0
+pub locals_no_float : (config : Config) (context : Context) (bytes : List ℕ) → config.allow_floats ≡ false
+    → All IsNoFloat (locals_at config context bytes).0
 unfolding locals_at
 locals_no_float config context bytes off = values_no_float config off context false (length context.types) 100 bytes
 
-pub locals_nullable : (config : Config) (off : config.non_nullable_enabled ≡ false) (context : Context) (bytes : List ℕ) → All (λ (ty : ValType). ¬ IsNonNullable ty) (locals_at config context bytes).0
+pub locals_nullable : (config : Config) (off : config.non_nullable_enabled ≡ false) (context : Context) (bytes : List ℕ)
+    → All (λ (ty : ValType). ¬ IsNonNullable ty) (locals_at config context bytes).0
 unfolding locals_at val_types_at
 locals_nullable config off context bytes =
     let Nullable = λ (ty : ValType). ¬ IsNonNullable ty in
-    grow_all Nullable (λ _. val_type_at config context false (length context.types)) (λ _ after. val_type_nullable config off context false (length context.types) after) 0 100 [] bytes (All-nil Nullable)
+    grow_all Nullable (λ _. val_type_at config context false (length context.types)) (λ _ after. val_type_nullable config off context false
+    (length context.types) after) 0 100 [] bytes (All-nil Nullable)

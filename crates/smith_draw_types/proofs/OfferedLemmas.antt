@@ -1,5 +1,6 @@
 -- Properties of each heap type that is offered.
-use Rattle.std.proofs.Common.{rules, ◌≡◌, ℕ, zero, suc, ◌+◌, Bool, true, false, cond, not, ◌&&◌, List, [], ◌∷◌, ◌++◌, map, Option, Some, None, refl, sym, ap, subst, arith}
+use Rattle.std.proofs.Common.{rules, ◌≡◌, ℕ, zero, suc, ◌+◌, Bool, true, false, cond, not, ◌&&◌, List, [], ◌∷◌, ◌++◌, map, Option, Some}
+use Rattle.std.proofs.Common.{None, refl, sym, ap, subst, arith}
 use Rattle.std.specs.Prelude.{slice_get, IsTrue}
 use Rattle.std.specs.List.{flat_map, AllByRecursion as Each}
 use Rattle.std.proofs.lemmas.Bool.{eqb-true}
@@ -15,20 +16,25 @@ use Rattle.smith_types.specs.Subtyping.{is_abstract_below}
 use Rattle.smith_types.specs.Families.{is_index, is_directly_below}
 use Rattle.smith_config.specs.declared.config.Config.{Config}
 use Rattle.smith_types.specs.Grounds.{is_shared_as}
-use Rattle.smith_draw_types.specs.Offered.{abstract_subtypes, abstract_supertypes, supertypes_of_inner, kinds_below, kinds_above, is_of_kind, is_kind, picked_from, of_kinds, offered_direct_subtypes, ancestors, of_standing, bottom_at, kinds_at, exact_subtypes, gc_subtypes, gc_supertypes}
+use Rattle.smith_draw_types.specs.Offered.{abstract_subtypes, abstract_supertypes, supertypes_of_inner, kinds_below, kinds_above}
+use Rattle.smith_draw_types.specs.Offered.{is_of_kind, is_kind, picked_from, of_kinds, offered_direct_subtypes, ancestors, of_standing}
+use Rattle.smith_draw_types.specs.Offered.{bottom_at, kinds_at, exact_subtypes, gc_subtypes, gc_supertypes}
 
 -- lists
 each_append : {A : Type 0} (P : A → Type 0) (xs ys : List A) → Each P xs → Each P ys → Each P (xs ++ ys)
 each_append P [] ys h more = more
 each_append P (x ∷ xs) ys h more = (h.0, each_append P xs ys h.1 more)
 
-each_map : {A B : Type 0} (P : B → Type 0) (Q : A → Type 0) (f : A → B) → ((x : A) → Q x → P (f x)) → (xs : List A) → Each Q xs → Each P (map f xs)
+each_map : {A B : Type 0} (P : B → Type 0) (Q : A → Type 0) (f : A → B) → ((x : A) → Q x → P (f x)) → (xs : List A) → Each Q xs
+    → Each P (map f xs)
 each_map P Q f gives [] h = tt
 each_map P Q f gives (x ∷ xs) h = (gives x h.0, each_map P Q f gives xs h.1)
 
-each_flat_map : {A B : Type 0} (P : B → Type 0) (Q : A → Type 0) (f : A → List B) → ((x : A) → Q x → Each P (f x)) → (xs : List A) → Each Q xs → Each P (flat_map f xs)
+each_flat_map : {A B : Type 0} (P : B → Type 0) (Q : A → Type 0) (f : A → List B) → ((x : A) → Q x → Each P (f x)) → (xs : List A)
+    → Each Q xs → Each P (flat_map f xs)
 each_flat_map P Q f gives [] h = tt
-each_flat_map P Q f gives (x ∷ xs) h = rw (flat_map-cons f x xs) (each_append P (f x) (flat_map f xs) (gives x h.0) (each_flat_map P Q f gives xs h.1))
+each_flat_map P Q f gives (x ∷ xs) h =
+    rw (flat_map-cons f x xs) (each_append P (f x) (flat_map f xs) (gives x h.0) (each_flat_map P Q f gives xs h.1))
 
 each_cond : {A : Type 0} (P : A → Type 0) (b : Bool) (xs : List A) → (IsTrue b → Each P xs) → Each P (cond b xs [])
 each_cond P true xs h = h refl
@@ -55,21 +61,29 @@ supertype_is index None h = cc
 supertype_is index (Some other) h = ap Some (eqb-true other index h)
 
 -- types that satisfy a test
-pick_one : (P : HeapType → Type 0) (b : Bool) (start : ℕ) (rest : List HeapType) → (IsTrue b → P (Concrete start)) → Each P rest → Each P (cond b (Concrete start ∷ rest) rest)
+pick_one : (P : HeapType → Type 0) (b : Bool) (start : ℕ) (rest : List HeapType) → (IsTrue b → P (Concrete start)) → Each P rest
+    → Each P (cond b (Concrete start ∷ rest) rest)
 pick_one P true start rest h more = (h refl, more)
 pick_one P false start rest h more = more
 
-picked_each : (P : HeapType → Type 0) (test : SubType → Bool) (start : ℕ) (types : List SubType) → ((k : ℕ) (t : SubType) → slice_get types k ≡ Some t → IsTrue (test t) → P (Concrete (start + k))) → Each P (picked_from test start types)
+picked_each : (P : HeapType → Type 0) (test : SubType → Bool) (start : ℕ) (types : List SubType)
+    → ((k : ℕ) (t : SubType) → slice_get types k ≡ Some t → IsTrue (test t) → P (Concrete (start + k)))
+    → Each P (picked_from test start types)
 picked_each P test start [] each = tt
 picked_each P test start (t ∷ types) each =
     let here : start + zero ≡ start = omega arith in
     pick_one P (test t) start (picked_from test (start + 1) types) (λ on. subst (λ (n : ℕ). P (Concrete n)) here (each zero t refl on))
-    (picked_each P test (start + 1) types (λ k u at on. let next : start + suc k ≡ start + 1 + k = omega arith in subst (λ (n : ℕ). P (Concrete n)) next (each (suc k) u at on)))
+    (picked_each P test (start + 1) types (λ k u at on. let next : start + suc k ≡ start + 1 + k = omega arith in
+    subst (λ (n : ℕ). P (Concrete n)) next (each (suc k) u at on)))
 
-picked_all : (P : HeapType → Type 0) (test : SubType → Bool) (types : List SubType) → ((k : ℕ) (t : SubType) → slice_get types k ≡ Some t → IsTrue (test t) → P (Concrete k)) → Each P (picked_from test 0 types)
-picked_all P test types each = picked_each P test 0 types (λ k t at on. let same : k ≡ 0 + k = omega arith in subst (λ (n : ℕ). P (Concrete n)) same (each k t at on))
+picked_all : (P : HeapType → Type 0) (test : SubType → Bool) (types : List SubType) → ((k : ℕ) (t : SubType) → slice_get types k ≡ Some t
+    → IsTrue (test t) → P (Concrete k)) → Each P (picked_from test 0 types)
+picked_all P test types each = picked_each P test 0 types (λ k t at on. let same : k ≡ 0 + k = omega arith in
+    subst (λ (n : ℕ). P (Concrete n)) same (each k t at on))
 
-kinds_each : (P : HeapType → Type 0) (Q : AbstractHeapType → Type 0) (types : List SubType) (s : Bool) → ((k : ℕ) (t : SubType) → slice_get types k ≡ Some t → shared t ≡ s → Q (kind t) → P (Concrete k)) → (kinds : List AbstractHeapType) → Each Q kinds → Each P (of_kinds types s kinds)
+kinds_each : (P : HeapType → Type 0) (Q : AbstractHeapType → Type 0) (types : List SubType) (s : Bool)
+    → ((k : ℕ) (t : SubType) → slice_get types k ≡ Some t → shared t ≡ s → Q (kind t) → P (Concrete k)) → (kinds : List AbstractHeapType)
+    → Each Q kinds → Each P (of_kinds types s kinds)
 kinds_each P Q types s each kinds h =
     each_flat_map P Q (λ a. picked_from (is_kind s a) 0 types)
     (λ a q. picked_all P (is_kind s a) types (λ k t at on.
@@ -109,7 +123,9 @@ kinds_are_above : (a : AbstractHeapType) → Each (IsBottomOfKind a) (kinds_abov
 kinds_are_above a = search rules
 
 -- an existing type
-standing_each : (P : HeapType → Type 0) (offers : SubType → List HeapType) (types : List SubType) (i : ℕ) → ((t : SubType) → slice_get types i ≡ Some t → Each P (offers t)) → (o : Option SubType) → slice_get types i ≡ o → Each P (of_standing offers o)
+standing_each : (P : HeapType → Type 0) (offers : SubType → List HeapType) (types : List SubType) (i : ℕ)
+    → ((t : SubType) → slice_get types i ≡ Some t → Each P (offers t)) → (o : Option SubType) → slice_get types i ≡ o
+    → Each P (of_standing offers o)
 standing_each P offers types i each None at = tt
 standing_each P offers types i each (Some t) at = each t at
 
@@ -132,9 +148,11 @@ pub above_abstract_each : (P : HeapType → Type 0) (types : List SubType) (s : 
 above_abstract_each P types s a abstracts concretes =
     each_append P (map (Abstract s) (abstract_supertypes a)) (of_kinds types s (kinds_above a))
     (each_map P (λ b. IsTrue (is_abstract_below a b)) (Abstract s) abstracts (abstract_supertypes a) (supertypes_above a))
-    (kinds_each P (IsBottomOfKind a) types s (λ k t at same is_bottom. concretes k t at same (is_bottom t.composite_type.inner refl)) (kinds_above a) (kinds_are_above a))
+    (kinds_each P (IsBottomOfKind a) types s (λ k t at same is_bottom. concretes k t at same (is_bottom t.composite_type.inner refl))
+    (kinds_above a) (kinds_are_above a))
 
-direct_each : (P : HeapType → Type 0) (types : List SubType) (i : ℕ) → ((k : ℕ) (t : SubType) → slice_get types k ≡ Some t → t.supertype ≡ Some i → P (Concrete k)) → Each P (offered_direct_subtypes types i)
+direct_each : (P : HeapType → Type 0) (types : List SubType) (i : ℕ) → ((k : ℕ) (t : SubType) → slice_get types k ≡ Some t
+    → t.supertype ≡ Some i → P (Concrete k)) → Each P (offered_direct_subtypes types i)
 direct_each P types i each = picked_all P (is_directly_below i) types (λ k t at on. each k t at (supertype_is i t.supertype on))
 
 -- subtypes of a concrete type
@@ -145,7 +163,8 @@ pub below_concrete_each : (P : HeapType → Type 0) (config : Config) (types : L
     → Each P (gc_subtypes config types (Concrete i))
 below_concrete_each P config types i own direct exact bottoms =
     let subtypes = direct_each P types i direct in
-    let bottoms_each = standing_each P (λ t. Abstract (shared t) (bottom t) ∷ []) types i (λ t at. (bottoms t at, tt)) (slice_get types i) refl in
+    let bottoms_each = standing_each P (λ t. Abstract (shared t) (bottom t) ∷ []) types i (λ t at. (bottoms t at, tt)) (slice_get types i)
+    refl in
     let exacts = each_cond P config.custom_descriptors_enabled (Exact i ∷ offered_direct_subtypes types i) (λ on. (exact on, subtypes)) in (
       own,
       each_append P (offered_direct_subtypes types i) (exact_subtypes config types i ++ bottom_at types i) subtypes
@@ -154,11 +173,13 @@ below_concrete_each P config types i own direct exact bottoms =
 
 -- supertypes of a concrete type
 pub above_concrete_each : (P : HeapType → Type 0) (types : List SubType) (i : ℕ) → P (Concrete i)
-    → ((t : SubType) → slice_get types i ≡ Some t → (b : AbstractHeapType) → IsTrue (is_abstract_below (kind t) b) → P (Abstract (shared t) b))
+    → ((t : SubType) → slice_get types i ≡ Some t → (b : AbstractHeapType) → IsTrue (is_abstract_below (kind t) b)
+    → P (Abstract (shared t) b))
     → Each P (ancestors types i)
     → Each P (gc_supertypes types (Concrete i))
 above_concrete_each P types i own kinds up =
     let kinds_of = standing_each P (λ t. map (Abstract (shared t)) (supertypes_of_inner t.composite_type.inner)) types i
-    (λ t at. each_map P (λ b. IsTrue (is_abstract_below (kind t) b)) (Abstract (shared t)) (kinds t at) (supertypes_of_inner t.composite_type.inner) (inner_above t.composite_type.inner))
+    (λ t at. each_map P (λ b. IsTrue (is_abstract_below (kind t) b)) (Abstract (shared t)) (kinds t at)
+    (supertypes_of_inner t.composite_type.inner) (inner_above t.composite_type.inner))
     (slice_get types i) refl in
     (own, each_append P (kinds_at types i) (ancestors types i) kinds_of up)

@@ -4,7 +4,8 @@ use Rattle.std.specs.List.{filter}
 use Rattle.std.proofs.lemmas.List.Sums.{length-filter}
 use Rattle.smith_draw_types.specs.TypeUses.{places_from}
 
-one_more : {A : Type 0} (test : A → Bool) (b : Bool) (n : ℕ) (x : A) (xs : List A) → test x ≡ b → length (places_from test (suc n) xs) ≡ length (filter test xs) → length (places_from test n (x ∷ xs)) ≡ length (filter test (x ∷ xs))
+one_more : {A : Type 0} (test : A → Bool) (b : Bool) (n : ℕ) (x : A) (xs : List A) → test x ≡ b → length (places_from test (suc n) xs)
+    ≡ length (filter test xs) → length (places_from test n (x ∷ xs)) ≡ length (filter test (x ∷ xs))
 one_more test true n x xs on rest = rw on (ap suc rest)
 one_more test false n x xs on rest = rw on rest
 

@@ -1,5 +1,6 @@
 -- The types that may have subtypes.
-use Rattle.std.proofs.Common.{◌≡◌, ℕ, zero, suc, ◌+◌, ◌-◌, ◌<◌, Bool, true, false, cond, List, [], ◌∷◌, Some, None, length, refl, sym, ◌∙◌, ap, subst, arith}
+use Rattle.std.proofs.Common.{◌≡◌, ℕ, zero, suc, ◌+◌, ◌-◌, ◌<◌, Bool, true, false, cond, List, [], ◌∷◌, Some, None, length, refl, sym, ◌∙◌}
+use Rattle.std.proofs.Common.{ap, subst, arith}
 use Rattle.std.specs.Prelude.{slice_get, slice_index, All}
 use Rattle.std.specs.List.{AllByRecursion as Each}
 use Rattle.std.proofs.lemmas.List.Elements.{All-from_recursion}
@@ -23,7 +24,8 @@ depth_is types orderly (deeper {i = i} {s = s} {t = t} at up above) =
     let one : supertype_at types i ≡ Some s = rw at up in
     rw (ancestors_up types orderly i s one) (ap suc (depth_is types orderly above))
 
-listed_same : (types : List SubType) (start : ℕ) (rest : List SubType) (depths : List ℕ) → length depths ≡ length rest → ((j i : ℕ) → i ≡ start + j → j < length rest → depth_at types i ≡ slice_index depths j)
+listed_same : (types : List SubType) (start : ℕ) (rest : List SubType) (depths : List ℕ) → length depths ≡ length rest
+    → ((j i : ℕ) → i ≡ start + j → j < length rest → depth_at types i ≡ slice_index depths j)
     → extensible_from start rest depths ≡ supertypes_from types start rest
 listed_same types start [] depths long each = refl
 listed_same types start (t ∷ rest) [] long each = absurd (omega arith)
@@ -33,10 +35,12 @@ listed_same types start (t ∷ rest) (depth ∷ depths) long each =
     rw (first, others) refl
 
 -- the indices that a type space keeps
-pub extensible_are : (types : List SubType) → IsOrderly types → (indices : List ℕ) → AreExtensible types indices → indices ≡ supertypes types
+pub extensible_are : (types : List SubType) → IsOrderly types → (indices : List ℕ) → AreExtensible types indices
+    → indices ≡ supertypes types
 unfolding supertypes
 extensible_are types orderly indices kept =
-    kept.exact ∙ listed_same types 0 types kept.depths kept.known.long (λ j i is inside. let same : i ≡ j = omega arith in rw same (sym (depth_is types orderly (kept.known.each j inside))))
+    kept.exact ∙ listed_same types 0 types kept.depths kept.known.long (λ j i is inside. let same : i ≡ j = omega arith in
+    rw same (sym (depth_is types orderly (kept.known.each j inside))))
 
 -- the type at this index exists and may have subtypes
 pub record IsSupertype (types : List SubType) (i : ℕ) : Type 0 where
@@ -44,11 +48,13 @@ pub record IsSupertype (types : List SubType) (i : ℕ) : Type 0 where
   pub stands : slice_get types i ≡ Some ty
   pub allowed : may_have_subtypes types i ty ≡ true
 
-each_turn : (types : List SubType) (start : ℕ) (t : SubType) (others : List ℕ) (b : Bool) → may_have_subtypes types start t ≡ b → slice_get types start ≡ Some t → Each (IsSupertype types) others → Each (IsSupertype types) (cond b (start ∷ others) others)
+each_turn : (types : List SubType) (start : ℕ) (t : SubType) (others : List ℕ) (b : Bool) → may_have_subtypes types start t ≡ b
+    → slice_get types start ≡ Some t → Each (IsSupertype types) others → Each (IsSupertype types) (cond b (start ∷ others) others)
 each_turn types start t others true may at h = (record { ty = t; stands = at; allowed = may }, h)
 each_turn types start t others false may at h = h
 
-supertypes_each : (types : List SubType) (start : ℕ) (rest : List SubType) → ((j : ℕ) (t : SubType) → slice_get rest j ≡ Some t → slice_get types (start + j) ≡ Some t) → Each (IsSupertype types) (supertypes_from types start rest)
+supertypes_each : (types : List SubType) (start : ℕ) (rest : List SubType) → ((j : ℕ) (t : SubType) → slice_get rest j ≡ Some t
+    → slice_get types (start + j) ≡ Some t) → Each (IsSupertype types) (supertypes_from types start rest)
 supertypes_each types start [] stands = tt
 supertypes_each types start (t ∷ more) stands =
     let zero_more : start + 0 ≡ start = omega arith in
@@ -60,10 +66,12 @@ supertypes_each types start (t ∷ more) stands =
 
 pub supertypes_all : (types : List SubType) → All (IsSupertype types) (supertypes types)
 unfolding supertypes
-supertypes_all types = All-from_recursion (IsSupertype types) (supertypes_from types 0 types) (supertypes_each types 0 types (λ j t at. let same : j ≡ 0 + j = omega arith in subst (λ (n : ℕ). slice_get types n ≡ Some t) same at))
+supertypes_all types = All-from_recursion (IsSupertype types) (supertypes_from types 0 types)
+    (supertypes_each types 0 types (λ j t at. let same : j ≡ 0 + j = omega arith in subst (λ (n : ℕ). slice_get types n ≡ Some t) same at))
 
 -- a property of each item of a non-empty list holds for the chosen one
-pub chosen_of : {A : Type 0} (P : A → Type 0) (other : A) (items : List A) (bytes : List ℕ) → 0 < length items → All P items → P (chosen_at other items bytes).0
+pub chosen_of : {A : Type 0} (P : A → Type 0) (other : A) (items : List A) (bytes : List ℕ) → 0 < length items → All P items
+    → P (chosen_at other items bytes).0
 unfolding chosen_at
 chosen_of P other items bytes some each =
     let place = range_at 0 (length items - 1) bytes in
@@ -73,12 +81,14 @@ longer : (b : Bool) (start : ℕ) (others : List ℕ) → (b ≡ false → 0 < l
 longer true start others h = omega arith
 longer false start others h = h refl
 
-listed : (types : List SubType) (start : ℕ) (rest : List SubType) (j : ℕ) (t : SubType) → slice_get rest j ≡ Some t → may_have_subtypes types (start + j) t ≡ true → 0 < length (supertypes_from types start rest)
+listed : (types : List SubType) (start : ℕ) (rest : List SubType) (j : ℕ) (t : SubType) → slice_get rest j ≡ Some t
+    → may_have_subtypes types (start + j) t ≡ true → 0 < length (supertypes_from types start rest)
 listed types start [] j t at may = cc
 listed types start (u ∷ rest) zero t at may =
     let first : start + 0 ≡ start = omega arith in
     let same : t ≡ u = cc in
-    let here : may_have_subtypes types start u ≡ true = subst (λ (v : SubType). may_have_subtypes types start v ≡ true) same (subst (λ (n : ℕ). may_have_subtypes types n t ≡ true) first may) in
+    let here : may_have_subtypes types start u ≡ true = subst (λ (v : SubType). may_have_subtypes types start v ≡ true) same
+    (subst (λ (n : ℕ). may_have_subtypes types n t ≡ true) first may) in
     longer (may_have_subtypes types start u) start (supertypes_from types (start + 1) rest) (λ off. cc)
 listed types start (u ∷ rest) (suc j) t at may =
     let later : start + suc j ≡ start + 1 + j = omega arith in

@@ -1,5 +1,6 @@
 -- The types counted for tags and functions are suitable for them.
-use Rattle.std.proofs.Common.{◌≡◌, ◌∙◌, ap, ℕ, suc, ◌+◌, Bool, true, false, not, ◌&&◌, cond, List, [], ◌∷◌, ◌++◌, length, refl, arith, append_assoc, length-append, ◌||◌, ltb, lt-ltb}
+use Rattle.std.proofs.Common.{◌≡◌, ◌∙◌, ap, ℕ, suc, ◌+◌, Bool, true, false, not, ◌&&◌, cond, List, [], ◌∷◌, ◌++◌, length, refl, arith}
+use Rattle.std.proofs.Common.{append_assoc, length-append, ◌||◌, ltb, lt-ltb}
 use Rattle.std.specs.Prelude.{◌==◌, Some, slice_get, All}
 use Rattle.std.specs.List.{AllByRecursion as ByRecursion, list_any}
 use Rattle.std.proofs.lemmas.Bool.{eqb-true}
@@ -22,18 +23,24 @@ pub record IsPassing {A : Type 0} (test : A → Bool) (xs : List A) (place : ℕ
   pub stands : slice_get xs place ≡ Some item
   pub passes : test item ≡ true
 
-places_turn : {A : Type 0} (test : A → Bool) (xs : List A) (n : ℕ) (b : Bool) (places : List ℕ) → (b ≡ true → IsPassing test xs n) → ByRecursion (IsPassing test xs) places → ByRecursion (IsPassing test xs) (cond b (n ∷ places) places)
+places_turn : {A : Type 0} (test : A → Bool) (xs : List A) (n : ℕ) (b : Bool) (places : List ℕ) → (b ≡ true → IsPassing test xs n)
+    → ByRecursion (IsPassing test xs) places → ByRecursion (IsPassing test xs) (cond b (n ∷ places) places)
 places_turn test xs n true places here rest = (here refl, rest)
 places_turn test xs n false places here rest = rest
 
-places_after : {A : Type 0} (test : A → Bool) (front xs : List A) → ByRecursion (IsPassing test (front ++ xs)) (places_from test (length front) xs)
+places_after : {A : Type 0} (test : A → Bool) (front xs : List A) → ByRecursion (IsPassing test (front ++ xs))
+    (places_from test (length front) xs)
 places_after test front [] = tt
 places_after test front (x ∷ xs) =
     let regrouped : (front ++ x ∷ []) ++ xs ≡ front ++ x ∷ xs = append_assoc front (x ∷ []) xs in
     let longer : length (front ++ x ∷ []) ≡ suc (length front) = simp length-append (omega arith) in
     let later = places_after test (front ++ x ∷ []) xs in
     places_turn test (front ++ x ∷ xs) (length front) (test x) (places_from test (suc (length front)) xs)
-    (λ on. record { item = x; stands = rw (← regrouped) (slice_get-grown (front ++ x ∷ []) xs (length front) x (slice_get-last front x)); passes = on })
+    (λ on. record {
+      item = x;
+      stands = rw (← regrouped) (slice_get-grown (front ++ x ∷ []) xs (length front) x (slice_get-last front x));
+      passes = on;
+    })
     (rw (← longer, ← regrouped) later)
 
 -- each position at which a test holds has an item that passes it
@@ -44,7 +51,8 @@ no_results : (results : List ValType) → (length results == 0) ≡ true → res
 no_results [] none = refl
 no_results (r ∷ results) none = let never = eqb-true (length (r ∷ results)) 0 none in absurd (omega arith)
 
-usable_by : (for_use : TypeUse) (types : List SubType) (n : ℕ) (t : SubType) (inner : CompositeInnerType) → slice_get types n ≡ Some t → t.composite_type.inner ≡ inner → may_be_used for_use t ≡ true → IsUsable for_use types n
+usable_by : (for_use : TypeUse) (types : List SubType) (n : ℕ) (t : SubType) (inner : CompositeInnerType) → slice_get types n ≡ Some t
+    → t.composite_type.inner ≡ inner → may_be_used for_use t ≡ true → IsUsable for_use types n
 unfolding is_tag_type is_unshared_function
 usable_by Tag types n t (Func function) at is on = (function, (t, at, is), no_results function.results (rw is at on))
 usable_by Tag types n t (Array array) at is on = absurd (cc (rw is at on))
@@ -59,13 +67,16 @@ usable_by DefinedFunc types n t (Struct structure) at is on = absurd (cc (rw is 
 -- each type that may be used is suitable
 pub types_usable : (for_use : TypeUse) (types : List SubType) → All (IsUsable for_use types) (types_for for_use types)
 types_usable for_use types =
-    All-weaker (IsPassing (may_be_used for_use) types) (IsUsable for_use types) (λ n h. usable_by for_use types n h.item h.item.composite_type.inner h.stands refl h.passes) (types_for for_use types) (places_pass (may_be_used for_use) types)
+    All-weaker (IsPassing (may_be_used for_use) types) (IsUsable for_use types)
+    (λ n h. usable_by for_use types n h.item h.item.composite_type.inner h.stands refl h.passes) (types_for for_use types)
+    (places_pass (may_be_used for_use) types)
 
 -- the types of a use, as the set that a type space counts
 index_turn : (b c : Bool) (n : ℕ) (xs ys : List ℕ) → b ≡ c → xs ≡ ys → cond b (n ∷ xs) xs ≡ cond c (n ∷ ys) ys
 index_turn b c n xs ys same rest = rw (same, rest) refl
 
-indices_are_places : (f g : SubType → Bool) → ((t : SubType) → f t ≡ g t) → (n : ℕ) (types : List SubType) → indices_from f n types ≡ places_from g n types
+indices_are_places : (f g : SubType → Bool) → ((t : SubType) → f t ≡ g t) → (n : ℕ) (types : List SubType) → indices_from f n types
+    ≡ places_from g n types
 indices_are_places f g same n [] = refl
 indices_are_places f g same n (t ∷ types) =
     let next : n + 1 ≡ suc n = omega arith in
@@ -78,7 +89,8 @@ tag_indices types = indices_are_places (is_in WithoutResults) (may_be_used Tag) 
 pub function_indices : (types : List SubType) → indices_in types Functions ≡ types_for ImportedFunc types
 function_indices types = indices_are_places (is_in Functions) (may_be_used ImportedFunc) (λ t. refl) 0 types
 
-unshared_by : (is_shared : Bool) (inner : CompositeInnerType) → is_inner_of_kind false heap.Func is_shared inner ≡ (is_function inner && not is_shared)
+unshared_by : (is_shared : Bool) (inner : CompositeInnerType) → is_inner_of_kind false heap.Func is_shared inner
+    ≡ (is_function inner && not is_shared)
 unshared_by true (Func f) = refl
 unshared_by false (Func f) = refl
 unshared_by true (Array a) = refl
@@ -88,9 +100,11 @@ unshared_by false (Struct s) = refl
 
 pub unshared_function_indices : (types : List SubType) → indices_in types (OfKind false heap.Func) ≡ types_for DefinedFunc types
 unfolding is_unshared_function
-unshared_function_indices types = indices_are_places (is_in (OfKind false heap.Func)) (may_be_used DefinedFunc) (λ t. unshared_by t.composite_type.shared t.composite_type.inner) 0 types
+unshared_function_indices types = indices_are_places (is_in (OfKind false heap.Func)) (may_be_used DefinedFunc)
+    (λ t. unshared_by t.composite_type.shared t.composite_type.inner) 0 types
 
-any_turn : (b : Bool) (n : ℕ) (places : List ℕ) (any : Bool) → ltb 0 (length places) ≡ any → ltb 0 (length (cond b (n ∷ places) places)) ≡ (b || any)
+any_turn : (b : Bool) (n : ℕ) (places : List ℕ) (any : Bool) → ltb 0 (length places) ≡ any → ltb 0 (length (cond b (n ∷ places) places))
+    ≡ (b || any)
 any_turn true n places any e = lt-ltb 0 (length (n ∷ places)) (omega arith)
 any_turn false n places any e = e
 

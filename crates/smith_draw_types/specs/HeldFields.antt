@@ -21,4 +21,5 @@ HoldsNonNullableField types = Any (λ (t : SubType). Any IsNonNullable (field_va
 
 -- a field of a struct, or the element of an array, is an ungrounded non-nullable reference
 abbrev pub HoldsUngroundedField : Config → Context → Type 0
-HoldsUngroundedField config context = Any (λ (t : SubType). Any (IsUngrounded config context) (field_values (fields_of t.composite_type.inner))) context.types
+HoldsUngroundedField config context =
+    Any (λ (t : SubType). Any (IsUngrounded config context) (field_values (fields_of t.composite_type.inner))) context.types

@@ -1,5 +1,6 @@
 -- The subtypes and supertypes of a heap type that are offered in its place.
-use Rattle.std.specs.Prelude.{◌≡◌, ℕ, zero, suc, ◌+◌, Bool, true, false, not, ◌&&◌, Option, Some, None, List, [], ◌∷◌, ◌++◌, map, length, slice_get, if◌then◌else◌}
+use Rattle.std.specs.Prelude.{◌≡◌, ℕ, zero, suc, ◌+◌, Bool, true, false, not, ◌&&◌, Option, Some, None, List, [], ◌∷◌, ◌++◌, map, length}
+use Rattle.std.specs.Prelude.{slice_get, if◌then◌else◌}
 use Rattle.std.specs.List.{flat_map}
 use Rattle.smith_syntax.specs.declared.value_type.AbstractHeapType.{AbstractHeapType}
 use Rattle.smith_syntax.specs.declared.value_type.AbstractHeapType.TheVariants as heap
@@ -82,7 +83,8 @@ is_kind is_shared kind t = is_shared_as is_shared t && is_of_kind kind t.composi
 -- `start` (own rule)
 abbrev pub picked_from : (SubType → Bool) → ℕ → List SubType → List HeapType
 picked_from test start [] = []
-picked_from test start (t ∷ types) = if test t then Concrete start ∷ picked_from test (start + 1) types else picked_from test (start + 1) types
+picked_from test start (t ∷ types) = if test t then Concrete start ∷ picked_from test (start + 1) types else picked_from test
+    (start + 1) types
 
 -- the concrete heap types of the existing types of these kinds, kind by kind, each by index (own
 -- rule)
@@ -106,7 +108,8 @@ supertype_at types index = supertype_of (slice_get types index)
 -- at most `most` of the proper supertypes of the type at this index, nearest first (own rule)
 abbrev pub ancestors_within : ℕ → List SubType → ℕ → List HeapType
 ancestors_within zero types index = []
-ancestors_within (suc most) types index = elim (supertype_at types index) [ None ↦ [] | Some supertype ↦ Concrete supertype ∷ ancestors_within most types supertype ]
+ancestors_within (suc most) types index =
+    elim (supertype_at types index) [ None ↦ [] | Some supertype ↦ Concrete supertype ∷ ancestors_within most types supertype ]
 
 -- the proper supertypes of the type at this index, nearest first; at most as many as there are
 -- types (own rule)
@@ -116,7 +119,8 @@ ancestors types index = ancestors_within (length types) types index
 -- over orderly types none is missing: the first is the declared supertype, and the others are the
 -- proper supertypes of that
 abbrev pub AncestorsAreAll : Type 0
-AncestorsAreAll = (types : List SubType) → IsOrderly types → (index supertype : ℕ) → supertype_at types index ≡ Some supertype → ancestors types index ≡ Concrete supertype ∷ ancestors types supertype
+AncestorsAreAll = (types : List SubType) → IsOrderly types → (index supertype : ℕ) → supertype_at types index ≡ Some supertype
+    → ancestors types index ≡ Concrete supertype ∷ ancestors types supertype
 
 -- the types offered for a type, or none if it does not exist (own rule)
 abbrev pub of_standing : (SubType → List HeapType) → Option SubType → List HeapType
@@ -137,8 +141,10 @@ exact_subtypes config types index = if config.custom_descriptors_enabled then Ex
 
 -- the subtypes that are offered with garbage collection, the type itself first (own rule)
 abbrev pub gc_subtypes : Config → List SubType → HeapType → List HeapType
-gc_subtypes config types (Abstract is_shared ty) = map (Abstract is_shared) (abstract_subtypes ty) ++ of_kinds types is_shared (kinds_below ty)
-gc_subtypes config types (Concrete index) = Concrete index ∷ offered_direct_subtypes types index ++ (exact_subtypes config types index ++ bottom_at types index)
+gc_subtypes config types (Abstract is_shared ty) = map (Abstract is_shared) (abstract_subtypes ty) ++ of_kinds types is_shared
+    (kinds_below ty)
+gc_subtypes config types (Concrete index) = Concrete index ∷ offered_direct_subtypes types index ++
+    (exact_subtypes config types index ++ bottom_at types index)
 gc_subtypes config types (Exact index) = Exact index ∷ []
 
 -- the supertypes that are offered with garbage collection, the type itself first (own rule)

@@ -1,6 +1,7 @@
 -- Bytes that spell types. Rules of this project. Only unshared types without supertypes can be
 -- spelled.
-use Rattle.std.specs.Prelude.{◌≡◌, ℕ, ◌<◌, ◌≤◌, ◌+◌, ◌-◌, ◌&&◌, ◌⊎◌, Bool, true, false, not, nat_lt, IsTrue, List, [], ◌∷◌, ◌++◌, Some, None, length, slice_get}
+use Rattle.std.specs.Prelude.{◌≡◌, ℕ, ◌<◌, ◌≤◌, ◌+◌, ◌-◌, ◌&&◌, ◌⊎◌, Bool, true, false, not, nat_lt, IsTrue, List, [], ◌∷◌, ◌++◌, Some}
+use Rattle.std.specs.Prelude.{None, length, slice_get}
 use Rattle.std.specs.List.{All, list_any}
 use Rattle.smith_bytes.specs.Spelling.{SpellsBool, SpellsNumber, SpellsRefusal, Where, Joined, Each, Listed}
 use Rattle.smith_syntax.specs.declared.value_type.HeapType.{HeapType}
@@ -48,7 +49,8 @@ SpellsConcrete config limit concrete = Where (config.gc_enabled && nat_lt 0 limi
 abbrev pub SpellsHeapType : Config → ℕ → HeapType → List ℕ → Type 0
 SpellsHeapType config limit (Abstract shared ty) piece =
     (shared ≡ false)
-    × Joined (SpellsConcrete config limit false) (Joined (SpellsUnshared config) (SpellsPlace (enabled (abstract_heap_types config)) ty)) piece
+    × Joined (SpellsConcrete config limit false) (Joined (SpellsUnshared config) (SpellsPlace (enabled (abstract_heap_types config)) ty))
+    piece
 SpellsHeapType config limit (Concrete index) piece =
     IsTrue (config.gc_enabled && nat_lt index limit) × Joined (SpellsConcrete config limit true) (SpellsNumber index 0 (limit - 1)) piece
 SpellsHeapType config limit (Exact index) piece = ⊥
@@ -79,7 +81,8 @@ SpellsAfterClass config limit _ piece = piece ≡ []
 
 -- a value type: the position of its class, and the bytes after it
 unfoldable pub SpellsValType : Config → ℕ → ValType → List ℕ → Type 0
-SpellsValType config limit value = Joined (SpellsPlace (enabled (value_classes config)) (class_of value)) (SpellsAfterClass config limit value)
+SpellsValType config limit value = Joined (SpellsPlace (enabled (value_classes config)) (class_of value))
+    (SpellsAfterClass config limit value)
 
 -- a storage type: its number, and the value type unless it is packed
 abbrev pub SpellsStorage : Config → ℕ → StorageType → List ℕ → Type 0
@@ -94,7 +97,8 @@ SpellsField config limit field = Joined (SpellsStorage config limit field.elemen
 -- parameters, then results
 unfoldable pub SpellsFuncType : Config → ℕ → FuncType → List ℕ → Type 0
 SpellsFuncType config limit function =
-    Joined (Listed (SpellsValType config limit) 20 function.params) (Listed (SpellsValType config limit) (most_results config) function.results)
+    Joined (Listed (SpellsValType config limit) 20 function.params)
+    (Listed (SpellsValType config limit) (most_results config) function.results)
 
 -- the number of fields, then the fields
 unfoldable pub SpellsStructType : Config → ℕ → StructType → List ℕ → Type 0
@@ -147,7 +151,8 @@ pub record SpellsSubType (config : Config) (before : List SubType) (limit : ℕ)
 -- types in order
 unfoldable pub SpellsSubTypes : Config → List SubType → ℕ → List SubType → List ℕ → Type 0
 SpellsSubTypes config before limit [] piece = piece ≡ []
-SpellsSubTypes config before limit (t ∷ types) piece = Joined (SpellsSubType config before limit t) (SpellsSubTypes config (before ++ t ∷ []) limit types) piece
+SpellsSubTypes config before limit (t ∷ types) piece = Joined (SpellsSubType config before limit t)
+    (SpellsSubTypes config (before ++ t ∷ []) limit types) piece
 
 -- a group after others: with garbage collection, that no group is cloned if there is one, and the
 -- number of types
@@ -175,21 +180,24 @@ IsRoot t = t.supertype ≡ None
 -- by a struct type among them
 abbrev pub RefersTo : Config → List SubType → ValType → Type 0
 RefersTo config types (vals.Ref reference) =
-    IsInRange types reference.heap_type × (IsTrue reference.nullable ⊎ IsGroundedByStructs types config.custom_descriptors_enabled reference.heap_type)
+    IsInRange types reference.heap_type × (IsTrue reference.nullable ⊎ IsGroundedByStructs types config.custom_descriptors_enabled
+    reference.heap_type)
 RefersTo config types _ = Unit {0}
 
 -- types after others, each of which refers only to types before it, which ground its non-nullable
 -- references
 abbrev pub ReferBack : Config → List SubType → List SubType → Type 0
 ReferBack config before [] = Unit {0}
-ReferBack config before (t ∷ types) = All (RefersTo config before) (values_of t.composite_type.inner) × ReferBack config (before ++ t ∷ []) types
+ReferBack config before (t ∷ types) = All (RefersTo config before) (values_of t.composite_type.inner) × ReferBack config (before ++ t ∷ [])
+    types
 
 -- groups after types: none is empty, there is room for all, and their types refer only to types
 -- before them, which ground their non-nullable references
 abbrev pub GroupsFit : Config → List SubType → List (List SubType) → Type 0
 GroupsFit config before [] = Unit {0}
 GroupsFit config before (group ∷ groups) =
-    (0 < length group) × (length before + length group ≤ config.max_types) × ReferBack config before group × GroupsFit config (before ++ group) groups
+    (0 < length group) × (length before + length group ≤ config.max_types) × ReferBack config before group
+    × GroupsFit config (before ++ group) groups
 
 -- a space with one more group, of types that refer only to types before them, which ground their
 -- non-nullable references

@@ -1,5 +1,6 @@
 -- Drawn subtypes, and the types that may have subtypes.
-use Rattle.std.specs.Prelude.{◌≡◌, ℕ, suc, ◌<◌, ◌+◌, Bool, true, false, not, ◌&&◌, nat_lt, Option, Some, None, List, [], ◌∷◌, length, slice_get, if◌then◌else◌}
+use Rattle.std.specs.Prelude.{◌≡◌, ℕ, suc, ◌<◌, ◌+◌, Bool, true, false, not, ◌&&◌, nat_lt, Option, Some, None, List, [], ◌∷◌, length}
+use Rattle.std.specs.Prelude.{slice_get, if◌then◌else◌}
 use Rattle.smith_syntax.specs.declared.composite_type.SubType.{SubType}
 use Rattle.smith_types.specs.Expressions.{Context}
 use Rattle.smith_types.specs.Types.{IsAlike}

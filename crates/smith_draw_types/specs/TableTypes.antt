@@ -27,7 +27,8 @@ likely_elements config table64 = min 10000 (drawn_elements config table64)
 unfoldable pub table_type_at : Config → Context → List ℕ → TableType × List ℕ
 table_type_at config context bytes =
     let table64 = memory64_at config bytes in
-    let limits = limits64_at (least_elements config) (drawn_elements config table64.0) config.table_max_size_required (likely_elements config table64.0) table64.1 in
+    let limits = limits64_at (least_elements config) (drawn_elements config table64.0) config.table_max_size_required
+    (likely_elements config table64.0) table64.1 in
     let element_type = ref_type_at config context false (length context.types) limits.1 in (
       record {
         element_type = element_type.0;

@@ -51,4 +51,5 @@ takes_and_gives_nothing _ = false
 
 -- whether the type of this index is such a type
 abbrev pub is_start_type : List SubType → ℕ → Bool
-is_start_type types index = list_any (λ (t : SubType). takes_and_gives_nothing t.composite_type.inner) (option_to_list (slice_get types index))
+is_start_type types index = list_any (λ (t : SubType). takes_and_gives_nothing t.composite_type.inner)
+    (option_to_list (slice_get types index))

@@ -19,10 +19,15 @@ second_of_first true true c all = refl
 second_of_first true false c all = absurd (false≢true all)
 second_of_first false b c all = absurd (false≢true all)
 
-pub data_has_bulk_memory : (features : Features) (kinds : InstructionKinds) (instruction : Instr) → IsTrue (names_data instruction) → IsEnabled features kinds instruction → features.bulk_memory ≡ true
+pub data_has_bulk_memory : (features : Features) (kinds : InstructionKinds) (instruction : Instr) → IsTrue (names_data instruction)
+    → IsEnabled features kinds instruction → features.bulk_memory ≡ true
 unfolding is_enabled
-data_has_bulk_memory features kinds (instr.Memory (memory.Init index segment)) names enabled = first features.bulk_memory (is_kind_enabled kinds (instr.Memory (memory.Init index segment))) enabled
-data_has_bulk_memory features kinds (instr.Memory (memory.DataDrop segment)) names enabled = first features.bulk_memory (is_kind_enabled kinds (instr.Memory (memory.DataDrop segment))) enabled
-data_has_bulk_memory features kinds (instr.Aggregate (aggregate.ArrayNewData ty segment)) names enabled = second_of_first features.gc features.bulk_memory (is_kind_enabled kinds (instr.Aggregate (aggregate.ArrayNewData ty segment))) enabled
-data_has_bulk_memory features kinds (instr.Aggregate (aggregate.ArrayInitData ty segment)) names enabled = second_of_first features.gc features.bulk_memory (is_kind_enabled kinds (instr.Aggregate (aggregate.ArrayInitData ty segment))) enabled
+data_has_bulk_memory features kinds (instr.Memory (memory.Init index segment)) names enabled =
+    first features.bulk_memory (is_kind_enabled kinds (instr.Memory (memory.Init index segment))) enabled
+data_has_bulk_memory features kinds (instr.Memory (memory.DataDrop segment)) names enabled =
+    first features.bulk_memory (is_kind_enabled kinds (instr.Memory (memory.DataDrop segment))) enabled
+data_has_bulk_memory features kinds (instr.Aggregate (aggregate.ArrayNewData ty segment)) names enabled =
+    second_of_first features.gc features.bulk_memory (is_kind_enabled kinds (instr.Aggregate (aggregate.ArrayNewData ty segment))) enabled
+data_has_bulk_memory features kinds (instr.Aggregate (aggregate.ArrayInitData ty segment)) names enabled =
+    second_of_first features.gc features.bulk_memory (is_kind_enabled kinds (instr.Aggregate (aggregate.ArrayInitData ty segment))) enabled
 data_has_bulk_memory features kinds _ names enabled = absurd (false≢true names)

@@ -1,3 +1,5 @@
 pub mod SequenceLemmas
 pub mod CompositionLemmas
 mod EnabledLemmas
+pub mod AmongLemmas
+mod SetLocalLemmas

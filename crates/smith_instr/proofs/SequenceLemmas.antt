@@ -18,7 +18,8 @@ pub count_as_themselves : (context : BodyContext) (values : List ValType) → Ar
 count_as_themselves context values valid = record { below = below_themselves context.types values; valid = valid }
 
 -- operands and results on top of any values
-pub framed : (context : BodyContext) (operands results base : List ValType) (set more after : List ℕ) → AreValid context results → after ≡ set ++ more
+pub framed : (context : BodyContext) (operands results base : List ValType) (set more after : List ℕ) → AreValid context results
+    → after ≡ set ++ more
     → IsFramed context operands results more (stacked (base ++ operands) set) (stacked (base ++ results) after)
 framed context operands results base set more after valid then = record {
   rest = base;
@@ -43,5 +44,6 @@ one context instruction operands results base set after typed valid then = recor
 }
 
 -- the end of a sequence
-pub finished : (context : BodyContext) (values : List ValType) (set : List ℕ) → AreValid context values → AreTyped context [] (stacked values set) (stacked values set)
+pub finished : (context : BodyContext) (values : List ValType) (set : List ℕ) → AreValid context values
+    → AreTyped context [] (stacked values set) (stacked values set)
 finished context values set valid = nothing (count_as_themselves context values valid) refl

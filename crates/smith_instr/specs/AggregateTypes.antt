@@ -69,7 +69,8 @@ internal shared nullable = Ref (record { nullable = nullable; heap_type = Abstra
 -- aggregate instructions (Validation, Aggregate Instructions)
 abbrev pub HasAggregateType : BodyContext → AggregateInstr → List ValType → List ValType → Type 0
 HasAggregateType context (aggregate.StructNew ty) operands results =
-    (fields : List FieldType) × IsStructAt context.types ty fields × To operands results (field_values fields) (created_reference context ty ∷ [])
+    (fields : List FieldType) × IsStructAt context.types ty fields × To operands results (field_values fields)
+    (created_reference context ty ∷ [])
 HasAggregateType context (aggregate.StructNewDefault ty) operands results =
     (fields : List FieldType) × IsStructAt context.types ty fields × All IsDefaultable (field_values fields)
     × To operands results [] (created_reference context ty ∷ [])
@@ -80,12 +81,14 @@ HasAggregateType context (aggregate.StructSet ty index) operands results =
     (field : FieldType) × IsFieldAt context ty index field × (field.mutable ≡ true)
     × To operands results (nullable_to (Concrete ty) ∷ value_of field ∷ []) []
 HasAggregateType context (aggregate.ArrayNew ty) operands results =
-    (element : FieldType) × IsArrayAt context.types ty element × To operands results (value_of element ∷ I32 ∷ []) (created_reference context ty ∷ [])
+    (element : FieldType) × IsArrayAt context.types ty element × To operands results (value_of element ∷ I32 ∷ [])
+    (created_reference context ty ∷ [])
 HasAggregateType context (aggregate.ArrayNewDefault ty) operands results =
     (element : FieldType) × IsArrayAt context.types ty element × IsDefaultable (value_of element)
     × To operands results (I32 ∷ []) (created_reference context ty ∷ [])
 HasAggregateType context (aggregate.ArrayNewFixed ty size) operands results =
-    (element : FieldType) × IsArrayAt context.types ty element × To operands results (replicate size (value_of element)) (created_reference context ty ∷ [])
+    (element : FieldType) × IsArrayAt context.types ty element × To operands results (replicate size (value_of element))
+    (created_reference context ty ∷ [])
 HasAggregateType context (aggregate.ArrayNewData ty segment) operands results =
     (element : FieldType) × IsArrayAt context.types ty element × IsOfBytes element.element_type × (segment < context.datas)
     × To operands results (I32 ∷ I32 ∷ []) (created_reference context ty ∷ [])
@@ -108,13 +111,16 @@ HasAggregateType context (aggregate.ArrayCopy to from) operands results =
     × IsStorageMatch context.types out.element_type into.element_type
     × To operands results (nullable_to (Concrete to) ∷ I32 ∷ nullable_to (Concrete from) ∷ I32 ∷ I32 ∷ []) []
 HasAggregateType context (aggregate.ArrayInitData ty segment) operands results =
-    (element : FieldType) × IsArrayAt context.types ty element × (element.mutable ≡ true) × IsOfBytes element.element_type × (segment < context.datas)
+    (element : FieldType) × IsArrayAt context.types ty element × (element.mutable ≡ true) × IsOfBytes element.element_type
+    × (segment < context.datas)
     × To operands results (nullable_to (Concrete ty) ∷ I32 ∷ I32 ∷ I32 ∷ []) []
 HasAggregateType context (aggregate.ArrayInitElem ty segment) operands results =
     (element : FieldType) × IsArrayAt context.types ty element × (element.mutable ≡ true) × IsElemOf context segment element
     × To operands results (nullable_to (Concrete ty) ∷ I32 ∷ I32 ∷ I32 ∷ []) []
-HasAggregateType context aggregate.RefI31 operands results = To operands results (I32 ∷ []) (reference_to (Abstract false abstract.I31) ∷ [])
-HasAggregateType context aggregate.RefI31Shared operands results = To operands results (I32 ∷ []) (reference_to (Abstract true abstract.I31) ∷ [])
+HasAggregateType context aggregate.RefI31 operands results =
+    To operands results (I32 ∷ []) (reference_to (Abstract false abstract.I31) ∷ [])
+HasAggregateType context aggregate.RefI31Shared operands results =
+    To operands results (I32 ∷ []) (reference_to (Abstract true abstract.I31) ∷ [])
 HasAggregateType context aggregate.I31GetS operands results =
     (shared : Bool) × To operands results (nullable_to (Abstract shared abstract.I31) ∷ []) (I32 ∷ [])
 HasAggregateType context aggregate.I31GetU operands results =

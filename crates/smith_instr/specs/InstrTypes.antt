@@ -14,8 +14,10 @@ use Rattle.smith_syntax.specs.declared.composite_type.FuncType.{FuncType}
 use Rattle.smith_syntax.specs.declared.entity_type.GlobalType.{GlobalType}
 use Rattle.smith_syntax.specs.declared.entity_type.TableType.{TableType}
 use Rattle.smith_instr.specs.AggregateTypes.{HasAggregateType}
-use Rattle.smith_instr.specs.Contexts.{BodyContext, IsValid, AreValid, IsHeapValid, IsRefValid, AreBelow, IsLocalSet, IsFunction, IsTag, To, address, nullable_to}
-use Rattle.smith_instr.specs.MemoryTypes.{HasLoadType, HasStoreType, HasVectorLoadType, HasVectorStoreType, HasLaneType, HasMemoryType, HasAtomicType}
+use Rattle.smith_instr.specs.Contexts.{BodyContext, IsValid, AreValid, IsHeapValid, IsRefValid, AreBelow, IsLocalSet, IsFunction, IsTag, To}
+use Rattle.smith_instr.specs.Contexts.{address, nullable_to}
+use Rattle.smith_instr.specs.MemoryTypes.{HasLoadType, HasStoreType, HasVectorLoadType, HasVectorStoreType, HasLaneType, HasMemoryType}
+use Rattle.smith_instr.specs.MemoryTypes.{HasAtomicType}
 use Rattle.smith_instr.specs.NumericTypes.{signature}
 use Rattle.smith_instr.specs.ReferenceTypes.{HasReferenceType, HasTableType, IsTable}
 use Rattle.smith_instr.specs.VectorTypes.{HasVectorType}
@@ -101,14 +103,16 @@ HasInstrType context set (instr.If ty) operands results = ⊥
 HasInstrType context set instr.Else operands results = ⊥
 HasInstrType context set instr.End operands results = ⊥
 HasInstrType context set (instr.TryTable ty clauses) operands results = ⊥
-HasInstrType context set (instr.Throw tag) operands results = (values : List ValType) × IsTag context tag values × Leaves context operands results values
+HasInstrType context set (instr.Throw tag) operands results = (values : List ValType) × IsTag context tag values
+    × Leaves context operands results values
 HasInstrType context set instr.ThrowRef operands results = Leaves context operands results (nullable_to (Abstract false abstract.Exn) ∷ [])
 HasInstrType context set (instr.Br label) operands results =
     (taken : List ValType) × IsLabel context label taken × Leaves context operands results taken
 HasInstrType context set (instr.BrIf label) operands results =
     (taken : List ValType) × IsLabel context label taken × To operands results (taken ++ I32 ∷ []) taken
 HasInstrType context set (instr.BrTable labels other) operands results =
-    (taken : List ValType) × All (IsTaken context taken) labels × IsTaken context taken other × Leaves context operands results (taken ++ I32 ∷ [])
+    (taken : List ValType) × All (IsTaken context taken) labels × IsTaken context taken other × Leaves context operands results
+    (taken ++ I32 ∷ [])
 HasInstrType context set (instr.BrOnNull label) operands results =
     (taken : List ValType) × (heap_type : HeapType) × IsLabel context label taken × IsHeapValid context heap_type
     × To operands results (taken ++ nullable_to heap_type ∷ []) (taken ++ reference_to heap_type ∷ [])
@@ -128,11 +132,14 @@ HasInstrType context set (instr.CallIndirect table ty) operands results =
     (function : FuncType) × (wide : Bool) × IsFunctionTable context table wide × IsFuncAt context.types ty function
     × To operands results (function.params ++ address wide ∷ []) function.results
 HasInstrType context set (instr.CallRef ty) operands results =
-    (function : FuncType) × IsFuncAt context.types ty function × To operands results (function.params ++ nullable_to (Concrete ty) ∷ []) function.results
+    (function : FuncType) × IsFuncAt context.types ty function × To operands results (function.params ++ nullable_to (Concrete ty) ∷ [])
+    function.results
 HasInstrType context set (instr.ReturnCall index) operands results =
-    (function : FuncType) × IsFunction context index function × ReturnsFrom context function × Leaves context operands results function.params
+    (function : FuncType) × IsFunction context index function × ReturnsFrom context function
+    × Leaves context operands results function.params
 HasInstrType context set (instr.ReturnCallIndirect table ty) operands results =
-    (function : FuncType) × (wide : Bool) × IsFunctionTable context table wide × IsFuncAt context.types ty function × ReturnsFrom context function
+    (function : FuncType) × (wide : Bool) × IsFunctionTable context table wide × IsFuncAt context.types ty function
+    × ReturnsFrom context function
     × Leaves context operands results (function.params ++ address wide ∷ [])
 HasInstrType context set (instr.ReturnCallRef ty) operands results =
     (function : FuncType) × IsFuncAt context.types ty function × ReturnsFrom context function
@@ -151,7 +158,8 @@ HasInstrType context set (instr.LocalTee index) operands results =
 HasInstrType context set (instr.GlobalGet index) operands results =
     (global : GlobalType) × (slice_get context.globals index ≡ Some global) × To operands results [] (global.val_type ∷ [])
 HasInstrType context set (instr.GlobalSet index) operands results =
-    (global : GlobalType) × (slice_get context.globals index ≡ Some global) × (global.mutable ≡ true) × To operands results (global.val_type ∷ []) []
+    (global : GlobalType) × (slice_get context.globals index ≡ Some global) × (global.mutable ≡ true)
+    × To operands results (global.val_type ∷ []) []
 HasInstrType context set (instr.I32Const value) operands results = To operands results [] (I32 ∷ [])
 HasInstrType context set (instr.I64Const value) operands results = To operands results [] (I64 ∷ [])
 HasInstrType context set (instr.F32Const bits) operands results = To operands results [] (F32 ∷ [])
@@ -167,7 +175,9 @@ HasInstrType context set (instr.Aggregate op) operands results = HasAggregateTyp
 HasInstrType context set (instr.Vector op) operands results = HasVectorType op operands results
 HasInstrType context set (instr.VectorLoad op at) operands results = HasVectorLoadType context op at operands results
 HasInstrType context set (instr.VectorStore at) operands results = HasVectorStoreType context at operands results
-HasInstrType context set (instr.VectorLoadLane log2_bytes at lane) operands results = HasLaneType context log2_bytes at lane (V128 ∷ []) operands results
-HasInstrType context set (instr.VectorStoreLane log2_bytes at lane) operands results = HasLaneType context log2_bytes at lane [] operands results
+HasInstrType context set (instr.VectorLoadLane log2_bytes at lane) operands results = HasLaneType context log2_bytes at lane
+    (V128 ∷ []) operands results
+HasInstrType context set (instr.VectorStoreLane log2_bytes at lane) operands results = HasLaneType context log2_bytes at lane [] operands
+    results
 HasInstrType context set (instr.Atomic op at) operands results = HasAtomicType context op at operands results
 HasInstrType context set instr.AtomicFence operands results = To operands results [] []

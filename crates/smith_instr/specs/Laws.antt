@@ -18,7 +18,8 @@ SequencesCompose =
 abbrev pub SequencesTakeValuesBelow : Type 0
 SequencesTakeValuesBelow =
     (context : BodyContext) (sequence : List Instr) (before after : Stacked) (values : List ValType)
-    → CountsAs context values before.stack → AreTyped context sequence before after → AreTyped context sequence (stacked values before.set) after
+    → CountsAs context values before.stack → AreTyped context sequence before after → AreTyped context sequence (stacked values before.set)
+    after
 
 -- an enabled instruction that names a data segment has bulk memory, with which a data count section
 -- is written

@@ -8,3 +8,4 @@ pub mod InstrTypes
 pub mod Sequences
 pub mod Enabled
 pub mod Laws
+pub mod SetLocals

@@ -105,7 +105,8 @@ IsLane log2_bytes lane = (log2_bytes ≤ 3) × (lane < 2 ^ (4 - log2_bytes))
 -- a lane that is loaded into a vector, or stored from one (Validation, Memory Instructions)
 abbrev pub HasLaneType : BodyContext → ℕ → MemArg → ℕ → List ValType → List ValType → List ValType → Type 0
 HasLaneType context log2_bytes at lane given operands results =
-    (wide : Bool) × IsAlignedAccess context at log2_bytes wide × IsLane log2_bytes lane × To operands results (address wide ∷ V128 ∷ []) given
+    (wide : Bool) × IsAlignedAccess context at log2_bytes wide × IsLane log2_bytes lane × To operands results (address wide ∷ V128 ∷ [])
+    given
 
 -- a memory of this type (Validation, Contexts)
 abbrev pub IsMemory : BodyContext → ℕ → MemoryType → Type 0
@@ -123,7 +124,8 @@ HasMemoryType context (memory.Copy to from) operands results =
     (into : MemoryType) × (out : MemoryType) × IsMemory context to into × IsMemory context from out
     × To operands results (address into.memory64 ∷ address out.memory64 ∷ narrower into.memory64 out.memory64 ∷ []) []
 HasMemoryType context (memory.Init index segment) operands results =
-    (ty : MemoryType) × IsMemory context index ty × (segment < context.datas) × To operands results (address ty.memory64 ∷ I32 ∷ I32 ∷ []) []
+    (ty : MemoryType) × IsMemory context index ty × (segment < context.datas) × To operands results (address ty.memory64 ∷ I32 ∷ I32 ∷ [])
+    []
 HasMemoryType context (memory.DataDrop segment) operands results = (segment < context.datas) × To operands results [] []
 
 -- the value type of an atomic access, and the binary logarithm of its bytes (threads proposal)

@@ -20,7 +20,8 @@ use Rattle.smith_instr.specs.declared.table.TableInstr.TheVariants as table
 
 -- reference instructions (Validation, Reference Instructions)
 abbrev pub HasReferenceType : BodyContext → ReferenceInstr → List ValType → List ValType → Type 0
-HasReferenceType context (reference.Null heap_type) operands results = IsHeapValid context heap_type × To operands results [] (nullable_to heap_type ∷ [])
+HasReferenceType context (reference.Null heap_type) operands results = IsHeapValid context heap_type × To operands results []
+    (nullable_to heap_type ∷ [])
 HasReferenceType context (reference.Func function) operands results =
     (index : ℕ) × (slice_get context.funcs function ≡ Some index) × Contains context.references function
     × To operands results [] (reference_to_function context function index ∷ [])
@@ -32,9 +33,11 @@ HasReferenceType context reference.Eq operands results =
     (first : Bool) × (second : Bool)
     × To operands results (nullable_to (Abstract first abstract.Eq) ∷ nullable_to (Abstract second abstract.Eq) ∷ []) (I32 ∷ [])
 HasReferenceType context (reference.Test to) operands results =
-    (from : RefType) × IsRefValid context to × IsRefValid context from × IsRefBelow context.types to from × To operands results (Ref from ∷ []) (I32 ∷ [])
+    (from : RefType) × IsRefValid context to × IsRefValid context from × IsRefBelow context.types to from
+    × To operands results (Ref from ∷ []) (I32 ∷ [])
 HasReferenceType context (reference.Cast to) operands results =
-    (from : RefType) × IsRefValid context to × IsRefValid context from × IsRefBelow context.types to from × To operands results (Ref from ∷ []) (Ref to ∷ [])
+    (from : RefType) × IsRefValid context to × IsRefValid context from × IsRefBelow context.types to from
+    × To operands results (Ref from ∷ []) (Ref to ∷ [])
 
 -- a table of this type (Validation, Contexts)
 abbrev pub IsTable : BodyContext → ℕ → TableType → Type 0
@@ -54,11 +57,14 @@ HasTableType context (table.Set index) operands results =
 HasTableType context (table.Size index) operands results =
     (ty : TableType) × IsTable context index ty × To operands results [] (address ty.table64 ∷ [])
 HasTableType context (table.Grow index) operands results =
-    (ty : TableType) × IsTable context index ty × To operands results (Ref ty.element_type ∷ address ty.table64 ∷ []) (address ty.table64 ∷ [])
+    (ty : TableType) × IsTable context index ty × To operands results (Ref ty.element_type ∷ address ty.table64 ∷ [])
+    (address ty.table64 ∷ [])
 HasTableType context (table.Fill index) operands results =
-    (ty : TableType) × IsTable context index ty × To operands results (address ty.table64 ∷ Ref ty.element_type ∷ address ty.table64 ∷ []) []
+    (ty : TableType) × IsTable context index ty × To operands results (address ty.table64 ∷ Ref ty.element_type ∷ address ty.table64 ∷ [])
+    []
 HasTableType context (table.Copy to from) operands results =
-    (into : TableType) × (out : TableType) × IsTable context to into × IsTable context from out × IsRefBelow context.types out.element_type into.element_type
+    (into : TableType) × (out : TableType) × IsTable context to into × IsTable context from out × IsRefBelow context.types out.element_type
+    into.element_type
     × To operands results (address into.table64 ∷ address out.table64 ∷ narrower into.table64 out.table64 ∷ []) []
 HasTableType context (table.Init index segment) operands results =
     (ty : TableType) × (held : RefType) × IsTable context index ty × (slice_get context.elems segment ≡ Some held)

@@ -56,25 +56,32 @@ pub data AreTyped : BodyContext → List Instr → Stacked → Stacked → Type 
       → CountsAs context before.stack after.stack → after.set ≡ before.set → AreTyped context [] before after
   step : {context : BodyContext} {instruction : Instr} {more : List Instr} {before between after : Stacked}
       → IsStep context instruction before between → AreTyped context more between after → AreTyped context (instruction ∷ more) before after
-  block : {context : BodyContext} {ty : BlockType} {all body more : List Instr} {params results : List ValType} {set : List ℕ} {before between after : Stacked}
+  block : {context : BodyContext} {ty : BlockType} {all body more : List Instr} {params results : List ValType} {set : List ℕ}
+      {before between after : Stacked}
       → all ≡ instr.Block ty ∷ (body ++ instr.End ∷ more) → IsBlockType context ty params results
       → AreTyped (labelled context results) body (stacked params before.set) (stacked results set)
       → IsFramed context params results [] before between → AreTyped context more between after → AreTyped context all before after
-  loop : {context : BodyContext} {ty : BlockType} {all body more : List Instr} {params results : List ValType} {set : List ℕ} {before between after : Stacked}
+  loop : {context : BodyContext} {ty : BlockType} {all body more : List Instr} {params results : List ValType} {set : List ℕ}
+      {before between after : Stacked}
       → all ≡ instr.Loop ty ∷ (body ++ instr.End ∷ more) → IsBlockType context ty params results
       → AreTyped (labelled context params) body (stacked params before.set) (stacked results set)
       → IsFramed context params results [] before between → AreTyped context more between after → AreTyped context all before after
-  if_alone : {context : BodyContext} {ty : BlockType} {all body more : List Instr} {params results : List ValType} {set : List ℕ} {before between after : Stacked}
+  if_alone : {context : BodyContext} {ty : BlockType} {all body more : List Instr} {params results : List ValType} {set : List ℕ}
+      {before between after : Stacked}
       → all ≡ instr.If ty ∷ (body ++ instr.End ∷ more) → IsBlockType context ty params results
       → AreTyped (labelled context results) body (stacked params before.set) (stacked results set)
       → CountsAs context params results
-      → IsFramed context (params ++ I32 ∷ []) results [] before between → AreTyped context more between after → AreTyped context all before after
-  if_else : {context : BodyContext} {ty : BlockType} {all body other more : List Instr} {params results : List ValType} {set reset : List ℕ} {before between after : Stacked}
+      → IsFramed context (params ++ I32 ∷ []) results [] before between → AreTyped context more between after
+      → AreTyped context all before after
+  if_else : {context : BodyContext} {ty : BlockType} {all body other more : List Instr} {params results : List ValType} {set reset : List ℕ}
+      {before between after : Stacked}
       → all ≡ instr.If ty ∷ (body ++ instr.Else ∷ (other ++ instr.End ∷ more)) → IsBlockType context ty params results
       → AreTyped (labelled context results) body (stacked params before.set) (stacked results set)
       → AreTyped (labelled context results) other (stacked params before.set) (stacked results reset)
-      → IsFramed context (params ++ I32 ∷ []) results [] before between → AreTyped context more between after → AreTyped context all before after
-  try_table : {context : BodyContext} {ty : BlockType} {clauses : List Catch} {all body more : List Instr} {params results : List ValType} {set : List ℕ} {before between after : Stacked}
+      → IsFramed context (params ++ I32 ∷ []) results [] before between → AreTyped context more between after
+      → AreTyped context all before after
+  try_table : {context : BodyContext} {ty : BlockType} {clauses : List Catch} {all body more : List Instr} {params results : List ValType}
+      {set : List ℕ} {before between after : Stacked}
       → all ≡ instr.TryTable ty clauses ∷ (body ++ instr.End ∷ more) → IsBlockType context ty params results → All (IsCatch context) clauses
       → AreTyped (labelled context results) body (stacked params before.set) (stacked results set)
       → IsFramed context params results [] before between → AreTyped context more between after → AreTyped context all before after

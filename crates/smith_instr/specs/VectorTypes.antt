@@ -48,7 +48,8 @@ HasVectorType (vector.ExtractLane op lane) operands results =
     (lane < (lanes (extracted op)).0) × To operands results (V128 ∷ []) ((lanes (extracted op)).1 ∷ [])
 HasVectorType (vector.ReplaceLane ty lane) operands results =
     (lane < (lanes ty).0) × To operands results (V128 ∷ (lanes ty).1 ∷ []) (V128 ∷ [])
-HasVectorType (vector.Shuffle chosen) operands results = All (λ (lane : ℕ). lane < 32) chosen × To operands results (V128 ∷ V128 ∷ []) (V128 ∷ [])
+HasVectorType (vector.Shuffle chosen) operands results = All (λ (lane : ℕ). lane < 32) chosen × To operands results (V128 ∷ V128 ∷ [])
+    (V128 ∷ [])
 HasVectorType (vector.RelaxedFloatUnary op) operands results = To operands results (V128 ∷ []) (V128 ∷ [])
 HasVectorType (vector.RelaxedBinary op) operands results = To operands results (V128 ∷ V128 ∷ []) (V128 ∷ [])
 HasVectorType (vector.RelaxedFloatBinary op) operands results = To operands results (V128 ∷ V128 ∷ []) (V128 ∷ [])

@@ -16,6 +16,7 @@ pub mod laws;
 mod memory;
 mod numeric;
 mod reference;
+mod set_locals;
 mod signature;
 mod table;
 mod vector;
@@ -30,6 +31,7 @@ pub use numeric::{
     NumericInstr, SaturatingConversion, SignExtension, WideArithmetic,
 };
 pub use reference::ReferenceInstr;
+pub use set_locals::SetLocals;
 pub use table::TableInstr;
 pub use vector::{
     IntShape, LaneExtract, LaneShape, RelaxedBinary, RelaxedFloatBinary, RelaxedFloatTernary,

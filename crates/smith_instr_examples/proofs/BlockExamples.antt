@@ -1,5 +1,8 @@
 -- Loops, ifs with an else and blocks, taken apart.
-use Rattle.smith_instr_examples.proofs.Common.{◌≡◌, ℕ, ◌+◌, List, [], ◌∷◌, ◌++◌, length, refl, ap, ◌∙◌, arith, length-append, same_Some, IsFuncAt, final_type, taking, Func, FuncType, ValType, I32, BodyContext, labelled, Stacked, stacked, AreTyped, IsBodyTyped, IsBlockType, step, block, loop, if_alone, if_else, try_table, BlockType, subst, one, framed, finished, function_of, number, weakens}
+use Rattle.smith_instr_examples.proofs.Common.{◌≡◌, ℕ, ◌+◌, List, [], ◌∷◌, ◌++◌, length, refl, ap, ◌∙◌, arith, length-append, same_Some}
+use Rattle.smith_instr_examples.proofs.Common.{IsFuncAt, final_type, taking, Func, FuncType, ValType, I32, BodyContext, labelled, Stacked}
+use Rattle.smith_instr_examples.proofs.Common.{stacked, AreTyped, IsBodyTyped, IsBlockType, step, block, loop, if_alone, if_else, try_table}
+use Rattle.smith_instr_examples.proofs.Common.{BlockType, subst, one, framed, finished, function_of, number, weakens}
 use Rattle.smith_instr.specs.declared.control.BlockType.TheVariants as blocks
 use Rattle.smith_instr.specs.declared.instr.Instr.TheVariants as instr
 use Rattle.smith_instr_examples.proofs.ManagedExamples.{func_alone}
@@ -22,16 +25,23 @@ back =
     let context = function_of [] [] in
     let inside = labelled context (I32 ∷ []) in
     let none = valid_none inside in
-    loop {body = instr.Br 0 ∷ []} {more = []} {params = I32 ∷ []} {results = []} refl (record { params = I32 ∷ []; results = [] }, takes_there [] [], refl, refl)
+    loop {body = instr.Br 0 ∷ []} {more = []} {params = I32 ∷ []} {results = []} refl (
+      record { params = I32 ∷ []; results = [] },
+      takes_there [] [],
+      refl,
+      refl,
+    )
     (step (one inside (instr.Br 0) (I32 ∷ []) [] [] [] [] (I32 ∷ [], refl, ([], refl, none)) none refl) (finished inside [] [] none))
     (framed context (I32 ∷ []) [] [] [] [] [] (valid_none context) refl) (finished context [] [] (valid_none context))
 
-pub onwards : AreTyped (function_of [] []) (instr.Block (blocks.Func 1) ∷ instr.Drop ∷ instr.Br 0 ∷ instr.End ∷ []) (stacked (I32 ∷ []) []) (stacked [] [])
+pub onwards : AreTyped (function_of [] []) (instr.Block (blocks.Func 1) ∷ instr.Drop ∷ instr.Br 0 ∷ instr.End ∷ []) (stacked (I32 ∷ []) [])
+    (stacked [] [])
 onwards =
     let context = function_of [] [] in
     let inside = labelled context [] in
     let none = valid_none inside in
-    block {body = instr.Drop ∷ instr.Br 0 ∷ []} {more = []} {params = I32 ∷ []} {results = []} refl (record { params = I32 ∷ []; results = [] }, takes_there [] [], refl, refl)
+    block {body = instr.Drop ∷ instr.Br 0 ∷ []} {more = []} {params = I32 ∷ []} {results = []} refl
+    (record { params = I32 ∷ []; results = [] }, takes_there [] [], refl, refl)
     (step (one inside instr.Drop (I32 ∷ []) [] [] [] [] (I32, (refl, refl)) none refl)
     (step (one inside (instr.Br 0) [] [] [] [] [] ([], refl, ([], refl, none)) none refl) (finished inside [] [] none)))
     (framed context (I32 ∷ []) [] [] [] [] [] (valid_none context) refl) (finished context [] [] (valid_none context))
@@ -52,14 +62,17 @@ no_value {params = params} one typed =
     let many : length second.operands ≡ length below + length taken = ap length is ∙ simp length-append refl in
     omega arith
 
-pub not_back : {a b : Stacked} → AreTyped (function_of [] []) (instr.Loop (blocks.Func 1) ∷ instr.Drop ∷ instr.Br 0 ∷ instr.End ∷ []) a b → ⊥
+pub not_back : {a b : Stacked} → AreTyped (function_of [] []) (instr.Loop (blocks.Func 1) ∷ instr.Drop ∷ instr.Br 0 ∷ instr.End ∷ []) a b
+    → ⊥
 unfolding is_inner is_plain
 not_back typed =
     let parts = loop_parts (instr.Drop ∷ instr.Br 0 ∷ []) [] (refl, (refl, tt)) tt typed in
     let (function, at, taken, given) = parts.fits in
-    no_value (ap length taken ∙ ap (λ (f : FuncType). length f.params) (func_alone (function_of [] []).types 1 takes function (takes_there [] []) at)) parts.within
+    no_value (ap length taken ∙ ap (λ (f : FuncType). length f.params) (func_alone (function_of [] []).types 1 takes function
+    (takes_there [] []) at)) parts.within
 
-pub either : AreTyped (function_of [] []) (instr.If (blocks.Value I32) ∷ number 1 ∷ instr.Else ∷ number 2 ∷ instr.End ∷ []) (stacked (I32 ∷ []) []) (stacked (I32 ∷ []) [])
+pub either : AreTyped (function_of [] []) (instr.If (blocks.Value I32) ∷ number 1 ∷ instr.Else ∷ number 2 ∷ instr.End ∷ [])
+    (stacked (I32 ∷ []) []) (stacked (I32 ∷ []) [])
 either =
     let context = function_of [] [] in
     let inside = labelled context (I32 ∷ []) in
@@ -67,9 +80,11 @@ either =
     if_else {body = number 1 ∷ []} {other = number 2 ∷ []} {more = []} {params = []} {results = I32 ∷ []} refl (tt, refl, refl)
     (step (one inside (number 1) [] (I32 ∷ []) [] [] [] (refl, refl) valid refl) (finished inside (I32 ∷ []) [] valid))
     (step (one inside (number 2) [] (I32 ∷ []) [] [] [] (refl, refl) valid refl) (finished inside (I32 ∷ []) [] valid))
-    (framed context (I32 ∷ []) (I32 ∷ []) [] [] [] [] (valid_one context I32 tt) refl) (finished context (I32 ∷ []) [] (valid_one context I32 tt))
+    (framed context (I32 ∷ []) (I32 ∷ []) [] [] [] [] (valid_one context I32 tt) refl)
+    (finished context (I32 ∷ []) [] (valid_one context I32 tt))
 
-pub no_result : {context : BodyContext} {a b : Stacked} → AreTyped context (instr.If (blocks.Value I32) ∷ number 1 ∷ instr.Else ∷ instr.End ∷ []) a b → ⊥
+pub no_result : {context : BodyContext} {a b : Stacked}
+    → AreTyped context (instr.If (blocks.Value I32) ∷ number 1 ∷ instr.Else ∷ instr.End ∷ []) a b → ⊥
 unfolding is_inner is_plain
 no_result typed =
     let parts = (arms (number 1 ∷ []) [] [] (refl, tt) tt tt typed).second in

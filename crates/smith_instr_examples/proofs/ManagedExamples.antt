@@ -1,5 +1,11 @@
 -- Subtyping and validity over the types of the managed context.
-use Rattle.smith_instr_examples.proofs.Common.{◌≡◌, ℕ, zero, suc, Bool, true, false, List, [], ◌∷◌, ◌++◌, Some, None, IsTrue, refl, sym, subst, ap, ◌∙◌, arith, slice_get, map, same_Some, is_abstract_below, IsRefBelow, itself, IsOrderly, constant, variable, struct, taking, final_type, plain, funcref, AbstractHeapType, Concrete, RefType, ValType, I32, I64, Ref, CompositeInnerType, Array, Func, I8, Val, SubType, IsBelow-trans, below_abstract, below_kind, by_cases_from_below, kind, IsFuncAt, IsStructAt, IsArrayAt, FuncType, IsRefValid, IsFunctionTable, IsElemOf, IsRefBelow-refl, functions, some_func, managed, managed_types, narrows, anything, something, wide_functions}
+use Rattle.smith_instr_examples.proofs.Common.{◌≡◌, ℕ, zero, suc, Bool, true, false, List, [], ◌∷◌, ◌++◌, Some, None, IsTrue, refl, sym}
+use Rattle.smith_instr_examples.proofs.Common.{subst, ap, ◌∙◌, arith, slice_get, map, same_Some, is_abstract_below, IsRefBelow, itself}
+use Rattle.smith_instr_examples.proofs.Common.{IsOrderly, constant, variable, struct, taking, final_type, plain, funcref, AbstractHeapType}
+use Rattle.smith_instr_examples.proofs.Common.{Concrete, RefType, ValType, I32, I64, Ref, CompositeInnerType, Array, Func, I8, Val, SubType}
+use Rattle.smith_instr_examples.proofs.Common.{IsBelow-trans, below_abstract, below_kind, by_cases_from_below, kind, IsFuncAt, IsStructAt}
+use Rattle.smith_instr_examples.proofs.Common.{IsArrayAt, FuncType, IsRefValid, IsFunctionTable, IsElemOf, IsRefBelow-refl, functions}
+use Rattle.smith_instr_examples.proofs.Common.{some_func, managed, managed_types, narrows, anything, something, wide_functions}
 use Rattle.smith_syntax.specs.declared.value_type.AbstractHeapType.TheVariants as heap
 
 none_above : (inners : List CompositeInnerType) (i : ℕ) (t : SubType) → slice_get (map final_type inners) i ≡ Some t → t.supertype ≡ None
@@ -11,15 +17,22 @@ all_orderly : (inners : List CompositeInnerType) → IsOrderly (map final_type i
 all_orderly inners = record { under = λ i s t at is. let never : None ≡ Some s = sym (none_above inners i t at) ∙ is in cc }
 
 pub orderly : IsOrderly managed_types
-orderly = all_orderly (struct (constant I8 ∷ variable (Val I64) ∷ []) ∷ struct (constant (Val some_func) ∷ []) ∷ Array (record { 0 = variable (Val I32) }) ∷ Array (record { 0 = constant I8 }) ∷ Array (record { 0 = variable (Val (Ref funcref)) }) ∷ Array (record { 0 = constant (Val some_func) }) ∷ Func narrows ∷ taking (I32 ∷ []) ∷ [])
+orderly = all_orderly (struct (constant I8 ∷ variable (Val I64) ∷ []) ∷ struct (constant (Val some_func) ∷ []) ∷ Array
+    (record { 0 = variable (Val I32) }) ∷ Array (record { 0 = constant I8 }) ∷ Array (record { 0 = variable (Val (Ref funcref)) }) ∷ Array
+    (record { 0 = constant (Val some_func) }) ∷ Func narrows ∷ taking (I32 ∷ []) ∷ [])
 
 -- the struct type of any_struct
 abbrev pub first_struct : SubType
 first_struct = final_type (struct (constant I8 ∷ variable (Val I64) ∷ []))
 
 -- structs are internal references
-pub struct_below : (from to : Bool) → (IsTrue from → IsTrue to) → IsRefBelow managed_types (record { nullable = from; heap_type = Concrete 0 }) (record { nullable = to; heap_type = plain heap.Any })
-struct_below from to both = record { heap = IsBelow-trans managed_types (below_kind managed_types 0 first_struct refl) (below_abstract managed_types false heap.Struct heap.Any refl); nullable = both }
+pub struct_below : (from to : Bool) → (IsTrue from → IsTrue to)
+    → IsRefBelow managed_types (record { nullable = from; heap_type = Concrete 0 }) (record { nullable = to; heap_type = plain heap.Any })
+struct_below from to both = record {
+  heap = IsBelow-trans managed_types (below_kind managed_types 0 first_struct refl)
+      (below_abstract managed_types false heap.Struct heap.Any refl);
+  nullable = both;
+}
 
 pub something_below : IsRefBelow managed_types something anything
 something_below = record { heap = itself; nullable = λ on. refl }
@@ -32,7 +45,8 @@ struct_apart from to other apart below =
     apart (subst (λ (v : SubType). IsTrue (is_abstract_below (kind v) other)) (sym (same_Some first_struct t at)) under)
 
 -- valid references
-pub struct_valid : (labels : List (List ValType)) (results : List ValType) (nullable : Bool) → IsRefValid (managed labels results) (record { nullable = nullable; heap_type = Concrete 0 })
+pub struct_valid : (labels : List (List ValType)) (results : List ValType) (nullable : Bool) → IsRefValid (managed labels results)
+    (record { nullable = nullable; heap_type = Concrete 0 })
 struct_valid labels results nullable = record { heap_type = (refl, omega arith); nullable = λ never. refl }
 
 pub any_valid : (labels : List (List ValType)) (results : List ValType) → IsRefValid (managed labels results) anything
@@ -52,7 +66,8 @@ pub takes_there : IsFuncAt managed_types 7 (record { params = I32 ∷ []; result
 takes_there = (final_type (taking (I32 ∷ [])), refl, refl)
 
 -- there is one function type at an index
-pub func_alone : (types : List SubType) (index : ℕ) (one other : FuncType) → IsFuncAt types index one → IsFuncAt types index other → other ≡ one
+pub func_alone : (types : List SubType) (index : ℕ) (one other : FuncType) → IsFuncAt types index one → IsFuncAt types index other
+    → other ≡ one
 func_alone types index one other (t, at, inner) (u, there, within) =
     let same : t ≡ u = same_Some t u (sym at ∙ there) in
     let is : Func one ≡ Func other = sym inner ∙ (ap (λ (v : SubType). v.composite_type.inner) same ∙ within) in
@@ -63,10 +78,22 @@ narrows_alone function there = func_alone managed_types 6 narrows function narro
 
 -- the tables of functions
 pub narrow_table : (labels : List (List ValType)) (results : List ValType) → IsFunctionTable (managed labels results) 0 false
-narrow_table labels results = record { table = functions; there = refl; addressed = refl; shared = false; of_functions = IsRefBelow-refl managed_types funcref }
+narrow_table labels results = record {
+  table = functions;
+  there = refl;
+  addressed = refl;
+  shared = false;
+  of_functions = IsRefBelow-refl managed_types funcref;
+}
 
 pub wide_table : (labels : List (List ValType)) (results : List ValType) → IsFunctionTable (managed labels results) 2 true
-wide_table labels results = record { table = wide_functions; there = refl; addressed = refl; shared = false; of_functions = IsRefBelow-refl managed_types funcref }
+wide_table labels results = record {
+  table = wide_functions;
+  there = refl;
+  addressed = refl;
+  shared = false;
+  of_functions = IsRefBelow-refl managed_types funcref;
+}
 
 -- the struct and array types
 pub struct_there : IsStructAt managed_types 0 (constant I8 ∷ variable (Val I64) ∷ [])
@@ -84,5 +111,12 @@ references_there = (final_type (Array (record { 0 = variable (Val (Ref funcref))
 pub functions_there : IsArrayAt managed_types 5 (constant (Val some_func))
 functions_there = (final_type (Array (record { 0 = constant (Val some_func) })), refl, refl)
 
-pub element_segment : (labels : List (List ValType)) (results : List ValType) → IsElemOf (managed labels results) 0 (variable (Val (Ref funcref)))
-element_segment labels results = record { held = funcref; there = refl; reference = funcref; of_references = refl; below = IsRefBelow-refl managed_types funcref }
+pub element_segment : (labels : List (List ValType)) (results : List ValType) → IsElemOf (managed labels results) 0
+    (variable (Val (Ref funcref)))
+element_segment labels results = record {
+  held = funcref;
+  there = refl;
+  reference = funcref;
+  of_references = refl;
+  below = IsRefBelow-refl managed_types funcref;
+}

@@ -1,5 +1,11 @@
 -- Sequences of one instruction after another, taken apart.
-use Rattle.smith_instr_examples.proofs.Common.{◌≡◌, ℕ, suc, ◌+◌, ◌<◌, ◌≤◌, Bool, true, false, inl, inr, List, [], ◌∷◌, ◌++◌, length, refl, sym, subst, ap, ◌∙◌, arith, length-append, AllZip, same_Some, All-nil, All-push, IsDefaultable, IsValBelow, itself, ValType, I32, I64, Ref, funcref, usual_features, final_type, Func, BodyContext, labelled, IsValid, AreValid, HasInstrType, Stacked, stacked, CountsAs, IsStep, AreTyped, IsBodyTyped, nothing, step, block, loop, if_alone, if_else, try_table, Instr, one, framed, finished, count_as_themselves, weakens, function_of, some_func, number, add}
+use Rattle.smith_instr_examples.proofs.Common.{◌≡◌, ℕ, suc, ◌+◌, ◌<◌, ◌≤◌, Bool, true, false, inl, inr, List, [], ◌∷◌, ◌++◌, length, refl}
+use Rattle.smith_instr_examples.proofs.Common.{sym, subst, ap, ◌∙◌, arith, length-append, AllZip, same_Some, All-nil, All-push}
+use Rattle.smith_instr_examples.proofs.Common.{IsDefaultable, IsValBelow, itself, ValType, I32, I64, Ref, funcref, usual_features}
+use Rattle.smith_instr_examples.proofs.Common.{final_type, Func, BodyContext, labelled, IsValid, AreValid, HasInstrType, Stacked, stacked}
+use Rattle.smith_instr_examples.proofs.Common.{CountsAs, IsStep, AreTyped, IsBodyTyped, nothing, step, block, loop, if_alone, if_else}
+use Rattle.smith_instr_examples.proofs.Common.{try_table, Instr, one, framed, finished, count_as_themselves, weakens, function_of}
+use Rattle.smith_instr_examples.proofs.Common.{some_func, number, add}
 use Rattle.smith_instr.specs.declared.control.BlockType.TheVariants as blocks
 use Rattle.smith_instr.specs.declared.instr.Instr.TheVariants as instr
 
@@ -11,18 +17,24 @@ is_plain (instr.If ty) = false
 is_plain (instr.TryTable ty clauses) = false
 is_plain _ = true
 
-opens_not : {A : Type 0} (first other : Instr) (xs ys : List Instr) → first ∷ xs ≡ other ∷ ys → is_plain first ≡ true → is_plain other ≡ false → A
+opens_not : {A : Type 0} (first other : Instr) (xs ys : List Instr) → first ∷ xs ≡ other ∷ ys → is_plain first ≡ true
+    → is_plain other ≡ false → A
 opens_not first other xs ys is plain opens = let same : first ≡ other = cc in let never : is_plain other ≡ true = rw same at plain in cc
 
 -- the first step of a sequence that begins with an instruction that opens no block
-pub step_of : {context : BodyContext} {instruction : Instr} {more : List Instr} {a b : Stacked} → is_plain instruction ≡ true → AreTyped context (instruction ∷ more) a b → (between : Stacked) × IsStep context instruction a between × AreTyped context more between b
+pub step_of : {context : BodyContext} {instruction : Instr} {more : List Instr} {a b : Stacked} → is_plain instruction ≡ true
+    → AreTyped context (instruction ∷ more) a b → (between : Stacked) × IsStep context instruction a between
+    × AreTyped context more between b
 unfolding is_plain
 step_of plain (step {between = between} first rest) = (between, first, rest)
 step_of {instruction = i} {more = more} plain (block {ty = ty} is fits inner framed rest) = opens_not i (instr.Block ty) _ _ is plain refl
 step_of {instruction = i} {more = more} plain (loop {ty = ty} is fits inner framed rest) = opens_not i (instr.Loop ty) _ _ is plain refl
-step_of {instruction = i} {more = more} plain (if_alone {ty = ty} is fits inner same framed rest) = opens_not i (instr.If ty) _ _ is plain refl
-step_of {instruction = i} {more = more} plain (if_else {ty = ty} is fits inner last framed rest) = opens_not i (instr.If ty) _ _ is plain refl
-step_of {instruction = i} {more = more} plain (try_table {ty = ty} {clauses = clauses} is fits caught inner framed rest) = opens_not i (instr.TryTable ty clauses) _ _ is plain refl
+step_of {instruction = i} {more = more} plain (if_alone {ty = ty} is fits inner same framed rest) =
+    opens_not i (instr.If ty) _ _ is plain refl
+step_of {instruction = i} {more = more} plain (if_else {ty = ty} is fits inner last framed rest) =
+    opens_not i (instr.If ty) _ _ is plain refl
+step_of {instruction = i} {more = more} plain (try_table {ty = ty} {clauses = clauses} is fits caught inner framed rest) =
+    opens_not i (instr.TryTable ty clauses) _ _ is plain refl
 
 pub zip_length : {A B : Type 0} (R : A → B → Type 0) (xs : List A) (ys : List B) → AllZip R xs ys → length xs ≡ length ys
 zip_length R [] [] h = refl
@@ -43,7 +55,8 @@ pub end_height : {context : BodyContext} {a b : Stacked} → AreTyped context []
 end_height {context = context} {a = a} {b = b} end = zip_length (IsValBelow context.types) a.stack b.stack (end_of end).below
 
 -- the height of the stack after a step
-pub height : {context : BodyContext} {instruction : Instr} {a b : Stacked} (s : IsStep context instruction a b) → (length s.operands ≤ length a.stack) × (length b.stack + length s.operands ≡ length a.stack + length s.results)
+pub height : {context : BodyContext} {instruction : Instr} {a b : Stacked} (s : IsStep context instruction a b)
+    → (length s.operands ≤ length a.stack) × (length b.stack + length s.operands ≡ length a.stack + length s.results)
 height {context = context} {a = a} {b = b} s =
     let f = s.framed in
     let taken = zip_length _ f.taken s.operands f.accepted in
@@ -117,7 +130,11 @@ pub nowhere : IsBodyTyped (function_of [] (I32 ∷ [])) (instr.Unreachable ∷ [
 nowhere =
     let context = labelled (function_of [] (I32 ∷ [])) (I32 ∷ []) in
     let valid = valid_one context I32 tt in
-    record { set = []; typed = step (one context instr.Unreachable [] (I32 ∷ []) [] [] [] ([], refl, valid) valid refl) (finished context (I32 ∷ []) [] valid) }
+    record {
+      set = [];
+      typed = step (one context instr.Unreachable [] (I32 ∷ []) [] [] [] ([], refl, valid) valid refl)
+          (finished context (I32 ∷ []) [] valid);
+    }
 
 pub unset : IsBodyTyped (function_of (some_func ∷ []) []) (instr.LocalGet 0 ∷ instr.Drop ∷ []) → ⊥
 unfolding is_plain
@@ -137,7 +154,11 @@ pub defaultable : IsBodyTyped (function_of (I32 ∷ []) (I32 ∷ [])) (instr.Loc
 defaultable =
     let context = labelled (function_of (I32 ∷ []) (I32 ∷ [])) (I32 ∷ []) in
     let valid = valid_one context I32 tt in
-    record { set = []; typed = step (one context (instr.LocalGet 0) [] (I32 ∷ []) [] [] [] (I32, (refl, inr (inl tt)), (refl, refl)) valid refl) (finished context (I32 ∷ []) [] valid) }
+    record {
+      set = [];
+      typed = step (one context (instr.LocalGet 0) [] (I32 ∷ []) [] [] [] (I32, (refl, inr (inl tt)), (refl, refl)) valid
+          refl) (finished context (I32 ∷ []) [] valid);
+    }
 
 pub to_a_block : IsBodyTyped (function_of [] (I32 ∷ [])) (instr.Block (blocks.Value I32) ∷ number 1 ∷ instr.Br 0 ∷ instr.End ∷ [])
 to_a_block =
@@ -149,7 +170,8 @@ to_a_block =
       set = [];
       typed = block {body = number 1 ∷ instr.Br 0 ∷ []} {more = []} refl (tt, refl, refl)
           (step (one inside (number 1) [] (I32 ∷ []) [] [] [] (refl, refl) valid_inside refl)
-          (step (one inside (instr.Br 0) (I32 ∷ []) (I32 ∷ []) [] [] [] (I32 ∷ [], refl, ([], refl, valid_inside)) valid_inside refl) (finished inside (I32 ∷ []) [] valid_inside)))
+          (step (one inside (instr.Br 0) (I32 ∷ []) (I32 ∷ []) [] [] [] (I32 ∷ [], refl, ([], refl, valid_inside)) valid_inside refl)
+          (finished inside (I32 ∷ []) [] valid_inside)))
           (framed context [] (I32 ∷ []) [] [] [] [] valid refl) (finished context (I32 ∷ []) [] valid);
     }
 
@@ -169,7 +191,8 @@ other_end [] is = cc
 other_end (x ∷ []) is = cc
 other_end (x ∷ y ∷ below) is = cc
 
-pub to_another_label : (context : BodyContext) (results : List ValType) → HasInstrType (labelled context (I64 ∷ [])) [] (instr.Br 0) (I32 ∷ []) results → ⊥
+pub to_another_label : (context : BodyContext) (results : List ValType) → HasInstrType (labelled context (I64 ∷ [])) [] (instr.Br 0)
+    (I32 ∷ []) results → ⊥
 to_another_label context results typed =
     let (taken, at, (below, is, valid)) = typed in
     let same : taken ≡ I64 ∷ [] = sym (same_Some (I64 ∷ []) taken at) in
@@ -183,7 +206,8 @@ if_without_else =
     record {
       set = [];
       typed = step (one context (number 1) [] (I32 ∷ []) [] [] [] (refl, refl) (valid_one context I32 tt) refl)
-          (if_alone {body = []} {more = []} {params = []} {results = []} refl (refl, refl) (finished inside [] [] (valid_none inside)) (count_as_themselves context [] valid)
+          (if_alone {body = []} {more = []} {params = []} {results = []} refl (refl, refl) (finished inside [] [] (valid_none inside))
+          (count_as_themselves context [] valid)
           (framed context (I32 ∷ []) [] [] [] [] [] valid refl) (finished context [] [] valid));
     }
 
@@ -197,18 +221,23 @@ weakened context is = record { below = (record { heap = itself; nullable = λ is
 pub to_above : AreTyped (function_of [] []) [] (stacked (some_func ∷ []) []) (stacked (Ref funcref ∷ []) [])
 to_above = nothing (weakened (function_of [] []) refl) refl
 
-pub by_a_block : AreTyped (function_of [] []) (instr.Block (blocks.Func 4) ∷ instr.End ∷ []) (stacked (some_func ∷ []) []) (stacked (Ref funcref ∷ []) [])
+pub by_a_block : AreTyped (function_of [] []) (instr.Block (blocks.Func 4) ∷ instr.End ∷ []) (stacked (some_func ∷ []) [])
+    (stacked (Ref funcref ∷ []) [])
 by_a_block =
     let context = function_of [] [] in
     let valid = funcref_valid context refl in
-    block {body = []} {more = []} {params = some_func ∷ []} {results = Ref funcref ∷ []} refl (weakens, (final_type (Func weakens), refl, refl), refl, refl)
-    (nothing (weakened (labelled context (Ref funcref ∷ [])) refl) refl) (framed context (some_func ∷ []) (Ref funcref ∷ []) [] [] [] [] valid refl) (finished context (Ref funcref ∷ []) [] valid)
+    block {body = []} {more = []} {params = some_func ∷ []} {results = Ref funcref ∷ []} refl
+    (weakens, (final_type (Func weakens), refl, refl), refl, refl)
+    (nothing (weakened (labelled context (Ref funcref ∷ [])) refl) refl) (framed context (some_func ∷ []) (Ref funcref ∷ []) [] [] [] []
+    valid refl) (finished context (Ref funcref ∷ []) [] valid)
 
-pub by_an_if : AreTyped (function_of [] []) (instr.If (blocks.Func 4) ∷ instr.End ∷ []) (stacked (some_func ∷ I32 ∷ []) []) (stacked (Ref funcref ∷ []) [])
+pub by_an_if : AreTyped (function_of [] []) (instr.If (blocks.Func 4) ∷ instr.End ∷ []) (stacked (some_func ∷ I32 ∷ []) [])
+    (stacked (Ref funcref ∷ []) [])
 by_an_if =
     let context = function_of [] [] in
     let valid = funcref_valid context refl in
-    if_alone {body = []} {more = []} {params = some_func ∷ []} {results = Ref funcref ∷ []} refl (weakens, (final_type (Func weakens), refl, refl), refl, refl)
+    if_alone {body = []} {more = []} {params = some_func ∷ []} {results = Ref funcref ∷ []} refl
+    (weakens, (final_type (Func weakens), refl, refl), refl, refl)
     (nothing (weakened (labelled context (Ref funcref ∷ [])) refl) refl) (weakened context refl)
     (framed context (some_func ∷ I32 ∷ []) (Ref funcref ∷ []) [] [] [] [] valid refl) (finished context (Ref funcref ∷ []) [] valid)
 
@@ -224,6 +253,8 @@ set_before =
       set = 0 ∷ [];
       typed = step (one context instr.Unreachable [] (some_func ∷ []) [] [] [] ([], refl, valid) valid refl)
           (step (one context (instr.LocalSet 0) (some_func ∷ []) [] [] [] (0 ∷ []) (some_func, refl, (refl, refl)) none refl)
-          (step (one context (instr.LocalGet 0) [] (some_func ∷ []) [] (0 ∷ []) (0 ∷ []) (some_func, (refl, inr (inr (0, omega arith, refl))), (refl, refl)) valid refl)
-          (step (one context instr.Drop (some_func ∷ []) [] [] (0 ∷ []) (0 ∷ []) (some_func, (refl, refl)) none refl) (finished context [] (0 ∷ []) none))));
+          (step (one context (instr.LocalGet 0) [] (some_func ∷ []) [] (0 ∷ []) (0 ∷ [])
+          (some_func, (refl, inr (inr (0, omega arith, refl))), (refl, refl)) valid refl)
+          (step (one context instr.Drop (some_func ∷ []) [] [] (0 ∷ []) (0 ∷ []) (some_func, (refl, refl)) none refl)
+          (finished context [] (0 ∷ []) none))));
     }

@@ -12,7 +12,13 @@ use Rattle.smith_instr.specs.declared.instr.Instr.TheVariants as instr
 use Rattle.smith_instr.specs.declared.numeric.NumericInstr.TheVariants as numeric
 use Rattle.smith_instr.specs.declared.reference.ReferenceInstr.TheVariants as reference
 use Rattle.smith_instr.specs.declared.table.TableInstr.TheVariants as table
-use Rattle.smith_instr_examples.proofs.Common.{◌≡◌, ℕ, ◌<◌, Bool, true, false, List, [], ◌∷◌, None, refl, sym, subst, ap, ◌∙◌, arith, slice_get, same_Some, All-from_recursion, All-head, AllZip, itself, IsRefBelow, IsValBelow, below_kind, by_cases_from_below, reference_to, plain, Abstract, Concrete, SubType, ValType, F32, F64, I32, I64, V128, Ref, funcref, final_type, taking, nullable_to, BodyContext, labelled, IsValid, AreValid, stacked, CountsAs, AreTyped, IsBodyTyped, step, one, finished, function_of, functions, number, some_func, wide_number, managed, managed_types, anything, any_struct}
+use Rattle.smith_instr_examples.proofs.Common.{◌≡◌, ℕ, ◌<◌, Bool, true, false, List, [], ◌∷◌, None, refl, sym, subst, ap, ◌∙◌, arith}
+use Rattle.smith_instr_examples.proofs.Common.{slice_get, same_Some, All-from_recursion, All-head, AllZip, itself, IsRefBelow, IsValBelow}
+use Rattle.smith_instr_examples.proofs.Common.{below_kind, by_cases_from_below, reference_to, plain, Abstract, Concrete, SubType, ValType}
+use Rattle.smith_instr_examples.proofs.Common.{F32, F64, I32, I64, V128, Ref, funcref, final_type, taking, nullable_to, BodyContext}
+use Rattle.smith_instr_examples.proofs.Common.{labelled, IsValid, AreValid, stacked, CountsAs, AreTyped, IsBodyTyped, step, one, finished}
+use Rattle.smith_instr_examples.proofs.Common.{function_of, functions, number, some_func, wide_number, managed, managed_types, anything}
+use Rattle.smith_instr_examples.proofs.Common.{any_struct}
 use Rattle.smith_instr_examples.proofs.ManagedExamples.{first_struct, orderly}
 use Rattle.smith_instr_examples.proofs.PassedLemmas.{one_above, passed}
 use Rattle.smith_instr_examples.proofs.SequenceExamples.{is_plain, step_of, end_of, funcref_valid, valid_none, valid_one}
@@ -33,26 +39,39 @@ created_valid = (refl, record { heap_type = (refl, omega arith); nullable = λ n
 pub tested : IsBodyTyped (function_of [] []) (instr.Reference (reference.Func 1) ∷ instr.Reference reference.IsNull ∷ instr.Drop ∷ [])
 tested =
     let none = valid_none here in
-    let counts : CountsAs here (created ∷ []) (Ref funcref ∷ []) = record { below = (created_below, tt); valid = funcref_valid here refl } in
+    let counts : CountsAs here (created ∷ []) (Ref funcref ∷ []) =
+    record { below = (created_below, tt); valid = funcref_valid here refl } in
     record {
       set = [];
-      typed = step (one here (instr.Reference (reference.Func 1)) [] (created ∷ []) [] [] [] (1, refl, (0, omega arith, refl), (refl, refl)) (valid_one here created created_valid) refl)
+      typed = step (one here (instr.Reference (reference.Func 1)) [] (created ∷ []) [] [] [] (1, refl, (0, omega arith, refl), (refl, refl))
+          (valid_one here created created_valid) refl)
           (from_below (created ∷ []) counts
-          (step (one here (instr.Reference reference.IsNull) (Ref funcref ∷ []) (I32 ∷ []) [] [] [] (plain heap.Func, (tt, λ never. cc), (refl, refl)) (valid_one here I32 tt) refl)
+          (step (one here (instr.Reference reference.IsNull) (Ref funcref ∷ []) (I32 ∷ []) [] [] [] (
+            plain heap.Func,
+            (tt, λ never. cc),
+            (refl, refl),
+          ) (valid_one here I32 tt) refl)
           (step (one here instr.Drop (I32 ∷ []) [] [] [] [] (I32, (refl, refl)) none refl) (finished here [] [] none))));
     }
 
 pub written : IsBodyTyped (function_of [] []) (number 0 ∷ instr.Reference (reference.Func 1) ∷ instr.Table (table.Set 0) ∷ [])
 written =
     let none = valid_none here in
-    let both = All-from_recursion (IsValid here) (I32 ∷ Ref funcref ∷ []) (tt, ((refl, record { heap_type = (tt, λ never. cc); nullable = λ is. cc }), tt)) in
+    let both = All-from_recursion (IsValid here) (I32 ∷ Ref funcref ∷ [])
+    (tt, ((refl, record { heap_type = (tt, λ never. cc); nullable = λ is. cc }), tt)) in
     let counts : CountsAs here (I32 ∷ created ∷ []) (I32 ∷ Ref funcref ∷ []) = record { below = (tt, (created_below, tt)); valid = both } in
     record {
       set = [];
       typed = step (one here (number 0) [] (I32 ∷ []) [] [] [] (refl, refl) (valid_one here I32 tt) refl)
-          (step (one here (instr.Reference (reference.Func 1)) [] (created ∷ []) (I32 ∷ []) [] [] (1, refl, (0, omega arith, refl), (refl, refl)) (valid_one here created created_valid) refl)
+          (step (one here (instr.Reference (reference.Func 1)) [] (created ∷ []) (I32 ∷ []) [] [] (
+            1,
+            refl,
+            (0, omega arith, refl),
+            (refl, refl),
+          ) (valid_one here created created_valid) refl)
           (from_below (I32 ∷ created ∷ []) counts
-          (step (one here (instr.Table (table.Set 0)) (I32 ∷ Ref funcref ∷ []) [] [] [] [] (functions, refl, (refl, refl)) none refl) (finished here [] [] none))));
+          (step (one here (instr.Table (table.Set 0)) (I32 ∷ Ref funcref ∷ []) [] [] [] [] (functions, refl, (refl, refl)) none refl)
+          (finished here [] [] none))));
     }
 
 pub too_wide : IsBodyTyped (function_of [] []) (wide_number 0 ∷ instr.Numeric numeric.I32Eqz ∷ instr.Drop ∷ []) → ⊥
@@ -62,7 +81,8 @@ too_wide body =
     let (b, second, rest) = step_of refl more in
     passed first.framed second.framed I64 I32 [] first.typed.1 second.typed.0
 
-pub null_set : IsBodyTyped (function_of (some_func ∷ []) []) (instr.Reference (reference.Null (plain heap.Func)) ∷ instr.LocalSet 0 ∷ []) → ⊥
+pub null_set : IsBodyTyped (function_of (some_func ∷ []) []) (instr.Reference (reference.Null (plain heap.Func)) ∷ instr.LocalSet 0 ∷ [])
+    → ⊥
 unfolding is_plain
 null_set body =
     let (a, first, more) = step_of refl body.typed in
@@ -74,13 +94,15 @@ null_set body =
     let never : ◌≡◌ {A = Bool} false true = under.nullable refl in
     cc
 
-pub any_read : IsBodyTyped (managed [] []) (instr.Reference (reference.Null (plain heap.Any)) ∷ instr.Aggregate (aggregate.StructGet 0 1 extension.Unpacked) ∷ instr.Drop ∷ []) → ⊥
+pub any_read : IsBodyTyped (managed [] []) (instr.Reference (reference.Null (plain heap.Any)) ∷ instr.Aggregate
+    (aggregate.StructGet 0 1 extension.Unpacked) ∷ instr.Drop ∷ []) → ⊥
 unfolding is_plain
 any_read body =
     let (a, first, more) = step_of refl body.typed in
     let (b, second, rest) = step_of refl more in
     let (field, there, reads, is) = second.typed in
-    let below : IsRefBelow managed_types anything any_struct = passed first.framed second.framed (Ref anything) (Ref any_struct) [] first.typed.1.1 is.0 in
+    let below : IsRefBelow managed_types anything any_struct = passed first.framed second.framed (Ref anything) (Ref any_struct) []
+    first.typed.1.1 is.0 in
     let (t, at, shares, bottoms) = by_cases_from_below managed_types orderly (plain heap.Any) (Concrete 0) below.heap in
     let same : t ≡ first_struct = sym (same_Some first_struct t at) in
     let never : heap.Any ≡ heap.None = bottoms ∙ ap bottom same in
@@ -119,5 +141,6 @@ none_read body =
     let same : value ≡ nullable_to (Concrete 5) = sym (same_Some (nullable_to (Concrete 5)) value at) in
     let results : first.results ≡ nullable_to (Concrete 5) ∷ [] = is.1 ∙ ap (λ (v : ValType). v ∷ []) same in
     let f = first.framed in
-    let (left, leaves, up) = one_above here.types (nullable_to (Concrete 5)) f.given (subst (λ (xs : List ValType). AllZip (IsValBelow here.types) xs f.given) results f.offered.below) in
+    let (left, leaves, up) = one_above here.types (nullable_to (Concrete 5)) f.given
+    (subst (λ (xs : List ValType). AllZip (IsValBelow here.types) xs f.given) results f.offered.below) in
     none_above left up (All-head (IsValid here) left [] (subst (AreValid here) leaves f.offered.valid))

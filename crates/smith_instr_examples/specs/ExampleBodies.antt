@@ -49,7 +49,8 @@ weakens = func some_func (Ref funcref)
 abbrev pub function_of : List ValType → List ValType → BodyContext
 function_of locals results = record {
   features = usual_features;
-  types = final_type plain_func ∷ final_type (taking (I32 ∷ [])) ∷ final_type (struct (constant I8 ∷ variable (Val I64) ∷ [])) ∷ final_type (Array (record { 0 = variable (Val I32) })) ∷ final_type (Func weakens) ∷ [];
+  types = final_type plain_func ∷ final_type (taking (I32 ∷ [])) ∷ final_type (struct (constant I8 ∷ variable (Val I64) ∷ [])) ∷ final_type
+      (Array (record { 0 = variable (Val I32) })) ∷ final_type (Func weakens) ∷ [];
   funcs = 0 ∷ 1 ∷ [];
   imported_funcs = 0;
   tables = functions ∷ [];

@@ -9,6 +9,8 @@ use Rattle.smith_syntax.specs.declared.const_instr.ConstInstr.{ConstInstr}
 use Rattle.smith_types.proofs.ExpressionGrowthLemmas.{IsConstExpr-grown}
 use Rattle.smith_module_rules.specs.Module.{IsTableInitialised}
 
-pub IsTableInitialised-grown : (old new : Context) → IsContextGrown old new → (table : TableType) (initial : Option (List ConstInstr)) → IsTableInitialised old table initial → IsTableInitialised new table initial
+pub IsTableInitialised-grown : (old new : Context) → IsContextGrown old new → (table : TableType) (initial : Option (List ConstInstr))
+    → IsTableInitialised old table initial → IsTableInitialised new table initial
 IsTableInitialised-grown old new grown table None h = h
-IsTableInitialised-grown old new grown table (Some expression) (gc, h) = (rw grown.features gc, IsConstExpr-grown old new grown (Ref table.element_type) expression h)
+IsTableInitialised-grown old new grown table (Some expression) (gc, h) =
+    (rw grown.features gc, IsConstExpr-grown old new grown (Ref table.element_type) expression h)

@@ -1,13 +1,16 @@
 -- Numbers that are inserted one by one into a list in ascending order.
-use Rattle.std.proofs.Common.{arith, ◌≡◌, ◌⊎◌, inl, inr, ℕ, zero, suc, ◌+◌, ◌-◌, ◌<◌, ◌≤◌, List, [], ◌∷◌, ◌++◌, length, get_or, refl, sym, subst, ap, ◌∙◌}
+use Rattle.std.proofs.Common.{arith, ◌≡◌, ◌⊎◌, inl, inr, ℕ, zero, suc, ◌+◌, ◌-◌, ◌<◌, ◌≤◌, List, [], ◌∷◌, ◌++◌, length, get_or, refl, sym}
+use Rattle.std.proofs.Common.{subst, ap, ◌∙◌}
 use Rattle.std.specs.Prelude.{take, drop, Ok, Err}
 use Rattle.std.specs.List.{All, AllPairs, Contains}
 use Rattle.std.specs.List.Sorted.{IsBinarySearchResult, IsStrictlyIncreasing}
 use Rattle.std.specs.Ordering.{nat_cmp}
 use Rattle.std.proofs.lemmas.Bool.{cases_eq}
 use Rattle.std.proofs.lemmas.List.Sorted.{searched}
-use Rattle.std.proofs.lemmas.List.{append_assoc, append-nil, take_all, take_more, length-drop, length-take-le, get_or-take, get_or-drop, get_or_default, take-append-drop, drop-drop}
-use Rattle.std.proofs.lemmas.List.Elements.{All-nil, All-cons, All-append, All-weaker, All-contains, All-contains_itself, Contains-append_left, Contains-append_right, Contains-append_cases, Contains-push_cases}
+use Rattle.std.proofs.lemmas.List.{append_assoc, append-nil, take_all, take_more, length-drop, length-take-le, get_or-take, get_or-drop}
+use Rattle.std.proofs.lemmas.List.{get_or_default, take-append-drop, drop-drop}
+use Rattle.std.proofs.lemmas.List.Elements.{All-nil, All-cons, All-append, All-weaker, All-contains, All-contains_itself}
+use Rattle.std.proofs.lemmas.List.Elements.{Contains-append_left, Contains-append_right, Contains-append_cases, Contains-push_cases}
 use Rattle.std.proofs.lemmas.List.Kept.{AllPairs-cons, AllPairs-from_increasing}
 use Rattle.smith_module_rules.specs.CollectedValues.{IsSortedSet, IsPlaceOf, IsInserted}
 
@@ -53,7 +56,8 @@ rises_left : (xs ys : List ℕ) → Rises (xs ++ ys) → Rises xs
 rises_left [] ys rises = λ i j d before within. absurd (omega arith)
 rises_left (x ∷ xs) ys rises =
     AllPairs-cons (λ a b. a < b) x xs
-    (all_of (λ y. x < y) xs (λ y inside. All-contains (λ y. x < y) (xs ++ ys) y (first_below x (xs ++ ys) rises) (Contains-append_left xs ys y inside)))
+    (all_of (λ y. x < y) xs (λ y inside. All-contains (λ y. x < y) (xs ++ ys) y (first_below x (xs ++ ys) rises)
+    (Contains-append_left xs ys y inside)))
     (rises_left xs ys (rises_tail x (xs ++ ys) rises))
 
 rises_right : (xs ys : List ℕ) → Rises (xs ++ ys) → Rises ys
@@ -63,7 +67,8 @@ rises_right (x ∷ xs) ys rises = rises_right xs ys (rises_tail x (xs ++ ys) ris
 rises_across : (xs ys : List ℕ) → Rises (xs ++ ys) → AreBelow xs ys
 rises_across [] ys rises = λ x y inside other. absurd (omega (arith, inside.1))
 rises_across (x ∷ xs) ys rises = λ a b inside other. elim (one_of x xs a inside) [
-  | inl same ↦ subst (λ n. n < b) same (All-contains (λ y. x < y) (xs ++ ys) b (first_below x (xs ++ ys) rises) (Contains-append_right xs ys b other))
+  | inl same ↦ subst (λ n. n < b) same (All-contains (λ y. x < y) (xs ++ ys) b (first_below x (xs ++ ys) rises)
+      (Contains-append_right xs ys b other))
   | inr more ↦ rises_across xs ys (rises_tail x (xs ++ ys) rises) a b more other
 ]
 
@@ -77,14 +82,16 @@ rises_joined (x ∷ xs) ys left right across =
 all_at : (P : ℕ → Type 0) (xs : List ℕ) → ((k : ℕ) → k < length xs → P (get_or xs k 0)) → All P xs
 all_at P xs each k d within = subst P (get_or_default xs k 0 d within) (each k within)
 
-not_falling : (numbers : List ℕ) → IsStrictlyIncreasing numbers → (i j : ℕ) → i ≤ j → j < length numbers → get_or numbers i 0 ≤ get_or numbers j 0
+not_falling : (numbers : List ℕ) → IsStrictlyIncreasing numbers → (i j : ℕ) → i ≤ j → j < length numbers
+    → get_or numbers i 0 ≤ get_or numbers j 0
 not_falling numbers ascending i j before within = elim (cases_eq i j) [
   | inl same ↦ omega (arith, ap (λ k. get_or numbers k 0) same)
   | inr apart ↦ let less = rises_from numbers ascending i j 0 (omega arith) within in omega arith
 ]
 
 -- the result of a binary search
-pub place_found : (numbers : List ℕ) (number at : ℕ) → IsStrictlyIncreasing numbers → IsBinarySearchResult (λ y. nat_cmp y number) numbers (Ok at)
+pub place_found : (numbers : List ℕ) (number at : ℕ) → IsStrictlyIncreasing numbers → IsBinarySearchResult (λ y. nat_cmp y number) numbers
+    (Ok at)
     → IsPlaceOf numbers number at (at + 1)
 place_found numbers number at ascending found =
     let (inside, same) = searched numbers number (Ok at) found (not_falling numbers ascending) in record {
@@ -95,7 +102,8 @@ place_found numbers number at ascending found =
       above = λ k from within. subst (λ n. n < get_or numbers k 0) same (rises_from numbers ascending at k 0 (omega arith) within);
     }
 
-pub place_missing : (numbers : List ℕ) (number at : ℕ) → IsStrictlyIncreasing numbers → IsBinarySearchResult (λ y. nat_cmp y number) numbers (Err at)
+pub place_missing : (numbers : List ℕ) (number at : ℕ) → IsStrictlyIncreasing numbers → IsBinarySearchResult (λ y. nat_cmp y number) numbers
+    (Err at)
     → IsPlaceOf numbers number at at
 place_missing numbers number at ascending found =
     let (fits, below, above) = searched numbers number (Err at) found (not_falling numbers ascending) in record {
@@ -112,15 +120,18 @@ pub put : (made rest : List ℕ) (number before after : ℕ) (new left : List �
 put made rest number before after new left place is_left is_new = record {
   front = take before rest;
   same = middle;
-  parts = sym (take-append-drop before rest) ∙ ap (λ xs. take before rest ++ xs) (sym (take-append-drop (after - before) (drop before rest)) ∙ ap (λ xs. middle ++ xs) onward);
+  parts = sym (take-append-drop before rest) ∙ ap (λ xs. take before rest ++ xs) (sym (take-append-drop (after - before) (drop before rest))
+      ∙ ap (λ xs. middle ++ xs) onward);
   below = all_at (λ x. x < number) (take before rest) (λ k within.
       let inside : k < before = omega (arith, length-take-le before rest fits) in
       subst (λ n. n < number) (sym (get_or-take before rest k 0 inside)) (place.below k inside));
   is = all_at (λ x. x ≡ number) middle (λ k within.
       let inside : k < after - before = omega (arith, length-take-le (after - before) (drop before rest) long) in
-      get_or-take (after - before) (drop before rest) k 0 inside ∙ get_or-drop before rest k 0 ∙ place.same (before + k) (omega arith) (omega arith));
+      get_or-take (after - before) (drop before rest) k 0 inside ∙ get_or-drop before rest k 0 ∙ place.same (before + k) (omega arith)
+      (omega arith));
   above = subst (All (λ x. number < x)) (sym is_left) (all_at (λ x. number < x) (drop after rest) (λ k within.
-      subst (λ n. number < n) (sym (get_or-drop after rest k 0)) (place.above (after + k) (omega arith) (omega (arith, length-drop after rest)))));
+      subst (λ n. number < n) (sym (get_or-drop after rest k 0))
+      (place.above (after + k) (omega arith) (omega (arith, length-drop after rest)))));
   longer = is_new ∙ append_assoc made (take before rest) (number ∷ []);
 }
   where
@@ -160,7 +171,8 @@ pub merging_goes_on : (constants near : List ℕ) (k : ℕ) (made rest new left 
 merging_goes_on constants near k made rest new left near_rises inside merging put = record {
   rises = subst Rises (sym whole) (rises_joined made (front ++ number ∷ left) (rises_left made tail rises)
       (rises_joined front (number ∷ left) (rises_left front (put.same ++ left) tail_rises)
-      (AllPairs-cons (λ a b. a < b) number left put.above (rises_right put.same left (rises_right front (put.same ++ left) tail_rises))) front_below) made_below);
+      (AllPairs-cons (λ a b. a < b) number left put.above (rises_right put.same left (rises_right front (put.same ++ left) tail_rises)))
+      front_below) made_below);
   keeps = λ n there. subst (λ xs. Contains xs n) (sym whole) (keeps n there);
   adds_none = λ n there. adds_none n (subst (λ xs. Contains xs n) whole there);
   below = λ j from within. subst (All (λ x. x < get_or near j 0)) (sym put.longer)
@@ -180,7 +192,8 @@ merging_goes_on constants near k made rest new left near_rises inside merging pu
     tail = front ++ (put.same ++ left)
 
     whole : new ++ left ≡ made ++ (front ++ number ∷ left)
-    whole = ap (λ xs. xs ++ left) put.longer ∙ append_assoc made (front ++ number ∷ []) left ∙ ap (λ xs. made ++ xs) (append_assoc front (number ∷ []) left)
+    whole = ap (λ xs. xs ++ left) put.longer ∙ append_assoc made (front ++ number ∷ []) left ∙ ap (λ xs. made ++ xs)
+        (append_assoc front (number ∷ []) left)
 
     rises : Rises (made ++ tail)
     rises = subst (λ xs. Rises (made ++ xs)) put.parts merging.rises
@@ -202,7 +215,8 @@ merging_goes_on constants near k made rest new left near_rises inside merging pu
       | inl early ↦ rises_across made tail rises x y first (Contains-append_left front (put.same ++ left) y early)
       | inr late ↦ elim (one_of number left y late) [
         | inl same ↦ subst (λ n. x < n) same (All-contains (λ a. a < number) made x (merging.below k (omega arith) inside) first)
-        | inr more ↦ rises_across made tail rises x y first (Contains-append_right front (put.same ++ left) y (Contains-append_right put.same left y more))
+        | inr more ↦ rises_across made tail rises x y first (Contains-append_right front (put.same ++ left) y
+            (Contains-append_right put.same left y more))
       ]
     ]
 
@@ -218,25 +232,31 @@ merging_goes_on constants near k made rest new left near_rises inside merging pu
       | inr second ↦ elim (Contains-append_cases front (put.same ++ left) n second) [
         | inl early ↦ placed n (Contains-append_left front (number ∷ left) n early)
         | inr late ↦ elim (Contains-append_cases put.same left n late) [
-          | inl same ↦ placed n (Contains-append_right front (number ∷ left) n (subst (Contains (number ∷ left)) (sym (All-contains (λ x. x ≡ number) put.same n put.is same)) (here number left)))
+          | inl same ↦ placed n
+              (Contains-append_right front (number ∷ left) n
+              (subst (Contains (number ∷ left)) (sym (All-contains (λ x. x ≡ number) put.same n put.is same)) (here number left)))
           | inr more ↦ placed n (Contains-append_right front (number ∷ left) n (later number left n more))
         ]
       ]
     ]
 
     keeps : (n : ℕ) → Contains (constants ++ take (k + 1) near) n → Contains (made ++ (front ++ number ∷ left)) n
-    keeps n there = elim (Contains-push_cases (constants ++ take k near) number n (subst (λ xs. Contains xs n) (ap (λ xs. constants ++ xs) more_near ∙ sym (append_assoc constants (take k near) (number ∷ []))) there)) [
-      | inl before ↦ kept n (subst (λ xs. Contains (made ++ xs) n) put.parts (merging.keeps n before))
-      | inr same ↦ placed n (Contains-append_right front (number ∷ left) n (subst (Contains (number ∷ left)) same (here number left)))
-    ]
+    keeps n there = elim (Contains-push_cases (constants ++ take k near) number n
+        (subst (λ xs. Contains xs n) (ap (λ xs. constants ++ xs) more_near ∙ sym (append_assoc constants (take k near) (number ∷ [])))
+        there)) [
+          | inl before ↦ kept n (subst (λ xs. Contains (made ++ xs) n) put.parts (merging.keeps n before))
+          | inr same ↦ placed n (Contains-append_right front (number ∷ left) n (subst (Contains (number ∷ left)) same (here number left)))
+        ]
 
     known : (n : ℕ) → Contains (made ++ tail) n → Contains (constants ++ take (k + 1) near) n
     known n there =
         let before = merging.adds_none n (subst (λ xs. Contains (made ++ xs) n) (sym put.parts) there) in
-        subst (λ xs. Contains xs n) (append_assoc constants (take k near) (number ∷ []) ∙ ap (λ xs. constants ++ xs) (sym more_near)) (Contains-append_left (constants ++ take k near) (number ∷ []) n before)
+        subst (λ xs. Contains xs n) (append_assoc constants (take k near) (number ∷ []) ∙ ap (λ xs. constants ++ xs) (sym more_near))
+        (Contains-append_left (constants ++ take k near) (number ∷ []) n before)
 
     added : Contains (constants ++ take (k + 1) near) number
-    added = Contains-append_right constants (take (k + 1) near) number (subst (λ xs. Contains xs number) (sym more_near) (Contains-append_right (take k near) (number ∷ []) number (here number [])))
+    added = Contains-append_right constants (take (k + 1) near) number (subst (λ xs. Contains xs number) (sym more_near)
+        (Contains-append_right (take k near) (number ∷ []) number (here number [])))
 
     adds_none : (n : ℕ) → Contains (made ++ (front ++ number ∷ left)) n → Contains (constants ++ take (k + 1) near) n
     adds_none n there = elim (Contains-append_cases made (front ++ number ∷ left) n there) [
@@ -245,7 +265,8 @@ merging_goes_on constants near k made rest new left near_rises inside merging pu
         | inl early ↦ known n (Contains-append_right made tail n (Contains-append_left front (put.same ++ left) n early))
         | inr late ↦ elim (one_of number left n late) [
           | inl same ↦ subst (Contains (constants ++ take (k + 1) near)) same added
-          | inr more ↦ known n (Contains-append_right made tail n (Contains-append_right front (put.same ++ left) n (Contains-append_right put.same left n more)))
+          | inr more ↦ known n (Contains-append_right made tail n (Contains-append_right front (put.same ++ left) n
+              (Contains-append_right put.same left n more)))
         ]
       ]
     ]
@@ -260,7 +281,8 @@ merging_ends constants near k made rest ended merging = record {
 }
 
 -- numbers in ascending order, then merged with others
-pub order_after : (others numbers ordered made : List ℕ) → IsSortedSet numbers ordered → IsSortedSet (others ++ ordered) made → IsSortedSet (others ++ numbers) made
+pub order_after : (others numbers ordered made : List ℕ) → IsSortedSet numbers ordered → IsSortedSet (others ++ ordered) made
+    → IsSortedSet (others ++ numbers) made
 order_after others numbers ordered made first second = record {
   ascending = second.ascending;
   keeps = λ n there. second.keeps n (elim (Contains-append_cases others numbers n there) [

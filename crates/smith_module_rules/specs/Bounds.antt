@@ -1,6 +1,7 @@
 -- Sizes of a module: its type size, and the maximum and minimum of each kind. Rules of this
 -- project.
-use Rattle.std.specs.Prelude.{◌≡◌, ℕ, ◌+◌, ◌≤◌, ◌⊎◌, max, false, ◌||◌, is_some, ⊤, List, [], ◌++◌, Option, option_map, unwrap_or, length, slice_get, sum_by, All, if◌then◌else◌}
+use Rattle.std.specs.Prelude.{◌≡◌, ℕ, ◌+◌, ◌≤◌, ◌⊎◌, max, false, ◌||◌, is_some, ⊤, List, [], ◌++◌, Option, option_map, unwrap_or, length}
+use Rattle.std.specs.Prelude.{slice_get, sum_by, All, if◌then◌else◌}
 use Rattle.std.specs.List.{Contains}
 use Rattle.smith_bytes.specs.declared.error.Count.{Count}
 use Rattle.smith_bytes.specs.declared.error.Count.TheVariants as counts
@@ -128,7 +129,8 @@ of_shapes {A} space config =
 
 -- no more than the configuration and its shapes allow
 pub record KeepsBounds (config : Config) (m : ModuleParts) : Type 0 where
-  pub most : (count : Count) → MaximumApplies config count → count_of m count ≤ max (maximum_of config count) (items_of_shapes config count) + items_of_export_shape config count
+  pub most : (count : Count) → MaximumApplies config count → count_of m count ≤ max (maximum_of config count) (items_of_shapes config count)
+      + items_of_export_shape config count
   pub tables : All (λ table. Contains (of_shapes (λ spaces. spaces.tables) config) table ⊎ IsTableWithin config table) m.tables
   pub memories : All (λ memory. Contains (of_shapes (λ spaces. spaces.memories) config) memory ⊎ IsMemoryWithin config memory) m.memories
   pub type_size : m.type_size ≡ imports_size config m + exports_size config m

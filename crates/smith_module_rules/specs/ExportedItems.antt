@@ -28,7 +28,8 @@ abbrev pub every_item : EntitySpaces → List Item
 every_item spaces =
     numbered_from kind.Func 0 (length spaces.funcs)
     ++ (numbered_from kind.Table 0 (length spaces.tables)
-    ++ (numbered_from kind.Memory 0 (length spaces.memories) ++ (numbered_from kind.Global 0 (length spaces.globals) ++ numbered_from kind.Tag 0 (length spaces.tags))))
+    ++ (numbered_from kind.Memory 0 (length spaces.memories) ++ (numbered_from kind.Global 0 (length spaces.globals) ++ numbered_from
+    kind.Tag 0 (length spaces.tags))))
 
 -- every item is exported, in this order, each once
 abbrev pub AreAllExported : EntitySpaces → List (List ℕ × ExportKind × ℕ) → Type 0

@@ -1,6 +1,7 @@
 -- The numbers that tests of a module should try first, since code often handles them wrongly. The
 -- choice is a rule of this project. The numbers have 64 bits, read without sign.
-use Rattle.std.specs.Prelude.{◌≡◌, ◌⊎◌, ℕ, ◌+◌, ◌-◌, ◌*◌, ◌^◌, ◌<◌, Bool, true, false, List, [], ◌∷◌, Option, option_to_list, min, if◌then◌else◌}
+use Rattle.std.specs.Prelude.{◌≡◌, ◌⊎◌, ℕ, ◌+◌, ◌-◌, ◌*◌, ◌^◌, ◌<◌, Bool, true, false, List, [], ◌∷◌, Option, option_to_list, min}
+use Rattle.std.specs.Prelude.{if◌then◌else◌}
 use Rattle.std.specs.List.{All, Any, Contains}
 use Rattle.std.specs.List.Sorted.{IsStrictlyIncreasing}
 use Rattle.smith_types.specs.Entities.{page_log2}
@@ -53,7 +54,8 @@ bytes_of memory pages = min (pages * 2 ^ page_log2 memory.page_size_log2) (2 ^ 6
 -- a limit of a memory in bytes, or a small power of two more or less
 abbrev pub IsNearMemory : ℕ → MemoryType → Type 0
 IsNearMemory n memory =
-    Any (λ pages. (n ≡ bytes_of memory pages) ⊎ Any (λ distance. (n ≡ bytes_of memory pages + distance) ⊎ (n + distance ≡ bytes_of memory pages)) (1 ∷ 2 ∷ 4 ∷ 8 ∷ 16 ∷ []))
+    Any (λ pages. (n ≡ bytes_of memory pages) ⊎ Any (λ distance. (n ≡ bytes_of memory pages + distance)
+    ⊎ (n + distance ≡ bytes_of memory pages)) (1 ∷ 2 ∷ 4 ∷ 8 ∷ 16 ∷ []))
     (limits_of memory.minimum memory.maximum)
 
 -- the reason why a number is interesting with these tables and memories

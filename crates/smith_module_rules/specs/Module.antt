@@ -119,7 +119,8 @@ IsTableInitialised context table (Some expression) = IsTrue context.features.gc 
 -- a definition of a table (Validation, Tables)
 abbrev pub IsTableDefined : ModuleParts → ℕ → Option (List ConstInstr) → Type 0
 IsTableDefined m place initial =
-    (table : TableType) × (slice_get m.tables (length (module_imports m).tables + place) ≡ Some table) × IsTableInitialised (table_context m) table initial
+    (table : TableType) × (slice_get m.tables (length (module_imports m).tables + place) ≡ Some table)
+    × IsTableInitialised (table_context m) table initial
 
 -- a definition of a global, which holds its index (Validation, Globals)
 pub record IsGlobalDefined (m : ModuleParts) (place index : ℕ) (initial : List ConstInstr) : Type 0 where
@@ -130,8 +131,10 @@ pub record IsGlobalDefined (m : ModuleParts) (place index : ℕ) (initial : List
 
 -- definitions of tables and globals (Validation, Tables; Globals)
 pub record AreDefinitionsValid (m : ModuleParts) : Type 0 where
-  pub tables : (place : ℕ) (initial : Option (List ConstInstr)) → slice_get m.defined_tables place ≡ Some initial → IsTableDefined m place initial
-  pub globals : (place index : ℕ) (initial : List ConstInstr) → slice_get m.defined_globals place ≡ Some (index, initial) → IsGlobalDefined m place index initial
+  pub tables : (place : ℕ) (initial : Option (List ConstInstr)) → slice_get m.defined_tables place ≡ Some initial
+      → IsTableDefined m place initial
+  pub globals : (place index : ℕ) (initial : List ConstInstr) → slice_get m.defined_globals place ≡ Some (index, initial)
+      → IsGlobalDefined m place index initial
 
 -- each function that is defined has a body (Validation, Functions), and each counter of fuel is a
 -- global that may be one (own rule)

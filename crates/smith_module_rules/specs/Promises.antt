@@ -36,7 +36,8 @@ initial_of (Some expression) = expression ∷ []
 abbrev pub module_expressions : ModuleParts → List (List ConstInstr)
 module_expressions m =
     flat_map initial_of m.defined_tables
-    ++ (map (λ (one : ℕ × List ConstInstr). one.1) m.defined_globals ++ flat_map (λ (segment : ElementSegment). expressions_of segment.items) m.elems)
+    ++ (map (λ (one : ℕ × List ConstInstr). one.1) m.defined_globals ++ flat_map
+    (λ (segment : ElementSegment). expressions_of segment.items) m.elems)
 
 -- all value types of a module, except those of element segments and tables, which are references
 abbrev pub module_values : ModuleParts → List ValType

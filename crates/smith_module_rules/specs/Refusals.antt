@@ -25,7 +25,9 @@ abbrev pub MayLackImports : Config → Type 0
 MayLackImports config =
     (config.max_type_size < 42 * config.min_imports)
     ⊎ ((config.max_tags < config.min_imports)
-    ⊎ ((config.max_funcs < config.min_imports) ⊎ ((config.max_globals < config.min_imports) ⊎ ((config.max_memories < config.min_imports) ⊎ (config.max_tables < config.min_imports)))))
+    ⊎ ((config.max_funcs < config.min_imports)
+    ⊎ ((config.max_globals < config.min_imports)
+    ⊎ ((config.max_memories < config.min_imports) ⊎ (config.max_tables < config.min_imports)))))
 
 -- no table, no memory and no global is required, so that there may be nothing to export
 pub record MayHaveNoExports (config : Config) : Type 0 where
@@ -75,7 +77,8 @@ MayBeUnmet config count = BoundsApply config count × ((0 < minimum_of config co
 -- the exports of a shape, or a module shape, add a memory, or a table
 abbrev pub Brings : Config → Count → Type 0
 Brings config count =
-    (0 < where_given (items_of_exports count) (shapes_of config).exports) ⊎ (0 < where_given (items_of_module_shape count) (shapes_of config).module_shape)
+    (0 < where_given (items_of_exports count) (shapes_of config).exports)
+    ⊎ (0 < where_given (items_of_module_shape count) (shapes_of config).module_shape)
 
 -- the reasons why a module may be out of shape
 abbrev pub MayBeOutOfShape : Config → Why → Type 0

@@ -55,7 +55,8 @@ IsSameType ours theirs one other = one ≡ other
 
 -- the exports of a shape and no other, in order
 abbrev pub KeepsExports : Shape → ModuleParts → Type 0
-KeepsExports shape m = AllZip (IsSameExport (IsSameType m.types (shape_types shape)) (module_spaces m) (shape_spaces shape)) m.exports shape.exports
+KeepsExports shape m = AllZip (IsSameExport (IsSameType m.types (shape_types shape)) (module_spaces m) (shape_spaces shape)) m.exports
+    shape.exports
 
 -- available imports: the types of their shape first, and those of its imports that the bytes pick
 -- and that fit, in order

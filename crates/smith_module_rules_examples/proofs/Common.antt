@@ -1,5 +1,6 @@
 -- The names that these proofs cite, passed on from one place.
-pub use Rattle.std.proofs.Common.{[], ap, arith, false, inl, inr, length, List, negsuc, None, pos, refl, rules, Some, subst, suc, sym, true, zero, ℕ, ◌*◌, ◌++◌, ◌+◌, ◌<◌, ◌^◌, ◌∙◌, ◌∷◌, ◌≡◌, ◌≤◌, ◌⊎◌}
+pub use Rattle.std.proofs.Common.{[], ap, arith, false, inl, inr, length, List, negsuc, None, pos, refl, rules, Some, subst, suc, sym, true}
+pub use Rattle.std.proofs.Common.{zero, ℕ, ◌*◌, ◌++◌, ◌+◌, ◌<◌, ◌^◌, ◌∙◌, ◌∷◌, ◌≡◌, ◌≤◌, ◌⊎◌}
 pub use Rattle.std.proofs.lemmas.Grind.{common_steps}
 pub use Rattle.std.proofs.lemmas.List.Elements.{All-cons, All-from_recursion, All-head, All-nil, All-replicate}
 pub use Rattle.std.proofs.lemmas.List.Folds.{list_any-from_Any}
@@ -22,16 +23,26 @@ pub use Rattle.smith_config.specs.declared.config.Config.{Config}
 pub use Rattle.smith_config.specs.declared.shape.Shape.{Shape}
 pub use Rattle.smith_module_rules.specs.Bounds.{HasEnough}
 pub use Rattle.smith_module_rules.specs.InterestingValues.{bytes_of, float_edges, IsInteresting64, IsNearMemory, IsNearPower, IsNearTable}
-pub use Rattle.smith_module_rules.specs.Module.{AreDefinitionsValid, global_context, IsGlobalDefined, IsTableDefined, IsValid, module_context, module_features, module_imports, module_spaces, module_types, ModuleParts, segment_context, table_context}
+pub use Rattle.smith_module_rules.specs.Module.{AreDefinitionsValid, global_context, IsGlobalDefined, IsTableDefined, IsValid}
+pub use Rattle.smith_module_rules.specs.Module.{module_context, module_features, module_imports, module_spaces, module_types, ModuleParts}
+pub use Rattle.smith_module_rules.specs.Module.{segment_context, table_context}
 pub use Rattle.smith_module_rules.specs.Promises.{HasDistinctImports, HoldsGranted, IsInside}
 pub use Rattle.smith_module_rules.specs.Refusals.{HoldsNonNullable}
 unfoldable pub use Rattle.smith_module_rules.specs.ShapeImports.{is_fitting}
 pub use Rattle.smith_module_rules.specs.ShapesKept.{IsSameExport, IsSameFuncType, IsSameType, KeepsAvailableImports, KeepsExports}
-pub use Rattle.smith_module_rules_examples.specs.ExampleGiven.{counting_after, counting_fuel, counting_once, exported_number, last_byte, null_table, raw_bytes, sixty_elements, three_numbers, without_gc}
-pub use Rattle.smith_module_rules_examples.specs.ExampleModules.{arrays, elements_asked_for, exported_twice, filled_table, group_of, named_imports, null_of_no_null, one_data_segment, one_function, one_memory, one_number, one_of_each, one_table, one_tag, passive_bytes, referring_to, table_after, table_from_a_number, table_from_import, three_arrays, two_elements, two_exports, two_imports, types_together}
-pub use Rattle.smith_module_rules_examples.specs.ExampleParts.{active_data, global, into_a_table, memory, no_function, number, passive_elements, shared_memory, table}
+pub use Rattle.smith_module_rules_examples.specs.ExampleGiven.{counting_after, counting_fuel, counting_once, exported_number, last_byte}
+pub use Rattle.smith_module_rules_examples.specs.ExampleGiven.{null_table, raw_bytes, sixty_elements, three_numbers, without_gc}
+pub use Rattle.smith_module_rules_examples.specs.ExampleModules.{arrays, elements_asked_for, exported_twice, filled_table, group_of}
+pub use Rattle.smith_module_rules_examples.specs.ExampleModules.{named_imports, null_of_no_null, one_data_segment, one_function, one_memory}
+pub use Rattle.smith_module_rules_examples.specs.ExampleModules.{one_number, one_of_each, one_table, one_tag, passive_bytes, referring_to}
+pub use Rattle.smith_module_rules_examples.specs.ExampleModules.{table_after, table_from_a_number, table_from_import, three_arrays}
+pub use Rattle.smith_module_rules_examples.specs.ExampleModules.{two_elements, two_exports, two_imports, types_together}
+pub use Rattle.smith_module_rules_examples.specs.ExampleParts.{active_data, global, into_a_table, memory, no_function, number}
+pub use Rattle.smith_module_rules_examples.specs.ExampleParts.{passive_elements, shared_memory, table}
 pub use Rattle.smith_module_rules_examples.specs.ExampleReferences.{holding_reference, imported_read, refers_to_function, with_references}
-pub use Rattle.smith_module_rules_examples.specs.ExampleShapes.{empty_shape, environment, equal_types, exported, exporting, five_exports, for_exports, for_module, memories_in_and_out, of_equal_types, with_environment}
+pub use Rattle.smith_module_rules_examples.specs.ExampleShapes.{empty_shape, environment, equal_types, exported, exporting, five_exports}
+pub use Rattle.smith_module_rules_examples.specs.ExampleShapes.{for_exports, for_module, memories_in_and_out, of_equal_types}
+pub use Rattle.smith_module_rules_examples.specs.ExampleShapes.{with_environment}
 pub use Rattle.smith_types.proofs.ConstStepLemmas.{number_given}
 pub use Rattle.smith_types.proofs.EachPlaceLemmas.{distinct_alone, each_place, EachFrom}
 pub use Rattle.smith_types.proofs.GroundedLemmas.{grounded_at}

@@ -1,5 +1,7 @@
 -- Numbers that are neither near a power of two nor in a list.
-use Rattle.smith_module_rules_examples.proofs.Common.{◌≡◌, ◌⊎◌, inl, inr, ℕ, zero, suc, ◌+◌, ◌*◌, ◌^◌, ◌<◌, true, false, List, refl, subst, sym, ◌∙◌, arith, nat_eq, All, Any, Contains, list_any, list_any-from_Any, TableType, MemoryType, IsNearPower, float_edges, IsNearTable, IsNearMemory, IsInteresting64}
+use Rattle.smith_module_rules_examples.proofs.Common.{◌≡◌, ◌⊎◌, inl, inr, ℕ, zero, suc, ◌+◌, ◌*◌, ◌^◌, ◌<◌, true, false, List, refl, subst}
+use Rattle.smith_module_rules_examples.proofs.Common.{sym, ◌∙◌, arith, nat_eq, All, Any, Contains, list_any, list_any-from_Any, TableType}
+use Rattle.smith_module_rules_examples.proofs.Common.{MemoryType, IsNearPower, float_edges, IsNearTable, IsNearMemory, IsInteresting64}
 
 power_kind : (i : ℕ) → (2 ^ i ≡ 1) ⊎ ((2 ^ i ≡ 2) ⊎ ((m : ℕ) × (2 ^ i ≡ 4 * m)))
 power_kind zero = inl refl
@@ -42,9 +44,11 @@ pub none_of : {A : Type 0} (P : A → Type 0) (items : List A) → All (λ item.
 none_of P items none (k, item, inside, at, holds) = none k item inside (subst P (sym at) holds)
 
 -- such a number is not interesting unless it is an edge of floating-point numbers or near a limit
-pub not_interesting : (n q : ℕ) (tables : List TableType) (memories : List MemoryType) → n ≡ 4 * q + 1 → 1 < n → n < 2 ^ 56 → nat_eq n n ≡ true
+pub not_interesting : (n q : ℕ) (tables : List TableType) (memories : List MemoryType) → n ≡ 4 * q + 1 → 1 < n → n < 2 ^ 56
+    → nat_eq n n ≡ true
     → list_any (λ other. nat_eq other n) (float_edges 11 52) ≡ false → list_any (λ other. nat_eq other n) (float_edges 8 23) ≡ false
-    → All (λ table. IsNearTable n table → ⊥) tables → All (λ memory. IsNearMemory n memory → ⊥) memories → IsInteresting64 tables memories n → ⊥
+    → All (λ table. IsNearTable n table → ⊥) tables → All (λ memory. IsNearMemory n memory → ⊥) memories → IsInteresting64 tables memories n
+    → ⊥
 not_interesting n q tables memories is low high itself wide narrow no_table no_memory interesting =
     elim interesting.reason [
       | inl edge ↦ not_near_power n q is low (omega (arith, high)) edge

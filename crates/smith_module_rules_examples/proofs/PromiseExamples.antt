@@ -1,5 +1,7 @@
 -- Lemmas for the examples of promises.
-use Rattle.smith_module_rules_examples.proofs.Common.{arith, ◌≡◌, ◌≤◌, [], ◌∷◌, None, pos, refl, sym, subst, same_Some, All-head, funcref, IsElementInside, TableType, Const32, HasDistinctImports, IsInside, table, into_a_table, named_imports, filled_table}
+use Rattle.smith_module_rules_examples.proofs.Common.{arith, ◌≡◌, ◌≤◌, [], ◌∷◌, None, pos, refl, sym, subst, same_Some, All-head, funcref}
+use Rattle.smith_module_rules_examples.proofs.Common.{IsElementInside, TableType, Const32, HasDistinctImports, IsInside, table}
+use Rattle.smith_module_rules_examples.proofs.Common.{into_a_table, named_imports, filled_table}
 
 pub not_distinct : ¬ HasDistinctImports (named_imports [] [])
 not_distinct distinct = let same : 0 ≡ 1 = distinct.once 0 1 ([], []) refl refl in omega (arith, same)

@@ -18,9 +18,11 @@ use Rattle.smith_syntax.specs.declared.code.Code.{Code}
 use Rattle.smith_syntax.specs.declared.code.Instructions.TheVariants.{Arbitrary}
 use Rattle.smith_config.specs.declared.config.Config.{Config}
 use Rattle.smith_config.specs.Config.{default_config}
-use Rattle.smith_config.specs.ExampleMembers.{final, struct_of, taking_a_number, one_of_each_without_gc, nothing_may_be, a_type, bytes_array}
+use Rattle.smith_config.specs.ExampleMembers.{final, struct_of, taking_a_number, one_of_each_without_gc, nothing_may_be, a_type}
+use Rattle.smith_config.specs.ExampleMembers.{bytes_array}
 use Rattle.smith_module_rules.specs.Module.{ModuleParts}
-use Rattle.smith_module_rules_examples.specs.ExampleParts.{memory, shared_memory, table, global, number, import_named, no_function, passive_elements, trapping}
+use Rattle.smith_module_rules_examples.specs.ExampleParts.{memory, shared_memory, table, global, number, import_named, no_function}
+use Rattle.smith_module_rules_examples.specs.ExampleParts.{passive_elements, trapping}
 use Rattle.smith_module_rules_examples.specs.ExampleModules.{empty_module, group_of, types_together, types_apart, two_imports, last_bytes}
 
 -- an array type twice, the second time in a group of its own
@@ -37,10 +39,17 @@ references_array = types_together (final (Array (record { 0 = variable (Val anyr
 
 -- an empty module with both sections, for a configuration that allows nothing
 abbrev pub nothing_allowed : ModuleParts
-nothing_allowed = record (empty_module (record nothing_may_be { max_type_size = 0; max_memory32_bytes = 0; max_memory64_bytes = 0; max_table_elements = 0; const_expr_fuel = 0 })) {
-  encodes_types = true;
-  encodes_imports = true;
-}
+nothing_allowed = record
+    (empty_module (record nothing_may_be {
+      max_type_size = 0;
+      max_memory32_bytes = 0;
+      max_memory64_bytes = 0;
+      max_table_elements = 0;
+      const_expr_fuel = 0;
+    })) {
+      encodes_types = true;
+      encodes_imports = true;
+    }
 
 -- a function with a parameter that is a number, without garbage collection
 abbrev pub without_gc : ModuleParts
@@ -63,7 +72,11 @@ raw_body = record without_gc { config = record one_of_each_without_gc { allow_in
 
 -- the same function, with one global that counts fuel, and with two
 abbrev pub counting_once : ModuleParts
-counting_once = record without_gc { globals = global I32 true ∷ []; defined_globals = (0, I32Const (negsuc 0) ∷ []) ∷ []; fuel_globals = 0 ∷ [] }
+counting_once = record without_gc {
+  globals = global I32 true ∷ [];
+  defined_globals = (0, I32Const (negsuc 0) ∷ []) ∷ [];
+  fuel_globals = 0 ∷ [];
+}
 
 abbrev pub counting_fuel : ModuleParts
 counting_fuel = record without_gc {
@@ -74,7 +87,11 @@ counting_fuel = record without_gc {
 
 -- a global that counts fuel, after two imported numbers
 abbrev pub counting_after : ModuleParts
-counting_after = record two_imports { globals = number ∷ number ∷ global I32 true ∷ []; defined_globals = (2, I32Const (pos 5) ∷ []) ∷ []; fuel_globals = 2 ∷ [] }
+counting_after = record two_imports {
+  globals = number ∷ number ∷ global I32 true ∷ [];
+  defined_globals = (2, I32Const (pos 5) ∷ []) ∷ [];
+  fuel_globals = 2 ∷ [];
+}
 
 -- an import of a number with this name
 abbrev pub number_named : List ℕ → Imports
@@ -103,7 +120,10 @@ memories_one_by_one =
 
 -- a table of this number of references, without an initialiser
 abbrev pub null_table : ℕ → ModuleParts
-null_table minimum = record (empty_module (record default_config { min_tables = 1 })) { tables = table funcref minimum None ∷ []; defined_tables = None ∷ [] }
+null_table minimum = record (empty_module (record default_config { min_tables = 1 })) {
+  tables = table funcref minimum None ∷ [];
+  defined_tables = None ∷ [];
+}
 
 -- a module with this memory only
 abbrev pub memory_alone : Config → MemoryType → ModuleParts
@@ -120,7 +140,13 @@ forced_page = memory_alone (record default_config { disallow_traps = true; max_m
 -- a byte that is copied to the last address of a memory
 abbrev pub last_byte : ModuleParts
 last_byte = record (last_bytes 65536 (42 ∷ [])) {
-  config = record default_config { disallow_traps = true; bulk_memory_enabled = false; min_memories = 1; min_data_segments = 1; max_data_segments = 1 };
+  config = record default_config {
+    disallow_traps = true;
+    bulk_memory_enabled = false;
+    min_memories = 1;
+    min_data_segments = 1;
+    max_data_segments = 1;
+  };
 }
 
 -- a segment of sixty null references

@@ -26,7 +26,8 @@ use Rattle.smith_config.specs.declared.config.Config.{Config}
 use Rattle.smith_config.specs.Config.{default_config}
 use Rattle.smith_config.specs.ExampleMembers.{a_type, bytes_array, plain_function, foo_type, quux_type}
 use Rattle.smith_module_rules.specs.Module.{ModuleParts}
-use Rattle.smith_module_rules_examples.specs.ExampleParts.{memory, shared_memory, table, global, number, import_named, no_function, passive_elements, into_a_table, active_data, trapping}
+use Rattle.smith_module_rules_examples.specs.ExampleParts.{memory, shared_memory, table, global, number, import_named, no_function}
+use Rattle.smith_module_rules_examples.specs.ExampleParts.{passive_elements, into_a_table, active_data, trapping}
 
 -- an empty module
 abbrev pub empty_module : Config → ModuleParts
@@ -103,7 +104,10 @@ two_elements = record (empty_module default_config) { elems = passive_elements (
 
 -- that segment, and one of one reference
 abbrev pub two_segments : ModuleParts
-two_segments = record two_elements { elems = passive_elements (Expressions (no_function ∷ no_function ∷ [])) ∷ passive_elements (Expressions (no_function ∷ [])) ∷ [] }
+two_segments = record two_elements {
+  elems = passive_elements (Expressions (no_function ∷ no_function ∷ [])) ∷ passive_elements
+      (Expressions (no_function ∷ [])) ∷ [];
+}
 
 -- an import of a number
 abbrev pub one_import : ModuleParts
@@ -127,12 +131,16 @@ two_imports = record (empty_module (record default_config { max_imports = 2; min
 
 -- a memory
 abbrev pub one_memory : ModuleParts
-one_memory = record (empty_module (record default_config { min_memories = 1 })) { memories = shared_memory 0 ∷ []; num_defined_memories = 1 }
+one_memory = record (empty_module (record default_config { min_memories = 1 })) {
+  memories = shared_memory 0 ∷ [];
+  num_defined_memories = 1;
+}
 
 -- three imports of memories in two groups
 abbrev pub three_memories : ModuleParts
 three_memories = record (empty_module (record default_config { max_memories = 3 })) {
-  imports = Compact1 [] (record { name = codes "a"; entity_type = entity.Memory (memory 1 None) } ∷ []) ∷ Compact2 [] (entity.Memory (memory 1 None)) (codes "b" ∷ codes "c" ∷ []) ∷ [];
+  imports = Compact1 [] (record { name = codes "a"; entity_type = entity.Memory (memory 1 None) } ∷ []) ∷ Compact2 []
+      (entity.Memory (memory 1 None)) (codes "b" ∷ codes "c" ∷ []) ∷ [];
   num_imports = 3;
   memories = memory 1 None ∷ memory 1 None ∷ memory 1 None ∷ [];
   encodes_imports = true;
@@ -140,11 +148,12 @@ three_memories = record (empty_module (record default_config { max_memories = 3 
 
 -- a memory of a page, and no bytes that are copied to its start
 abbrev pub one_data_segment : ModuleParts
-one_data_segment = record (empty_module (record default_config { disallow_traps = true; bulk_memory_enabled = false; min_memories = 1; min_data_segments = 1 })) {
-  memories = shared_memory 1 ∷ [];
-  num_defined_memories = 1;
-  datas = active_data (pos 0) [] ∷ [];
-}
+one_data_segment = record
+    (empty_module (record default_config { disallow_traps = true; bulk_memory_enabled = false; min_memories = 1; min_data_segments = 1 })) {
+      memories = shared_memory 1 ∷ [];
+      num_defined_memories = 1;
+      datas = active_data (pos 0) [] ∷ [];
+    }
 
 -- a tag and a function of one type, which is exported, and a segment without references
 abbrev pub one_tag : ModuleParts
@@ -210,7 +219,11 @@ types_together types = record (empty_module default_config) { types = types; gro
 
 -- two types, each in a group of its own
 abbrev pub types_apart : SubType → SubType → ModuleParts
-types_apart one other = record (empty_module default_config) { types = one ∷ other ∷ []; groups = group_of 0 1 ∷ group_of 1 2 ∷ []; encodes_types = true }
+types_apart one other = record (empty_module default_config) {
+  types = one ∷ other ∷ [];
+  groups = group_of 0 1 ∷ group_of 1 2 ∷ [];
+  encodes_types = true;
+}
 
 -- a struct of a reference to the type of this index
 abbrev pub referring_to : ℕ → CompositeInnerType
@@ -218,7 +231,10 @@ referring_to index = Struct (record { fields = constant (Val (Ref (nullable (Con
 
 -- two memories, where the configuration allows this number
 abbrev pub two_memories : ℕ → ModuleParts
-two_memories most = record (empty_module (record default_config { max_memories = most })) { memories = memory 1 None ∷ memory 1 None ∷ []; num_defined_memories = 2 }
+two_memories most = record (empty_module (record default_config { max_memories = most })) {
+  memories = memory 1 None ∷ memory 1 None ∷ [];
+  num_defined_memories = 2;
+}
 
 -- a function that is exported with these two names
 abbrev pub exported_twice : List ℕ → List ℕ → ModuleParts
@@ -252,11 +268,18 @@ named_imports one other = record two_imports { imports = Compact2 [] (entity.Glo
 
 -- a memory of a number of pages, and bytes that are copied to its last address
 abbrev pub last_bytes : ℕ → List ℕ → ModuleParts
-last_bytes pages bytes = record (empty_module default_config) { memories = memory pages None ∷ []; num_defined_memories = 1; datas = active_data (negsuc 0) bytes ∷ [] }
+last_bytes pages bytes = record (empty_module default_config) {
+  memories = memory pages None ∷ [];
+  num_defined_memories = 1;
+  datas = active_data (negsuc 0) bytes ∷ [];
+}
 
 -- a function, and a segment of these references, where the configuration requires this number
 abbrev pub elements_asked_for : ℕ → Elements → ModuleParts
-elements_asked_for least items = record one_function { config = record default_config { min_elements = least }; elems = passive_elements items ∷ [] }
+elements_asked_for least items = record one_function {
+  config = record default_config { min_elements = least };
+  elems = passive_elements items ∷ [];
+}
 
 -- an item of each kind, all exported
 abbrev pub one_of_each : ModuleParts
@@ -273,7 +296,8 @@ one_of_each = record (empty_module (record default_config { max_memories = 2 }))
   num_defined_tags = 1;
   num_defined_funcs = 1;
   num_defined_memories = 1;
-  exports = (codes "foo", kind.Func, 0) ∷ (codes "bar", kind.Global, 0) ∷ (codes "baz", kind.Memory, 0) ∷ (codes "qux", kind.Table, 0) ∷ (codes "quux", kind.Tag, 0) ∷ [];
+  exports = (codes "foo", kind.Func, 0) ∷ (codes "bar", kind.Global, 0) ∷ (codes "baz", kind.Memory, 0) ∷ (codes "qux", kind.Table, 0) ∷
+      (codes "quux", kind.Tag, 0) ∷ [];
   code = trapping ∷ [];
   encodes_types = true;
 }
@@ -289,7 +313,11 @@ filled_table offset = record one_function {
 
 -- the same, at the offset of a global, with garbage collection or without
 abbrev pub table_from_a_number : Bool → ModuleParts
-table_from_a_number gc = record (filled_table (Global 0)) { config = record default_config { gc_enabled = gc }; globals = number ∷ []; defined_globals = (0, I32Const (pos 0) ∷ []) ∷ [] }
+table_from_a_number gc = record (filled_table (Global 0)) {
+  config = record default_config { gc_enabled = gc };
+  globals = number ∷ [];
+  defined_globals = (0, I32Const (pos 0) ∷ []) ∷ [];
+}
 
 -- an imported memory, and an index space of these memories
 abbrev pub memories_after : List MemoryType → ModuleParts
@@ -304,15 +332,24 @@ memories_after memories = record (empty_module (record default_config { max_memo
 
 -- an imported global that counts fuel
 abbrev pub imported_counter : ModuleParts
-imported_counter = record one_import { imports = Single (import_named [] (entity.Global (global I32 true))) ∷ []; globals = global I32 true ∷ []; fuel_globals = 0 ∷ [] }
+imported_counter = record one_import {
+  imports = Single (import_named [] (entity.Global (global I32 true))) ∷ [];
+  globals = global I32 true
+      ∷ [];
+  fuel_globals = 0 ∷ [];
+}
 
 -- a table of non-nullable references, without an initialiser
 abbrev pub null_of_no_null : ModuleParts
-null_of_no_null = record (empty_module default_config) { tables = table (not_null (plain heap.Func)) 1 None ∷ []; defined_tables = None ∷ [] }
+null_of_no_null = record (empty_module default_config) {
+  tables = table (not_null (plain heap.Func)) 1 None ∷ [];
+  defined_tables = None ∷ [];
+}
 
 -- an export of an item of each kind, in the order of kinds
 abbrev pub all_of_each : List (List ℕ × ExportKind × ℕ)
-all_of_each = ([], kind.Func, 0) ∷ (codes "1", kind.Table, 0) ∷ (codes "2", kind.Memory, 0) ∷ (codes "3", kind.Global, 0) ∷ (codes "4", kind.Tag, 0) ∷ []
+all_of_each = ([], kind.Func, 0) ∷ (codes "1", kind.Table, 0) ∷ (codes "2", kind.Memory, 0) ∷ (codes "3", kind.Global, 0) ∷
+    (codes "4", kind.Tag, 0) ∷ []
 
 -- a global of the number 7, and a passive data segment
 abbrev pub number_and_bytes : ModuleParts

@@ -42,4 +42,8 @@ with_references = record default_config { non_nullable_enabled = true }
 
 -- these types, and a global of a non-nullable reference
 abbrev pub holding_reference : List SubType → HeapType → ModuleParts
-holding_reference types heap_type = record (empty_module default_config) { types = types; globals = global (Ref (not_null heap_type)) false ∷ [] }
+holding_reference types heap_type = record (empty_module default_config) {
+  types = types;
+  globals = global (Ref (not_null heap_type)) false
+      ∷ [];
+}

@@ -33,7 +33,8 @@ for_exports shape config = record config { exports = Some shape }
 abbrev pub imported_memories : Shape
 imported_memories = record empty_shape {
   imports =
-      Compact1 [] (record { name = codes "a"; entity_type = entity.Memory (memory 1 None) } ∷ []) ∷ Compact1 [] [] ∷ Compact2 [] (entity.Memory (memory 1 None)) (codes "b" ∷ codes "c" ∷ [])
+      Compact1 [] (record { name = codes "a"; entity_type = entity.Memory (memory 1 None) } ∷ []) ∷ Compact1 [] [] ∷ Compact2 []
+      (entity.Memory (memory 1 None)) (codes "b" ∷ codes "c" ∷ [])
       ∷ Compact2 [] (entity.Memory (memory 1 None)) [] ∷ [];
 }
 
@@ -74,7 +75,11 @@ with_ping = record with_environment { imports = Single ping ∷ []; num_imports 
 
 -- an exported global and an exported memory
 abbrev pub exporting : Shape
-exporting = record empty_shape { memories = memory 1 (Some 10) ∷ []; globals = global F32 false ∷ []; exports = (codes "bar", kind.Global, 0) ∷ (codes "baz", kind.Memory, 0) ∷ [] }
+exporting = record empty_shape {
+  memories = memory 1 (Some 10) ∷ [];
+  globals = global F32 false ∷ [];
+  exports = (codes "bar", kind.Global, 0) ∷ (codes "baz", kind.Memory, 0) ∷ [];
+}
 
 -- an exported function, global, memory, table and tag
 abbrev pub five_exports : Shape
@@ -85,13 +90,15 @@ five_exports = record empty_shape {
   tables = table (nullable (plain heap.Extern)) 5 (Some 10) ∷ [];
   memories = memory 1 (Some 10) ∷ [];
   globals = global F32 false ∷ [];
-  exports = (codes "foo", kind.Func, 0) ∷ (codes "bar", kind.Global, 0) ∷ (codes "baz", kind.Memory, 0) ∷ (codes "qux", kind.Table, 0) ∷ (codes "quux", kind.Tag, 0) ∷ [];
+  exports = (codes "foo", kind.Func, 0) ∷ (codes "bar", kind.Global, 0) ∷ (codes "baz", kind.Memory, 0) ∷ (codes "qux", kind.Table, 0) ∷
+      (codes "quux", kind.Tag, 0) ∷ [];
 }
 
 -- an import of each kind, in the order of tags, functions, tables, memories and globals
 abbrev pub imported_kinds : List Import
 imported_kinds =
-    import_named (codes "t") (entity.Tag 0) ∷ import_named (codes "f") (entity.Func 0) ∷ import_named (codes "e") (entity.Table (table funcref 1 None))
+    import_named (codes "t") (entity.Tag 0) ∷ import_named (codes "f") (entity.Func 0) ∷ import_named (codes "e")
+    (entity.Table (table funcref 1 None))
     ∷ import_named (codes "m") (entity.Memory (memory 1 None)) ∷ import_named (codes "g") (entity.Global (global F32 false)) ∷ []
 
 -- these imports
@@ -100,7 +107,12 @@ five_imports = record empty_shape { groups = alone taking_a_number ∷ []; impor
 
 -- an exported function of the first of two equal types
 abbrev pub equal_types : Shape
-equal_types = record empty_shape { groups = (foo_type ∷ []) ∷ (foo_type ∷ []) ∷ []; funcs = 0 ∷ []; exports = (codes "f", kind.Func, 0) ∷ [] }
+equal_types = record empty_shape {
+  groups = (foo_type ∷ []) ∷ (foo_type ∷ []) ∷ [];
+  funcs = 0 ∷ [];
+  exports = (codes "f", kind.Func, 0)
+      ∷ [];
+}
 
 -- a module that exports a function of the type of this index
 abbrev pub of_equal_types : ℕ → ModuleParts
@@ -125,16 +137,28 @@ with_memories_in_and_out = record three_memories {
 -- the function and the memory imported in one group
 abbrev pub in_one_group : ModuleParts
 in_one_group = record with_environment {
-  imports = Compact1 (codes "env") (record { name = codes "ping"; entity_type = entity.Func 0 } ∷ record { name = codes "memory"; entity_type = entity.Memory (memory 1 None) } ∷ []) ∷ [];
+  imports = Compact1 (codes "env") (record { name = codes "ping"; entity_type = entity.Func 0 } ∷ record {
+    name = codes "memory";
+    entity_type = entity.Memory (memory 1 None);
+  } ∷ []) ∷ [];
 }
 
 -- a module with these entities, and with these exports
 abbrev pub exported : List (List ℕ × ExportKind × ℕ) → ModuleParts
-exported exports = record (empty_module default_config) { memories = memory 1 (Some 10) ∷ []; num_defined_memories = 1; globals = global F32 false ∷ []; exports = exports }
+exported exports = record (empty_module default_config) {
+  memories = memory 1 (Some 10) ∷ [];
+  num_defined_memories = 1;
+  globals = global F32 false ∷ [];
+  exports = exports;
+}
 
 -- a global of a non-nullable reference
 abbrev pub non_nullable : Shape
-non_nullable = record empty_shape { globals = global (Ref (not_null (plain heap.Extern))) false ∷ []; exports = (codes "g", kind.Global, 0) ∷ [] }
+non_nullable = record empty_shape {
+  globals = global (Ref (not_null (plain heap.Extern))) false ∷ [];
+  exports = (codes "g", kind.Global, 0)
+      ∷ [];
+}
 
 -- a function type with a parameter that is a non-nullable reference
 abbrev pub taking_non_nullable : Shape
@@ -145,7 +169,11 @@ abbrev pub table_exported : Shape
 table_exported = record empty_shape { tables = table funcref 1 None ∷ []; exports = (codes "t", kind.Table, 0) ∷ [] }
 
 abbrev pub twice_exported : Shape
-twice_exported = record empty_shape { memories = memory 1 None ∷ []; exports = (codes "m", kind.Memory, 0) ∷ (codes "m", kind.Memory, 0) ∷ [] }
+twice_exported = record empty_shape {
+  memories = memory 1 None ∷ [];
+  exports = (codes "m", kind.Memory, 0) ∷ (codes "m", kind.Memory, 0)
+      ∷ [];
+}
 
 -- a memory that may be imported
 abbrev pub memory_available : Shape

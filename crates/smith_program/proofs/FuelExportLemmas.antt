@@ -22,22 +22,33 @@ same_references : (index : ℕ) (old : ModuleParts) → references_of (with_fuel
 same_references index old =
     let f = λ (export : List ℕ × ExportKind × ℕ). exported_by export.1 export.2 in
     let one : List ℕ × ExportKind × ℕ = (fuel_name old.exports, kind.Global, index) in
-    let none : flat_map f (old.exports ++ one ∷ []) ≡ flat_map f old.exports = flat_map-append f old.exports (one ∷ []) ∙ append-nil (flat_map f old.exports) in
+    let none : flat_map f (old.exports ++ one ∷ []) ≡ flat_map f old.exports = flat_map-append f old.exports (one ∷ []) ∙ append-nil
+    (flat_map f old.exports) in
     rw none refl
 
-still_typed : (index : ℕ) (old : ModuleParts) (function : FuncType) (locals : List ValType) (instructions : List Instr) → IsBodyTyped (function_context old function locals) instructions
+still_typed : (index : ℕ) (old : ModuleParts) (function : FuncType) (locals : List ValType) (instructions : List Instr)
+    → IsBodyTyped (function_context old function locals) instructions
     → IsBodyTyped (function_context (with_fuel_export index old) function locals) instructions
 still_typed index old function locals instructions typed =
     subst (λ (references : List ℕ). IsBodyTyped (record (function_context old function locals) { references = references }) instructions)
     (sym (same_references index old)) typed
 
-still_at : (index : ℕ) (old : ModuleParts) (place : ℕ) (code : Code) (given : Body) → IsOfBody (IsBodyAt old place code) code given → IsOfBody (IsBodyAt (with_fuel_export index old) place code) code given
+still_at : (index : ℕ) (old : ModuleParts) (place : ℕ) (code : Code) (given : Body) → IsOfBody (IsBodyAt old place code) code given
+    → IsOfBody (IsBodyAt (with_fuel_export index old) place code) code given
 still_at index old place code body.Raw raw = raw
-still_at index old place code (body.Drawn instructions) (not_raw, is) =
-    (not_raw, record { function = is.function; there = is.there; typed = still_typed index old is.function code.locals instructions is.typed })
+still_at index old place code (body.Drawn instructions) (not_raw, is) = (
+  not_raw,
+  record {
+    function = is.function;
+    there = is.there;
+    typed = still_typed index old is.function code.locals instructions
+        is.typed;
+  },
+)
 
 -- the bodies after an attempt to export a counter
-pub exporting_bodies : (index : ℕ) (old new : ModuleParts) (result : Result (Unit {0}) Error) (bodies : List Body) → AnswersFuelExport index old new result → AreBodiesOf old bodies → AreBodiesOf new bodies
+pub exporting_bodies : (index : ℕ) (old new : ModuleParts) (result : Result (Unit {0}) Error) (bodies : List Body)
+    → AnswersFuelExport index old new result → AreBodiesOf old bodies → AreBodiesOf new bodies
 exporting_bodies index old new (Ok u) bodies added are =
     subst (λ (m : ModuleParts). AreBodiesOf m bodies) (sym added) (record {
       each = are.each;

@@ -15,7 +15,8 @@ use Rattle.smith_program.specs.Parts.{ProgramParts}
 use Rattle.smith_program.proofs.ValidLemmas.{drawn_valid}
 
 -- a module and its bodies
-pub program_made : (given : Config) (bytes after left : List ℕ) (m : ModuleParts) (bodies : List Body) → IsGenerated false given bytes (Ok m) after → AreDrawnBodies m bodies → bodies_at m after ≡ (bodies, left) → KeepsPieces after left
+pub program_made : (given : Config) (bytes after left : List ℕ) (m : ModuleParts) (bodies : List Body)
+    → IsGenerated false given bytes (Ok m) after → AreDrawnBodies m bodies → bodies_at m after ≡ (bodies, left) → KeepsPieces after left
     → IsProgram given bytes (Ok (record { «module» = m; bodies = bodies })) left
 program_made given bytes after left m bodies generated drawn exact kept = record {
   programs = record { of = record { after = after; generated = generated; source = kept }; exact = exact };
@@ -26,7 +27,8 @@ program_made given bytes after left m bodies generated drawn exact kept = record
 }
 
 -- a refusal of the module
-pub module_refused : (given : Config) (bytes left : List ℕ) (answer : Result ProgramParts Error) (e : Error) → IsGenerated false given bytes (Err e) left → IsErrAnd answer (λ y. y ≡ e)
+pub module_refused : (given : Config) (bytes left : List ℕ) (answer : Result ProgramParts Error) (e : Error)
+    → IsGenerated false given bytes (Err e) left → IsErrAnd answer (λ y. y ≡ e)
     → IsProgram given bytes answer left
 module_refused given bytes left (Ok program) e generated passed = absurd passed
 module_refused given bytes left (Err y) e generated passed = record {
@@ -38,7 +40,8 @@ module_refused given bytes left (Err y) e generated passed = record {
 }
 
 -- lack of memory for the bodies
-pub bodies_refused : (given : Config) (bytes after left : List ℕ) (m : ModuleParts) (answer : Result ProgramParts Error) (e : Error) → IsGenerated false given bytes (Ok m) after → IsErrAnd answer (λ y. y ≡ e) → e ≡ Memory → KeepsPieces after left
+pub bodies_refused : (given : Config) (bytes after left : List ℕ) (m : ModuleParts) (answer : Result ProgramParts Error) (e : Error)
+    → IsGenerated false given bytes (Ok m) after → IsErrAnd answer (λ y. y ≡ e) → e ≡ Memory → KeepsPieces after left
     → IsProgram given bytes answer left
 bodies_refused given bytes after left m (Ok program) e generated passed memory kept = absurd passed
 bodies_refused given bytes after left m (Err y) e generated passed memory kept = record {

@@ -1,5 +1,6 @@
 -- The bodies of a module to which a counter of fuel is added.
-use Rattle.std.proofs.Common.{◌≡◌, ℕ, ◌<◌, List, [], ◌∷◌, ◌++◌, Some, Result, Ok, Err, length, get_or, refl, sym, subst, ap, ◌∙◌, append-nil}
+use Rattle.std.proofs.Common.{◌≡◌, ℕ, ◌<◌, List, [], ◌∷◌, ◌++◌, Some, Result, Ok, Err, length, get_or, refl, sym, subst, ap, ◌∙◌}
+use Rattle.std.proofs.Common.{append-nil}
 use Rattle.std.specs.Prelude.{map, slice_get, option_map}
 use Rattle.std.specs.List.{flat_map, AllByRecursion as Each}
 use Rattle.std.specs.Int.{cast_signed, w32}
@@ -39,21 +40,33 @@ same_references : (fuel index : ℕ) (old : ModuleParts) → references_of (coun
 same_references fuel index old =
     let f = λ (global : ℕ × List ConstInstr). named_in global.1 in
     let none : flat_map f (old.defined_globals ++ (index, I32Const (cast_signed w32 fuel) ∷ []) ∷ []) ≡ flat_map f old.defined_globals =
-    flat_map-append f old.defined_globals ((index, I32Const (cast_signed w32 fuel) ∷ []) ∷ []) ∙ append-nil (flat_map f old.defined_globals) in
+    flat_map-append f old.defined_globals ((index, I32Const (cast_signed w32 fuel) ∷ []) ∷ []) ∙ append-nil
+    (flat_map f old.defined_globals) in
     rw none refl
 
-still_typed : (fuel index : ℕ) (old : ModuleParts) (function : FuncType) (locals : List ValType) (instructions : List Instr) → IsBodyTyped (function_context old function locals) instructions
+still_typed : (fuel index : ℕ) (old : ModuleParts) (function : FuncType) (locals : List ValType) (instructions : List Instr)
+    → IsBodyTyped (function_context old function locals) instructions
     → IsBodyTyped (function_context (counting fuel index old) function locals) instructions
 still_typed fuel index old function locals instructions typed =
-    subst (λ (references : List ℕ). IsBodyTyped (record (wider (function_context old function locals) (counter ∷ [])) { references = references }) instructions)
+    subst (λ (references : List ℕ). IsBodyTyped (record (wider (function_context old function locals) (counter ∷ []))
+    { references = references }) instructions)
     (sym (same_references fuel index old)) (wider_body (function_context old function locals) (counter ∷ []) instructions typed)
 
-still_at : (fuel index : ℕ) (old : ModuleParts) (place : ℕ) (code : Code) (given : Body) → IsOfBody (IsBodyAt old place code) code given → IsOfBody (IsBodyAt (counting fuel index old) place code) code given
+still_at : (fuel index : ℕ) (old : ModuleParts) (place : ℕ) (code : Code) (given : Body) → IsOfBody (IsBodyAt old place code) code given
+    → IsOfBody (IsBodyAt (counting fuel index old) place code) code given
 still_at fuel index old place code body.Raw raw = raw
-still_at fuel index old place code (body.Drawn instructions) (not_raw, is) =
-    (not_raw, record { function = is.function; there = is.there; typed = still_typed fuel index old is.function code.locals instructions is.typed })
+still_at fuel index old place code (body.Drawn instructions) (not_raw, is) = (
+  not_raw,
+  record {
+    function = is.function;
+    there = is.there;
+    typed = still_typed fuel index old is.function code.locals instructions
+        is.typed;
+  },
+)
 
-pub still_bodies : (fuel index : ℕ) (old new : ModuleParts) (bodies : List Body) → AddsCounter fuel index old new → AreBodiesOf old bodies → AreBodiesOf new bodies
+pub still_bodies : (fuel index : ℕ) (old new : ModuleParts) (bodies : List Body) → AddsCounter fuel index old new → AreBodiesOf old bodies
+    → AreBodiesOf new bodies
 still_bodies fuel index old new bodies adds are =
     subst (λ (m : ModuleParts). AreBodiesOf m bodies) (sym adds.added) (record {
       each = are.each;
@@ -61,7 +74,8 @@ still_bodies fuel index old new bodies adds are =
     })
 
 -- the bodies after an attempt to add a counter
-pub answered_bodies : (fuel : ℕ) (old new : ModuleParts) (result : Result ℕ Error) (bodies : List Body) → AnswersCounter fuel old new result → AreBodiesOf old bodies → AreBodiesOf new bodies
+pub answered_bodies : (fuel : ℕ) (old new : ModuleParts) (result : Result ℕ Error) (bodies : List Body) → AnswersCounter fuel old new result
+    → AreBodiesOf old bodies → AreBodiesOf new bodies
 answered_bodies fuel old new (Ok index) bodies (none, adds) are = still_bodies fuel index old new bodies adds are
 answered_bodies fuel old new (Err error) bodies (may, kept) are = rw kept are
 
@@ -71,24 +85,30 @@ code_kept fuel old new (Ok index) (none, adds) = ap (λ (m : ModuleParts). m.cod
 code_kept fuel old new (Err error) (may, kept) = ap (λ (m : ModuleParts). m.code) kept
 
 -- each counter of a valid module is a counter in the context of its bodies
-counters_count : (m : ModuleParts) → IsValid m → (function : FuncType) (locals : List ValType) → Each (IsCounter (function_context m function locals)) m.fuel_globals
+counters_count : (m : ModuleParts) → IsValid m → (function : FuncType) (locals : List ValType)
+    → Each (IsCounter (function_context m function locals)) m.fuel_globals
 counters_count m valid function locals =
     recursion_from_All (IsCounter (function_context m function locals)) m.fuel_globals
-    (All-weaker (IsCounterGlobal m.globals (length (module_imports m).globals)) (IsCounter (function_context m function locals)) (λ (index : ℕ) (fuel : IsCounterGlobal m.globals (length (module_imports m).globals) index). fuel.stands) m.fuel_globals valid.bodies.counters)
+    (All-weaker (IsCounterGlobal m.globals (length (module_imports m).globals)) (IsCounter (function_context m function locals))
+    (λ (index : ℕ) (fuel : IsCounterGlobal m.globals (length (module_imports m).globals) index). fuel.stands) m.fuel_globals
+    valid.bodies.counters)
 
-counted_at : (m : ModuleParts) → IsValid m → (place : ℕ) (code : Code) (given : Body) → IsOfBody (IsBodyAt m place code) code given → IsOfBody (IsBodyAt m place code) code (counted_body m.fuel_globals given)
+counted_at : (m : ModuleParts) → IsValid m → (place : ℕ) (code : Code) (given : Body) → IsOfBody (IsBodyAt m place code) code given
+    → IsOfBody (IsBodyAt m place code) code (counted_body m.fuel_globals given)
 counted_at m valid place code body.Raw raw = raw
 counted_at m valid place code (body.Drawn instructions) (not_raw, is) = (
   not_raw,
   record {
     function = is.function;
     there = is.there;
-    typed = counted_typed (function_context m is.function code.locals) m.fuel_globals instructions (counters_count m valid is.function code.locals) is.typed;
+    typed = counted_typed (function_context m is.function code.locals) m.fuel_globals instructions
+        (counters_count m valid is.function code.locals) is.typed;
   },
 )
 
 -- an item of a mapped list is the image of an item
-unmapped : {A B : Type 0} (f : A → B) (xs : List A) (d : A) (place : ℕ) (y : B) → slice_get (map f xs) place ≡ Some y → (x : A) × (slice_get xs place ≡ Some x) × (f x ≡ y)
+unmapped : {A B : Type 0} (f : A → B) (xs : List A) (d : A) (place : ℕ) (y : B) → slice_get (map f xs) place ≡ Some y
+    → (x : A) × (slice_get xs place ≡ Some x) × (f x ≡ y)
 unmapped f xs d place y at =
     let within : place < length (map f xs) = slice_get_within (map f xs) place y at in
     let inside : place < length xs = subst (λ (n : ℕ). place < n) (length-map xs f) within in
@@ -96,7 +116,8 @@ unmapped f xs d place y at =
     (get_or xs place d, here, same_Some (f (get_or xs place d)) y (sym (ap (option_map f) here) ∙ (sym (slice_get-map f xs place) ∙ at)))
 
 -- bodies with the checks of the counters of their module
-pub counted_bodies : (m : ModuleParts) (bodies : List Body) → IsValid m → AreBodiesOf m bodies → AreBodiesOf m (map (counted_body m.fuel_globals) bodies)
+pub counted_bodies : (m : ModuleParts) (bodies : List Body) → IsValid m → AreBodiesOf m bodies
+    → AreBodiesOf m (map (counted_body m.fuel_globals) bodies)
 counted_bodies m bodies valid are = record {
   each = length-map bodies (counted_body m.fuel_globals) ∙ are.each;
   in_place = λ place code given at there.

@@ -42,28 +42,35 @@ use Rattle.smith_program.proofs.TerminationLemmas.{counted_bodies, still_bodies}
 abbrev Fits : List ℕ → ℕ → Instr → Type 0
 Fits references datas instruction = IsDeclared references instruction × (IsTrue (names_data instruction) → 0 < datas)
 
-fits_reference : (context : BodyContext) (op : ReferenceInstr) (operands results : List ValType) → HasReferenceType context op operands results → Fits context.references context.datas (instr.Reference op)
-fits_reference context (reference.Func function) operands results (index, there, declared, to) = (declared, λ names. absurd (false≢true names))
+fits_reference : (context : BodyContext) (op : ReferenceInstr) (operands results : List ValType)
+    → HasReferenceType context op operands results → Fits context.references context.datas (instr.Reference op)
+fits_reference context (reference.Func function) operands results (index, there, declared, to) =
+    (declared, λ names. absurd (false≢true names))
 fits_reference context _ operands results typed = (tt, λ names. absurd (false≢true names))
 
-fits_memory : (context : BodyContext) (op : MemoryInstr) (operands results : List ValType) → HasMemoryType context op operands results → Fits context.references context.datas (instr.Memory op)
+fits_memory : (context : BodyContext) (op : MemoryInstr) (operands results : List ValType) → HasMemoryType context op operands results
+    → Fits context.references context.datas (instr.Memory op)
 fits_memory context (memory.Init index segment) operands results (ty, there, within, to) = (tt, λ names. omega arith)
 fits_memory context (memory.DataDrop segment) operands results (within, to) = (tt, λ names. omega arith)
 fits_memory context _ operands results typed = (tt, λ names. absurd (false≢true names))
 
-fits_aggregate : (context : BodyContext) (op : AggregateInstr) (operands results : List ValType) → HasAggregateType context op operands results → Fits context.references context.datas (instr.Aggregate op)
+fits_aggregate : (context : BodyContext) (op : AggregateInstr) (operands results : List ValType)
+    → HasAggregateType context op operands results → Fits context.references context.datas (instr.Aggregate op)
 fits_aggregate context (aggregate.ArrayNewData ty segment) operands results (element, array, of, within, to) = (tt, λ names. omega arith)
-fits_aggregate context (aggregate.ArrayInitData ty segment) operands results (element, array, mutable, of, within, to) = (tt, λ names. omega arith)
+fits_aggregate context (aggregate.ArrayInitData ty segment) operands results (element, array, mutable, of, within, to) =
+    (tt, λ names. omega arith)
 fits_aggregate context _ operands results typed = (tt, λ names. absurd (false≢true names))
 
-fits_instr : (context : BodyContext) (set : List ℕ) (instruction : Instr) (operands results : List ValType) → HasInstrType context set instruction operands results → Fits context.references context.datas instruction
+fits_instr : (context : BodyContext) (set : List ℕ) (instruction : Instr) (operands results : List ValType)
+    → HasInstrType context set instruction operands results → Fits context.references context.datas instruction
 fits_instr context set (instr.Reference op) operands results typed = fits_reference context op operands results typed
 fits_instr context set (instr.Memory op) operands results typed = fits_memory context op operands results typed
 fits_instr context set (instr.Aggregate op) operands results typed = fits_aggregate context op operands results typed
 fits_instr context set _ operands results typed = (tt, λ names. absurd (false≢true names))
 
 -- the start of a block, its body, its end, and other instructions
-fits_block : (references : List ℕ) (datas : ℕ) (first : Instr) (all body more : List Instr) → all ≡ first ∷ (body ++ instr.End ∷ more) → Fits references datas first → All (Fits references datas) body → All (Fits references datas) more
+fits_block : (references : List ℕ) (datas : ℕ) (first : Instr) (all body more : List Instr) → all ≡ first ∷ (body ++ instr.End ∷ more)
+    → Fits references datas first → All (Fits references datas) body → All (Fits references datas) more
     → All (Fits references datas) all
 fits_block references datas first all body more is fits inner rest =
     let P = Fits references datas in
@@ -71,25 +78,34 @@ fits_block references datas first all body more is fits inner rest =
     subst (All P) (sym is) (All-cons P first (body ++ instr.End ∷ more) fits (All-append P body (instr.End ∷ more) inner ended))
 
 -- the instructions of a sequence
-fits_typed : {context : BodyContext} {xs : List Instr} {before after : Stacked} → AreTyped context xs before after → All (Fits context.references context.datas) xs
+fits_typed : {context : BodyContext} {xs : List Instr} {before after : Stacked} → AreTyped context xs before after
+    → All (Fits context.references context.datas) xs
 fits_typed {context = context} (nothing others same) = All-nil (Fits context.references context.datas)
 fits_typed {context = context} (step {instruction = instruction} {more = more} {before = before} s rest) =
-    All-cons (Fits context.references context.datas) instruction more (fits_instr context before.set instruction s.operands s.results s.typed) (fits_typed rest)
+    All-cons (Fits context.references context.datas) instruction more (fits_instr context before.set instruction s.operands s.results
+    s.typed) (fits_typed rest)
 fits_typed {context = context} (block {ty = ty} {all = all} {body = body} {more = more} is fits inner framed rest) =
-    fits_block context.references context.datas (instr.Block ty) all body more is (tt, λ names. absurd (false≢true names)) (fits_typed inner) (fits_typed rest)
+    fits_block context.references context.datas (instr.Block ty) all body more is (tt, λ names. absurd (false≢true names))
+    (fits_typed inner) (fits_typed rest)
 fits_typed {context = context} (loop {ty = ty} {all = all} {body = body} {more = more} is fits inner framed rest) =
-    fits_block context.references context.datas (instr.Loop ty) all body more is (tt, λ names. absurd (false≢true names)) (fits_typed inner) (fits_typed rest)
+    fits_block context.references context.datas (instr.Loop ty) all body more is (tt, λ names. absurd (false≢true names)) (fits_typed inner)
+    (fits_typed rest)
 fits_typed {context = context} (if_alone {ty = ty} {all = all} {body = body} {more = more} is fits inner same framed rest) =
-    fits_block context.references context.datas (instr.If ty) all body more is (tt, λ names. absurd (false≢true names)) (fits_typed inner) (fits_typed rest)
+    fits_block context.references context.datas (instr.If ty) all body more is (tt, λ names. absurd (false≢true names)) (fits_typed inner)
+    (fits_typed rest)
 fits_typed {context = context} (if_else {ty = ty} {all = all} {body = body} {other = other} {more = more} is fits inner last framed rest) =
     let P = Fits context.references context.datas in
     let ended : All P (instr.End ∷ more) = All-cons P instr.End more (tt, λ names. absurd (false≢true names)) (fits_typed rest) in
     let second : All P (instr.Else ∷ (other ++ instr.End ∷ more)) =
-    All-cons P instr.Else (other ++ instr.End ∷ more) (tt, λ names. absurd (false≢true names)) (All-append P other (instr.End ∷ more) (fits_typed last) ended) in
+    All-cons P instr.Else (other ++ instr.End ∷ more) (tt, λ names. absurd (false≢true names))
+    (All-append P other (instr.End ∷ more) (fits_typed last) ended) in
     subst (All P) (sym is)
-    (All-cons P (instr.If ty) (body ++ instr.Else ∷ (other ++ instr.End ∷ more)) (tt, λ names. absurd (false≢true names)) (All-append P body (instr.Else ∷ (other ++ instr.End ∷ more)) (fits_typed inner) second))
-fits_typed {context = context} (try_table {ty = ty} {clauses = clauses} {all = all} {body = body} {more = more} is fits caught inner framed rest) =
-    fits_block context.references context.datas (instr.TryTable ty clauses) all body more is (tt, λ names. absurd (false≢true names)) (fits_typed inner) (fits_typed rest)
+    (All-cons P (instr.If ty) (body ++ instr.Else ∷ (other ++ instr.End ∷ more)) (tt, λ names. absurd (false≢true names))
+    (All-append P body (instr.Else ∷ (other ++ instr.End ∷ more)) (fits_typed inner) second))
+fits_typed {context = context} (try_table {ty = ty} {clauses = clauses} {all = all} {body = body} {more = more} is fits caught inner framed
+    rest) =
+    fits_block context.references context.datas (instr.TryTable ty clauses) all body more is (tt, λ names. absurd (false≢true names))
+    (fits_typed inner) (fits_typed rest)
 
 -- a property of the instructions of a body, weakened, and one that also holds of one of them
 have_weaker : (P Q : Instr → Type 0) → ((x : Instr) → P x → Q x) → (given : Body) → HaveAll P given → HaveAll Q given
@@ -104,7 +120,8 @@ bodies_both : (P Q : Instr → Type 0) (bodies : List Body) → All (HaveAll P) 
 bodies_both P Q bodies h (k, given, within, is, one) = have_both P Q given (subst (HaveAll P) is (h k given within)) one
 
 -- the instructions of a body, and of all bodies, fit their module
-body_fits : (m : ModuleParts) (place : ℕ) (code : Code) (given : Body) → IsOfBody (IsBodyAt m place code) code given → HaveAll (Fits (references_of m) (length m.datas)) given
+body_fits : (m : ModuleParts) (place : ℕ) (code : Code) (given : Body) → IsOfBody (IsBodyAt m place code) code given
+    → HaveAll (Fits (references_of m) (length m.datas)) given
 body_fits m place code (body.Drawn instructions) (drawn, is) = fits_typed is.typed.typed
 body_fits m place code body.Raw raw = tt
 
@@ -117,18 +134,22 @@ each_body Is m bodies Holds are holds = λ place d within.
     holds place code given (are.in_place place code given at (slice_get-get_or bodies place d within))
 
 -- an instruction that names a data segment needs bulk memory
-bulk_needed : (features : Features) (instruction : Instr) → IsTrue (names_data instruction) → IsTrue (has_features features instruction) → IsTrue features.bulk_memory
+bulk_needed : (features : Features) (instruction : Instr) → IsTrue (names_data instruction) → IsTrue (has_features features instruction)
+    → IsTrue features.bulk_memory
 bulk_needed features (instr.Memory (memory.Init index segment)) names enabled = enabled
 bulk_needed features (instr.Memory (memory.DataDrop segment)) names enabled = enabled
-bulk_needed features (instr.Aggregate (aggregate.ArrayNewData ty segment)) names enabled = (and_parts features.gc features.bulk_memory enabled).1
-bulk_needed features (instr.Aggregate (aggregate.ArrayInitData ty segment)) names enabled = (and_parts features.gc features.bulk_memory enabled).1
+bulk_needed features (instr.Aggregate (aggregate.ArrayNewData ty segment)) names enabled =
+    (and_parts features.gc features.bulk_memory enabled).1
+bulk_needed features (instr.Aggregate (aggregate.ArrayInitData ty segment)) names enabled =
+    (and_parts features.gc features.bulk_memory enabled).1
 bulk_needed features _ names enabled = absurd (false≢true names)
 
 -- a valid module with typed bodies of enabled instructions
 abbrev pub Enabled : ModuleParts → Instr → Type 0
 Enabled m instruction = IsTrue (has_features (module_features m) instruction)
 
-pub program_valid : (m : ModuleParts) (bodies : List Body) → IsValid m → AreBodiesOf m bodies → All (HaveAll (Enabled m)) bodies → IsValidProgram m bodies
+pub program_valid : (m : ModuleParts) (bodies : List Body) → IsValid m → AreBodiesOf m bodies → All (HaveAll (Enabled m)) bodies
+    → IsValidProgram m bodies
 program_valid m bodies valid typed enabled =
     let P = Fits (references_of m) (length m.datas) in
     let fits : All (HaveAll P) bodies = each_body (IsBodyAt m) m bodies (HaveAll P) typed (body_fits m) in
@@ -137,7 +158,8 @@ program_valid m bodies valid typed enabled =
       typed = typed;
       counted = counted_bodies m bodies valid typed;
       enabled = enabled;
-      declared = All-weaker (HaveAll P) (HaveAll (IsDeclared (references_of m))) (have_weaker P (IsDeclared (references_of m)) (λ x fit. fit.0)) bodies fits;
+      declared = All-weaker (HaveAll P) (HaveAll (IsDeclared (references_of m)))
+          (have_weaker P (IsDeclared (references_of m)) (λ x fit. fit.0)) bodies fits;
       data_count = λ named.
           let (x, on, names) = bodies_both (Enabled m) (λ (instruction : Instr). IsTrue (names_data instruction)) bodies enabled named in
           let (y, fit, also) = bodies_both P (λ (instruction : Instr). IsTrue (names_data instruction)) bodies fits named in
@@ -145,34 +167,46 @@ program_valid m bodies valid typed enabled =
     }
 
 -- a body that was drawn is typed, and its instructions are enabled
-drawn_typed : (m : ModuleParts) (place : ℕ) (code : Code) (given : Body) → IsOfBody (IsDrawnAt m place code) code given → IsOfBody (IsBodyAt m place code) code given
+drawn_typed : (m : ModuleParts) (place : ℕ) (code : Code) (given : Body) → IsOfBody (IsDrawnAt m place code) code given
+    → IsOfBody (IsBodyAt m place code) code given
 drawn_typed m place code (body.Drawn instructions) (drawn, is) = (drawn, is.body)
 drawn_typed m place code body.Raw raw = raw
 
-on_enabled : (features : Features) (kinds : InstructionKinds) (instruction : Instr) → IsEnabled features kinds instruction → IsTrue (has_features features instruction)
+on_enabled : (features : Features) (kinds : InstructionKinds) (instruction : Instr) → IsEnabled features kinds instruction
+    → IsTrue (has_features features instruction)
 unfolding is_enabled
-on_enabled features kinds instruction enabled = (and_parts (has_features features instruction) (is_kind_enabled kinds instruction) enabled).0
+on_enabled features kinds instruction enabled =
+    (and_parts (has_features features instruction) (is_kind_enabled kinds instruction) enabled).0
 
-drawn_enabled : (m : ModuleParts) (place : ℕ) (code : Code) (given : Body) → IsOfBody (IsDrawnAt m place code) code given → HaveAll (Enabled m) given
+drawn_enabled : (m : ModuleParts) (place : ℕ) (code : Code) (given : Body) → IsOfBody (IsDrawnAt m place code) code given
+    → HaveAll (Enabled m) given
 drawn_enabled m place code (body.Drawn instructions) (drawn, is) =
-    All-weaker (IsEnabled (module_features m) (kinds_of_bodies m.config)) (Enabled m) (on_enabled (module_features m) (kinds_of_bodies m.config)) instructions is.enabled
+    All-weaker (IsEnabled (module_features m) (kinds_of_bodies m.config)) (Enabled m)
+    (on_enabled (module_features m) (kinds_of_bodies m.config)) instructions is.enabled
 drawn_enabled m place code body.Raw raw = tt
 
 -- the bodies that are drawn for a valid module make a valid program
 pub drawn_valid : (m : ModuleParts) (bodies : List Body) → IsValid m → AreDrawnBodies m bodies → IsValidProgram m bodies
 drawn_valid m bodies valid drawn =
     program_valid m bodies valid
-    (record { each = drawn.each; in_place = λ place code given at there. drawn_typed m place code given (drawn.in_place place code given at there) })
+    (record {
+      each = drawn.each;
+      in_place = λ place code given at there. drawn_typed m place code given
+          (drawn.in_place place code given at there);
+    })
     (each_body (IsDrawnAt m) m bodies (HaveAll (Enabled m)) drawn (drawn_enabled m))
 
 -- a valid program stays valid with a counter, which changes no feature
-pub counted_valid : (fuel index : ℕ) (old new : ModuleParts) (bodies : List Body) → AddsCounter fuel index old new → IsValidProgram old bodies → IsValidProgram new bodies
+pub counted_valid : (fuel index : ℕ) (old new : ModuleParts) (bodies : List Body) → AddsCounter fuel index old new
+    → IsValidProgram old bodies → IsValidProgram new bodies
 counted_valid fuel index old new bodies adds program =
     program_valid new bodies (adds_valid fuel index old new adds program.valid) (still_bodies fuel index old new bodies adds program.typed)
     (subst (λ (m : ModuleParts). All (HaveAll (Enabled m)) bodies) (sym adds.added) program.enabled)
 
 -- a valid program stays valid with the export of a global
-pub exported_program_valid : (index : ℕ) (m : ModuleParts) (bodies : List Body) → index < length m.globals → IsValidProgram m bodies → IsValidProgram (with_fuel_export index m) bodies
+pub exported_program_valid : (index : ℕ) (m : ModuleParts) (bodies : List Body) → index < length m.globals → IsValidProgram m bodies
+    → IsValidProgram (with_fuel_export index m) bodies
 exported_program_valid index m bodies within program =
     let new = with_fuel_export index m in
-    program_valid new bodies (exported_valid index m new (Ok tt) refl within program.valid) (exporting_bodies index m new (Ok tt) bodies refl program.typed) program.enabled
+    program_valid new bodies (exported_valid index m new (Ok tt) refl within program.valid)
+    (exporting_bodies index m new (Ok tt) bodies refl program.typed) program.enabled

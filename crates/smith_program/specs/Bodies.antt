@@ -62,7 +62,8 @@ pub record IsDrawnAt (m : ModuleParts) (place : ℕ) (code : Code) (instructions
   pub enabled : All (IsEnabled (module_features m) (kinds_of_bodies m.config)) instructions
   pub trapless : IsTrue m.config.disallow_traps → All IsTrapless instructions
   pub needed : 0 < m.config.max_instructions → HasNeededStops m.config (function_context m body.function code.locals) instructions
-  pub short : length instructions ≤ 1 + longest_leaf m.config m.types * (length body.function.results + most m.types * m.config.max_instructions)
+  pub short : length instructions ≤ 1 + longest_leaf m.config m.types *
+      (length body.function.results + most m.types * m.config.max_instructions)
 
 -- a body whose instructions have a property, or raw bytes, which are kept (own rule)
 abbrev pub IsOfBody : (List Instr → Type 0) → Code → Body → Type 0
@@ -72,7 +73,8 @@ IsOfBody Is code (body.Drawn instructions) = (¬ IsRaw code.instructions) × Is 
 -- a body for each function that a module defines (Validation, Functions)
 pub record AreBodiesBy (Is : ℕ → Code → List Instr → Type 0) (m : ModuleParts) (bodies : List Body) : Type 0 where
   pub each : length bodies ≡ length m.code
-  pub in_place : (place : ℕ) (code : Code) (body : Body) → slice_get m.code place ≡ Some code → slice_get bodies place ≡ Some body → IsOfBody (Is place code) code body
+  pub in_place : (place : ℕ) (code : Code) (body : Body) → slice_get m.code place ≡ Some code → slice_get bodies place ≡ Some body
+      → IsOfBody (Is place code) code body
 
 -- bodies of the functions of a module (Validation, Functions)
 abbrev pub AreBodiesOf : ModuleParts → List Body → Type 0

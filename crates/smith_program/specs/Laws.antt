@@ -18,4 +18,5 @@ ProgramsAreDetermined =
 -- a valid program stays valid with a counter of fuel
 abbrev pub CountedProgramsAreValid : Type 0
 CountedProgramsAreValid =
-    (fuel index : ℕ) (old new : ModuleParts) (bodies : List Body) → AddsCounter fuel index old new → IsValidProgram old bodies → IsValidProgram new bodies
+    (fuel index : ℕ) (old new : ModuleParts) (bodies : List Body) → AddsCounter fuel index old new → IsValidProgram old bodies
+    → IsValidProgram new bodies

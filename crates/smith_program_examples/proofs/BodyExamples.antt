@@ -37,16 +37,19 @@ pub none_after_last : (function : FuncType) → HasDefinedType after_an_import 1
 none_after_last function (index, at, there) = let never : None ≡ Some index = at in cc
 
 -- a defined function has one type
-pub type_alone : (m : ModuleParts) (place : ℕ) (known other : FuncType) → HasDefinedType m place known → HasDefinedType m place other → other ≡ known
+pub type_alone : (m : ModuleParts) (place : ℕ) (known other : FuncType) → HasDefinedType m place known → HasDefinedType m place other
+    → other ≡ known
 type_alone m place known other (index, at, there) (found, here, within) =
     let same : found ≡ index = same_Some found index (sym here ∙ at) in
     func_alone m.types index known other there (subst (λ (i : ℕ). IsFuncAt m.types i other) same within)
 
 -- a body is typed with the type of its function
-pub typed_as : (m : ModuleParts) (place : ℕ) (code : Code) (instructions : List Instr) (function : FuncType) → HasDefinedType m place function → IsBodyAt m place code instructions
+pub typed_as : (m : ModuleParts) (place : ℕ) (code : Code) (instructions : List Instr) (function : FuncType)
+    → HasDefinedType m place function → IsBodyAt m place code instructions
     → IsBodyTyped (function_context m function code.locals) instructions
 typed_as m place code instructions function there body =
-    subst (λ (f : FuncType). IsBodyTyped (function_context m f code.locals) instructions) (type_alone m place function body.function there body.there) body.typed
+    subst (λ (f : FuncType). IsBodyTyped (function_context m f code.locals) instructions)
+    (type_alone m place function body.function there body.there) body.typed
 
 -- a number as the body of a function with the result i32
 pub number_at : (m : ModuleParts) (place n : ℕ) → HasDefinedType m place gives_number → IsBodyAt m place trapping (number n ∷ [])
@@ -56,7 +59,11 @@ number_at m place n there =
     record {
       function = gives_number;
       there = there;
-      typed = record { set = []; typed = step (one context (number n) [] (I32 ∷ []) [] [] [] (refl, refl) valid refl) (finished context (I32 ∷ []) [] valid) };
+      typed = record {
+        set = [];
+        typed = step (one context (number n) [] (I32 ∷ []) [] [] [] (refl, refl) valid refl)
+            (finished context (I32 ∷ []) [] valid);
+      };
     }
 
 pub local_read : IsBodyAt narrow_function 0 with_local (instr.LocalGet 0 ∷ [])
@@ -68,7 +75,8 @@ local_read =
       there = only_type;
       typed = record {
         set = [];
-        typed = step (one context (instr.LocalGet 0) [] (I32 ∷ []) [] [] [] (I32, (refl, inr (inl tt)), (refl, refl)) valid refl) (finished context (I32 ∷ []) [] valid);
+        typed = step (one context (instr.LocalGet 0) [] (I32 ∷ []) [] [] [] (I32, (refl, inr (inl tt)), (refl, refl)) valid refl)
+            (finished context (I32 ∷ []) [] valid);
       };
     }
 
@@ -81,7 +89,8 @@ result_missing m place code there body =
 pub local_missing : IsBodyAt narrow_function 0 trapping (instr.LocalGet 0 ∷ []) → ⊥
 unfolding is_plain
 local_missing body =
-    let (between, first, rest) = step_of refl (typed_as narrow_function 0 trapping (instr.LocalGet 0 ∷ []) gives_number only_type body).typed in
+    let (between, first, rest) = step_of refl (typed_as narrow_function 0 trapping (instr.LocalGet 0 ∷ []) gives_number only_type
+    body).typed in
     let (value, (at, set), is) = first.typed in
     let never : None ≡ Some value = at in
     cc
@@ -93,16 +102,22 @@ Each Is (code ∷ codes) [] = Unit {0}
 Each Is (code ∷ codes) (given ∷ bodies) = Is 0 code given × Each (λ place. Is (suc place)) codes bodies
 
 each_at : (Is : ℕ → Code → Body → Type 0) (codes : List Code) (bodies : List Body) → Each Is codes bodies
-    → (place : ℕ) (code : Code) (given : Body) → slice_get codes place ≡ Some code → slice_get bodies place ≡ Some given → Is place code given
+    → (place : ℕ) (code : Code) (given : Body) → slice_get codes place ≡ Some code → slice_get bodies place ≡ Some given
+    → Is place code given
 each_at Is [] bodies each place code given at there = cc at
 each_at Is (first ∷ codes) [] each place code given at there = cc there
 each_at Is (first ∷ codes) (top ∷ bodies) each zero code given at there =
     subst (Is 0 code) (same_Some top given there) (subst (λ (c : Code). Is 0 c top) (same_Some first code at) each.0)
-each_at Is (first ∷ codes) (top ∷ bodies) each (suc place) code given at there = each_at (λ n. Is (suc n)) codes bodies each.1 place code given at there
+each_at Is (first ∷ codes) (top ∷ bodies) each (suc place) code given at there = each_at (λ n. Is (suc n)) codes bodies each.1 place code
+    given at there
 
 pub bodies_by : (Is : ℕ → Code → List Instr → Type 0) (m : ModuleParts) (bodies : List Body) → length bodies ≡ length m.code
     → Each (λ place code. IsOfBody (Is place code) code) m.code bodies → AreBodiesBy Is m bodies
-bodies_by Is m bodies same each = record { each = same; in_place = each_at (λ place code. IsOfBody (Is place code) code) m.code bodies each }
+bodies_by Is m bodies same each = record {
+  each = same;
+  in_place = each_at (λ place code. IsOfBody (Is place code) code) m.code bodies
+      each;
+}
 
 pub all_bodies : (m : ModuleParts) (bodies : List Body) → length bodies ≡ length m.code
     → Each (λ place code. IsOfBody (IsBodyAt m place code) code) m.code bodies → AreBodiesOf m bodies

@@ -30,9 +30,11 @@ pub none_of : {X : Type 0} (P : X → Type 0) (xs : List X) → Each (λ (x : X)
 none_of P xs each (k, x, within, is, holds) = All-from_recursion (λ y. P y → ⊥) xs each k x within (subst P (sym is) holds)
 
 -- no instruction of a body names a data segment
-pub no_data : (instructions : List Instr) → Each (λ (x : Instr). IsTrue (names_data x) → ⊥) instructions → NameData (body.Drawn instructions ∷ []) → ⊥
+pub no_data : (instructions : List Instr) → Each (λ (x : Instr). IsTrue (names_data x) → ⊥) instructions
+    → NameData (body.Drawn instructions ∷ []) → ⊥
 no_data instructions each named =
-    none_of (HasOne (λ (x : Instr). IsTrue (names_data x))) (body.Drawn instructions ∷ []) (none_of (λ (x : Instr). IsTrue (names_data x)) instructions each, tt) named
+    none_of (HasOne (λ (x : Instr). IsTrue (names_data x))) (body.Drawn instructions ∷ [])
+    (none_of (λ (x : Instr). IsTrue (names_data x)) instructions each, tt) named
 
 no_body : (P : Body → Type 0) → Any P [] → ⊥
 no_body P (k, x, within, is, holds) = omega arith
@@ -65,11 +67,16 @@ only_function = (0, refl, function_at)
 nothing_at : IsBodyAt one_function 0 trapping []
 nothing_at =
     let context = labelled (function_context one_function gives_nothing []) [] in
-    record { function = gives_nothing; there = only_function; typed = record { set = []; typed = finished context [] [] (no_valid context) } }
+    record {
+      function = gives_nothing;
+      there = only_function;
+      typed = record { set = []; typed = finished context [] [] (no_valid context) };
+    }
 
 pub function_valid : IsValidProgram one_function (body.Drawn [] ∷ [])
 function_valid =
-    let typed : AreBodiesOf one_function (body.Drawn [] ∷ []) = all_bodies one_function (body.Drawn [] ∷ []) refl ((λ never. never, nothing_at), tt) in
+    let typed : AreBodiesOf one_function (body.Drawn [] ∷ []) = all_bodies one_function (body.Drawn [] ∷ []) refl
+    ((λ never. never, nothing_at), tt) in
     record {
       valid = one_function_valid;
       typed = typed;

@@ -8,8 +8,10 @@ use Rattle.smith_request.specs.Output.{IsCounted, IsFuelled}
 use Rattle.smith_request.specs.declared.manner.Fuel.{Fuel}
 
 -- the result of the export of a counter that is to be exported
-pub exporting : (fuel : Fuel) (program counted fuelled : ProgramParts) (result : Result (Unit {0}) Error) (has_counter : IsCounted fuel.amount program counted) → fuel.is_exported ≡ true
-    → AnswersFuelExport has_counter.index counted.«module» fuelled.«module» result → fuelled.bodies ≡ counted.bodies → OnOk result (IsFuelled fuel program fuelled)
+pub exporting : (fuel : Fuel) (program counted fuelled : ProgramParts) (result : Result (Unit {0}) Error)
+    (has_counter : IsCounted fuel.amount program counted) → fuel.is_exported ≡ true
+    → AnswersFuelExport has_counter.index counted.«module» fuelled.«module» result → fuelled.bodies ≡ counted.bodies
+    → OnOk result (IsFuelled fuel program fuelled)
 exporting fuel program counted fuelled (Ok u) has_counter is answer bodies = record {
   counted = counted;
   has_counter = has_counter;

@@ -6,7 +6,8 @@ use Rattle.smith_binary.specs.declared.error.EncodeError.TheVariants.{Memory}
 use Rattle.smith_config.specs.declared.config.Config.{Config}
 use Rattle.smith_module_rules.specs.Module.{ModuleParts}
 use Rattle.smith_binary_module.specs.Contents.{defined}
-use Rattle.smith_binary_module.specs.Layout.{id_if, is_filled, writes_types, writes_imports, writes_data_count, section_ids, IsAnySection, HasSections}
+use Rattle.smith_binary_module.specs.Layout.{id_if, is_filled, writes_types, writes_imports, writes_data_count, section_ids, IsAnySection}
+use Rattle.smith_binary_module.specs.Layout.{HasSections}
 use Rattle.smith_program.specs.Generated.{IsProgram}
 use Rattle.smith_program.specs.Parts.{ProgramParts}
 use Rattle.smith_custom_sections.specs.CustomSections.{IsPlain, IsPlainSection}
@@ -80,7 +81,8 @@ lacks_memory None program file h = tt
 lacks_memory (Some fuel) program file h = IsUncounted.not_written h.has_counter tt
 
 -- a file of the configuration that a module keeps is one of the configuration that it is drawn for
-pub file_of : {config : Config} {fuel : Option Fuel} {program : ProgramParts} {input left bytes : List ℕ} → IsProgram config input (Ok program) left
+pub file_of : {config : Config} {fuel : Option Fuel} {program : ProgramParts} {input left bytes : List ℕ}
+    → IsProgram config input (Ok program) left
     → IsFileOf program.«module».config fuel program left bytes → IsFileOf config fuel program left bytes
 file_of {left = left} {bytes = bytes} drawn h = record {
   file = h.file;

@@ -9,7 +9,8 @@ use Rattle.smith_request.specs.declared.manner.Fuel.{Fuel}
 use Rattle.smith_request.specs.declared.refusal.Refusal.{Refusal}
 use Rattle.smith_request.specs.declared.request.Request.{Request}
 
-pub binary_of : {text input : List ℕ} {request : Request} → IsRequest text request → (bytes : List ℕ) → IsBinaryFor request input bytes → IsBinary text input bytes
+pub binary_of : {text input : List ℕ} {request : Request} → IsRequest text request → (bytes : List ℕ) → IsBinaryFor request input bytes
+    → IsBinary text input bytes
 binary_of {input = input} {request = request} read bytes made = record {
   config = request.config;
   configured = read.configured;
@@ -20,10 +21,18 @@ binary_of {input = input} {request = request} read bytes made = record {
 pub has_binary_of : {text input : List ℕ} {request : Request} → IsRequest text request → HasBinaryFor request input → HasBinary text input
 has_binary_of read made = (made.0, binary_of read made.0 made.1)
 
-pub text_of : {text input : List ℕ} {request : Request} → IsRequest text request → (bytes : List ℕ) → IsTextFor request input bytes → IsTextOf text input bytes
-text_of {request = request} read bytes made = record { config = request.config; configured = read.configured; left = made.left; written = made.written }
+pub text_of : {text input : List ℕ} {request : Request} → IsRequest text request → (bytes : List ℕ) → IsTextFor request input bytes
+    → IsTextOf text input bytes
+text_of {request = request} read bytes made = record {
+  config = request.config;
+  configured = read.configured;
+  left = made.left;
+  written = made.written;
+}
 
-pub refusal_of : {text input : List ℕ} {request : Request} (form : Form) → IsRequest text request → (refusal : Refusal) → IsRefusalFor form request input refusal
+pub refusal_of : {text input : List ℕ} {request : Request} (form : Form) → IsRequest text request → (refusal : Refusal)
+    → IsRefusalFor form request input refusal
     → IsRefusal form text input refusal
 refusal_of {input = input} {request = request} form read refusal made =
-    IsRefusal.not_made read.configured (subst (λ (fuel : Option Fuel). IsRefusedFor form request.config fuel input made.left refusal) read.fuel made.unmade)
+    IsRefusal.not_made read.configured (subst (λ (fuel : Option Fuel). IsRefusedFor form request.config fuel input made.left refusal)
+    read.fuel made.unmade)

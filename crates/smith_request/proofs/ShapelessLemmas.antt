@@ -11,7 +11,8 @@ use Rattle.smith_config.specs.declared.config.Config.{Config}
 use Rattle.smith_config.specs.declared.offset_choices.MemoryOffsetChoices.{MemoryOffsetChoices}
 use Rattle.smith_config_json.specs.declared.fault.Fault.{Fault}
 use Rattle.smith_config_json.specs.declared.preset.Preset.{Preset}
-use Rattle.smith_config_json.specs.declared.preset.Preset.TheVariants.{Run, Version1, Version2, Version3, Proposals, Wabt, Binaryen, V8, SpiderMonkey, JavaScriptCore}
+use Rattle.smith_config_json.specs.declared.preset.Preset.TheVariants.{Run, Version1, Version2, Version3, Proposals, Wabt, Binaryen, V8}
+use Rattle.smith_config_json.specs.declared.preset.Preset.TheVariants.{SpiderMonkey, JavaScriptCore}
 use Rattle.smith_config_json.specs.Fields.{Setter, Table, Field, named, fields, field_named, whole, truth, kinds, choices, file, preset}
 use Rattle.smith_config_json.specs.Members.{preset_in}
 use Rattle.smith_config_json.specs.Objects.{Reading, ReadsMembers, ReadsObject, ReadsText, alone}
@@ -55,7 +56,8 @@ picked false field later one others = others
 
 named_keeps : (name : List ℕ) (entries : Table Field) → AllKeep entries → SomeKeeps (named name entries)
 named_keeps name [] keep = tt
-named_keeps name (entry ∷ entries) keep = picked (bytes_eq name entry.0) entry.1 (named name entries) keep.0 (named_keeps name entries keep.1)
+named_keeps name (entry ∷ entries) keep = picked (bytes_eq name entry.0) entry.1 (named name entries) keep.0
+    (named_keeps name entries keep.1)
 
 fields_keep : AllKeep fields
 unfolding fields
@@ -296,14 +298,17 @@ choices_keep set keep config (number s) rest = refl
 choices_keep set keep config (boolean b) rest = refl
 choices_keep set keep config bad rest = refl
 
-outcome_keeps : (r : Result (Unit {0}) Fault) (config : Config) (rest : List Token) → shapes_after (shapes config) (outcome r config rest) ≡ shapes config
+outcome_keeps : (r : Result (Unit {0}) Fault) (config : Config) (rest : List Token) → shapes_after (shapes config) (outcome r config rest)
+    ≡ shapes config
 outcome_keeps (Ok u) config rest = refl
 outcome_keeps (Err fault) config rest = refl
 
-after : {r s : Result (Config × List Token) Fault} (config : Config) → r ≡ s → shapes_after (shapes config) s ≡ shapes config → shapes_after (shapes config) r ≡ shapes config
+after : {r s : Result (Config × List Token) Fault} (config : Config) → r ≡ s → shapes_after (shapes config) s ≡ shapes config
+    → shapes_after (shapes config) r ≡ shapes config
 after config same keeps = ap (shapes_after (shapes config)) same ∙ keeps
 
-sets_keep : (field : Option Field) → SomeKeeps field → (config : Config) (ts : List Token) (r : Result (Config × List Token) Fault) → Sets field config ts r
+sets_keep : (field : Option Field) → SomeKeeps field → (config : Config) (ts : List Token) (r : Result (Config × List Token) Fault)
+    → Sets field config ts r
     → shapes_after (shapes config) r ≡ shapes config
 sets_keep None keep config ts r h = after config h refl
 sets_keep (Some (whole most set)) keep config ts r h = after config h (set_to_keeps set keep config _ (whole_value most (first ts)))
@@ -313,7 +318,8 @@ sets_keep (Some (choices set)) keep config ts r h = after config h (choices_keep
 sets_keep (Some file) keep config ts r h = after config h (outcome_keeps (file_value (first ts)) config _)
 sets_keep (Some preset) keep config ts r h = after config h (outcome_keeps (preset_value (first ts)) config _)
 
-members_keep : {given : List (List ℕ)} {config : Config} {ts : List Token} {r : Reading} → ReadsMembers given config ts r → shapes_after (shapes config) r ≡ shapes config
+members_keep : {given : List (List ℕ)} {config : Config} {ts : List Token} {r : Reading} → ReadsMembers given config ts r
+    → shapes_after (shapes config) r ≡ shapes config
 members_keep (ReadsMembers.ends _) = refl
 members_keep (ReadsMembers.breaks _) = refl
 members_keep (ReadsMembers.repeats _ _) = refl

@@ -1,5 +1,6 @@
 -- What is written is a valid program.
-use Rattle.std.proofs.Common.{◌≡◌, ℕ, ◌<◌, Bool, true, false, Option, Some, None, List, [], ◌∷◌, length, length-append, refl, ap, arith, sym, subst}
+use Rattle.std.proofs.Common.{◌≡◌, ℕ, ◌<◌, Bool, true, false, Option, Some, None, List, [], ◌∷◌, length, length-append, refl, ap, arith}
+use Rattle.std.proofs.Common.{sym, subst}
 use Rattle.smith_config.specs.declared.config.Config.{Config}
 use Rattle.smith_module_rules.specs.Module.{ModuleParts}
 use Rattle.wasm_smith.specs.FuelExport.{with_fuel_export}
@@ -22,7 +23,8 @@ use Rattle.smith_request.specs.declared.manner.Fuel.{Fuel}
 with_counter : (fuel : ℕ) (program counted : ProgramParts) → IsCounted fuel program counted → IsValidProgram program.«module» program.bodies
     → IsValidProgram counted.«module» counted.bodies
 with_counter fuel program counted has valid =
-    subst (IsValidProgram counted.«module») (sym has.bodies) (counted_valid fuel has.index program.«module» counted.«module» program.bodies has.added.1 valid)
+    subst (IsValidProgram counted.«module») (sym has.bodies) (counted_valid fuel has.index program.«module» counted.«module» program.bodies
+    has.added.1 valid)
 
 -- the counter is a global
 counter_there : (fuel index : ℕ) (old new : ModuleParts) → AddsCounter fuel index old new → index < length new.globals
@@ -32,13 +34,16 @@ counter_there fuel index old new adds =
     omega (arith, more, appended, adds.last)
 
 -- a valid program is valid with the export of its counter
-with_export : (is_exported : Bool) (index : ℕ) (counted fuelled : ProgramParts) → IsExporting is_exported index counted fuelled → index < length counted.«module».globals
+with_export : (is_exported : Bool) (index : ℕ) (counted fuelled : ProgramParts) → IsExporting is_exported index counted fuelled
+    → index < length counted.«module».globals
     → IsValidProgram counted.«module» counted.bodies → IsValidProgram fuelled.«module» fuelled.bodies
 with_export true index counted fuelled has within valid =
     subst (λ (m : ModuleParts). IsValidProgram m fuelled.bodies) (sym has.exported)
-    (subst (IsValidProgram (with_fuel_export index counted.«module»)) (sym has.bodies) (exported_program_valid index counted.«module» counted.bodies within valid))
+    (subst (IsValidProgram (with_fuel_export index counted.«module»)) (sym has.bodies)
+    (exported_program_valid index counted.«module» counted.bodies within valid))
 with_export false index counted fuelled has within valid =
-    subst (λ (m : ModuleParts). IsValidProgram m fuelled.bodies) (sym has.exported) (subst (IsValidProgram counted.«module») (sym has.bodies) valid)
+    subst (λ (m : ModuleParts). IsValidProgram m fuelled.bodies) (sym has.exported)
+    (subst (IsValidProgram counted.«module») (sym has.bodies) valid)
 
 with_fuel : (fuel : Fuel) (program fuelled : ProgramParts) → IsFuelled fuel program fuelled → IsValidProgram program.«module» program.bodies
     → IsValidProgram fuelled.«module» fuelled.bodies
@@ -47,26 +52,32 @@ with_fuel fuel program fuelled has valid =
     (counter_there fuel.amount has.has_counter.index program.«module» has.counted.«module» has.has_counter.added.1)
     (with_counter fuel.amount program has.counted has.has_counter valid)
 
-written_valid : (fuel : Option Fuel) (program : ProgramParts) (bytes : List ℕ) → IsBinaryWith fuel program bytes → IsValidProgram program.«module» program.bodies → IsValidBinary bytes
+written_valid : (fuel : Option Fuel) (program : ProgramParts) (bytes : List ℕ) → IsBinaryWith fuel program bytes
+    → IsValidProgram program.«module» program.bodies → IsValidBinary bytes
 written_valid None program bytes encoded valid = encoded_valid program.«module» program.bodies bytes encoded valid
 written_valid (Some fuel) program bytes h valid =
     encoded_valid h.counted.«module» h.counted.bodies bytes h.encoded (with_fuel fuel program h.counted h.has_counter valid)
 
 -- a file without custom sections is left as it is
-finished_without : (b : Bool) (least : ℕ) (left file bytes : List ℕ) → IsPlain file → IsFinished b least left file bytes → IsWithoutCustoms bytes file
+finished_without : (b : Bool) (least : ℕ) (left file bytes : List ℕ) → IsPlain file → IsFinished b least left file bytes
+    → IsWithoutCustoms bytes file
 finished_without true least left file bytes plain h = h.without
 finished_without false least left file bytes plain h = subst (λ (whole : List ℕ). IsWithoutCustoms whole file) (sym h) (plain_left plain)
 
 -- the file of a program is valid
-file_valid : {config : Config} {fuel : Option Fuel} {input bytes left : List ℕ} (h : IsBinaryOf config fuel input bytes left) → IsValidBinary h.written.file
+file_valid : {config : Config} {fuel : Option Fuel} {input bytes left : List ℕ} (h : IsBinaryOf config fuel input bytes left)
+    → IsValidBinary h.written.file
 file_valid {fuel = fuel} h = written_valid fuel h.program h.written.file h.written.encoded h.drawn.valid
 
 -- what is left of it without its custom sections
-without : {config : Config} {fuel : Option Fuel} {program : ProgramParts} {left bytes : List ℕ} (h : IsFileOf config fuel program left bytes) → IsWithoutCustoms bytes h.file
+without : {config : Config} {fuel : Option Fuel} {program : ProgramParts} {left bytes : List ℕ}
+    (h : IsFileOf config fuel program left bytes) → IsWithoutCustoms bytes h.file
 without {config = config} {fuel = fuel} {program = program} {left = left} {bytes = bytes} h =
-    finished_without config.generate_custom_sections config.min_uleb_size left h.file bytes (binary_plain fuel program h.file h.encoded) h.finished
+    finished_without config.generate_custom_sections config.min_uleb_size left h.file bytes (binary_plain fuel program h.file h.encoded)
+    h.finished
 
-pub binary_valid : (config : Config) (fuel : Option Fuel) (input bytes left : List ℕ) → IsBinaryOf config fuel input bytes left → IsValidFile bytes
+pub binary_valid : (config : Config) (fuel : Option Fuel) (input bytes left : List ℕ) → IsBinaryOf config fuel input bytes left
+    → IsValidFile bytes
 binary_valid config fuel input bytes left h = record { file = h.written.file; without = without h.written; valid = file_valid h }
 
 -- a file is what is written without custom sections
@@ -77,4 +88,5 @@ same_file true least left file bytes off h = absurd cc
 pub plain_valid : (config : Config) (fuel : Option Fuel) (input bytes left : List ℕ) → config.generate_custom_sections ≡ false
     → IsBinaryOf config fuel input bytes left → IsValidBinary bytes
 plain_valid config fuel input bytes left off h =
-    subst IsValidBinary (sym (same_file config.generate_custom_sections config.min_uleb_size left h.written.file bytes off h.written.finished)) (file_valid h)
+    subst IsValidBinary (sym (same_file config.generate_custom_sections config.min_uleb_size left h.written.file bytes off
+    h.written.finished)) (file_valid h)

@@ -73,7 +73,8 @@ IsUnwritten form program (Module _) = ⊥
 pub data IsUncounted (form : Form) (fuel : Fuel) (program : Program) (refusal : Refusal) : Type 0 where
   not_added : {e : Error} → MayAddNone program.«module» e → refusal ≡ Module e → IsUncounted form fuel program refusal
   no_index : 2 ^ 32 - 1 ≤ length program.«module».globals → refusal ≡ Encoding TooLong → IsUncounted form fuel program refusal
-  not_written : {counted : Program} → IsFuelled fuel program counted → IsUnwritten form counted refusal → IsUncounted form fuel program refusal
+  not_written : {counted : Program} → IsFuelled fuel program counted → IsUnwritten form counted refusal
+      → IsUncounted form fuel program refusal
 
 -- a program is not written, with a counter if there is a fuel
 abbrev pub IsUnwrittenWith : Form → Option Fuel → Program → Refusal → Type 0

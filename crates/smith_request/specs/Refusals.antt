@@ -8,7 +8,8 @@ use Rattle.smith_bytes.specs.declared.error.Error.TheVariants as errors
 use Rattle.smith_config.specs.declared.config.Config.{Config as Configuration}
 use Rattle.smith_config_json.specs.Objects.{ReadsText}
 use Rattle.smith_config_json.specs.declared.fault.Fault.{Fault}
-use Rattle.smith_config_json.specs.declared.fault.Fault.TheVariants.{OutOfMemory, NotAnObject, UnknownField, RepeatedField, WrongType, OutOfRange, TextAfter}
+use Rattle.smith_config_json.specs.declared.fault.Fault.TheVariants.{OutOfMemory, NotAnObject, UnknownField, RepeatedField, WrongType}
+use Rattle.smith_config_json.specs.declared.fault.Fault.TheVariants.{OutOfRange, TextAfter}
 use Rattle.smith_config_json.specs.declared.refusal.ConfigRefusal.{ConfigRefusal}
 use Rattle.smith_request.specs.Output.{IsRefusedFor}
 use Rattle.smith_request.specs.Requests.{IsConfigured, fuel_of}
@@ -33,7 +34,8 @@ IsUnread text (Encoding e) = ⊥
 -- a possible refusal of a configuration's text and an input, for a form
 pub data IsRefusal (form : Form) (text input : List ℕ) (refusal : Refusal) : Type 0 where
   not_read : IsUnread text refusal → IsRefusal form text input refusal
-  not_made : {config : Configuration} {left : List ℕ} → IsConfigured text config → IsRefusedFor form config (fuel_of text) input left refusal →
+  not_made : {config : Configuration} {left : List ℕ} → IsConfigured text config → IsRefusedFor form config (fuel_of text) input left
+      refusal →
       IsRefusal form text input refusal
 
 -- a possible refusal of a request and an input, for a form

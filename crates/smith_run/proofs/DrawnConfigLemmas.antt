@@ -40,4 +40,5 @@ asks_nothing_impossible bytes =
 
 -- a drawn configuration requires nothing impossible
 pub drawn_asks : (bytes : List ℕ) (config : Config) (rest : List ℕ) → config_at bytes ≡ (config, rest) → AsksNothingImpossible config
-drawn_asks bytes config rest exact = subst (λ (drawn : Config × List ℕ). AsksNothingImpossible drawn.0) exact (asks_nothing_impossible bytes)
+drawn_asks bytes config rest exact = subst (λ (drawn : Config × List ℕ). AsksNothingImpossible drawn.0) exact
+    (asks_nothing_impossible bytes)

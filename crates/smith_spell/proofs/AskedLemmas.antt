@@ -3,7 +3,8 @@ use Rattle.std.proofs.Common.{◌≡◌, ℕ, ◌∙◌, sym, map, rules}
 use Rattle.std.specs.Prelude.{All, slice_index_or}
 use Rattle.std.proofs.lemmas.List.Elements.{All-map, recursion_from_All}
 use Rattle.smith_bytes.specs.declared.error.Count.{Count}
-use Rattle.smith_bytes.specs.declared.error.Count.TheVariants.{Types, Imports, Tags, Funcs, Globals, Exports, ElementSegments, Elements, DataSegments, Memories, Tables}
+use Rattle.smith_bytes.specs.declared.error.Count.TheVariants.{Types, Imports, Tags, Funcs, Globals, Exports, ElementSegments, Elements}
+use Rattle.smith_bytes.specs.declared.error.Count.TheVariants.{DataSegments, Memories, Tables}
 use Rattle.smith_config.specs.declared.config.Config.{Config}
 use Rattle.smith_config.specs.Faults.{counts, minimum_of}
 use Rattle.smith_config.specs.Sanitized.{sanitized}
@@ -29,7 +30,8 @@ zero_each config all count =
     ]
 
 pub each_zero : (config : Config) → HasNoMinimums config → All (λ minimum. minimum ≡ 0) (map (minimum_of config) counts)
-each_zero config none = All-map (λ (minimum : ℕ). minimum ≡ 0) (minimum_of config) counts (λ k other _. none (slice_index_or counts k other))
+each_zero config none = All-map (λ (minimum : ℕ). minimum ≡ 0) (minimum_of config) counts
+    (λ k other _. none (slice_index_or counts k other))
 
 -- sanitising changes no minimum
 same_minimum : (config : Config) (count : Count) → minimum_of (sanitized config) count ≡ minimum_of config count
@@ -41,7 +43,11 @@ asked_once_sanitised config h =
     let alone = h.no_shapes.module_shape in
     record {
       no_minimums = λ count. same_minimum config count ∙ h.no_minimums count;
-      no_shapes = record { available_imports = rw alone h.no_shapes.available_imports; exports = rw alone h.no_shapes.exports; module_shape = alone };
+      no_shapes = record {
+        available_imports = rw alone h.no_shapes.available_imports;
+        exports = rw alone h.no_shapes.exports;
+        module_shape = alone;
+      };
       not_everything = h.not_everything;
     }
 
@@ -50,6 +56,10 @@ asked_at_first config h =
     let alone = h.no_shapes.module_shape in
     record {
       no_minimums = λ count. sym (same_minimum config count) ∙ h.no_minimums count;
-      no_shapes = record { available_imports = rw alone at h.no_shapes.available_imports; exports = rw alone at h.no_shapes.exports; module_shape = alone };
+      no_shapes = record {
+        available_imports = rw alone at h.no_shapes.available_imports;
+        exports = rw alone at h.no_shapes.exports;
+        module_shape = alone;
+      };
       not_everything = h.not_everything;
     }

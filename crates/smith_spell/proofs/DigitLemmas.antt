@@ -1,5 +1,6 @@
 -- The base-256 digits of a number, most significant first.
-use Rattle.std.proofs.Common.{◌≡◌, ℕ, zero, suc, ◌+◌, ◌-◌, ◌*◌, ◌/◌, ◌%◌, ◌<◌, ◌≤◌, ◌^◌, List, [], ◌∷◌, ◌++◌, refl, ap, ◌∙◌, arith, length-append, append_assoc}
+use Rattle.std.proofs.Common.{◌≡◌, ℕ, zero, suc, ◌+◌, ◌-◌, ◌*◌, ◌/◌, ◌%◌, ◌<◌, ◌≤◌, ◌^◌, List, [], ◌∷◌, ◌++◌, refl, ap, ◌∙◌, arith}
+use Rattle.std.proofs.Common.{length-append, append_assoc}
 use Rattle.std.proofs.Math.Nat.{pow-succ', mod-eq_of_lt}
 use Rattle.std.proofs.lemmas.List.Sums.{fold-append}
 use Rattle.smith_bytes.specs.Draws.{big_endian, digit_count, digit_count_within}
@@ -26,10 +27,12 @@ unfolding digit_count
 no_digits number none = record { digits = refl; read = omega arith }
 
 -- the last digit after the others
-pub digit_written : (number most : ℕ) {old between new : List ℕ} → 0 < most → most < 2 ^ 64 → Writes (SpellsDigits (number / 256) (most / 256)) old between
+pub digit_written : (number most : ℕ) {old between new : List ℕ} → 0 < most → most < 2 ^ 64
+    → Writes (SpellsDigits (number / 256) (most / 256)) old between
     → new ≡ between ++ number % 256 ∷ [] → Writes (SpellsDigits number most) old new
 digit_written number most {old} some few front whole =
-    let last : big_endian (front.piece ++ number % 256 ∷ []) ≡ 256 * big_endian front.piece + number % 256 = fold-append (λ x b. 256 * x + b) 0 front.piece (number % 256 ∷ []) in
+    let last : big_endian (front.piece ++ number % 256 ∷ []) ≡ 256 * big_endian front.piece + number % 256 =
+    fold-append (λ x b. 256 * x + b) 0 front.piece (number % 256 ∷ []) in
     record {
       piece = front.piece ++ number % 256 ∷ [];
       spelled = record {
@@ -40,7 +43,8 @@ digit_written number most {old} some few front whole =
     }
 
 -- a number from 0 to the maximum
-pub number_of_digits : (number most : ℕ) (piece : List ℕ) → number ≤ most → SpellsDigits number most piece → SpellsNumber number 0 most piece
+pub number_of_digits : (number most : ℕ) (piece : List ℕ) → number ≤ most → SpellsDigits number most piece
+    → SpellsNumber number 0 most piece
 number_of_digits number most piece within h =
     let all : most - 0 ≡ most = omega arith in
     let same : big_endian piece % (most + 1) ≡ number = rw h.read (mod-eq_of_lt {n = number} {m = most + 1} (omega arith)) in

@@ -1,5 +1,6 @@
 -- The places of types among those that functions may have.
-use Rattle.std.proofs.Common.{◌≡◌, ℕ, zero, suc, ◌+◌, ◌<◌, ◌≤◌, Bool, true, false, cond, List, [], ◌∷◌, ◌++◌, Some, length, take, drop, get_or, refl, sym, ap, ◌∙◌, arith, append-nil}
+use Rattle.std.proofs.Common.{◌≡◌, ℕ, zero, suc, ◌+◌, ◌<◌, ◌≤◌, Bool, true, false, cond, List, [], ◌∷◌, ◌++◌, Some, length, take, drop}
+use Rattle.std.proofs.Common.{get_or, refl, sym, ap, ◌∙◌, arith, append-nil}
 use Rattle.std.specs.Prelude.{slice_get, All, if◌then◌else◌}
 use Rattle.std.proofs.Math.ListN.{drop_of_length-le}
 use Rattle.std.proofs.lemmas.Option.{same_Some, slice_get_within, get_or_from_slice_get}
@@ -25,11 +26,13 @@ count_turn : (b : Bool) (n m : ℕ) (rest : List ℕ) → cond b (n + 1) n + len
 count_turn true n m rest = omega arith
 count_turn false n m rest = refl
 
-counts_told : {A : Type 0} (test : A → Bool) (n m : ℕ) (xs : List A) (i d : ℕ) → i < length xs → get_or (counts_from test n xs) i d ≡ n + length (places_from test m (take i xs))
+counts_told : {A : Type 0} (test : A → Bool) (n m : ℕ) (xs : List A) (i d : ℕ) → i < length xs → get_or (counts_from test n xs) i d
+    ≡ n + length (places_from test m (take i xs))
 counts_told test n m [] i d inside = absurd (omega arith)
 counts_told test n m (x ∷ xs) zero d inside = omega arith
 counts_told test n m (x ∷ xs) (suc i) d inside =
-    counts_told test (if test x then n + 1 else n) (suc m) xs i d (omega arith) ∙ count_turn (test x) n m (places_from test (suc m) (take i xs))
+    counts_told test (if test x then n + 1 else n) (suc m) xs i d (omega arith) ∙ count_turn (test x) n m
+    (places_from test (suc m) (take i xs))
 
 -- these counts are the places of the types
 pub places_told : (types : List SubType) (places : List ℕ) → places ≡ counts_from (may_be_used DefinedFunc) 0 types → ArePlaces types places
@@ -38,14 +41,18 @@ places_told types places is = rw is (record {
   told = λ i d inside. let told = counts_told (may_be_used DefinedFunc) 0 0 types i d inside in omega (arith, told);
 })
 
-pub places_all : (types : List SubType) (places : List ℕ) (i count : ℕ) → length types ≤ i → places ++ counts_from (may_be_used DefinedFunc) count (drop i types) ≡ counts_from (may_be_used DefinedFunc) 0 types → ArePlaces types places
-places_all types places i count past so_far = places_told types places (sym (append-nil places) ∙ (rw (drop_of_length-le types past) at so_far))
+pub places_all : (types : List SubType) (places : List ℕ) (i count : ℕ) → length types ≤ i → places ++ counts_from (may_be_used DefinedFunc)
+    count (drop i types) ≡ counts_from (may_be_used DefinedFunc) 0 types → ArePlaces types places
+places_all types places i count past so_far =
+    places_told types places (sym (append-nil places) ∙ (rw (drop_of_length-le types past) at so_far))
 
-found_turn : (b : Bool) (m n : ℕ) (places before : List ℕ) → slice_get places (length before) ≡ Some n → slice_get (cond b (m ∷ places) places) (length (cond b (m ∷ before) before)) ≡ Some n
+found_turn : (b : Bool) (m n : ℕ) (places before : List ℕ) → slice_get places (length before) ≡ Some n
+    → slice_get (cond b (m ∷ places) places) (length (cond b (m ∷ before) before)) ≡ Some n
 found_turn true m n places before h = h
 found_turn false m n places before h = h
 
-place_found : {A : Type 0} (test : A → Bool) (m : ℕ) (xs : List A) (place : ℕ) (x : A) → slice_get xs place ≡ Some x → test x ≡ true → slice_get (places_from test m xs) (length (places_from test m (take place xs))) ≡ Some (m + place)
+place_found : {A : Type 0} (test : A → Bool) (m : ℕ) (xs : List A) (place : ℕ) (x : A) → slice_get xs place ≡ Some x → test x ≡ true
+    → slice_get (places_from test m xs) (length (places_from test m (take place xs))) ≡ Some (m + place)
 place_found test m [] place x at passes = cc at
 place_found test m (y ∷ ys) zero x at passes =
     let same : y ≡ x = same_Some y x at in
@@ -53,10 +60,12 @@ place_found test m (y ∷ ys) zero x at passes =
     rw on (ap Some (omega arith))
 place_found test m (y ∷ ys) (suc place) x at passes =
     let next : suc m + place ≡ m + suc place = omega arith in
-    found_turn (test y) m (m + suc place) (places_from test (suc m) ys) (places_from test (suc m) (take place ys)) (place_found test (suc m) ys place x at passes ∙ ap Some next)
+    found_turn (test y) m (m + suc place) (places_from test (suc m) ys) (places_from test (suc m) (take place ys))
+    (place_found test (suc m) ys place x at passes ∙ ap Some next)
 
 -- the type of a function is at its place
-pub func_place : (types : List SubType) (places : List ℕ) (func d : ℕ) → ArePlaces types places → All (λ (t : SubType). t.composite_type.shared ≡ false) types → IsFuncTypeIndex types func
+pub func_place : (types : List SubType) (places : List ℕ) (func d : ℕ) → ArePlaces types places
+    → All (λ (t : SubType). t.composite_type.shared ≡ false) types → IsFuncTypeIndex types func
     → slice_get (func_types types) (get_or places func d) ≡ Some func
 unfolding is_unshared_function
 func_place types places func d are unshared (function, (t, at, is)) =
@@ -67,7 +76,8 @@ func_place types places func d are unshared (function, (t, at, is)) =
     rw (are.told func d inside) (found ∙ ap Some same)
 
 -- if no type may be that of a function, there is no function
-pub no_funcs : (config : Config) (types : List SubType) (funcs : List ℕ) → length (func_types types) ≡ 0 → All (λ (t : SubType). t.composite_type.shared ≡ false) types → All (IsFuncTypeIndex types) funcs → SpellsFuncs config types funcs []
+pub no_funcs : (config : Config) (types : List SubType) (funcs : List ℕ) → length (func_types types) ≡ 0
+    → All (λ (t : SubType). t.composite_type.shared ≡ false) types → All (IsFuncTypeIndex types) funcs → SpellsFuncs config types funcs []
 unfolding Listed
 no_funcs config types [] none unshared valid = rw none refl
 no_funcs config types (func ∷ funcs) none unshared valid =
@@ -75,5 +85,6 @@ no_funcs config types (func ∷ funcs) none unshared valid =
     let stands = func_place types places func 0 (places_told types places refl) unshared (valid 0 func (omega arith)) in
     absurd (omega (arith, slice_get_within (func_types types) (get_or places func 0) func stands, none))
 
-pub func_inside : (types : List SubType) (places : List ℕ) (func : ℕ) → ArePlaces types places → IsFuncTypeIndex types func → func < length places
+pub func_inside : (types : List SubType) (places : List ℕ) (func : ℕ) → ArePlaces types places → IsFuncTypeIndex types func
+    → func < length places
 func_inside types places func are (function, (t, at, is)) = omega (arith, slice_get_within types func t at, are.sized)

@@ -1,5 +1,6 @@
 -- The heap types that struct types without supertypes ground, by the facts about the types.
-use Rattle.std.proofs.Common.{◌≡◌, ◌∙◌, ℕ, zero, suc, ◌+◌, ◌<◌, Bool, true, false, ◌&&◌, ◌||◌, List, [], ◌∷◌, ◌++◌, Some, None, IsTrue, length, refl, sym, ap, subst, arith, length-append}
+use Rattle.std.proofs.Common.{◌≡◌, ◌∙◌, ℕ, zero, suc, ◌+◌, ◌<◌, Bool, true, false, ◌&&◌, ◌||◌, List, [], ◌∷◌, ◌++◌, Some, None, IsTrue}
+use Rattle.std.proofs.Common.{length, refl, sym, ap, subst, arith, length-append}
 use Rattle.std.specs.Prelude.{◌↔◌, slice_get, if◌then◌else◌}
 use Rattle.std.specs.List.{All, list_any}
 use Rattle.std.proofs.lemmas.List.Elements.{All-push}
@@ -34,23 +35,27 @@ any_push test (y ∷ xs) x = ap (λ b. test y || b) (any_push test xs x) ∙ or_
     or_apart false b c = refl
 
 -- the facts with one more type
-pub known_more : (types : List SubType) (known after : Known) (t : SubType) → after.count ≡ known.count + 1 → after.has_ground ≡ (known.has_ground || is_ground_of false t) → IsKnown types known → IsRoot t → IsKnown (types ++ t ∷ []) after
+pub known_more : (types : List SubType) (known after : Known) (t : SubType) → after.count ≡ known.count + 1
+    → after.has_ground ≡ (known.has_ground || is_ground_of false t) → IsKnown types known → IsRoot t → IsKnown (types ++ t ∷ []) after
 known_more types known after t count grounds h root = record {
   counted = let long = length-append types (t ∷ []) in omega (arith, long, count, h.counted);
   grounds = grounds ∙ (ap (λ b. b || is_ground_of false t) h.grounds ∙ sym (any_push (is_ground_of false) types t));
   roots = All-push IsRoot types t h.roots root;
 }
 
-kinds_are : (types : List SubType) (known : Known) → IsKnown types known → AreGroundKinds types (record { plain = known.has_ground; shared = list_any (is_ground_of true) types })
+kinds_are : (types : List SubType) (known : Known) → IsKnown types known
+    → AreGroundKinds types (record { plain = known.has_ground; shared = list_any (is_ground_of true) types })
 kinds_are types known h = record { each = each }
   where
-    each : (is_shared : Bool) → kind_at (record { plain = known.has_ground; shared = list_any (is_ground_of true) types }) is_shared ≡ list_any (is_ground_of is_shared) types
+    each : (is_shared : Bool) → kind_at (record { plain = known.has_ground; shared = list_any (is_ground_of true) types }) is_shared
+        ≡ list_any (is_ground_of is_shared) types
     each true = refl
     each false = h.grounds
 
 -- an unshared abstract heap type is grounded if it is above struct types and there is a struct type
 -- with defaults
-pub abstract_known : (types : List SubType) (known : Known) (descriptors s : Bool) (b : AbstractHeapType) (ty : HeapType) (r : Bool) → IsKnown types known → ty ≡ Abstract s b → s ≡ false → r ≡ (known.has_ground && is_abstract_below Struct b)
+pub abstract_known : (types : List SubType) (known : Known) (descriptors s : Bool) (b : AbstractHeapType) (ty : HeapType) (r : Bool)
+    → IsKnown types known → ty ≡ Abstract s b → s ≡ false → r ≡ (known.has_ground && is_abstract_below Struct b)
     → IsTrue r ↔ IsGroundedByStructs types descriptors ty
 abstract_known types known descriptors s b ty r h is unshared read =
     let kinds : GroundKinds = record { plain = known.has_ground; shared = list_any (is_ground_of true) types } in
@@ -65,13 +70,17 @@ alone : (types : List SubType) (i j : ℕ) → All IsRoot types → Reaches type
 alone types i j roots here = refl
 alone types i j roots (up {t = t} at sup more) = let root = root_at types i t roots at in cc
 
-created_here : (types : List SubType) (descriptors : Bool) (j : ℕ) → IsBelow types (if descriptors then Exact j else Concrete j) (Concrete j)
+created_here : (types : List SubType) (descriptors : Bool) (j : ℕ) → IsBelow types (if descriptors then Exact j else Concrete j)
+    (Concrete j)
 created_here types true j = exact_below types j
 created_here types false j = itself
 
-created_alone : (types : List SubType) (descriptors : Bool) (i j : ℕ) → All IsRoot types → IsBelow types (if descriptors then Exact i else Concrete i) (Concrete j) → i ≡ j
-created_alone types true i j roots below = alone types i j roots (by_cases_from_below types (roots_orderly types roots) (Exact i) (Concrete j) below)
-created_alone types false i j roots below = alone types i j roots (by_cases_from_below types (roots_orderly types roots) (Concrete i) (Concrete j) below)
+created_alone : (types : List SubType) (descriptors : Bool) (i j : ℕ) → All IsRoot types
+    → IsBelow types (if descriptors then Exact i else Concrete i) (Concrete j) → i ≡ j
+created_alone types true i j roots below = alone types i j roots (by_cases_from_below types (roots_orderly types roots) (Exact i)
+    (Concrete j) below)
+created_alone types false i j roots below = alone types i j roots (by_cases_from_below types (roots_orderly types roots) (Concrete i)
+    (Concrete j) below)
 
 stands : (types : List SubType) (j : ℕ) → j < length types → (t : SubType) × (slice_get types j ≡ Some t)
 stands [] j inside = absurd (omega arith)
@@ -79,7 +88,8 @@ stands (t ∷ types) zero inside = (t, refl)
 stands (t ∷ types) (suc j) inside = stands types j (omega arith)
 
 -- a type without a supertype is grounded only by itself
-pub concrete_known : (types : List SubType) (known : Known) (descriptors : Bool) (j : ℕ) (ty : HeapType) (r : Bool) → IsKnown types known → ty ≡ Concrete j → j < length types → ((t : SubType) → slice_get types j ≡ Some t → r ≡ is_ground t)
+pub concrete_known : (types : List SubType) (known : Known) (descriptors : Bool) (j : ℕ) (ty : HeapType) (r : Bool) → IsKnown types known
+    → ty ≡ Concrete j → j < length types → ((t : SubType) → slice_get types j ≡ Some t → r ≡ is_ground t)
     → IsTrue r ↔ IsGroundedByStructs types descriptors ty
 concrete_known types known descriptors j ty r h is inside read =
     let (t, at) = stands types j inside in

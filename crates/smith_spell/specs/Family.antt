@@ -35,7 +35,8 @@ IsMemberHeapType config before (Exact index) = ⊥
 -- defaults
 abbrev pub IsMemberNullability : Config → List SubType → RefType → Type 0
 IsMemberNullability config before reference =
-    IsTrue reference.nullable ⊎ (IsTrue config.non_nullable_enabled × IsGroundedByStructs before config.custom_descriptors_enabled reference.heap_type)
+    IsTrue reference.nullable ⊎ (IsTrue config.non_nullable_enabled × IsGroundedByStructs before config.custom_descriptors_enabled
+    reference.heap_type)
 
 -- a value type that a type after these may name: an enabled number or vector, or a reference
 abbrev pub IsMemberValType : Config → List SubType → ValType → Type 0
@@ -69,7 +70,8 @@ pub record IsMemberFunction (config : Config) (before : List SubType) (function 
 abbrev pub IsMemberInner : Config → List SubType → CompositeInnerType → Type 0
 IsMemberInner config before (Array array) = IsTrue config.gc_enabled × IsMemberField config before array.0
 IsMemberInner config before (Func function) = IsMemberFunction config before function
-IsMemberInner config before (Struct structure) = IsTrue config.gc_enabled × (length structure.fields ≤ 20) × All (IsMemberField config before) structure.fields
+IsMemberInner config before (Struct structure) = IsTrue config.gc_enabled × (length structure.fields ≤ 20)
+    × All (IsMemberField config before) structure.fields
 
 -- a type after these: unshared, without a supertype, and final without garbage collection
 pub record IsMemberType (config : Config) (before : List SubType) (t : SubType) : Type 0 where
@@ -84,6 +86,7 @@ pub record IsInFamily (config : Config) (groups : List (List SubType)) (funcs : 
   pub filled : All (λ (group : List SubType). 0 < length group) groups
   pub single : config.gc_enabled ≡ false → All (λ (group : List SubType). length group ≡ 1) groups
   pub few_types : length (space_of groups).types ≤ config.max_types
-  pub each_type : (index : ℕ) (t : SubType) → slice_get (space_of groups).types index ≡ Some t → IsMemberType config (take index (space_of groups).types) t
+  pub each_type : (index : ℕ) (t : SubType) → slice_get (space_of groups).types index ≡ Some t
+      → IsMemberType config (take index (space_of groups).types) t
   pub few_funcs : length funcs ≤ config.max_funcs
   pub each_func : All (IsFuncTypeIndex (space_of groups).types) funcs

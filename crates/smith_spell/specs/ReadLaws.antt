@@ -14,5 +14,7 @@ use Rattle.smith_spell.specs.Family.{IsInFamily}
 -- spells them, and the bytes after it are left, whichever functions exist
 abbrev pub GroupsAreRead : Type 0
 GroupsAreRead =
-    (config : Config) (functions : Context) (groups : List (List SubType)) (funcs : List ℕ) (piece after : List ℕ) → functions.features ≡ features_of config → IsSanitized config → config.min_types ≡ 0
-    → IsInFamily config groups funcs → SpellsGroups config [] false groups piece → types_at config functions (space_of []) (piece ++ after) ≡ (space_of groups, after)
+    (config : Config) (functions : Context) (groups : List (List SubType)) (funcs : List ℕ) (piece after : List ℕ)
+    → functions.features ≡ features_of config → IsSanitized config → config.min_types ≡ 0
+    → IsInFamily config groups funcs → SpellsGroups config [] false groups piece → types_at config functions (space_of []) (piece ++ after)
+    ≡ (space_of groups, after)

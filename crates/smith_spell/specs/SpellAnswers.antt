@@ -30,6 +30,7 @@ pub record IsSpellingRefused (config : Config) (groups : List (List SubType)) (f
 
 -- the result: bytes that spell the lists, none exactly if they cannot be spelled, or lack of memory
 abbrev pub AnswersSpelling : Config → List (List SubType) → List ℕ → Result (Option (List ℕ)) Error → Type 0
-AnswersSpelling config groups funcs (Ok (Some bytes)) = IsSpellable (sanitized config) groups funcs × SpellsMember (sanitized config) groups funcs bytes
+AnswersSpelling config groups funcs (Ok (Some bytes)) = IsSpellable (sanitized config) groups funcs × SpellsMember (sanitized config) groups
+    funcs bytes
 AnswersSpelling config groups funcs (Ok None) = IsSpellable (sanitized config) groups funcs → ⊥
 AnswersSpelling config groups funcs (Err error) = IsSpellingRefused (sanitized config) groups funcs error

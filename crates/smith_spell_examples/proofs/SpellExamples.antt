@@ -10,7 +10,8 @@ use Rattle.smith_types.specs.ExampleTypes.{constant, not_null}
 use Rattle.smith_config.specs.Config.{default_config}
 use Rattle.smith_spell.specs.Family.{IsMemberField, IsMemberType, IsInFamily}
 use Rattle.smith_spell.specs.SpellAnswers.{IsSpellable}
-use Rattle.smith_config.specs.ExampleMembers.{final, alone, one_function_type, plain_function, struct_of_bytes, struct_with, struct_and_holder, with_non_nullable}
+use Rattle.smith_config.specs.ExampleMembers.{final, alone, one_function_type, plain_function, struct_of_bytes, struct_with}
+use Rattle.smith_config.specs.ExampleMembers.{struct_and_holder, with_non_nullable}
 use Rattle.smith_types.proofs.EachPlaceLemmas.{each_place}
 use Rattle.smith_spell_examples.proofs.GroundedExamples.{grounds_itself}
 
@@ -23,9 +24,11 @@ function_in_family = record {
   filled = search rules;
   single = search rules;
   few_types = omega arith;
-  each_type = each_place (λ index t. IsMemberType default_config (take index (alone plain_function)) t) (alone plain_function) (function_member, tt);
+  each_type = each_place (λ index t. IsMemberType default_config (take index (alone plain_function)) t) (alone plain_function)
+      (function_member, tt);
   few_funcs = omega arith;
-  each_func = All-from_recursion (IsFuncTypeIndex (final plain_function ∷ [])) (0 ∷ []) ((record { params = []; results = [] }, (final plain_function, refl, refl)), tt);
+  each_func = All-from_recursion (IsFuncTypeIndex (final plain_function ∷ [])) (0 ∷ [])
+      ((record { params = []; results = [] }, (final plain_function, refl, refl)), tt);
 }
 
 -- the types of a struct, and of one that holds a reference to it
@@ -39,7 +42,17 @@ holder_member : IsMemberType with_non_nullable (alone (struct_of_bytes 0)) (fina
 holder_member =
     let P = IsMemberField with_non_nullable (alone (struct_of_bytes 0)) in
     let field = constant (Val (Ref (not_null (Concrete 0)))) in
-    record { unshared = refl; root = refl; final = λ no. cc; inner = (refl, omega arith, All-from_recursion P (field ∷ []) ((refl, (refl, omega arith), inr (refl, (grounds_itself (struct_of_bytes 0) false).0 refl)), tt)) }
+    record {
+      unshared = refl;
+      root = refl;
+      final = λ no. cc;
+      inner = (
+        refl,
+        omega arith,
+        All-from_recursion P (field ∷ [])
+            ((refl, (refl, omega arith), inr (refl, (grounds_itself (struct_of_bytes 0) false).0 refl)), tt),
+      );
+    }
 
 -- they are in the family if there are non-nullable references
 pub holder_in_family : IsInFamily with_non_nullable struct_and_holder []
@@ -48,7 +61,8 @@ holder_in_family = record {
   filled = search rules;
   single = search rules;
   few_types = omega arith;
-  each_type = each_place (λ index t. IsMemberType with_non_nullable (take index holder_types) t) holder_types (struct_member, (holder_member, tt));
+  each_type = each_place (λ index t. IsMemberType with_non_nullable (take index holder_types) t) holder_types
+      (struct_member, (holder_member, tt));
   few_funcs = omega arith;
   each_func = search rules;
 }

@@ -27,19 +27,30 @@ use Rattle.smith_draw_types.specs.SpelledParts.{SpellsNoTag, SpellsFuncs}
 
 -- the bytes after the groups
 abbrev pub SpellsAfterGroups : Config → List SubType → List ℕ → List ℕ → Type 0
-SpellsAfterGroups config types funcs = Joined (SpellsNone config.max_imports) (Joined SpellsAnyByte (Joined (SpellsNoTag config types) (SpellsFuncs config types funcs)))
+SpellsAfterGroups config types funcs = Joined (SpellsNone config.max_imports)
+    (Joined SpellsAnyByte (Joined (SpellsNoTag config types) (SpellsFuncs config types funcs)))
 
 -- no functions exist
 abbrev pub no_functions : Config → Context
-no_functions config = record { features = features_of config; types = []; funcs = []; globals = []; imported_funcs = 0; imported_globals = 0; visible = 0 }
+no_functions config = record {
+  features = features_of config;
+  types = [];
+  funcs = [];
+  globals = [];
+  imported_funcs = 0;
+  imported_globals = 0;
+  visible = 0;
+}
 
-pub member_read : (config : Config) (groups : List (List SubType)) (funcs bytes left : List ℕ) (space : GroupedTypes) → IsSanitized config → config.min_types ≡ 0 → GroupsFit config [] groups
+pub member_read : (config : Config) (groups : List (List SubType)) (funcs bytes left : List ℕ) (space : GroupedTypes) → IsSanitized config
+    → config.min_types ≡ 0 → GroupsFit config [] groups
     → types_at config (no_functions config) (space_of []) bytes ≡ (space, left) → SpellsMember config groups funcs bytes
     → (space ≡ space_of groups) × SpellsAfterGroups config (space_of groups).types funcs left
 unfolding SpellsMember
 member_read config groups funcs bytes left space sanitized least fit drawn h =
     let read = types_read config (no_functions config) refl groups h.first h.second sanitized least fit h.is_first in
-    let same : (space, left) ≡ (space_of groups, h.second) = sym drawn ∙ (ap (λ piece. types_at config (no_functions config) (space_of []) piece) h.whole ∙ read) in
+    let same : (space, left) ≡ (space_of groups, h.second) =
+    sym drawn ∙ (ap (λ piece. types_at config (no_functions config) (space_of []) piece) h.whole ∙ read) in
     let following : left ≡ h.second = ap (λ pair. pair.1) same in
     (ap (λ pair. pair.0) same, subst (SpellsAfterGroups config (space_of groups).types funcs) (sym following) h.is_second)
 
@@ -67,7 +78,8 @@ field_number field = 2 * storage_number field.element_type + (if field.mutable t
 
 abbrev inner_number : CompositeInnerType → ℕ
 inner_number (Array array) = 3 * field_number array.0
-inner_number (Func function) = 3 * fold (λ n value. 64 * n + (1 + value_number value)) (fold (λ n value. 64 * n + (1 + value_number value)) 1 function.params) function.results + 1
+inner_number (Func function) = 3 * fold (λ n value. 64 * n + (1 + value_number value))
+    (fold (λ n value. 64 * n + (1 + value_number value)) 1 function.params) function.results + 1
 inner_number (Struct structure) = 3 * fold (λ n field. 64 * n + (1 + field_number field)) 0 structure.fields + 2
 
 abbrev type_number : SubType → ℕ
@@ -82,5 +94,6 @@ not_both false holds fails = holds
 
 pub other_number : (space other : GroupedTypes) → eqb (number_of space) (number_of other) ≡ false → space ≡ other → ⊥
 other_number space other apart same =
-    let never : eqb (number_of other) (number_of other) ≡ false = subst (λ (s : GroupedTypes). eqb (number_of s) (number_of other) ≡ false) same apart in
+    let never : eqb (number_of other) (number_of other) ≡ false = subst (λ (s : GroupedTypes). eqb (number_of s) (number_of other) ≡ false)
+    same apart in
     not_both (eqb (number_of other) (number_of other)) (eqb_refl (number_of other)) never

@@ -1,5 +1,6 @@
 -- The bits of the enabled features represent exactly these features.
-use Rattle.std.proofs.Common.{◌≡◌, ◌==◌, ◌≢◌, ℕ, ◌+◌, ◌<◌, Bool, true, false, List, [], ◌∷◌, ◌++◌, refl, ap, ◌∙◌, bit_and, arith, eq-eqb, ne_eqb, lit<}
+use Rattle.std.proofs.Common.{◌≡◌, ◌==◌, ◌≢◌, ℕ, ◌+◌, ◌<◌, Bool, true, false, List, [], ◌∷◌, ◌++◌, refl, ap, ◌∙◌, bit_and, arith, eq-eqb}
+use Rattle.std.proofs.Common.{ne_eqb, lit<}
 use Rattle.std.specs.Prelude.{fold, ◌&&◌, take, drop}
 use Rattle.std.proofs.lemmas.Nat.{and_or_self, and_or_apart}
 use Rattle.std.proofs.lemmas.Bool.{eqb-true}
@@ -59,7 +60,8 @@ has-row bits rows k on bit e some earlier later =
     ap (λ n. bit_and n bit) all ∙ joined_all-apart (drop (k + 1) rows) (joined before on bit) bit later in
     ap (λ n. n == bit) same ∙ has-joined before bit on some none
 
-pub features_in-joined : (set : WasmFeatures) (features : Features) → set.0 ≡ joined_all 0 (feature_rows features) → features_in set ≡ features
+pub features_in-joined : (set : WasmFeatures) (features : Features) → set.0 ≡ joined_all 0 (feature_rows features)
+    → features_in set ≡ features
 features_in-joined set features e = λ i. record {
   mutable_global = has-row set.0 (feature_rows features) 0 features.mutable_global 1 e (lit< tt) refl refl i;
   wasm1 = has-row set.0 (feature_rows features) 1 features.wasm1 2 e (lit< tt) refl refl i;

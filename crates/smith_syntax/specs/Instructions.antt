@@ -1,5 +1,6 @@
 -- Kinds of instructions, their sets as bits, and their names.
-use Rattle.std.specs.Prelude.{Bool, ◌-◌, if◌then◌else◌, ◌≡◌, ℕ, ◌+◌, ◌^◌, List, [], ◌∷◌, take, codes, bit_or, fold, map, Result, Ok, Err, slice_get, Some}
+use Rattle.std.specs.Prelude.{Bool, ◌-◌, if◌then◌else◌, ◌≡◌, ℕ, ◌+◌, ◌^◌, List, [], ◌∷◌, take, codes, bit_or, fold, map, Result, Ok, Err}
+use Rattle.std.specs.Prelude.{slice_get, Some}
 use Rattle.std.specs.List.{AllZip}
 use Rattle.smith_syntax.specs.SplitTexts.{split_at_commas}
 use Rattle.std.specs.Char.{to_ascii_lowercase}
@@ -112,5 +113,6 @@ pub record IsFirstUnknown (parts : List (List ℕ)) (place : ℕ) : Type 0 where
 -- the result of parsing a set: the kinds named by the parts of the text, or the position of the
 -- first part that names none
 abbrev pub AreReadKinds : List ℕ → Result InstructionKinds UnknownKind → Type 0
-AreReadKinds text (Ok all) = (kinds : List InstructionKind) × AllZip IsNamed (split_at_commas text) kinds × (kinds_bits all ≡ union_of kinds)
+AreReadKinds text (Ok all) = (kinds : List InstructionKind) × AllZip IsNamed (split_at_commas text) kinds
+    × (kinds_bits all ≡ union_of kinds)
 AreReadKinds text (Err e) = IsFirstUnknown (split_at_commas text) e.part

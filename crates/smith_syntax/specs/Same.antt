@@ -59,7 +59,8 @@ use Rattle.smith_syntax.specs.contracts.composite_type.CompositeTypePartialEq.Th
 use Rattle.smith_syntax.specs.contracts.composite_type.SubTypePartialEq.TheImpl.{ghosts as sub_same}
 
 -- lists are equal element by element if `==` of elements is exact
-pub exact_items : {A : Type 0} {E : A → A → Bool} → ((a b : A) → Decides (E a b) (a ≡ b)) → (xs ys : List A) → Decides (pointwise E xs ys) (xs ≡ ys)
+pub exact_items : {A : Type 0} {E : A → A → Bool} → ((a b : A) → Decides (E a b) (a ≡ b)) → (xs ys : List A)
+    → Decides (pointwise E xs ys) (xs ≡ ys)
 exact_items exact xs ys = slice_eq-Decides exact xs ys _ refl
 
 pub exact_abstract : (a b : AbstractHeapType) → Decides (abstract_same.eq a b) (a ≡ b)
@@ -68,11 +69,13 @@ exact_abstract a b = search rules
 pub exact_heap : (a b : HeapType) → Decides (heap_same.eq a b) (a ≡ b)
 exact_heap (Concrete i) (Concrete j) = Decides-like _ (ap Concrete) (λ e. cc) (unsigned_Decides i j)
 exact_heap (Exact i) (Exact j) = Decides-like _ (ap Exact) (λ e. cc) (unsigned_Decides i j)
-exact_heap (Abstract s x) (Abstract r y) = Decides-like _ (λ (p, q). λ i. Abstract (p i) (q i)) (λ e. (cc, cc)) (Decides-and _ _ (booleans_Decides s r) (exact_abstract x y))
+exact_heap (Abstract s x) (Abstract r y) = Decides-like _ (λ (p, q). λ i. Abstract (p i) (q i)) (λ e. (cc, cc))
+    (Decides-and _ _ (booleans_Decides s r) (exact_abstract x y))
 exact_heap a b = search rules
 
 pub exact_ref : (a b : RefType) → Decides (ref_same.eq a b) (a ≡ b)
-exact_ref a b = Decides-like _ (λ (p, q). λ i. record { nullable = p i; heap_type = q i }) (λ e. (ap (λ x. x.nullable) e, ap (λ x. x.heap_type) e))
+exact_ref a b = Decides-like _ (λ (p, q). λ i. record { nullable = p i; heap_type = q i })
+    (λ e. (ap (λ x. x.nullable) e, ap (λ x. x.heap_type) e))
     (Decides-and _ _ (booleans_Decides a.nullable b.nullable) (exact_heap a.heap_type b.heap_type))
 
 pub exact_val : (a b : ValType) → Decides (val_same.eq a b) (a ≡ b)
@@ -84,14 +87,16 @@ exact_storage (Val a) (Val b) = Decides-like _ (ap Val) (λ e. cc) (exact_val a 
 exact_storage a b = search rules
 
 pub exact_field : (a b : FieldType) → Decides (field_same.eq a b) (a ≡ b)
-exact_field a b = Decides-like _ (λ (p, q). λ i. record { element_type = p i; mutable = q i }) (λ e. (ap (λ x. x.element_type) e, ap (λ x. x.mutable) e))
+exact_field a b = Decides-like _ (λ (p, q). λ i. record { element_type = p i; mutable = q i })
+    (λ e. (ap (λ x. x.element_type) e, ap (λ x. x.mutable) e))
     (Decides-and _ _ (exact_storage a.element_type b.element_type) (booleans_Decides a.mutable b.mutable))
 
 pub exact_array : (a b : ArrayType) → Decides (array_same.eq a b) (a ≡ b)
 exact_array a b = Decides-like _ (λ p. λ i. record { 0 = p i }) (λ e. ap (λ x. x.0) e) (exact_field a.0 b.0)
 
 pub exact_struct : (a b : StructType) → Decides (struct_same.eq a b) (a ≡ b)
-exact_struct a b = Decides-like _ (λ p. λ i. record { fields = p i }) (λ e. ap (λ x. x.fields) e) (exact_items exact_field a.fields b.fields)
+exact_struct a b = Decides-like _ (λ p. λ i. record { fields = p i }) (λ e. ap (λ x. x.fields) e)
+    (exact_items exact_field a.fields b.fields)
 
 pub exact_func : (a b : FuncType) → Decides (func_same.eq a b) (a ≡ b)
 exact_func a b = Decides-like _ (λ (p, q). λ i. record { params = p i; results = q i }) (λ e. (ap (λ x. x.params) e, ap (λ x. x.results) e))
@@ -104,7 +109,8 @@ exact_inner (Struct a) (Struct b) = Decides-like _ (ap Struct) (λ e. cc) (exact
 exact_inner a b = search rules
 
 pub exact_composite : (a b : CompositeType) → Decides (composite_same.eq a b) (a ≡ b)
-exact_composite a b = Decides-like _ (λ (p, q). λ i. record { inner = p i; shared = q i }) (λ e. (ap (λ x. x.inner) e, ap (λ x. x.shared) e))
+exact_composite a b = Decides-like _ (λ (p, q). λ i. record { inner = p i; shared = q i })
+    (λ e. (ap (λ x. x.inner) e, ap (λ x. x.shared) e))
     (Decides-and _ _ (exact_inner a.inner b.inner) (booleans_Decides a.shared b.shared))
 
 pub exact_option : (a b : Option ℕ) → Decides (option_eq nat_eq a b) (a ≡ b)
@@ -112,20 +118,44 @@ exact_option (Some a) (Some b) = Decides-like _ (ap Some) (λ e. cc) (unsigned_D
 exact_option a b = search rules
 
 pub exact_sub : (a b : SubType) → Decides (sub_same.eq a b) (a ≡ b)
-exact_sub a b = Decides-like _ (λ (p, (q, r)). λ i. record { is_final = p i; supertype = q i; composite_type = r i }) (λ e. (ap (λ x. x.is_final) e, (ap (λ x. x.supertype) e, ap (λ x. x.composite_type) e)))
-    (Decides-and _ _ (booleans_Decides a.is_final b.is_final) (Decides-and _ _ (exact_option a.supertype b.supertype) (exact_composite a.composite_type b.composite_type)))
+exact_sub a b = Decides-like _ (λ (p, (q, r)). λ i. record { is_final = p i; supertype = q i; composite_type = r i })
+    (λ e. (ap (λ x. x.is_final) e, (ap (λ x. x.supertype) e, ap (λ x. x.composite_type) e)))
+    (Decides-and _ _ (booleans_Decides a.is_final b.is_final) (Decides-and _ _ (exact_option a.supertype b.supertype)
+    (exact_composite a.composite_type b.composite_type)))
 
 pub exact_table : (a b : TableType) → Decides (table_same.eq a b) (a ≡ b)
-exact_table a b = Decides-like _ (λ (p, (q, (r, (t, u)))). λ i. record { element_type = p i; minimum = q i; maximum = r i; table64 = t i; shared = u i }) (λ e. (ap (λ x. x.element_type) e, (ap (λ x. x.minimum) e, (ap (λ x. x.maximum) e, (ap (λ x. x.table64) e, ap (λ x. x.shared) e)))))
-    (Decides-and _ _ (exact_ref a.element_type b.element_type) (Decides-and _ _ (unsigned_Decides a.minimum b.minimum) (Decides-and _ _ (exact_option a.maximum b.maximum) (Decides-and _ _ (booleans_Decides a.table64 b.table64) (booleans_Decides a.shared b.shared)))))
+exact_table a b = Decides-like _ (λ (p, (q, (r, (t, u)))). λ i. record {
+  element_type = p i;
+  minimum = q i;
+  maximum = r i;
+  table64 = t i;
+  shared = u i;
+}) (λ e. (
+  ap (λ x. x.element_type) e,
+  (ap (λ x. x.minimum) e, (ap (λ x. x.maximum) e, (ap (λ x. x.table64) e, ap (λ x. x.shared) e))),
+))
+    (Decides-and _ _ (exact_ref a.element_type b.element_type) (Decides-and _ _ (unsigned_Decides a.minimum b.minimum)
+    (Decides-and _ _ (exact_option a.maximum b.maximum) (Decides-and _ _ (booleans_Decides a.table64 b.table64)
+    (booleans_Decides a.shared b.shared)))))
 
 pub exact_memory : (a b : MemoryType) → Decides (memory_same.eq a b) (a ≡ b)
-exact_memory a b = Decides-like _ (λ (p, (q, (r, (t, u)))). λ i. record { minimum = p i; maximum = q i; memory64 = r i; shared = t i; page_size_log2 = u i }) (λ e. (ap (λ x. x.minimum) e, (ap (λ x. x.maximum) e, (ap (λ x. x.memory64) e, (ap (λ x. x.shared) e, ap (λ x. x.page_size_log2) e)))))
-    (Decides-and _ _ (unsigned_Decides a.minimum b.minimum) (Decides-and _ _ (exact_option a.maximum b.maximum) (Decides-and _ _ (booleans_Decides a.memory64 b.memory64) (Decides-and _ _ (booleans_Decides a.shared b.shared) (exact_option a.page_size_log2 b.page_size_log2)))))
+exact_memory a b = Decides-like _ (λ (p, (q, (r, (t, u)))). λ i. record {
+  minimum = p i;
+  maximum = q i;
+  memory64 = r i;
+  shared = t i;
+  page_size_log2 = u i;
+})
+    (λ e. (ap (λ x. x.minimum) e, (ap (λ x. x.maximum) e, (ap (λ x. x.memory64) e, (ap (λ x. x.shared) e, ap (λ x. x.page_size_log2) e)))))
+    (Decides-and _ _ (unsigned_Decides a.minimum b.minimum) (Decides-and _ _ (exact_option a.maximum b.maximum)
+    (Decides-and _ _ (booleans_Decides a.memory64 b.memory64) (Decides-and _ _ (booleans_Decides a.shared b.shared)
+    (exact_option a.page_size_log2 b.page_size_log2)))))
 
 pub exact_global : (a b : GlobalType) → Decides (global_same.eq a b) (a ≡ b)
-exact_global a b = Decides-like _ (λ (p, (q, r)). λ i. record { val_type = p i; mutable = q i; shared = r i }) (λ e. (ap (λ x. x.val_type) e, (ap (λ x. x.mutable) e, ap (λ x. x.shared) e)))
-    (Decides-and _ _ (exact_val a.val_type b.val_type) (Decides-and _ _ (booleans_Decides a.mutable b.mutable) (booleans_Decides a.shared b.shared)))
+exact_global a b = Decides-like _ (λ (p, (q, r)). λ i. record { val_type = p i; mutable = q i; shared = r i })
+    (λ e. (ap (λ x. x.val_type) e, (ap (λ x. x.mutable) e, ap (λ x. x.shared) e)))
+    (Decides-and _ _ (exact_val a.val_type b.val_type) (Decides-and _ _ (booleans_Decides a.mutable b.mutable)
+    (booleans_Decides a.shared b.shared)))
 
 pub exact_entity : (a b : EntityType) → Decides (entity_same.eq a b) (a ≡ b)
 exact_entity (entity.Global a) (entity.Global b) = Decides-like _ (ap entity.Global) (λ e. cc) (exact_global a b)
@@ -143,16 +173,20 @@ exact_export a b = Decides-like _ (λ ((p, q), r). λ i. (p i, q i, r i)) (λ e.
     (Decides-and _ _ (Decides-and _ _ (bytes_eq-Decides a.0 b.0) (exact_kind a.1 b.1)) (unsigned_Decides a.2 b.2))
 
 pub exact_import : (a b : Import) → Decides (import_same.eq a b) (a ≡ b)
-exact_import a b = Decides-like _ (λ (p, (q, r)). λ i. record { «module» = p i; name = q i; entity_type = r i }) (λ e. (ap (λ x. x.«module») e, (ap (λ x. x.name) e, ap (λ x. x.entity_type) e)))
-    (Decides-and _ _ (bytes_eq-Decides a.«module» b.«module») (Decides-and _ _ (bytes_eq-Decides a.name b.name) (exact_entity a.entity_type b.entity_type)))
+exact_import a b = Decides-like _ (λ (p, (q, r)). λ i. record { «module» = p i; name = q i; entity_type = r i })
+    (λ e. (ap (λ x. x.«module») e, (ap (λ x. x.name) e, ap (λ x. x.entity_type) e)))
+    (Decides-and _ _ (bytes_eq-Decides a.«module» b.«module») (Decides-and _ _ (bytes_eq-Decides a.name b.name)
+    (exact_entity a.entity_type b.entity_type)))
 
 pub exact_item : (a b : ImportItem) → Decides (item_same.eq a b) (a ≡ b)
-exact_item a b = Decides-like _ (λ (p, q). λ i. record { name = p i; entity_type = q i }) (λ e. (ap (λ x. x.name) e, ap (λ x. x.entity_type) e))
+exact_item a b = Decides-like _ (λ (p, q). λ i. record { name = p i; entity_type = q i })
+    (λ e. (ap (λ x. x.name) e, ap (λ x. x.entity_type) e))
     (Decides-and _ _ (bytes_eq-Decides a.name b.name) (exact_entity a.entity_type b.entity_type))
 
 pub exact_imports : (a b : Imports) → Decides (imports_same.eq a b) (a ≡ b)
 exact_imports (Single a) (Single b) = Decides-like _ (ap Single) (λ e. cc) (exact_import a b)
-exact_imports (Compact1 m xs) (Compact1 n ys) = Decides-like _ (λ (p, q). λ i. Compact1 (p i) (q i)) (λ e. (cc, cc)) (Decides-and _ _ (bytes_eq-Decides m n) (exact_items exact_item xs ys))
+exact_imports (Compact1 m xs) (Compact1 n ys) = Decides-like _ (λ (p, q). λ i. Compact1 (p i) (q i)) (λ e. (cc, cc))
+    (Decides-and _ _ (bytes_eq-Decides m n) (exact_items exact_item xs ys))
 exact_imports (Compact2 m t xs) (Compact2 n u ys) = Decides-like _ (λ (p, (q, r)). λ i. Compact2 (p i) (q i) (r i)) (λ e. (cc, (cc, cc)))
     (Decides-and _ _ (bytes_eq-Decides m n) (Decides-and _ _ (exact_entity t u) (exact_items bytes_eq-Decides xs ys)))
 exact_imports a b = search rules
@@ -166,9 +200,11 @@ exact_instr (instr.V128Const a) (instr.V128Const b) = Decides-like _ (ap instr.V
 exact_instr (instr.GlobalGet a) (instr.GlobalGet b) = Decides-like _ (ap instr.GlobalGet) (λ e. cc) (unsigned_Decides a b)
 exact_instr (instr.RefFunc a) (instr.RefFunc b) = Decides-like _ (ap instr.RefFunc) (λ e. cc) (unsigned_Decides a b)
 exact_instr (instr.StructNew a) (instr.StructNew b) = Decides-like _ (ap instr.StructNew) (λ e. cc) (unsigned_Decides a b)
-exact_instr (instr.StructNewDefault a) (instr.StructNewDefault b) = Decides-like _ (ap instr.StructNewDefault) (λ e. cc) (unsigned_Decides a b)
+exact_instr (instr.StructNewDefault a) (instr.StructNewDefault b) = Decides-like _ (ap instr.StructNewDefault) (λ e. cc)
+    (unsigned_Decides a b)
 exact_instr (instr.ArrayNew a) (instr.ArrayNew b) = Decides-like _ (ap instr.ArrayNew) (λ e. cc) (unsigned_Decides a b)
 exact_instr (instr.ArrayNewDefault a) (instr.ArrayNewDefault b) = Decides-like _ (ap instr.ArrayNewDefault) (λ e. cc) (unsigned_Decides a b)
 exact_instr (instr.RefNull a) (instr.RefNull b) = Decides-like _ (ap instr.RefNull) (λ e. cc) (exact_heap a b)
-exact_instr (instr.ArrayNewFixed a m) (instr.ArrayNewFixed b n) = Decides-like _ (λ (p, q). λ i. instr.ArrayNewFixed (p i) (q i)) (λ e. (cc, cc)) (Decides-and _ _ (unsigned_Decides a b) (unsigned_Decides m n))
+exact_instr (instr.ArrayNewFixed a m) (instr.ArrayNewFixed b n) = Decides-like _ (λ (p, q). λ i. instr.ArrayNewFixed (p i) (q i))
+    (λ e. (cc, cc)) (Decides-and _ _ (unsigned_Decides a b) (unsigned_Decides m n))
 exact_instr a b = search rules

@@ -9,7 +9,8 @@ abbrev pub EachFrom : {A : Type 0} → (ℕ → A → Type 0) → ℕ → List A
 EachFrom P start [] = Unit {0}
 EachFrom P start (x ∷ xs) = P start x × EachFrom P (suc start) xs
 
-pub each_place : {A : Type 0} (P : ℕ → A → Type 0) (xs : List A) → EachFrom P 0 xs → (place : ℕ) (x : A) → slice_get xs place ≡ Some x → P place x
+pub each_place : {A : Type 0} (P : ℕ → A → Type 0) (xs : List A) → EachFrom P 0 xs → (place : ℕ) (x : A) → slice_get xs place ≡ Some x
+    → P place x
 each_place P [] each place x at = cc at
 each_place P (y ∷ ys) each zero x at = subst (P 0) (same_Some y x at) each.0
 each_place P (y ∷ ys) each (suc place) x at = each_place (λ k. P (suc k)) ys (moved P ys 0 each.1) place x at

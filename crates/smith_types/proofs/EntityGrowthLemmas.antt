@@ -65,11 +65,13 @@ module _ (features : Features) (types more : List SubType) where
     shared = λ shared. let (on, held) = h.shared shared in (on, IsShareable-grown features types more ty.val_type held);
   }
 
-  pub AreEntitiesValid-grown : (spaces : EntitySpaces) → AreEntitiesValid features types spaces → AreEntitiesValid features (types ++ more) spaces
+  pub AreEntitiesValid-grown : (spaces : EntitySpaces) → AreEntitiesValid features types spaces
+      → AreEntitiesValid features (types ++ more) spaces
   AreEntitiesValid-grown spaces h = record {
     tags = All-weaker (IsTagValid types) (IsTagValid (types ++ more)) (IsTagValid-grown types more) spaces.tags h.tags;
     funcs = All-weaker (IsFuncTypeIndex types) (IsFuncTypeIndex (types ++ more)) (IsFuncTypeIndex-grown types more) spaces.funcs h.funcs;
     tables = All-weaker (IsTableValid features types) (IsTableValid features (types ++ more)) IsTableValid-grown spaces.tables h.tables;
     memories = h.memories;
-    globals = All-weaker (IsGlobalValid features types) (IsGlobalValid features (types ++ more)) IsGlobalValid-grown spaces.globals h.globals;
+    globals = All-weaker (IsGlobalValid features types) (IsGlobalValid features (types ++ more)) IsGlobalValid-grown spaces.globals
+        h.globals;
   }

@@ -14,7 +14,8 @@ use Rattle.smith_syntax.specs.declared.composite_type.CompositeInnerType.TheVari
 use Rattle.smith_syntax.specs.declared.composite_type.CompositeType.{CompositeType}
 use Rattle.smith_syntax.specs.declared.composite_type.SubType.{SubType}
 use Rattle.smith_types.specs.Subtyping.{IsStep, IsBelow, itself, by_step, IsRefBelow, IsValBelow}
-use Rattle.smith_types.specs.Matching.{IsStorageMatch, IsFieldMatch, AreFieldsMatched, AreBelow, IsFuncMatch, IsInnerMatch, IsCompositeMatch}
+use Rattle.smith_types.specs.Matching.{IsStorageMatch, IsFieldMatch, AreFieldsMatched, AreBelow, IsFuncMatch, IsInnerMatch}
+use Rattle.smith_types.specs.Matching.{IsCompositeMatch}
 use Rattle.smith_types.proofs.ListLemmas.{slice_get-grown}
 
 module _ (types : List SubType) where
@@ -108,7 +109,11 @@ module _ (types more : List SubType) where
   AreBelow-grown xs ys p = absurd p
 
   pub IsFuncMatch-grown : (f g : FuncType) → IsFuncMatch types f g → IsFuncMatch (types ++ more) f g
-  IsFuncMatch-grown f g p = record { params = AreBelow-grown g.params f.params p.params; results = AreBelow-grown f.results g.results p.results }
+  IsFuncMatch-grown f g p = record {
+    params = AreBelow-grown g.params f.params p.params;
+    results = AreBelow-grown f.results g.results
+        p.results;
+  }
 
   pub IsInnerMatch-grown : (a b : CompositeInnerType) → IsInnerMatch types a b → IsInnerMatch (types ++ more) a b
   IsInnerMatch-grown (Array a) (Array b) p = IsFieldMatch-grown a.0 b.0 p

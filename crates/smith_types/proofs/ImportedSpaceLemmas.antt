@@ -1,10 +1,12 @@
 -- Index spaces extended import by import are the index spaces of the imports.
-use Rattle.std.proofs.Common.{◌≡◌, ℕ, List, [], ◌∷◌, ◌++◌, refl, sym, ap, ◌∙◌, append_assoc, append-nil, drop, get_or, length, suc, ◌+◌, ◌<◌, add-one}
+use Rattle.std.proofs.Common.{◌≡◌, ℕ, List, [], ◌∷◌, ◌++◌, refl, sym, ap, ◌∙◌, append_assoc, append-nil, drop, get_or, length, suc, ◌+◌}
+use Rattle.std.proofs.Common.{◌<◌, add-one}
 use Rattle.std.proofs.Math.Seq.{drop-cons}
 use Rattle.std.specs.List.{flat_map}
 use Rattle.std.proofs.lemmas.Grind.{flat_map-append}
 use Rattle.std.proofs.lemmas.List.Folds.{flat_map-map}
-use Rattle.smith_types.specs.Imports.{EntitySpaces, imported_spaces, flattened, imports_of, import_of, imported, tag_of, func_of, table_of, memory_of, global_of}
+use Rattle.smith_types.specs.Imports.{EntitySpaces, imported_spaces, flattened, imports_of, import_of, imported, tag_of, func_of, table_of}
+use Rattle.smith_types.specs.Imports.{memory_of, global_of}
 use Rattle.smith_types.specs.EntitySpaces.{with_entity, with_entities, entities_of}
 use Rattle.smith_syntax.specs.declared.imports.Import.{Import}
 use Rattle.smith_syntax.specs.declared.imports.ImportItem.{ImportItem}
@@ -13,7 +15,8 @@ use Rattle.smith_syntax.specs.declared.imports.Imports.TheVariants.{Single, Comp
 use Rattle.smith_syntax.specs.declared.entity_type.EntityType.{EntityType}
 use Rattle.smith_syntax.specs.declared.entity_type.EntityType.TheVariants as entity
 
-pub with_entities_append : (spaces : EntitySpaces) (xs ys : List EntityType) → with_entities spaces (xs ++ ys) ≡ with_entities (with_entities spaces xs) ys
+pub with_entities_append : (spaces : EntitySpaces) (xs ys : List EntityType) → with_entities spaces (xs ++ ys) ≡ with_entities
+    (with_entities spaces xs) ys
 with_entities_append spaces [] ys = refl
 with_entities_append spaces (x ∷ xs) ys = with_entities_append (with_entity spaces x) xs ys
 
@@ -29,11 +32,16 @@ followed_by spaces more = record {
 
 with_entities_after : (spaces : EntitySpaces) (more : List EntityType) → with_entities spaces more ≡ followed_by spaces more
 with_entities_after spaces [] = simp append-nil refl
-with_entities_after spaces (entity.Tag index ∷ more) = with_entities_after (with_entity spaces (entity.Tag index)) more ∙ simp append_assoc refl
-with_entities_after spaces (entity.Func index ∷ more) = with_entities_after (with_entity spaces (entity.Func index)) more ∙ simp append_assoc refl
-with_entities_after spaces (entity.Table table ∷ more) = with_entities_after (with_entity spaces (entity.Table table)) more ∙ simp append_assoc refl
-with_entities_after spaces (entity.Memory memory ∷ more) = with_entities_after (with_entity spaces (entity.Memory memory)) more ∙ simp append_assoc refl
-with_entities_after spaces (entity.Global global ∷ more) = with_entities_after (with_entity spaces (entity.Global global)) more ∙ simp append_assoc refl
+with_entities_after spaces (entity.Tag index ∷ more) = with_entities_after (with_entity spaces (entity.Tag index)) more
+    ∙ simp append_assoc refl
+with_entities_after spaces (entity.Func index ∷ more) = with_entities_after (with_entity spaces (entity.Func index)) more
+    ∙ simp append_assoc refl
+with_entities_after spaces (entity.Table table ∷ more) = with_entities_after (with_entity spaces (entity.Table table)) more
+    ∙ simp append_assoc refl
+with_entities_after spaces (entity.Memory memory ∷ more) = with_entities_after (with_entity spaces (entity.Memory memory)) more
+    ∙ simp append_assoc refl
+with_entities_after spaces (entity.Global global ∷ more) = with_entities_after (with_entity spaces (entity.Global global)) more
+    ∙ simp append_assoc refl
 
 module _ {A : Type 0} (of_kind : EntityType → List A) where
   group_same : (group : Imports) → imported of_kind (imports_of group) ≡ flat_map of_kind (entities_of group)
@@ -51,16 +59,26 @@ module _ {A : Type 0} (of_kind : EntityType → List A) where
       flat_map-append (λ (one : Import). of_kind one.entity_type) (imports_of group) (flattened groups)
       ∙ rw (group_same group, imported_same groups) (sym (flat_map-append of_kind (entities_of group) (flat_map entities_of groups)))
 
-pub imported_is_grown : (groups : List Imports) → with_entities (record { tags = []; funcs = []; tables = []; memories = []; globals = [] }) (flat_map entities_of groups) ≡ imported_spaces (flattened groups)
+pub imported_is_grown : (groups : List Imports) → with_entities (record { tags = []; funcs = []; tables = []; memories = []; globals = [] })
+    (flat_map entities_of groups) ≡ imported_spaces (flattened groups)
 imported_is_grown groups =
     with_entities_after (record { tags = []; funcs = []; tables = []; memories = []; globals = [] }) (flat_map entities_of groups)
-    ∙ rw (imported_same tag_of groups, imported_same func_of groups, imported_same table_of groups, imported_same memory_of groups, imported_same global_of groups) refl
+    ∙ rw (
+      imported_same tag_of groups,
+      imported_same func_of groups,
+      imported_same table_of groups,
+      imported_same memory_of groups,
+      imported_same global_of groups,
+    ) refl
 
 -- one turn of the loop over groups
-pub groups_turn : (now later whole : EntitySpaces) (groups : List Imports) (i : ℕ) (group d : Imports) → i < length groups → group ≡ get_or groups i d → later ≡ with_entities now (entities_of group)
-    → with_entities now (flat_map entities_of (drop i groups)) ≡ whole → with_entities later (flat_map entities_of (drop (i + 1) groups)) ≡ whole
+pub groups_turn : (now later whole : EntitySpaces) (groups : List Imports) (i : ℕ) (group d : Imports) → i < length groups
+    → group ≡ get_or groups i d → later ≡ with_entities now (entities_of group)
+    → with_entities now (flat_map entities_of (drop i groups)) ≡ whole → with_entities later (flat_map entities_of (drop (i + 1) groups))
+    ≡ whole
 groups_turn now later whole groups i group d inside read is before =
     let rest = drop (suc i) groups in
     let cut : drop i groups ≡ group ∷ rest = drop-cons groups i d inside ∙ ap (λ (g : Imports). g ∷ rest) (sym read) in
-    let old : with_entities now (entities_of group ++ flat_map entities_of rest) ≡ whole = sym (ap (λ (gs : List Imports). with_entities now (flat_map entities_of gs)) cut) ∙ before in
+    let old : with_entities now (entities_of group ++ flat_map entities_of rest) ≡ whole =
+    sym (ap (λ (gs : List Imports). with_entities now (flat_map entities_of gs)) cut) ∙ before in
     rw (add-one, is) (sym (with_entities_append now (entities_of group) (flat_map entities_of rest)) ∙ old)

@@ -1,5 +1,6 @@
 -- The places of types, as types are added, and the supertypes that they lead to.
-use Rattle.std.proofs.Common.{◌≡◌, ◌↔◌, ℕ, suc, ◌+◌, ◌-◌, ◌^◌, ◌<◌, ◌≤◌, List, [], ◌∷◌, ◌++◌, Some, None, Bool, false, IsTrue, get_or, take, length, refl, sym, ◌∙◌, subst, inl, inr, arith, ap, add-one}
+use Rattle.std.proofs.Common.{◌≡◌, ◌↔◌, ℕ, suc, ◌+◌, ◌-◌, ◌^◌, ◌<◌, ◌≤◌, List, [], ◌∷◌, ◌++◌, Some, None, Bool, false, IsTrue, get_or, take}
+use Rattle.std.proofs.Common.{length, refl, sym, ◌∙◌, subst, inl, inr, arith, ap, add-one}
 use Rattle.std.specs.Prelude.{nat_eq}
 use Rattle.std.proofs.lemmas.Bool.{eqb-true, eq-eqb}
 use Rattle.std.proofs.lemmas.Option.{slice_get_within, slice_get-get_or}
@@ -23,18 +24,34 @@ use Rattle.smith_types.proofs.SpaceLemmas.{HasDepth-grown, HasDepth-le, depth_al
 use Rattle.smith_types.proofs.WalkLemmas.{below_depth, below_level}
 
 abbrev pub no_place : Place
-no_place = record { supertype = 0; jump = 0; depth = 0; counts = record { arrays = 0; funcs = 0; structs = 0; shared_arrays = 0; shared_funcs = 0; shared_structs = 0; without_results = 0 } }
+no_place = record {
+  supertype = 0;
+  jump = 0;
+  depth = 0;
+  counts = record {
+    arrays = 0;
+    funcs = 0;
+    structs = 0;
+    shared_arrays = 0;
+    shared_funcs = 0;
+    shared_structs = 0;
+    without_results = 0;
+  };
+}
 
 -- a place, in the form of the code
-pub place_read : (types : List SubType) (places : List Place) (i : ℕ) (place d : Place) → ArePlaces types places → i < length types → place ≡ get_or places i d → IsPlace types i place
+pub place_read : (types : List SubType) (places : List Place) (i : ℕ) (place d : Place) → ArePlaces types places → i < length types
+    → place ≡ get_or places i d → IsPlace types i place
 place_read types places i place d known inside read =
     known.each i place (slice_get-get_or places i d (omega (arith, known.long)) ∙ ap Some (sym read))
 
-pub place_at : (types : List SubType) (places : List Place) (i : ℕ) → ArePlaces types places → i < length types → IsPlace types i (get_or places i no_place)
+pub place_at : (types : List SubType) (places : List Place) (i : ℕ) → ArePlaces types places → i < length types
+    → IsPlace types i (get_or places i no_place)
 place_at types places i known inside = place_read types places i (get_or places i no_place) no_place known inside refl
 
 -- the number of types in a set up to a type, in the form of the code
-pub count_read : (types now : List SubType) (places : List Place) (i n : ℕ) (place d : Place) (set : TypeSet) → types ≡ now → ArePlaces types places → i < length now → place ≡ get_or places i d → n ≡ count_in place.counts set
+pub count_read : (types now : List SubType) (places : List Place) (i n : ℕ) (place d : Place) (set : TypeSet) → types ≡ now
+    → ArePlaces types places → i < length now → place ≡ get_or places i d → n ≡ count_in place.counts set
     → n ≡ count_where (is_in set) (take (suc i) now)
 count_read types now places i n place d set view known inside read is =
     subst (λ xs. n ≡ count_where (is_in set) (take (suc i) xs)) view
@@ -52,14 +69,16 @@ depths_known types places known = record {
 }
 
 -- the supertype of the depth of another type is that type exactly if the other is a supertype
-pub ancestor_decides : (types : List SubType) (i j depth found : ℕ) → IsOrderly types → IsAncestor types i depth found → HasDepth types j depth → IsTrue (nat_eq found j) ↔ IsBelow types (Concrete i) (Concrete j)
+pub ancestor_decides : (types : List SubType) (i j depth found : ℕ) → IsOrderly types → IsAncestor types i depth found
+    → HasDepth types j depth → IsTrue (nat_eq found j) ↔ IsBelow types (Concrete i) (Concrete j)
 ancestor_decides types i j depth found orderly ancestor deep = (
   λ same. subst (λ n. IsBelow types (Concrete i) (Concrete n)) (eqb-true found j same) ancestor.above,
   λ below. eq-eqb found j (below_level types orderly i found j depth ancestor.above below ancestor.depth_is deep),
 )
 
 -- no deeper type is a supertype
-pub none_deeper_above : (types : List SubType) (i j d e : ℕ) → IsOrderly types → HasDepth types i d → HasDepth types j e → d < e → IsTrue false ↔ IsBelow types (Concrete i) (Concrete j)
+pub none_deeper_above : (types : List SubType) (i j d e : ℕ) → IsOrderly types → HasDepth types i d → HasDepth types j e → d < e
+    → IsTrue false ↔ IsBelow types (Concrete i) (Concrete j)
 none_deeper_above types i j d e orderly deep end less = (
   λ no. cc,
   λ below.
@@ -86,7 +105,8 @@ pub record AreJumps (types : List SubType) (i : ℕ) (first second third : Place
   pub link : IsLink types i second.jump
 
 pub jumps_known : (types : List SubType) (places : List Place) (i : ℕ) → IsOrderly types → ArePlaces types places → i < length types
-    → AreJumps types i (get_or places i no_place) (get_or places (get_or places i no_place).jump no_place) (get_or places (get_or places (get_or places i no_place).jump no_place).jump no_place)
+    → AreJumps types i (get_or places i no_place) (get_or places (get_or places i no_place).jump no_place)
+    (get_or places (get_or places (get_or places i no_place).jump no_place).jump no_place)
 jumps_known types places i orderly known inside =
     let first = place_at types places i known inside in
     let end : ℕ = (get_or places i no_place).jump in
@@ -105,13 +125,15 @@ jumps_known types places i orderly known inside =
     }
 
 -- a type that is deeper than wanted has a supertype
-deep_enough : (types : List SubType) (i depth own : ℕ) → 0 < depth → ((n : ℕ) → HasDepth types i n → depth < n) → HasDepth types i own → 1 < own
+deep_enough : (types : List SubType) (i depth own : ℕ) → 0 < depth → ((n : ℕ) → HasDepth types i n → depth < n) → HasDepth types i own
+    → 1 < own
 deep_enough types i depth own some all deep =
     let less : depth < own = all own deep in
     omega (arith, some, less)
 
 -- the declared supertype of a type that is deeper than wanted is deep enough
-pub climb_declared : (types : List SubType) (places : List Place) (i depth : ℕ) → ArePlaces types places → i < length types → 0 < depth → ((n : ℕ) → HasDepth types i n → depth < n) → IsClimb types i depth (get_or places i no_place).supertype
+pub climb_declared : (types : List SubType) (places : List Place) (i depth : ℕ) → ArePlaces types places → i < length types → 0 < depth
+    → ((n : ℕ) → HasDepth types i n → depth < n) → IsClimb types i depth (get_or places i no_place).supertype
 climb_declared types places i depth known inside some all =
     let place : Place = get_or places i no_place in
     let is = place_at types places i known inside in
@@ -126,7 +148,9 @@ climb_declared types places i depth known inside some all =
     }
 
 -- the end of a jump is deep enough if its depth is at least the wanted one
-pub climb_jumped : (types : List SubType) (places : List Place) (i depth : ℕ) → ArePlaces types places → i < length types → 0 < depth → ((n : ℕ) → HasDepth types i n → depth < n) → depth ≤ (get_or places (get_or places i no_place).jump no_place).depth → IsClimb types i depth (get_or places i no_place).jump
+pub climb_jumped : (types : List SubType) (places : List Place) (i depth : ℕ) → ArePlaces types places → i < length types → 0 < depth
+    → ((n : ℕ) → HasDepth types i n → depth < n) → depth ≤ (get_or places (get_or places i no_place).jump no_place).depth
+    → IsClimb types i depth (get_or places i no_place).jump
 climb_jumped types places i depth known inside some all least =
     let place : Place = get_or places i no_place in
     let is = place_at types places i known inside in
@@ -141,7 +165,8 @@ climb_jumped types places i depth known inside some all least =
     }
 
 -- a supertype is unchanged as the list grows
-IsAncestor-grown : (types more : List SubType) (i depth ancestor : ℕ) → IsAncestor types i depth ancestor → IsAncestor (types ++ more) i depth ancestor
+IsAncestor-grown : (types more : List SubType) (i depth ancestor : ℕ) → IsAncestor types i depth ancestor
+    → IsAncestor (types ++ more) i depth ancestor
 IsAncestor-grown types more i depth ancestor h = record {
   depth_is = HasDepth-grown types more h.depth_is;
   above = IsBelow-grown types more h.above;
@@ -151,7 +176,8 @@ IsLink-grown : (types more : List SubType) (i j : ℕ) → IsLink types i j → 
 IsLink-grown types more i j h = record { above = IsBelow-grown types more h.above; upto = h.upto }
 
 -- a place is unchanged as the list grows
-IsPlace-grown : (types more : List SubType) (i : ℕ) (place : Place) → i < length types → IsPlace types i place → IsPlace (types ++ more) i place
+IsPlace-grown : (types more : List SubType) (i : ℕ) (place : Place) → i < length types → IsPlace types i place
+    → IsPlace (types ++ more) i place
 IsPlace-grown types more i place inside h = record {
   depth = HasDepth-grown types more h.depth;
   counts = rw (take-append-le (suc i) types more (omega (arith, inside))) h.counts;
@@ -161,7 +187,8 @@ IsPlace-grown types more i place inside h = record {
   jumps = h.jumps;
 }
 
-pub ArePlaces-push : (types : List SubType) (t : SubType) (places : List Place) (place : Place) → ArePlaces types places → IsPlace (types ++ t ∷ []) (length types) place → ArePlaces (types ++ t ∷ []) (places ++ place ∷ [])
+pub ArePlaces-push : (types : List SubType) (t : SubType) (places : List Place) (place : Place) → ArePlaces types places
+    → IsPlace (types ++ t ∷ []) (length types) place → ArePlaces (types ++ t ∷ []) (places ++ place ∷ [])
 ArePlaces-push types t places place before last = record {
   long = simp length-append (ap (λ n. n + 1) before.long);
   each = λ i p at. elim (slice_get-push places place i p at) [
@@ -178,7 +205,8 @@ all_taken : (types : List SubType) (t : SubType) → take (suc (length types)) (
 all_taken types t = take_all (suc (length types)) (types ++ t ∷ []) (simp length-append (omega arith))
 
 -- the counts up to the last place, in the form of the code
-pub last_counts-last : (counts : KindCounts) (places : List Place) (d : Place) → 1 ≤ length places → (get_or places (length places - 1) d).counts ≡ last_counts_from counts places
+pub last_counts-last : (counts : KindCounts) (places : List Place) (d : Place) → 1 ≤ length places
+    → (get_or places (length places - 1) d).counts ≡ last_counts_from counts places
 last_counts-last counts [] d some = absurd (omega arith)
 last_counts-last counts (p ∷ []) d some = refl
 last_counts-last counts (p ∷ q ∷ places) d some =
@@ -197,19 +225,22 @@ counts_known types (p ∷ places) known =
     subst (λ c. AreCounts types c) (last_counts-last no_place.counts (p ∷ places) p (omega arith)) (rw all at place.counts)
 
 -- the number of types in a set, in the form of the code
-pub count_of_all : (types now : List SubType) (places : List Place) (set : TypeSet) (n : ℕ) → types ≡ now → ArePlaces types places → n ≡ count_in (last_counts places) set → n ≡ length (indices_in now set)
+pub count_of_all : (types now : List SubType) (places : List Place) (set : TypeSet) (n : ℕ) → types ≡ now → ArePlaces types places
+    → n ≡ count_in (last_counts places) set → n ≡ length (indices_in now set)
 count_of_all types now places set n view known is =
     subst (λ xs. n ≡ length (indices_in xs set)) view
     (is ∙ (counts_known types places known).each set ∙ sym (length_indices (is_in set) 0 types))
 
 -- a count of all types, or of those up to one of them, is an index
-pub count_fits : (types : List SubType) (places : List Place) (set : TypeSet) → ArePlaces types places → length types < 2 ^ 32 → count_in (last_counts places) set < 2 ^ 32
+pub count_fits : (types : List SubType) (places : List Place) (set : TypeSet) → ArePlaces types places → length types < 2 ^ 32
+    → count_in (last_counts places) set < 2 ^ 32
 count_fits types places set known few =
     let is = (counts_known types places known).each set in
     let most = count_most (is_in set) types in
     omega (arith, is, most, few)
 
-pub count_up_to_fits : (types now : List SubType) (places : List Place) (i : ℕ) (place d : Place) (set : TypeSet) → types ≡ now → ArePlaces types places → length types < 2 ^ 32 → i < length now → place ≡ get_or places i d → count_in place.counts set < 2 ^ 32
+pub count_up_to_fits : (types now : List SubType) (places : List Place) (i : ℕ) (place d : Place) (set : TypeSet) → types ≡ now
+    → ArePlaces types places → length types < 2 ^ 32 → i < length now → place ≡ get_or places i d → count_in place.counts set < 2 ^ 32
 count_up_to_fits types now places i place d set view known few inside read =
     let is = count_read types now places i (count_in place.counts set) place d set view known inside read refl in
     let most = count_most (is_in set) (take (suc i) now) in
@@ -218,11 +249,13 @@ count_up_to_fits types now places i place d set view known few inside read =
     omega (arith, is, most, long, same, inside, few)
 
 -- the counts with one more type
-pub counts_more : (types : List SubType) (places : List Place) (t : SubType) → ArePlaces types places → AreCounts (types ++ t ∷ []) (counts_with (shared t) t.composite_type.inner (last_counts places))
+pub counts_more : (types : List SubType) (places : List Place) (t : SubType) → ArePlaces types places
+    → AreCounts (types ++ t ∷ []) (counts_with (shared t) t.composite_type.inner (last_counts places))
 counts_more types places t known = AreCounts-push types t (last_counts places) (counts_known types places known)
 
 -- no count is at its limit
-pub counts_room : (types : List SubType) (places : List Place) (t : SubType) → ArePlaces types places → MayFollow types t → (set : TypeSet) → count_in (last_counts places) set + 1 < 2 ^ 32
+pub counts_room : (types : List SubType) (places : List Place) (t : SubType) → ArePlaces types places → MayFollow types t → (set : TypeSet)
+    → count_in (last_counts places) set + 1 < 2 ^ 32
 counts_room types places t known follows set =
     let is = (counts_known types places known).each set in
     let most = count_most (is_in set) types in
@@ -235,7 +268,8 @@ pub record IsStanding (types : List SubType) (i : ℕ) (place : Place) : Type 0 
   pub known : IsPlace types i place
   pub shallow : place.depth + 1 < 2 ^ 32
 
-pub place_above : (types : List SubType) (places : List Place) (t : SubType) (s : ℕ) → IsOrderly types → ArePlaces types places → MayFollow types t → t.supertype ≡ Some s
+pub place_above : (types : List SubType) (places : List Place) (t : SubType) (s : ℕ) → IsOrderly types → ArePlaces types places
+    → MayFollow types t → t.supertype ≡ Some s
     → IsStanding types s (get_or places s no_place)
 place_above types places t s orderly known follows up =
     let (u, at, alike) = follows.below s up in
@@ -246,13 +280,15 @@ place_above types places t s orderly known follows up =
     record { inside = inside; known = place; shallow = omega (arith, few, inside, least) }
 
 -- the place of a type added below a supertype
-pub place_below : (types : List SubType) (t : SubType) (s jump : ℕ) (above : Place) (counts : KindCounts) → AreCounts (types ++ t ∷ []) counts → IsStanding types s above → t.supertype ≡ Some s → IsLink types s jump
+pub place_below : (types : List SubType) (t : SubType) (s jump : ℕ) (above : Place) (counts : KindCounts)
+    → AreCounts (types ++ t ∷ []) counts → IsStanding types s above → t.supertype ≡ Some s → IsLink types s jump
     → IsPlace (types ++ t ∷ []) (length types) (record { supertype = s; jump = jump; depth = above.depth + 1; counts = counts })
 place_below types t s jump above counts count standing up link =
     let known = standing.known in
     let inside : s < length types = standing.inside in
     let more : List SubType = types ++ t ∷ [] in
-    let deep : HasDepth more (length types) (suc above.depth) = deeper {t = t} (slice_get-last types t) up (HasDepth-grown types (t ∷ []) known.depth) in
+    let deep : HasDepth more (length types) (suc above.depth) = deeper {t = t} (slice_get-last types t) up
+    (HasDepth-grown types (t ∷ []) known.depth) in
     let one_up = below_declared more (length types) s t (slice_get-last types t) up in
     let upto : jump ≤ s = link.upto in
     let level : above.depth + 1 - 1 ≡ above.depth = omega arith in record {
@@ -271,7 +307,9 @@ place_below types t s jump above counts count standing up link =
     }
 
 -- the place of a type added without a supertype
-pub place_alone : (types : List SubType) (t : SubType) (jump : ℕ) (counts : KindCounts) → AreCounts (types ++ t ∷ []) counts → t.supertype ≡ None → jump ≡ length types → IsPlace (types ++ t ∷ []) (length types) (record { supertype = 0; jump = jump; depth = 1; counts = counts })
+pub place_alone : (types : List SubType) (t : SubType) (jump : ℕ) (counts : KindCounts) → AreCounts (types ++ t ∷ []) counts
+    → t.supertype ≡ None → jump ≡ length types → IsPlace (types ++ t ∷ []) (length types)
+    (record { supertype = 0; jump = jump; depth = 1; counts = counts })
 place_alone types t jump counts count none own = record {
   depth = root {t = t} (slice_get-last types t) none;
   counts = rw (all_taken types t) count;

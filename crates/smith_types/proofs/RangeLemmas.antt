@@ -33,4 +33,5 @@ step_up_stands types orderly (Exact i) (Exact j) step h = absurd step
 -- a supertype of an existing heap type exists
 pub above_stands : (types : List SubType) → IsOrderly types → (a b : HeapType) → IsBelow types a b → IsInRange types a → IsInRange types b
 above_stands types orderly a b itself h = h
-above_stands types orderly a c (by_step {b = b} step below) h = above_stands types orderly b c below (step_up_stands types orderly a b step h)
+above_stands types orderly a c (by_step {b = b} step below) h = above_stands types orderly b c below
+    (step_up_stands types orderly a b step h)

@@ -1,5 +1,6 @@
 -- The properties of a type space are preserved by one more type or group.
-use Rattle.std.proofs.Common.{◌≡◌, ℕ, suc, ◌+◌, ◌-◌, ◌^◌, ◌<◌, ◌≤◌, List, [], ◌∷◌, ◌++◌, Some, get_or, length, refl, sym, ◌∙◌, subst, inl, inr, arith, ap}
+use Rattle.std.proofs.Common.{◌≡◌, ℕ, suc, ◌+◌, ◌-◌, ◌^◌, ◌<◌, ◌≤◌, List, [], ◌∷◌, ◌++◌, Some, get_or, length, refl, sym, ◌∙◌, subst, inl}
+use Rattle.std.proofs.Common.{inr, arith, ap}
 use Rattle.std.specs.Prelude.{Bool, true, false, not, ◌&&◌, nat_lt, if◌then◌else◌, slice_get}
 use Rattle.std.specs.declared.ops.Range.{Range}
 use Rattle.std.proofs.lemmas.Option.{slice_get_within, same_Some}
@@ -10,10 +11,12 @@ use Rattle.smith_types.specs.GroupedTypes.{IsSound, MayFollow, HasDepth, root, d
 use Rattle.smith_types.proofs.ListLemmas.{slice_get-grown, slice_get-push}
 
 -- an item below the end of a list was there before another was appended
-slice_get-shrunk : {A : Type 0} (xs : List A) (y : A) (i : ℕ) (x : A) → i < length xs → slice_get (xs ++ y ∷ []) i ≡ Some x → slice_get xs i ≡ Some x
+slice_get-shrunk : {A : Type 0} (xs : List A) (y : A) (i : ℕ) (x : A) → i < length xs → slice_get (xs ++ y ∷ []) i ≡ Some x
+    → slice_get xs i ≡ Some x
 slice_get-shrunk xs y i x inside at = elim (slice_get-push xs y i x at) [ inl old ↦ old | inr (is, same) ↦ absurd (omega arith) ]
 
-pub IsOrderly-push : (types : List SubType) (t : SubType) → IsOrderly types → ((s : ℕ) → t.supertype ≡ Some s → (u : SubType) × (slice_get types s ≡ Some u) × IsAlike t u) → IsOrderly (types ++ t ∷ [])
+pub IsOrderly-push : (types : List SubType) (t : SubType) → IsOrderly types
+    → ((s : ℕ) → t.supertype ≡ Some s → (u : SubType) × (slice_get types s ≡ Some u) × IsAlike t u) → IsOrderly (types ++ t ∷ [])
 IsOrderly-push types t orderly below = record {
   under = λ i s u at sup. elim (slice_get-push types t i u at) [
     | inl old ↦
@@ -34,7 +37,8 @@ IsOrderly-push types t orderly below = record {
 -- a depth is unchanged as the list grows
 pub HasDepth-grown : (types more : List SubType) {i d : ℕ} → HasDepth types i d → HasDepth (types ++ more) i d
 HasDepth-grown types more (root {i = i} {t = t} at none) = root (slice_get-grown types more i t at) none
-HasDepth-grown types more (deeper {i = i} {t = t} at up above) = deeper (slice_get-grown types more i t at) up (HasDepth-grown types more above)
+HasDepth-grown types more (deeper {i = i} {t = t} at up above) = deeper (slice_get-grown types more i t at) up
+    (HasDepth-grown types more above)
 
 -- the depth of a type is unique
 pub depth_alone : (types : List SubType) {i d e : ℕ} → HasDepth types i d → HasDepth types i e → d ≡ e
@@ -65,7 +69,8 @@ end_from-push : (start : ℕ) (groups : List (Range ℕ)) (group : Range ℕ) �
 end_from-push start [] group = refl
 end_from-push start (g ∷ groups) group = end_from-push g.end groups group
 
-pub AreConsecutive-push : (start : ℕ) (groups : List (Range ℕ)) (group : Range ℕ) → AreConsecutive start groups → group.start ≡ end_from start groups → group.start ≤ group.end → AreConsecutive start (groups ++ group ∷ [])
+pub AreConsecutive-push : (start : ℕ) (groups : List (Range ℕ)) (group : Range ℕ) → AreConsecutive start groups
+    → group.start ≡ end_from start groups → group.start ≤ group.end → AreConsecutive start (groups ++ group ∷ [])
 AreConsecutive-push start [] group c begins ends = (begins, omega arith, tt)
 AreConsecutive-push start (g ∷ groups) group (p, q, r) begins ends = (p, q, AreConsecutive-push g.end groups group r begins ends)
 
@@ -73,7 +78,8 @@ AreConsecutive-push start (g ∷ groups) group (p, q, r) begins ends = (p, q, Ar
 pub next_start-push : (types : List SubType) (groups : List (Range ℕ)) → next_start (groups ++ next_group types groups ∷ []) ≡ length types
 next_start-push types groups = end_from-push 0 groups (next_group types groups)
 
-pub IsSound-type : (types : List SubType) (groups : List (Range ℕ)) (t : SubType) → IsSound (record { types = types; groups = groups }) → MayFollow types t → IsSound (record { types = types ++ t ∷ []; groups = groups })
+pub IsSound-type : (types : List SubType) (groups : List (Range ℕ)) (t : SubType) → IsSound (record { types = types; groups = groups })
+    → MayFollow types t → IsSound (record { types = types ++ t ∷ []; groups = groups })
 IsSound-type types groups t sound follows = record {
   orderly = IsOrderly-push types t sound.orderly follows.below;
   consecutive = sound.consecutive;
@@ -82,13 +88,15 @@ IsSound-type types groups t sound follows = record {
 }
 
 -- with one more group that ends where the types end, the groups cover the types
-pub AreCovered-group : (types : List SubType) (groups : List (Range ℕ)) → IsSound (record { types = types; groups = groups }) → AreCovered types (groups ++ next_group types groups ∷ [])
+pub AreCovered-group : (types : List SubType) (groups : List (Range ℕ)) → IsSound (record { types = types; groups = groups })
+    → AreCovered types (groups ++ next_group types groups ∷ [])
 AreCovered-group types groups sound = record {
   consecutive = AreConsecutive-push 0 groups (next_group types groups) sound.consecutive refl sound.within;
   whole = next_start-push types groups;
 }
 
-pub IsSound-group : (types : List SubType) (groups : List (Range ℕ)) → IsSound (record { types = types; groups = groups }) → IsSound (record { types = types; groups = groups ++ next_group types groups ∷ [] })
+pub IsSound-group : (types : List SubType) (groups : List (Range ℕ)) → IsSound (record { types = types; groups = groups })
+    → IsSound (record { types = types; groups = groups ++ next_group types groups ∷ [] })
 IsSound-group types groups sound = record {
   orderly = sound.orderly;
   consecutive = (AreCovered-group types groups sound).consecutive;
@@ -97,7 +105,8 @@ IsSound-group types groups sound = record {
 }
 
 -- the end of the last group, in the form of the code
-pub end_from-last : (start : ℕ) (groups : List (Range ℕ)) → 1 ≤ length groups → (get_or groups (length groups - 1) (record { start = 0; end = 0 })).end ≡ end_from start groups
+pub end_from-last : (start : ℕ) (groups : List (Range ℕ)) → 1 ≤ length groups
+    → (get_or groups (length groups - 1) (record { start = 0; end = 0 })).end ≡ end_from start groups
 end_from-last start [] some = absurd (omega arith)
 end_from-last start (g ∷ []) some = refl
 end_from-last start (g ∷ h ∷ groups) some =
@@ -109,8 +118,10 @@ added_after true i xs ys more e = ap (λ (l : List ℕ). i ∷ l) e
 added_after false i xs ys more e = e
 
 -- the indices of the types that may have subtypes, with one more type
-pub extensible-push : (first last : ℕ) (types : List SubType) (t : SubType) (depths : List ℕ) (d : ℕ) → length depths ≡ length types → last ≡ first + length types
-    → extensible_from first (types ++ t ∷ []) (depths ++ d ∷ []) ≡ extensible_from first types depths ++ (if not t.is_final && nat_lt d 60 then last ∷ [] else [])
+pub extensible-push : (first last : ℕ) (types : List SubType) (t : SubType) (depths : List ℕ) (d : ℕ) → length depths ≡ length types
+    → last ≡ first + length types
+    → extensible_from first (types ++ t ∷ []) (depths ++ d ∷ []) ≡ extensible_from first types depths ++
+    (if not t.is_final && nat_lt d 60 then last ∷ [] else [])
 extensible-push first last [] t [] d long is = let same : last ≡ first = omega arith in rw same refl
 extensible-push first last [] t (e ∷ depths) d long is = absurd (omega arith)
 extensible-push first last (u ∷ types) t [] d long is = absurd (omega arith)

@@ -1,7 +1,8 @@
 -- Valid entities: the section Validation, Types, of the WebAssembly Core Specification 3.0. The
 -- conditions on explicit page sizes, sharedness, results of tags and features are rules of this
 -- project.
-use Rattle.std.specs.Prelude.{◌≡◌, ℕ, ◌-◌, ◌/◌, ◌^◌, ◌<◌, ◌≤◌, ◌⊎◌, min, Bool, IsTrue, IsSome, IfSome, List, [], Option, Some, None, length, slice_get, All, if◌then◌else◌}
+use Rattle.std.specs.Prelude.{◌≡◌, ℕ, ◌-◌, ◌/◌, ◌^◌, ◌<◌, ◌≤◌, ◌⊎◌, min, Bool, IsTrue, IsSome, IfSome, List, [], Option, Some, None, length}
+use Rattle.std.specs.Prelude.{slice_get, All, if◌then◌else◌}
 use Rattle.smith_syntax.specs.Features.{Features}
 use Rattle.smith_types.specs.Flags.{IsElementTypeEnabled}
 use Rattle.smith_types.specs.Imports.{EntitySpaces}

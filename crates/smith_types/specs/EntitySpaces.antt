@@ -10,7 +10,13 @@ use Rattle.smith_syntax.specs.declared.entity_type.EntityType.TheVariants as ent
 
 -- the lists of the index spaces
 abbrev pub spaces_in : EntitySpaces → EntityLists
-spaces_in spaces = record { tags = spaces.tags; funcs = spaces.funcs; tables = spaces.tables; memories = spaces.memories; globals = spaces.globals }
+spaces_in spaces = record {
+  tags = spaces.tags;
+  funcs = spaces.funcs;
+  tables = spaces.tables;
+  memories = spaces.memories;
+  globals = spaces.globals;
+}
 
 -- the index spaces with one more entity
 abbrev pub with_entity : EntityLists → EntityType → EntityLists

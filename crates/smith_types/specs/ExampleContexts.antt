@@ -15,7 +15,8 @@ use Rattle.smith_types.specs.ExampleEntities.{constant_global, variable_global}
 abbrev pub context_types : List SubType
 context_types =
     final_type plain_func ∷ final_type (struct (constant I8 ∷ [])) ∷ final_type (Array (record { 0 = variable (Val I32) }))
-    ∷ final_type (struct (constant (Val (Ref (not_null (plain heap.Func)))) ∷ [])) ∷ final_type (Array (record { 0 = constant (Val (Ref (not_null (plain heap.Func)))) }))
+    ∷ final_type (struct (constant (Val (Ref (not_null (plain heap.Func)))) ∷ [])) ∷ final_type
+    (Array (record { 0 = constant (Val (Ref (not_null (plain heap.Func)))) }))
     ∷ final_type (struct (constant I16 ∷ variable (Val I64) ∷ [])) ∷ []
 
 -- an imported and a defined function; two imported globals, one of them mutable, and a defined one

@@ -50,5 +50,6 @@ item name entity_type = record { name = name; entity_type = entity_type }
 -- imports of two functions and of one entity of each other kind
 abbrev pub mixed_imports : List Import
 mixed_imports =
-    import_of [] [] (entity.Func 3) ∷ import_of [] [] (entity.Tag 2) ∷ import_of [] [] (entity.Memory (memory 1 None)) ∷ import_of [] [] (entity.Func 1)
+    import_of [] [] (entity.Func 3) ∷ import_of [] [] (entity.Tag 2) ∷ import_of [] [] (entity.Memory (memory 1 None)) ∷ import_of [] []
+    (entity.Func 1)
     ∷ import_of [] [] (entity.Table (table funcref 10 None)) ∷ import_of [] [] (entity.Global (constant_global I32)) ∷ []

@@ -16,8 +16,10 @@ use Rattle.smith_syntax.specs.declared.entity_type.TableType.{TableType}
 abbrev pub IsEntityAt : EntitySpaces → ExportKind → ℕ → EntityType → Type 0
 IsEntityAt spaces kind.Func index ty = (func : ℕ) × (slice_get spaces.funcs index ≡ Some func) × (ty ≡ entity.Func func)
 IsEntityAt spaces kind.Table index ty = (table : TableType) × (slice_get spaces.tables index ≡ Some table) × (ty ≡ entity.Table table)
-IsEntityAt spaces kind.Memory index ty = (memory : MemoryType) × (slice_get spaces.memories index ≡ Some memory) × (ty ≡ entity.Memory memory)
-IsEntityAt spaces kind.Global index ty = (global : GlobalType) × (slice_get spaces.globals index ≡ Some global) × (ty ≡ entity.Global global)
+IsEntityAt spaces kind.Memory index ty = (memory : MemoryType) × (slice_get spaces.memories index ≡ Some memory)
+    × (ty ≡ entity.Memory memory)
+IsEntityAt spaces kind.Global index ty = (global : GlobalType) × (slice_get spaces.globals index ≡ Some global)
+    × (ty ≡ entity.Global global)
 IsEntityAt spaces kind.Tag index ty = (tag : ℕ) × (slice_get spaces.tags index ≡ Some tag) × (ty ≡ entity.Tag tag)
 
 -- no item occurs at two positions of the list (Validation, Modules, for the names of exports)

@@ -1,7 +1,8 @@
 -- Constant expressions: the section Validation, Instructions, Constant Expressions, of the
 -- WebAssembly Core Specification 3.0. The treatment of shared references and exact types is a rule
 -- of this project. Subtyping includes the own rules of `Subtyping`.
-use Rattle.std.specs.Prelude.{◌≡◌, ℕ, ◌<◌, Bool, true, false, nat_le, IsTrue, List, [], ◌∷◌, ◌++◌, map, replicate, length, slice_get, Some, All, if◌then◌else◌}
+use Rattle.std.specs.Prelude.{◌≡◌, ℕ, ◌<◌, Bool, true, false, nat_le, IsTrue, List, [], ◌∷◌, ◌++◌, map, replicate, length, slice_get, Some}
+use Rattle.std.specs.Prelude.{All, if◌then◌else◌}
 use Rattle.std.specs.List.{AllZip}
 use Rattle.smith_syntax.specs.Features.{Features}
 use Rattle.smith_types.specs.Flags.{IsInstrEnabled}
@@ -66,16 +67,19 @@ field_values fields = map (λ (field : FieldType). unpacked field.element_type) 
 
 -- the type at this index is the struct type with these fields (Structure, Composite Types)
 abbrev pub IsStructAt : List SubType → ℕ → List FieldType → Type 0
-IsStructAt types index fields = (t : SubType) × (slice_get types index ≡ Some t) × (t.composite_type.inner ≡ inner.Struct (record { fields = fields }))
+IsStructAt types index fields = (t : SubType) × (slice_get types index ≡ Some t)
+    × (t.composite_type.inner ≡ inner.Struct (record { fields = fields }))
 
 -- the type at this index is the array type with this element (Structure, Composite Types)
 abbrev pub IsArrayAt : List SubType → ℕ → FieldType → Type 0
-IsArrayAt types index element = (t : SubType) × (slice_get types index ≡ Some t) × (t.composite_type.inner ≡ inner.Array (record { 0 = element }))
+IsArrayAt types index element = (t : SubType) × (slice_get types index ≡ Some t)
+    × (t.composite_type.inner ≡ inner.Array (record { 0 = element }))
 
 -- an immutable global below the end of the visible globals (Validation, Constant Expressions)
 abbrev pub IsVisible : Context → ℕ → ValType → Type 0
 IsVisible context index value =
-    (global : GlobalType) × (slice_get context.globals index ≡ Some global) × (index < context.visible) × (global.mutable ≡ false) × (global.val_type ≡ value)
+    (global : GlobalType) × (slice_get context.globals index ≡ Some global) × (index < context.visible) × (global.mutable ≡ false)
+    × (global.val_type ≡ value)
 
 -- a conversion between internal and external references, which preserves nullability (Validation,
 -- Instructions, any.convert_extern and extern.convert_any) and sharedness (own rule)
@@ -95,7 +99,8 @@ HasType context (instr.F64Const bits) operands result = (operands ≡ []) × (re
 HasType context (instr.V128Const bits) operands result = (operands ≡ []) × (result ≡ V128)
 HasType context (instr.GlobalGet index) operands result = (operands ≡ []) × IsVisible context index result
 HasType context (instr.RefNull heap_type) operands result =
-    IsHeapTypeValid context.features (length context.types) heap_type × (operands ≡ []) × (result ≡ Ref (record { nullable = true; heap_type = heap_type }))
+    IsHeapTypeValid context.features (length context.types) heap_type × (operands ≡ [])
+    × (result ≡ Ref (record { nullable = true; heap_type = heap_type }))
 HasType context (instr.RefFunc function) operands result =
     (index : ℕ) × (slice_get context.funcs function ≡ Some index) × (operands ≡ []) × (result ≡ function_reference context function index)
 HasType context instr.I32Add operands result = (operands ≡ I32 ∷ I32 ∷ []) × (result ≡ I32)
@@ -109,15 +114,21 @@ HasType context instr.RefI31Shared operands result = (operands ≡ I32 ∷ []) �
 HasType context (instr.StructNew index) operands result =
     (fields : List FieldType) × IsStructAt context.types index fields × (operands ≡ field_values fields) × (result ≡ created context index)
 HasType context (instr.StructNewDefault index) operands result =
-    (fields : List FieldType) × IsStructAt context.types index fields × All IsDefaultable (field_values fields) × (operands ≡ []) × (result ≡ created context index)
+    (fields : List FieldType) × IsStructAt context.types index fields × All IsDefaultable (field_values fields) × (operands ≡ [])
+    × (result ≡ created context index)
 HasType context (instr.ArrayNew index) operands result =
-    (element : FieldType) × IsArrayAt context.types index element × (operands ≡ unpacked element.element_type ∷ I32 ∷ []) × (result ≡ created context index)
+    (element : FieldType) × IsArrayAt context.types index element × (operands ≡ unpacked element.element_type ∷ I32 ∷ [])
+    × (result ≡ created context index)
 HasType context (instr.ArrayNewDefault index) operands result =
-    (element : FieldType) × IsArrayAt context.types index element × IsDefaultable (unpacked element.element_type) × (operands ≡ I32 ∷ []) × (result ≡ created context index)
+    (element : FieldType) × IsArrayAt context.types index element × IsDefaultable (unpacked element.element_type) × (operands ≡ I32 ∷ [])
+    × (result ≡ created context index)
 HasType context (instr.ArrayNewFixed index size) operands result =
-    (element : FieldType) × IsArrayAt context.types index element × (operands ≡ replicate size (unpacked element.element_type)) × (result ≡ created context index)
-HasType context instr.AnyConvertExtern operands result = IsConversion operands result (λ shared. Abstract shared abstract.Extern) (λ shared. Abstract shared abstract.Any)
-HasType context instr.ExternConvertAny operands result = IsConversion operands result (λ shared. Abstract shared abstract.Any) (λ shared. Abstract shared abstract.Extern)
+    (element : FieldType) × IsArrayAt context.types index element × (operands ≡ replicate size (unpacked element.element_type))
+    × (result ≡ created context index)
+HasType context instr.AnyConvertExtern operands result = IsConversion operands result (λ shared. Abstract shared abstract.Extern)
+    (λ shared. Abstract shared abstract.Any)
+HasType context instr.ExternConvertAny operands result = IsConversion operands result (λ shared. Abstract shared abstract.Any)
+    (λ shared. Abstract shared abstract.Extern)
 
 -- one instruction takes a stack, its top last, to another: it pops subtypes of its operand types
 -- and pushes its result (Validation, Instruction Sequences)

@@ -22,7 +22,9 @@ direct_subtypes types index = indices_from (is_directly_below index) 0 types
 -- subtype the one before it; types without a family have no direct subtypes (own rule)
 pub record AreFamilies (types : List SubType) (families : List Family) : Type 0 where
   pub count : (s : ℕ) (family : Family) → slice_get families s ≡ Some family → family.count ≡ length (direct_subtypes types s)
-  pub last : (s k : ℕ) (family : Family) → slice_get families s ≡ Some family → suc k ≡ length (direct_subtypes types s) → slice_get (direct_subtypes types s) k ≡ Some family.last
-  pub previous : (s k i : ℕ) (family : Family) → slice_get (direct_subtypes types s) (suc k) ≡ Some i → slice_get families i ≡ Some family → slice_get (direct_subtypes types s) k ≡ Some family.previous
+  pub last : (s k : ℕ) (family : Family) → slice_get families s ≡ Some family → suc k ≡ length (direct_subtypes types s)
+      → slice_get (direct_subtypes types s) k ≡ Some family.last
+  pub previous : (s k i : ℕ) (family : Family) → slice_get (direct_subtypes types s) (suc k) ≡ Some i → slice_get families i ≡ Some family
+      → slice_get (direct_subtypes types s) k ≡ Some family.previous
   pub within : (s k i : ℕ) → slice_get (direct_subtypes types s) k ≡ Some i → i < length families
   pub others : (s : ℕ) → length families ≤ s → direct_subtypes types s ≡ []

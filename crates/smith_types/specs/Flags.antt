@@ -25,7 +25,8 @@ IsAbstractEnabled features _ = IsTrue features.gc
 
 -- a heap type: shared, concrete and exact types require features of their own (own rule)
 abbrev pub IsHeapTypeEnabled : Features → HeapType → Type 0
-IsHeapTypeEnabled features (Abstract shared ty) = IsAbstractEnabled features ty × (IsTrue shared → IsTrue features.shared_everything_threads)
+IsHeapTypeEnabled features (Abstract shared ty) = IsAbstractEnabled features ty
+    × (IsTrue shared → IsTrue features.shared_everything_threads)
 IsHeapTypeEnabled features (Concrete index) = IsTrue features.gc
 IsHeapTypeEnabled features (Exact index) = IsTrue features.custom_descriptors
 

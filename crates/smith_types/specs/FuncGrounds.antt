@@ -1,5 +1,6 @@
 -- The record of noted functions that decides which heap types they ground.
-use Rattle.std.specs.Prelude.{◌≡◌, ◌↔◌, ℕ, ◌<◌, ◌⊎◌, Bool, true, false, ◌&&◌, ◌||◌, IsTrue, List, [], ◌∷◌, ◌++◌, length, Some, if◌then◌else◌}
+use Rattle.std.specs.Prelude.{◌≡◌, ◌↔◌, ℕ, ◌<◌, ◌⊎◌, Bool, true, false, ◌&&◌, ◌||◌, IsTrue, List, [], ◌∷◌, ◌++◌, length, Some}
+use Rattle.std.specs.Prelude.{if◌then◌else◌}
 use Rattle.smith_types.specs.Subtyping.{is_abstract_below, IsInRange}
 use Rattle.smith_types.specs.Expressions.{Context, reference_to, function_reference}
 use Rattle.smith_types.specs.Grounded.{IsGroundedByFuncs}
@@ -18,7 +19,8 @@ use Rattle.smith_types.specs.declared.func_grounds.FuncGrounds.{FuncGrounds}
 
 -- whether one of the kinds is a subtype of an abstract heap type
 abbrev pub are_below : Kinds → AbstractHeapType → Bool
-are_below kinds b = ((kinds.arrays && is_abstract_below heap.Array b) || (kinds.funcs && is_abstract_below heap.Func b)) || (kinds.structs && is_abstract_below heap.Struct b)
+are_below kinds b = ((kinds.arrays && is_abstract_below heap.Array b) || (kinds.funcs && is_abstract_below heap.Func b)) ||
+    (kinds.structs && is_abstract_below heap.Struct b)
 
 -- the kinds with that of a composite type added
 abbrev pub kinds_with : CompositeInnerType → Kinds → Kinds

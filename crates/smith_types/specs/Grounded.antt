@@ -26,12 +26,14 @@ IsGroundedByStructs types descriptors heap_type = (index : ℕ) × IsGroundedBy 
 -- a function grounds a heap type: its reference is below the heap type
 abbrev pub IsGroundedByFuncs : Context → HeapType → Type 0
 IsGroundedByFuncs context heap_type =
-    (function : ℕ) × (index : ℕ) × (slice_get context.funcs function ≡ Some index) × IsValBelow context.types (function_reference context function index) (reference_to heap_type)
+    (function : ℕ) × (index : ℕ) × (slice_get context.funcs function ≡ Some index) × IsValBelow context.types
+    (function_reference context function index) (reference_to heap_type)
 
 -- a heap type is grounded: a struct type or a function provides a non-null reference below it
 -- without operands
 abbrev pub IsGrounded : Context → HeapType → Type 0
-IsGrounded context heap_type = IsGroundedByStructs context.types context.features.custom_descriptors heap_type ⊎ IsGroundedByFuncs context heap_type
+IsGrounded context heap_type = IsGroundedByStructs context.types context.features.custom_descriptors heap_type
+    ⊎ IsGroundedByFuncs context heap_type
 
 -- whether a value type has a default
 abbrev pub is_defaultable : ValType → Bool

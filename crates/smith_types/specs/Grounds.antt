@@ -113,7 +113,8 @@ kind_at kinds true = kinds.shared
 
 -- the flags with a further type of this sharedness, which is such a struct type if `ground` is true
 abbrev pub ground_kinds_with : Bool → Bool → GroundKinds → GroundKinds
-ground_kinds_with ground is_shared kinds = record { plain = kinds.plain || (ground && not is_shared); shared = kinds.shared || (ground && is_shared) }
+ground_kinds_with ground is_shared kinds =
+    record { plain = kinds.plain || (ground && not is_shared); shared = kinds.shared || (ground && is_shared) }
 
 -- the flags of all types: whether there is such a struct type with this sharedness
 pub record AreGroundKinds (types : List SubType) (kinds : GroundKinds) : Type 0 where

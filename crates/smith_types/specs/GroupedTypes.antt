@@ -1,5 +1,6 @@
 -- The type space: the types in the order of their addition, and their groups so far.
-use Rattle.std.specs.Prelude.{◌≡◌, ℕ, suc, ◌+◌, ◌^◌, ◌<◌, ◌≤◌, not, ◌&&◌, nat_lt, List, [], ◌∷◌, Some, None, length, slice_get, slice_index, if◌then◌else◌}
+use Rattle.std.specs.Prelude.{◌≡◌, ℕ, suc, ◌+◌, ◌^◌, ◌<◌, ◌≤◌, not, ◌&&◌, nat_lt, List, [], ◌∷◌, Some, None, length, slice_get, slice_index}
+use Rattle.std.specs.Prelude.{if◌then◌else◌}
 use Rattle.std.specs.declared.ops.Range.{Range}
 use Rattle.smith_syntax.specs.declared.composite_type.SubType.{SubType}
 use Rattle.smith_types.specs.Types.{IsAlike, IsOrderly, AreConsecutive, next_start}

@@ -19,4 +19,5 @@ space_of groups = record { types = flat_map (λ group. group) groups; groups = r
 -- each declared supertype precedes its subtype and has the same kind and sharedness (Validation,
 -- Recursive Types; sharedness: own rule)
 pub record AreFollowing (types : List SubType) : Type 0 where
-  pub under : (i s : ℕ) (t : SubType) → slice_get types i ≡ Some t → t.supertype ≡ Some s → (s < i) × ((u : SubType) × (slice_get types s ≡ Some u) × IsAlike t u)
+  pub under : (i s : ℕ) (t : SubType) → slice_get types i ≡ Some t → t.supertype ≡ Some s
+      → (s < i) × ((u : SubType) × (slice_get types s ≡ Some u) × IsAlike t u)

@@ -91,4 +91,10 @@ pub record IsImportsValid (features : Features) (group : Imports) : Type 0 where
 
 -- the index spaces of a single entity (Structure, Indices)
 abbrev pub entity_spaces : EntityType → EntitySpaces
-entity_spaces one = record { tags = tag_of one; funcs = func_of one; tables = table_of one; memories = memory_of one; globals = global_of one }
+entity_spaces one = record {
+  tags = tag_of one;
+  funcs = func_of one;
+  tables = table_of one;
+  memories = memory_of one;
+  globals = global_of one;
+}

@@ -55,27 +55,36 @@ MatchingIsReflexive = (types : List SubType) (a : CompositeType) → IsComposite
 
 -- matching is preserved when types are appended
 abbrev pub MatchingSurvivesGrowth : Type 0
-MatchingSurvivesGrowth = (types more : List SubType) (a b : CompositeType) → IsCompositeMatch types a b → IsCompositeMatch (types ++ more) a b
+MatchingSurvivesGrowth = (types more : List SubType) (a b : CompositeType) → IsCompositeMatch types a b
+    → IsCompositeMatch (types ++ more) a b
 
 -- valid types stay valid when whole valid groups are appended
 abbrev pub ValidTypesSurviveGrowth : Type 0
-ValidTypesSurviveGrowth = (features : Features) (types more : List SubType) (groups further : List (Range ℕ)) → AreTypesValid features (record { types = types; groups = groups })
+ValidTypesSurviveGrowth = (features : Features) (types more : List SubType) (groups further : List (Range ℕ))
+    → AreTypesValid features (record { types = types; groups = groups })
     → AreGroupsAdded features types more further → AreTypesValid features (record { types = types ++ more; groups = groups ++ further })
 
 -- valid entities stay valid when types are appended
 pub record ValidEntitiesSurviveGrowth : Type 0 where
-  pub table : (features : Features) (types more : List SubType) (ty : TableType) → IsTableValid features types ty → IsTableValid features (types ++ more) ty
-  pub global : (features : Features) (types more : List SubType) (ty : GlobalType) → IsGlobalValid features types ty → IsGlobalValid features (types ++ more) ty
+  pub table : (features : Features) (types more : List SubType) (ty : TableType) → IsTableValid features types ty
+      → IsTableValid features (types ++ more) ty
+  pub global : (features : Features) (types more : List SubType) (ty : GlobalType) → IsGlobalValid features types ty
+      → IsGlobalValid features (types ++ more) ty
   pub tag : (types more : List SubType) (index : ℕ) → IsTagValid types index → IsTagValid (types ++ more) index
   pub func : (types more : List SubType) (index : ℕ) → IsFuncTypeIndex types index → IsFuncTypeIndex (types ++ more) index
-  pub all : (features : Features) (types more : List SubType) (spaces : EntitySpaces) → AreEntitiesValid features types spaces → AreEntitiesValid features (types ++ more) spaces
+  pub all : (features : Features) (types more : List SubType) (spaces : EntitySpaces) → AreEntitiesValid features types spaces
+      → AreEntitiesValid features (types ++ more) spaces
 
 -- typing and validity of constant expressions are preserved in a grown context
 pub record ValidExpressionsSurviveGrowth : Type 0 where
-  pub typed : (old new : Context) (instruction : ConstInstr) (operands : List ValType) (result : ValType) → IsContextGrown old new → HasType old instruction operands result → HasType new instruction operands result
-  pub step : (old new : Context) (instruction : ConstInstr) (before after : List ValType) → IsContextGrown old new → IsStackStep old instruction before after → IsStackStep new instruction before after
-  pub steps : (old new : Context) (instructions : List ConstInstr) (before after : List ValType) → IsContextGrown old new → AreStackSteps old instructions before after → AreStackSteps new instructions before after
-  pub expression : (old new : Context) (wanted : ValType) (instructions : List ConstInstr) → IsContextGrown old new → IsConstExpr old wanted instructions → IsConstExpr new wanted instructions
+  pub typed : (old new : Context) (instruction : ConstInstr) (operands : List ValType) (result : ValType) → IsContextGrown old new
+      → HasType old instruction operands result → HasType new instruction operands result
+  pub step : (old new : Context) (instruction : ConstInstr) (before after : List ValType) → IsContextGrown old new
+      → IsStackStep old instruction before after → IsStackStep new instruction before after
+  pub steps : (old new : Context) (instructions : List ConstInstr) (before after : List ValType) → IsContextGrown old new
+      → AreStackSteps old instructions before after → AreStackSteps new instructions before after
+  pub expression : (old new : Context) (wanted : ValType) (instructions : List ConstInstr) → IsContextGrown old new
+      → IsConstExpr old wanted instructions → IsConstExpr new wanted instructions
 
 -- a grounded heap type stays grounded in a grown context, and when more functions are imported
 pub record GroundedSurvivesGrowth : Type 0 where
@@ -84,11 +93,16 @@ pub record GroundedSurvivesGrowth : Type 0 where
 
 -- a valid segment stays valid in a grown context with more tables or memories
 pub record ValidSegmentsSurviveGrowth : Type 0 where
-  pub elem : (old new : Context) (tables more : List TableType) (segment : ElementSegment) → IsContextGrown old new → IsElementSegmentValid old tables segment → IsElementSegmentValid new (tables ++ more) segment
-  pub bytes : (old new : Context) (memories more : List MemoryType) (segment : DataSegment) → IsContextGrown old new → IsDataValid old memories segment → IsDataValid new (memories ++ more) segment
+  pub elem : (old new : Context) (tables more : List TableType) (segment : ElementSegment) → IsContextGrown old new
+      → IsElementSegmentValid old tables segment → IsElementSegmentValid new (tables ++ more) segment
+  pub bytes : (old new : Context) (memories more : List MemoryType) (segment : DataSegment) → IsContextGrown old new
+      → IsDataValid old memories segment → IsDataValid new (memories ++ more) segment
 
 -- exported entities and start functions stay valid in grown index spaces
 pub record ValidExportsSurviveGrowth : Type 0 where
-  pub entity : (old new : EntitySpaces) (kind : ExportKind) (index : ℕ) (ty : EntityType) → AreSpacesGrown old new → IsEntityAt old kind index ty → IsEntityAt new kind index ty
-  pub exports : (old new : EntitySpaces) (exports : List (List ℕ × ExportKind × ℕ)) → AreSpacesGrown old new → AreExportsValid old exports → AreExportsValid new exports
-  pub start : (types more_types : List SubType) (funcs more_funcs : List ℕ) (function : Option ℕ) → IsStartValid types funcs function → IsStartValid (types ++ more_types) (funcs ++ more_funcs) function
+  pub entity : (old new : EntitySpaces) (kind : ExportKind) (index : ℕ) (ty : EntityType) → AreSpacesGrown old new
+      → IsEntityAt old kind index ty → IsEntityAt new kind index ty
+  pub exports : (old new : EntitySpaces) (exports : List (List ℕ × ExportKind × ℕ)) → AreSpacesGrown old new → AreExportsValid old exports
+      → AreExportsValid new exports
+  pub start : (types more_types : List SubType) (funcs more_funcs : List ℕ) (function : Option ℕ) → IsStartValid types funcs function
+      → IsStartValid (types ++ more_types) (funcs ++ more_funcs) function

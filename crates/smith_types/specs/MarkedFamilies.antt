@@ -1,5 +1,6 @@
 -- The marked direct subtypes of a type, and how a type space represents them.
-use Rattle.std.specs.Prelude.{◌≡◌, ◌↔◌, ℕ, ◌<◌, ◌≤◌, Bool, true, false, ◌&&◌, IsTrue, List, [], Option, Some, None, length, slice_get, Vec, vec_len, vec_capacity}
+use Rattle.std.specs.Prelude.{◌≡◌, ◌↔◌, ℕ, ◌<◌, ◌≤◌, Bool, true, false, ◌&&◌, IsTrue, List, [], Option, Some, None, length, slice_get, Vec}
+use Rattle.std.specs.Prelude.{vec_len, vec_capacity}
 use Rattle.std.specs.declared.alloc.Global.{Global}
 use Rattle.smith_syntax.specs.declared.value_type.HeapType.TheVariants.{Concrete}
 use Rattle.smith_syntax.specs.declared.composite_type.SubType.{SubType}
@@ -25,7 +26,8 @@ is_marked_below types grounds index j = below_at grounds j && is_directly_below_
 -- the lists: for each type the indices of its marked direct subtypes, in order; types without a list
 -- have none
 pub record AreFamilyLists (types : List SubType) (grounds : List Ground) (lists : List (Vec ℕ Global)) : Type 0 where
-  pub each : (s : ℕ) (list : Vec ℕ Global) → slice_get lists s ≡ Some list → list.items ≡ indices_where (is_marked_below types grounds s) 0 (length types)
+  pub each : (s : ℕ) (list : Vec ℕ Global) → slice_get lists s ≡ Some list → list.items ≡ indices_where (is_marked_below types grounds s) 0
+      (length types)
   pub others : (s : ℕ) → length lists ≤ s → indices_where (is_marked_below types grounds s) 0 (length types) ≡ []
 
 -- the lists are right if they are known
@@ -34,7 +36,8 @@ AreMarkedFamilies types grounds families = families.known ≡ true → AreFamily
 
 -- there is room for one more direct subtype of this type, if there is one
 abbrev pub HasFamilyRoom : Option ℕ → List (Vec ℕ Global) → Type 0
-HasFamilyRoom supertype lists = (s : ℕ) → supertype ≡ Some s → (list : Vec ℕ Global) × (slice_get lists s ≡ Some list) × (vec_len list < vec_capacity list)
+HasFamilyRoom supertype lists = (s : ℕ) → supertype ≡ Some s → (list : Vec ℕ Global) × (slice_get lists s ≡ Some list)
+    × (vec_len list < vec_capacity list)
 
 -- a test decides which direct subtypes of a type are grounded by structs
 abbrev pub DecidesGroundedBelow : List SubType → Bool → ℕ → (ℕ → Bool) → Type 0

@@ -15,4 +15,5 @@ pub record AreTypesOpen (features : Features) (end : ℕ) (space : GroupedTypes)
   pub room : length space.types ≤ end
   pub orderly : IsOrderly space.types
   pub groups : All (IsGroupValid features space.types) space.groups
-  pub following : (i : ℕ) (t : SubType) → next_start space.groups ≤ i → slice_get space.types i ≡ Some t → IsTypeValid features space.types end t
+  pub following : (i : ℕ) (t : SubType) → next_start space.groups ≤ i → slice_get space.types i ≡ Some t
+      → IsTypeValid features space.types end t

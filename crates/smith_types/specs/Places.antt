@@ -48,7 +48,15 @@ last_counts_from counts (place ∷ places) = last_counts_from place.counts place
 
 -- the counts of the last of these places, which are those of all types
 abbrev pub last_counts : List Place → KindCounts
-last_counts places = last_counts_from (record { arrays = 0; funcs = 0; structs = 0; shared_arrays = 0; shared_funcs = 0; shared_structs = 0; without_results = 0 }) places
+last_counts places = last_counts_from (record {
+  arrays = 0;
+  funcs = 0;
+  structs = 0;
+  shared_arrays = 0;
+  shared_funcs = 0;
+  shared_structs = 0;
+  without_results = 0;
+}) places
 
 -- the depths of these places
 abbrev pub depths_in : List Place → List ℕ

@@ -1,6 +1,7 @@
 -- Element and data segments: the section Validation, Modules, of the WebAssembly Core Specification
 -- 3.0. Subtyping of references includes the own rules of `Subtyping`.
-use Rattle.std.specs.Prelude.{◌≡◌, ℕ, ◌+◌, ◌*◌, ◌^◌, ◌≤◌, Bool, true, false, IsTrue, List, Option, Some, None, length, slice_get, unwrap_or, All}
+use Rattle.std.specs.Prelude.{◌≡◌, ℕ, ◌+◌, ◌*◌, ◌^◌, ◌≤◌, Bool, true, false, IsTrue, List, Option, Some, None, length, slice_get, unwrap_or}
+use Rattle.std.specs.Prelude.{All}
 use Rattle.std.specs.Int.{cast_unsigned, w32, w64}
 use Rattle.smith_types.specs.Flags.{IsElementTypeEnabled}
 use Rattle.smith_types.specs.Subtyping.{IsRefBelow, IsValBelow}
@@ -37,13 +38,15 @@ IsOffsetValid context wide (Global index) = IsVisible context index (address_typ
 
 -- a function whose reference is a subtype of the item type (Validation, Element Segments)
 abbrev pub IsItem : Context → RefType → ℕ → Type 0
-IsItem context ty function = (index : ℕ) × (slice_get context.funcs function ≡ Some index) × IsValBelow context.types (function_reference context function index) (Ref ty)
+IsItem context ty function = (index : ℕ) × (slice_get context.funcs function ≡ Some index) × IsValBelow context.types
+    (function_reference context function index) (Ref ty)
 
 -- each item has the type of the segment (Validation, Element Segments); expressions as items
 -- require reference types (own rule)
 abbrev pub AreItemsValid : Context → RefType → Elements → Type 0
 AreItemsValid context ty (Functions functions) = All (IsItem context ty) functions
-AreItemsValid context ty (Expressions expressions) = IsTrue context.features.reference_types × All (IsConstExpr context (Ref ty)) expressions
+AreItemsValid context ty (Expressions expressions) = IsTrue context.features.reference_types × All (IsConstExpr context (Ref ty))
+    expressions
 
 -- the table of an active segment: the first if none is given (Binary Format, Element Section)
 abbrev pub table_index : Option ℕ → ℕ
@@ -63,7 +66,8 @@ abbrev pub IsElementKindValid : Context → List TableType → RefType → Eleme
 IsElementKindValid context tables ty element_kind.Passive = IsTrue context.features.bulk_memory
 IsElementKindValid context tables ty element_kind.Declared = IsTrue context.features.bulk_memory
 IsElementKindValid context tables ty (element_kind.Active None offset) = IsActiveElementSegment context tables ty 0 offset
-IsElementKindValid context tables ty (element_kind.Active (Some table) offset) = IsTrue context.features.bulk_memory × IsActiveElementSegment context tables ty table offset
+IsElementKindValid context tables ty (element_kind.Active (Some table) offset) = IsTrue context.features.bulk_memory
+    × IsActiveElementSegment context tables ty table offset
 
 -- an element segment (Validation, Element Segments)
 pub record IsElementSegmentValid (context : Context) (tables : List TableType) (segment : ElementSegment) : Type 0 where
@@ -108,7 +112,8 @@ AreElementsInside tables (element_kind.Active index offset) count =
 abbrev pub AreBytesInside : List MemoryType → DataSegmentKind → ℕ → Type 0
 AreBytesInside memories data_kind.Passive count = Unit {0}
 AreBytesInside memories (data_kind.Active index offset) count =
-    (memory : MemoryType) × (slice_get memories index ≡ Some memory) × IsOffsetInside offset count (memory.minimum * 2 ^ page_log2 memory.page_size_log2)
+    (memory : MemoryType) × (slice_get memories index ≡ Some memory) × IsOffsetInside offset count
+    (memory.minimum * 2 ^ page_log2 memory.page_size_log2)
 
 -- an active element segment lies within the minimum size of its table (own rule: so that it does
 -- not trap)

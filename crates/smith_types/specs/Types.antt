@@ -12,7 +12,8 @@ pub record IsAlike (t u : SubType) : Type 0 where
 -- each declared supertype precedes its subtype and has the same kind and sharedness (Validation,
 -- Recursive Types; sharedness: own rule)
 pub record IsOrderly (types : List SubType) : Type 0 where
-  pub under : (i s : ℕ) (t : SubType) → slice_get types i ≡ Some t → t.supertype ≡ Some s → (s < i) × ((u : SubType) → slice_get types s ≡ Some u → IsAlike t u)
+  pub under : (i s : ℕ) (t : SubType) → slice_get types i ≡ Some t → t.supertype ≡ Some s
+      → (s < i) × ((u : SubType) → slice_get types s ≡ Some u → IsAlike t u)
 
 -- the end of the last of these groups, or `start` if there is none (Structure, Recursive Types)
 abbrev pub end_from : ℕ → List (Range ℕ) → ℕ

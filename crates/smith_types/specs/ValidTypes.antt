@@ -88,7 +88,8 @@ pub record IsTypeValid (features : Features) (types : List SubType) (end : ℕ) 
 -- each type of a group is valid (Validation, Recursive Types); without garbage collection, a group
 -- has exactly one type (own rule)
 pub record IsGroupValid (features : Features) (types : List SubType) (group : Range ℕ) : Type 0 where
-  pub members : (i : ℕ) (t : SubType) → group.start ≤ i → i < group.end → slice_get types i ≡ Some t → IsTypeValid features types group.end t
+  pub members : (i : ℕ) (t : SubType) → group.start ≤ i → i < group.end → slice_get types i ≡ Some t
+      → IsTypeValid features types group.end t
   pub single : features.gc ≡ false → group.end ≡ group.start + 1
 
 -- valid types in consecutive groups that cover them, each supertype before its subtypes

@@ -1,5 +1,6 @@
 -- The names that these proofs cite, passed on from one place.
-pub use Rattle.std.proofs.Common.{[], All, ap, arith, Bool, false, inl, inr, IsTrue, length, List, lit<, None, pos, refl, replicate, rules, Some, subst, suc, sym, true, zero, ℕ, ◌++◌, ◌<◌, ◌∙◌, ◌∷◌, ◌≡◌}
+pub use Rattle.std.proofs.Common.{[], All, ap, arith, Bool, false, inl, inr, IsTrue, length, List, lit<, None, pos, refl, replicate, rules}
+pub use Rattle.std.proofs.Common.{Some, subst, suc, sym, true, zero, ℕ, ◌++◌, ◌<◌, ◌∙◌, ◌∷◌, ◌≡◌}
 pub use Rattle.std.proofs.lemmas.Grind.{common_steps}
 pub use Rattle.std.proofs.lemmas.List.{length-replicate}
 pub use Rattle.std.proofs.lemmas.List.Elements.{All-cons, All-from_recursion, All-head, All-nil, All-replicate, All-tail}
@@ -15,7 +16,10 @@ pub use Rattle.smith_types.specs.Entities.{IsFuncTypeIndex, IsGlobalValid, IsMem
 pub use Rattle.smith_types.specs.ExampleContexts.{context_of, context_types, context_with}
 pub use Rattle.smith_types.specs.ExampleEntities.{constant_global, memory, one_of_each, table}
 pub use Rattle.smith_types.specs.ExampleFeatures.{usual_features, without_gc}
-pub use Rattle.smith_types.specs.ExampleTypes.{anyref, array, below_itself, constant, empty_struct, eqref, final_type, func, func_and_below, giving, in_one_group, kinds_of_values, not_null, nullable, open_type, plain, plain_func, range, referring, referring_type, refers_to, shared_type, struct, struct_and_below, taking, tops, variable}
+pub use Rattle.smith_types.specs.ExampleTypes.{anyref, array, below_itself, constant, empty_struct, eqref, final_type, func, func_and_below}
+pub use Rattle.smith_types.specs.ExampleTypes.{giving, in_one_group, kinds_of_values, not_null, nullable, open_type, plain, plain_func}
+pub use Rattle.smith_types.specs.ExampleTypes.{range, referring, referring_type, refers_to, shared_type, struct, struct_and_below, taking}
+pub use Rattle.smith_types.specs.ExampleTypes.{tops, variable}
 pub use Rattle.smith_types.specs.Exports.{AreDistinct, IsEntityAt}
 pub use Rattle.smith_types.specs.Expressions.{Context, IsArrayAt, IsConstExpr, IsStructAt, seeing}
 pub use Rattle.smith_syntax.specs.Features.{every_feature, Features}
@@ -32,7 +36,8 @@ pub use Rattle.smith_types.specs.ValidTypes.{AreTypesValid, IsGroupValid, IsShar
 pub use Rattle.smith_syntax.specs.declared.composite_type.CompositeInnerType.TheVariants.{Array, Func}
 pub use Rattle.smith_syntax.specs.declared.composite_type.StorageType.TheVariants.{I16, I8, Val}
 pub use Rattle.smith_syntax.specs.declared.composite_type.SubType.{SubType}
-pub use Rattle.smith_syntax.specs.declared.const_instr.ConstInstr.TheVariants.{ExternConvertAny, GlobalGet, I32Add, I32Const, RefFunc, RefI31, RefNull, StructNew, StructNewDefault}
+pub use Rattle.smith_syntax.specs.declared.const_instr.ConstInstr.TheVariants.{ExternConvertAny, GlobalGet, I32Add, I32Const, RefFunc}
+pub use Rattle.smith_syntax.specs.declared.const_instr.ConstInstr.TheVariants.{RefI31, RefNull, StructNew, StructNewDefault}
 pub use Rattle.smith_syntax.specs.declared.entity_type.EntityType.{EntityType}
 pub use Rattle.smith_syntax.specs.declared.entity_type.ExportKind.{ExportKind}
 pub use Rattle.smith_syntax.specs.declared.entity_type.GlobalType.{GlobalType}

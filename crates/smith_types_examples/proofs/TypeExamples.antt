@@ -1,9 +1,17 @@
 -- Lemmas for several examples.
-use Rattle.smith_types_examples.proofs.Common.{rules, false, List, [], Some, None, IsTrue, ◌≡◌, ◌∙◌, ◌∷◌, ℕ, zero, suc, lit<, refl, sym, subst, arith, slice_get, All-nil, All-cons, All-head, same_Some, AbstractHeapType, Concrete, Ref, SubType, Features, IsOrderly, is_abstract_below, IsBelow, IsValBelow, IsValTypeValid, IsSupertypeValid, IsTypeValid, IsGroupValid, AreTypesValid, usual_features, open_type, empty_struct, struct_and_below, below_itself, anyref, eqref, nullable, range, referring, referring_type, in_one_group, below_abstract, by_cases_from_below, below_alone, Bool, Abstract, below_declared, itself, TableType, GlobalType, ValType, Context, RefType, Offset, IsRefBelow, IsOffsetValid, IsActiveElementSegment, ◌<◌}
+use Rattle.smith_types_examples.proofs.Common.{rules, false, List, [], Some, None, IsTrue, ◌≡◌, ◌∙◌, ◌∷◌, ℕ, zero, suc, lit<, refl, sym}
+use Rattle.smith_types_examples.proofs.Common.{subst, arith, slice_get, All-nil, All-cons, All-head, same_Some, AbstractHeapType, Concrete}
+use Rattle.smith_types_examples.proofs.Common.{Ref, SubType, Features, IsOrderly, is_abstract_below, IsBelow, IsValBelow, IsValTypeValid}
+use Rattle.smith_types_examples.proofs.Common.{IsSupertypeValid, IsTypeValid, IsGroupValid, AreTypesValid, usual_features, open_type}
+use Rattle.smith_types_examples.proofs.Common.{empty_struct, struct_and_below, below_itself, anyref, eqref, nullable, range, referring}
+use Rattle.smith_types_examples.proofs.Common.{referring_type, in_one_group, below_abstract, by_cases_from_below, below_alone, Bool}
+use Rattle.smith_types_examples.proofs.Common.{Abstract, below_declared, itself, TableType, GlobalType, ValType, Context, RefType, Offset}
+use Rattle.smith_types_examples.proofs.Common.{IsRefBelow, IsOffsetValid, IsActiveElementSegment, ◌<◌}
 use Rattle.smith_syntax.specs.declared.value_type.AbstractHeapType.TheVariants as heap
 
 -- abstract types, by the table
-pub abstract_apart : (s r : Bool) (a b : AbstractHeapType) → ¬ ((s ≡ r) × IsTrue (is_abstract_below a b)) → ¬ IsBelow [] (Abstract s a) (Abstract r b)
+pub abstract_apart : (s r : Bool) (a b : AbstractHeapType) → ¬ ((s ≡ r) × IsTrue (is_abstract_below a b))
+    → ¬ IsBelow [] (Abstract s a) (Abstract r b)
 abstract_apart s r a b apart below = apart (by_cases_from_below [] (search rules) (Abstract s a) (Abstract r b) below)
 
 pub struct_orderly : IsOrderly struct_and_below
@@ -17,7 +25,8 @@ pub lower_below : IsBelow struct_and_below (Concrete 1) (Concrete 0)
 lower_below = below_declared struct_and_below 1 0 (open_type (Some 0) empty_struct) refl refl
 
 pub upper_not_below : ¬ IsBelow struct_and_below (Concrete 0) (Concrete 1)
-upper_not_below below = below_alone struct_and_below struct_orderly 0 1 (open_type None empty_struct) (lit< tt) refl (λ (same : 0 ≡ 1). omega (arith, same)) below
+upper_not_below below = below_alone struct_and_below struct_orderly 0 1 (open_type None empty_struct) (lit< tt) refl
+    (λ (same : 0 ≡ 1). omega (arith, same)) below
 
 pub eq_below_any : (types : List SubType) → IsValBelow types eqref anyref
 eq_below_any types = record { heap = below_abstract types false heap.Eq heap.Any refl; nullable = λ _. refl }
@@ -39,21 +48,26 @@ of_both P t u v (suc zero) p q at = subst P (same_Some u v at) q
 of_both P t u v (suc (suc i)) p q at = search rules
 
 -- two valid types in one group
-pub two_valid : (t u : SubType) → IsOrderly (t ∷ u ∷ []) → IsTypeValid usual_features (t ∷ u ∷ []) 2 t → IsTypeValid usual_features (t ∷ u ∷ []) 2 u → AreTypesValid usual_features (in_one_group (t ∷ u ∷ []))
+pub two_valid : (t u : SubType) → IsOrderly (t ∷ u ∷ []) → IsTypeValid usual_features (t ∷ u ∷ []) 2 t
+    → IsTypeValid usual_features (t ∷ u ∷ []) 2 u → AreTypesValid usual_features (in_one_group (t ∷ u ∷ []))
 two_valid t u orderly first second =
     let valid = IsTypeValid usual_features (t ∷ u ∷ []) 2 in
-    let group : IsGroupValid usual_features (t ∷ u ∷ []) (range 0 2) = record { members = λ i v low high at. of_both valid t u v i first second at; single = λ never. cc never } in
+    let group : IsGroupValid usual_features (t ∷ u ∷ []) (range 0 2) =
+    record { members = λ i v low high at. of_both valid t u v i first second at; single = λ never. cc never } in
     record {
       covered = search rules;
       orderly = orderly;
-      groups = All-cons (IsGroupValid usual_features (t ∷ u ∷ [])) (range 0 2) [] group (All-nil (IsGroupValid usual_features (t ∷ u ∷ [])));
+      groups = All-cons (IsGroupValid usual_features (t ∷ u ∷ [])) (range 0 2) [] group
+          (All-nil (IsGroupValid usual_features (t ∷ u ∷ [])));
     }
 
 -- the second of two types is a declared subtype of the first, if that is allowed
-pub below_first : (t u : SubType) → u.supertype ≡ Some 0 → IsSupertypeValid (t ∷ u ∷ []) u t → (s : ℕ) → u.supertype ≡ Some s → (v : SubType) × (slice_get (t ∷ u ∷ []) s ≡ Some v) × IsSupertypeValid (t ∷ u ∷ []) u v
+pub below_first : (t u : SubType) → u.supertype ≡ Some 0 → IsSupertypeValid (t ∷ u ∷ []) u t → (s : ℕ) → u.supertype ≡ Some s
+    → (v : SubType) × (slice_get (t ∷ u ∷ []) s ≡ Some v) × IsSupertypeValid (t ∷ u ∷ []) u v
 below_first t u up valid s up' = (t, subst (λ n. slice_get (t ∷ u ∷ []) n ≡ Some t) (same_Some 0 s (sym up ∙ up')) refl, valid)
 
-pub first_above : (t u : SubType) → u.supertype ≡ Some 0 → AreTypesValid usual_features (in_one_group (t ∷ u ∷ [])) → IsSupertypeValid (t ∷ u ∷ []) u t
+pub first_above : (t u : SubType) → u.supertype ≡ Some 0 → AreTypesValid usual_features (in_one_group (t ∷ u ∷ []))
+    → IsSupertypeValid (t ∷ u ∷ []) u t
 first_above t u up valid =
     let group = All-head (IsGroupValid usual_features (t ∷ u ∷ [])) (range 0 2) [] valid.groups in
     let (v, at, above) = (group.members 1 u (omega arith) (omega arith) refl).declared 0 up in
@@ -68,7 +82,8 @@ pub visible_at : (g : GlobalType) (index end : ℕ) (value : ValType) → index 
 visible_at g index end value low constant is = (g, refl, low, constant, is)
 
 pub active_first : (context : Context) (t : TableType) (more : List TableType) (ty : RefType) (offset : Offset)
-    → IsRefBelow context.types ty t.element_type → IsOffsetValid context t.table64 offset → IsActiveElementSegment context (t ∷ more) ty 0 offset
+    → IsRefBelow context.types ty t.element_type → IsOffsetValid context t.table64 offset → IsActiveElementSegment context (t ∷ more) ty 0
+    offset
 active_first context t more ty offset below valid = record { table = t; stands = refl; below = below; offset_valid = valid }
 
 pub ruleset subtypes = (below_abstract, abstract_apart, lower_below, upper_not_below, itself)

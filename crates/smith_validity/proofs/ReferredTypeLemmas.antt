@@ -28,23 +28,29 @@ stored_in_range types I8 h = tt
 stored_in_range types I16 h = tt
 stored_in_range types (Val value) h = h
 
-pub inner_in_range : (types : List SubType) (inner : CompositeInnerType) → All (IsValInRange types) (values_of inner) → IsInnerInRange types inner
+pub inner_in_range : (types : List SubType) (inner : CompositeInnerType) → All (IsValInRange types) (values_of inner)
+    → IsInnerInRange types inner
 inner_in_range types (Array array) h = stored_in_range types array.0.element_type (held_from_values (IsValInRange types) (Array array) h)
-inner_in_range types (Func function) h = let apart = all_apart (IsValInRange types) function.params function.results h in record { params = apart.0; results = apart.1 }
+inner_in_range types (Func function) h = let apart = all_apart (IsValInRange types) function.params function.results h in
+    record { params = apart.0; results = apart.1 }
 inner_in_range types (Struct structure) h =
-    All-weaker (λ (field : FieldType). IsStored (IsValInRange types) field.element_type) (IsFieldInRange types) (λ field. stored_in_range types field.element_type) structure.fields
+    All-weaker (λ (field : FieldType). IsStored (IsValInRange types) field.element_type) (IsFieldInRange types)
+    (λ field. stored_in_range types field.element_type) structure.fields
     (held_from_values (IsValInRange types) (Struct structure) h)
 
 -- types whose value types refer only to existing types do so themselves
-pub all_in_range : (types : List SubType) → All (λ (t : SubType). All (IsValInRange types) (values_of t.composite_type.inner)) types → AreInRange types
+pub all_in_range : (types : List SubType) → All (λ (t : SubType). All (IsValInRange types) (values_of t.composite_type.inner)) types
+    → AreInRange types
 all_in_range types all = record {
   each = λ i t at.
       let inside : i < length types = slice_get_within types i t at in
       let same : get_or types i t ≡ t = same_Some (get_or types i t) t (sym (slice_get-get_or types i t inside) ∙ at) in
-      inner_in_range types t.composite_type.inner (subst (λ (t : SubType). All (IsValInRange types) (values_of t.composite_type.inner)) same (all i t inside));
+      inner_in_range types t.composite_type.inner (subst (λ (t : SubType). All (IsValInRange types) (values_of t.composite_type.inner)) same
+      (all i t inside));
 }
 
-pub value_in_range : (features : Features) (types : List SubType) (value : ValType) → IsValTypeValid features (length types) value → IsValInRange types value
+pub value_in_range : (features : Features) (types : List SubType) (value : ValType) → IsValTypeValid features (length types) value
+    → IsValInRange types value
 value_in_range features types (Ref reference) h = heap_in_range reference.heap_type h.1.heap_type where
   heap_in_range : (heap : HeapType) → IsHeapTypeValid features (length types) heap → IsInRange types heap
   heap_in_range (Abstract shared ty) h = tt
@@ -57,8 +63,11 @@ value_in_range features types F64 h = tt
 value_in_range features types V128 h = tt
 
 -- the types of a valid space refer only to existing types
-pub valid_in_range : (features : Features) (space : GroupedTypes) → AreTypesValid features space → All (λ (t : SubType). All (IsValInRange space.types) (values_of t.composite_type.inner)) space.types
+pub valid_in_range : (features : Features) (space : GroupedTypes) → AreTypesValid features space
+    → All (λ (t : SubType). All (IsValInRange space.types) (values_of t.composite_type.inner)) space.types
 valid_in_range features space valid i d inside =
     let t = get_or space.types i d in
-    All-weaker (IsValTypeValid features (length space.types)) (IsValInRange space.types) (value_in_range features space.types) (values_of t.composite_type.inner)
-    (AreTypesOpen-at features (length space.types) space (AreTypesOpen-start features (length space.types) space (omega arith) valid) i t (slice_get-get_or space.types i d inside)).values
+    All-weaker (IsValTypeValid features (length space.types)) (IsValInRange space.types) (value_in_range features space.types)
+    (values_of t.composite_type.inner)
+    (AreTypesOpen-at features (length space.types) space (AreTypesOpen-start features (length space.types) space (omega arith) valid) i t
+    (slice_get-get_or space.types i d inside)).values

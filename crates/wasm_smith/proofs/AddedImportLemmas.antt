@@ -61,7 +61,8 @@ grown_from_none none all empty = record {
   globals = from_none none.globals all.globals (ap (λ (spaces : EntitySpaces). spaces.globals) empty);
 }
 
-module _ (config : Config) (drawn : PartsSoFar) (passes : Passes config) (sanitized : IsSanitized config) (old : AreTypesDrawn config drawn) (free : config.available_imports ≡ None) (none : config.module_shape ≡ None) where
+module _ (config : Config) (drawn : PartsSoFar) (passes : Passes config) (sanitized : IsSanitized config) (old : AreTypesDrawn config drawn)
+    (free : config.available_imports ≡ None) (none : config.module_shape ≡ None) where
   -- imports may be drawn over the existing types
   pub may_import : MayImport config drawn.types
   may_import = record {
@@ -69,7 +70,8 @@ module _ (config : Config) (drawn : PartsSoFar) (passes : Passes config) (saniti
     sanitized = sanitized;
     free = free_of config free none;
     valid = old.may.so_far.stands.types;
-    few = let brings : items_of_shapes config counts.Types ≡ 0 = rw (none, free) refl in omega (arith, brings, old.may.so_far.most_types, passes.few counts.Types);
+    few = let brings : items_of_shapes config counts.Types ≡ 0 = rw (none, free) refl in
+        omega (arith, brings, old.may.so_far.most_types, passes.few counts.Types);
     small = (old.free (free_of config free none)).small;
   }
 
@@ -78,7 +80,8 @@ module _ (config : Config) (drawn : PartsSoFar) (passes : Passes config) (saniti
   all_imported made = rw (old.free (free_of config free none)).nothing (omega arith)
 
   -- so the next draw has the context of the imports
-  pub in_scope : (made : Imported) → import_scope config drawn.types.types (spaces_in made.spaces) ≡ drawn_next config (record drawn { imported = made })
+  pub in_scope : (made : Imported) → import_scope config drawn.types.types (spaces_in made.spaces) ≡ drawn_next config
+      (record drawn { imported = made })
   in_scope made = λ i. record (drawn_next config (record drawn { imported = made })) { imported_funcs = sym (all_imported made) i }
 
   module _ (distinct : Bool) (made : Imported) (so_far : IsImported config drawn.types.types distinct made) where
@@ -86,7 +89,8 @@ module _ (config : Config) (drawn : PartsSoFar) (passes : Passes config) (saniti
     grown = grown_from_none (spaces_in drawn.imported.spaces) (spaces_in made.spaces) (old.free (free_of config free none)).imports.spaces
 
     -- grounded references stay grounded with the imports, among which all functions are
-    grounded_later : HoldsGrounded config (drawn_next config drawn) (spaces_in drawn.imported.spaces) → HoldsGrounded config (drawn_next config (record drawn { imported = made })) (spaces_in made.spaces)
+    grounded_later : HoldsGrounded config (drawn_next config drawn) (spaces_in drawn.imported.spaces)
+        → HoldsGrounded config (drawn_next config (record drawn { imported = made })) (spaces_in made.spaces)
     grounded_later held =
         let alone = old.free (free_of config free none) in
         let later = drawn_next config (record drawn { imported = made }) in
@@ -101,12 +105,16 @@ module _ (config : Config) (drawn : PartsSoFar) (passes : Passes config) (saniti
         } in
         let same : drawn_next config drawn ≡ earlier = rw (none_yet, alone.nothing) refl in
         record {
-          fields = λ lacks. held.fields (subst (HoldsUngroundedField config) (sym same) (fields_imported config earlier later growth refl lacks));
-          types = types_later config earlier later (ungrounded_imported config earlier later growth) drawn.types.types (subst (AreTypesGranted config) same held.types);
+          fields = λ lacks. held.fields
+              (subst (HoldsUngroundedField config) (sym same) (fields_imported config earlier later growth refl lacks));
+          types = types_later config earlier later (ungrounded_imported config earlier later growth) drawn.types.types
+              (subst (AreTypesGranted config) same held.types);
           element_types = subst (λ (context : Context). All (HasGroundedElements config context) made.spaces.tables) (in_scope made)
-              (subst (λ (each : EntitySpaces). All (HasGroundedElements config (import_scope config drawn.types.types each)) each.tables) (sym so_far.counts.spaces) so_far.fit.grounded_tables);
+              (subst (λ (each : EntitySpaces). All (HasGroundedElements config (import_scope config drawn.types.types each)) each.tables)
+              (sym so_far.counts.spaces) so_far.fit.grounded_tables);
           globals = subst (λ (context : Context). All (HasGroundedValue config context) made.spaces.globals) (in_scope made)
-              (subst (λ (each : EntitySpaces). All (HasGroundedValue config (import_scope config drawn.types.types each)) each.globals) (sym so_far.counts.spaces) so_far.fit.grounded_globals);
+              (subst (λ (each : EntitySpaces). All (HasGroundedValue config (import_scope config drawn.types.types each)) each.globals)
+              (sym so_far.counts.spaces) so_far.fit.grounded_globals);
         }
 
     -- more may be drawn over the parts with the imports
@@ -120,13 +128,16 @@ module _ (config : Config) (drawn : PartsSoFar) (passes : Passes config) (saniti
             so_far = freely_stands config distinct drawn made none free sanitized old.may.so_far alone.nothing so_far;
             few_values = old.may.few_values;
             grounded = λ never. grounded_later (old.may.grounded never);
-            exports = AreExportsValid-grown (spaces_in drawn.imported.spaces) (spaces_in made.spaces) grown drawn.contents.exports old.may.exports;
+            exports = AreExportsValid-grown (spaces_in drawn.imported.spaces) (spaces_in made.spaces) grown drawn.contents.exports
+                old.may.exports;
             least_types = old.may.least_types;
           };
           small = λ shapeless. record { types = alone.small; imports = omega (arith, so_far.counts.type_size, fit.small, fit.most) };
           floats = λ calm shapeless. record {
             types = old.floats calm shapeless;
-            defined = rw alone.nothing (none_float (spaces_in made.spaces) (subst (λ (each : EntitySpaces). All HasNoFloatValue each.globals) (sym spaces) (fit.floats calm)));
+            defined = rw alone.nothing
+                (none_float (spaces_in made.spaces) (subst (λ (each : EntitySpaces). All HasNoFloatValue each.globals) (sym spaces)
+                (fit.floats calm)));
           };
         }
 
@@ -141,20 +152,39 @@ module _ (config : Config) (drawn : PartsSoFar) (passes : Passes config) (saniti
     }
 
 -- the imports of a module are drawn if no shape fixes them
-pub freely_imported : (distinct : Bool) (config : Config) (so_far : ModuleSoFar) (bytes : List ℕ) → config.module_shape ≡ None → config.available_imports ≡ None
-    → imported_at distinct config so_far bytes ≡ then_with (λ groups. record so_far { groups = groups; spaces = imported_spaces (flattened groups) }) (in_full (imports_at config so_far.types.types distinct bytes))
+pub freely_imported : (distinct : Bool) (config : Config) (so_far : ModuleSoFar) (bytes : List ℕ) → config.module_shape ≡ None
+    → config.available_imports ≡ None
+    → imported_at distinct config so_far bytes
+    ≡ then_with (λ groups. record so_far { groups = groups; spaces = imported_spaces (flattened groups) })
+    (in_full (imports_at config so_far.types.types distinct bytes))
 unfolding imported_at
 freely_imported distinct config so_far bytes none free = rw (none, free) refl
 
 -- the parts with the imports are those that the bytes produce, or the refusal is theirs
-pub imports_read : {X : Type 0} (distinct : Bool) (config : Config) (drawn : PartsSoFar) (made : Imported) (bytes left : List ℕ) (result : Result X Error) → config.available_imports ≡ None → config.module_shape ≡ None
-    → ReturnsWhy (λ _. (made.groups, left)) result (imports_at config drawn.types.types distinct bytes) → IfErr result (MayRefuseImports config) → OnOk result (IsImported config drawn.types.types distinct made)
-    → Returns is_memory (λ _. (module_so_far (record drawn { imported = made }), left)) result (imported_at distinct config (module_so_far drawn) bytes)
+pub imports_read : {X : Type 0} (distinct : Bool) (config : Config) (drawn : PartsSoFar) (made : Imported) (bytes left : List ℕ)
+    (result : Result X Error) → config.available_imports ≡ None → config.module_shape ≡ None
+    → ReturnsWhy (λ _. (made.groups, left)) result (imports_at config drawn.types.types distinct bytes)
+    → IfErr result (MayRefuseImports config) → OnOk result (IsImported config drawn.types.types distinct made)
+    → Returns is_memory (λ _. (module_so_far (record drawn { imported = made }), left)) result
+    (imported_at distinct config (module_so_far drawn) bytes)
 imports_read distinct config drawn made bytes left (Ok x) free none given may so_far =
-    let with_imports = λ (groups : List Imports). record (module_so_far drawn) { groups = groups; spaces = imported_spaces (flattened groups) } in
-    freely_imported distinct config (module_so_far drawn) bytes none free ∙ (ap (λ (read : Result (List Imports × List ℕ) Why). then_with with_imports (in_full read)) given
-    ∙ ap (λ (spaces : EntitySpaces). Ok (record (module_so_far drawn) { groups = made.groups; spaces = spaces }, left)) (sym so_far.counts.spaces))
+    let with_imports = λ (groups : List Imports). record (module_so_far drawn) {
+      groups = groups;
+      spaces = imported_spaces
+          (flattened groups);
+    } in
+    freely_imported distinct config (module_so_far drawn) bytes none free
+    ∙ (ap (λ (read : Result (List Imports × List ℕ) Why). then_with with_imports (in_full read)) given
+    ∙ ap (λ (spaces : EntitySpaces). Ok (record (module_so_far drawn) { groups = made.groups; spaces = spaces }, left))
+    (sym so_far.counts.spaces))
 imports_read {X = X} distinct config drawn made bytes left (Err e) free none given may so_far =
-    let with_imports = λ (groups : List Imports). record (module_so_far drawn) { groups = groups; spaces = imported_spaces (flattened groups) } in
-    subst (λ (read : Result (ModuleSoFar × List ℕ) Error). Returns {X = X} is_memory (λ _. (module_so_far (record drawn { imported = made }), left)) (Err e) read) (sym (freely_imported distinct config (module_so_far drawn) bytes none free))
-    (changed_in_full {X = X} with_imports (λ _. made.groups) left (Err e) (imports_at config drawn.types.types distinct bytes) given (imports_choose config e may))
+    let with_imports = λ (groups : List Imports). record (module_so_far drawn) {
+      groups = groups;
+      spaces = imported_spaces
+          (flattened groups);
+    } in
+    subst (λ (read : Result (ModuleSoFar × List ℕ) Error). Returns {X = X} is_memory
+    (λ _. (module_so_far (record drawn { imported = made }), left)) (Err e) read)
+    (sym (freely_imported distinct config (module_so_far drawn) bytes none free))
+    (changed_in_full {X = X} with_imports (λ _. made.groups) left (Err e) (imports_at config drawn.types.types distinct bytes) given
+    (imports_choose config e may))

@@ -24,24 +24,29 @@ use Rattle.smith_draw_contents.specs.DrawnElements.{MayDrawElements}
 use Rattle.smith_draw_contents.specs.Exported.{MayExport, MayExportFreely, MayDrawExports}
 
 -- definitions determine the imports
-pub imports_told : {config : Config} {drawn : PartsSoFar} → AreExportsDrawn config drawn → TellsImported (imported_in drawn.imported) (spaces_in drawn.imported.spaces) drawn.definitions
+pub imports_told : {config : Config} {drawn : PartsSoFar} → AreExportsDrawn config drawn → TellsImported (imported_in drawn.imported)
+    (spaces_in drawn.imported.spaces) drawn.definitions
 imports_told h = record { funcs = omega (arith, defined_end h.whole.stands.funcs); globals = defined_end h.whole.stands.globals }
 
 -- a page has at most 64 KiB
-page_small : (features : Features) (stated : Option ℕ) → IfSome stated (λ log2. ((log2 ≡ 0) ⊎ (log2 ≡ 16)) × IsTrue features.custom_page_sizes) → page_log2 stated ≤ 16
+page_small : (features : Features) (stated : Option ℕ)
+    → IfSome stated (λ log2. ((log2 ≡ 0) ⊎ (log2 ≡ 16)) × IsTrue features.custom_page_sizes) → page_log2 stated ≤ 16
 page_small features None h = omega arith
 page_small features (Some log2) (inl byte, on) = omega (arith, byte)
 page_small features (Some log2) (inr whole, on) = omega (arith, whole)
 
-module _ {config : Config} {space : GroupedTypes} {spaces : EntitySpaces} {imports_size : ℕ} (may : MayHoldContents config space spaces imports_size) where
+module _ {config : Config} {space : GroupedTypes} {spaces : EntitySpaces} {imports_size : ℕ}
+    (may : MayHoldContents config space spaces imports_size) where
   -- the pages of memories are small, as interesting values require
   pub pages_small : All (λ (memory : MemoryType). page_log2 memory.page_size_log2 ≤ 16) spaces.memories
-  pages_small = All-weaker (IsMemoryValid (features_of config)) (λ (memory : MemoryType). page_log2 memory.page_size_log2 ≤ 16) (λ memory valid. page_small (features_of config) memory.page_size_log2 valid.page_size) spaces.memories may.entities.memories
+  pages_small = All-weaker (IsMemoryValid (features_of config)) (λ (memory : MemoryType). page_log2 memory.page_size_log2 ≤ 16)
+      (λ memory valid. page_small (features_of config) memory.page_size_log2 valid.page_size) spaces.memories may.entities.memories
 
   pub may_export : MayExport space.types spaces
   may_export = record { sized = may.sized; funcs = may.entities.funcs; few = may.few }
 
-  pub may_export_freely : (FixesExports config → ⊥) → config.export_everything ≡ false → MayExportFreely config space.types spaces imports_size
+  pub may_export_freely : (FixesExports config → ⊥) → config.export_everything ≡ false
+      → MayExportFreely config space.types spaces imports_size
   may_export_freely free some = record {
     items = may_export;
     ordered = may.passes.ordered counts.Exports (free, some);

@@ -51,7 +51,8 @@ still_after x xs ys n rises inside found = elim (one_of x ys n found) [
 ]
 
 -- lists in ascending order that have the same numbers are equal
-same_numbers : (xs ys : List ℕ) → Rises xs → Rises ys → ((n : ℕ) → Contains xs n → Contains ys n) → ((n : ℕ) → Contains ys n → Contains xs n) → xs ≡ ys
+same_numbers : (xs ys : List ℕ) → Rises xs → Rises ys → ((n : ℕ) → Contains xs n → Contains ys n)
+    → ((n : ℕ) → Contains ys n → Contains xs n) → xs ≡ ys
 same_numbers [] [] one other there back = refl
 same_numbers [] (y ∷ ys) one other there back = absurd (omega (arith, (back y (here y ys)).1))
 same_numbers (x ∷ xs) [] one other there back = absurd (omega (arith, (there x (here x xs)).1))
@@ -81,7 +82,8 @@ abbrev valued : ModuleParts → List ℕ → List ℕ → ModuleParts
 valued m narrow wide = record m { interesting_values32 = narrow; interesting_values64 = wide }
 
 -- modules that are equal as they are drawn have the same interesting values
-same_valued : (one other : ModuleParts) → HasInterestingValues one → HasInterestingValues other → as_drawn one ≡ as_drawn other → one ≡ other
+same_valued : (one other : ModuleParts) → HasInterestingValues one → HasInterestingValues other → as_drawn one ≡ as_drawn other
+    → one ≡ other
 same_valued one other h k drawn =
     let narrow : one.interesting_values32 ≡ other.interesting_values32 =
     all_same (IsInteresting32 other.tables other.memories) one.interesting_values32 other.interesting_values32
@@ -93,8 +95,12 @@ same_valued one other h k drawn =
     ∙ ap (λ (values : List ℕ). valued (as_drawn other) values one.interesting_values64) narrow
     ∙ ap (λ (values : List ℕ). valued (as_drawn other) other.interesting_values32 values) wide
 
-pub modules_same : (distinct : Bool) (given : Config) (bytes left rest : List ℕ) (one other : ModuleParts) → IsGenerated distinct given bytes (Ok one) left → IsGenerated distinct given bytes (Ok other) rest → (one ≡ other) × (left ≡ rest)
+pub modules_same : (distinct : Bool) (given : Config) (bytes left rest : List ℕ) (one other : ModuleParts)
+    → IsGenerated distinct given bytes (Ok one) left → IsGenerated distinct given bytes (Ok other) rest → (one ≡ other) × (left ≡ rest)
 modules_same distinct given bytes left rest one other h k =
     let both : Ok (as_drawn one, left) ≡ Ok (as_drawn other, rest) = sym (h.exact.exact h.may_give) ∙ k.exact.exact k.may_give in
-    let same : (as_drawn one, left) ≡ (as_drawn other, rest) = ap (drawn_in (as_drawn one, left)) both in
-    (same_valued one other h.interesting k.interesting (ap (λ (x : ModuleParts × List ℕ). x.0) same), ap (λ (x : ModuleParts × List ℕ). x.1) same)
+    let same : (as_drawn one, left) ≡ (as_drawn other, rest) = ap (drawn_in (as_drawn one, left)) both in (
+      same_valued one other h.interesting k.interesting (ap (λ (x : ModuleParts × List ℕ). x.0) same),
+      ap (λ (x : ModuleParts × List ℕ). x.1)
+          same,
+    )

@@ -9,7 +9,8 @@ use Rattle.smith_syntax.specs.declared.entity_type.ExportKind.TheVariants as kin
 use Rattle.smith_config.specs.declared.config.Config.{Config}
 use Rattle.smith_config.specs.declared.shape.Shape.{Shape}
 use Rattle.smith_config.specs.Faults.{minimum_of, maximum_of}
-use Rattle.smith_module_rules.specs.Bounds.{KeepsBounds, MeetsMinimums, MaximumApplies, MinimumApplies, count_of, items_of_shapes, items_of_export_shape, export_size, imports_size, exports_size}
+use Rattle.smith_module_rules.specs.Bounds.{KeepsBounds, MeetsMinimums, MaximumApplies, MinimumApplies, count_of, items_of_shapes}
+use Rattle.smith_module_rules.specs.Bounds.{items_of_export_shape, export_size, imports_size, exports_size}
 use Rattle.smith_types.specs.Imports.{EntitySpaces}
 use Rattle.smith_types.specs.EntitySpaces.{spaces_in}
 use Rattle.smith_syntax.specs.declared.composite_type.SubType.{SubType}
@@ -24,29 +25,36 @@ use Rattle.wasm_smith.specs.declared.build.parts_so_far.PartsSoFar.{PartsSoFar}
 use Rattle.wasm_smith.proofs.MadeExportsLemmas.{exports_free}
 
 -- an export has the size of its item
-same_size : (m : ModuleParts) (of_kind : ExportKind) (index : ℕ) → export_size m of_kind index ≡ item_size m.types (module_spaces m) of_kind index
+same_size : (m : ModuleParts) (of_kind : ExportKind) (index : ℕ) → export_size m of_kind index ≡ item_size m.types (module_spaces m) of_kind
+    index
 same_size m kind.Func index = refl
 same_size m kind.Table index = refl
 same_size m kind.Memory index = refl
 same_size m kind.Global index = refl
 same_size m kind.Tag index = refl
 
-same_sizes : (m : ModuleParts) (exports : List Export) → sum_by (λ (one : Export). export_size m one.1 one.2 + 1) exports ≡ exported_size m.types (module_spaces m) exports
+same_sizes : (m : ModuleParts) (exports : List Export) → sum_by (λ (one : Export). export_size m one.1 one.2 + 1) exports
+    ≡ exported_size m.types (module_spaces m) exports
 same_sizes m exports = λ i. sum_by (λ (one : Export). same_size m one.1 one.2 i + 1) exports
 
 module _ (config : Config) (m : ModuleParts) where
   -- the size of exports is counted if they are drawn, and is 0 otherwise
-  exports_counted : exports_size config m ≡ (if is_some config.module_shape || is_some config.exports then 0 else exported_size m.types (module_spaces m) m.exports)
+  exports_counted : exports_size config m ≡ (if is_some config.module_shape || is_some config.exports then 0 else exported_size m.types
+      (module_spaces m) m.exports)
   exports_counted = λ i. if is_some config.module_shape || is_some config.exports then 0 else same_sizes m m.exports i
 
 -- the type size of exports in both cases
-sized_so : (config : Config) (types : List SubType) (spaces : EntitySpaces) (size : ℕ) (made : Exports) (of_module exports : Option Shape) → config.module_shape ≡ of_module → config.exports ≡ exports → AreExportsMade config types spaces size made
+sized_so : (config : Config) (types : List SubType) (spaces : EntitySpaces) (size : ℕ) (made : Exports) (of_module exports : Option Shape)
+    → config.module_shape ≡ of_module → config.exports ≡ exports → AreExportsMade config types spaces size made
     → made.type_size ≡ size + (if is_some of_module || is_some exports then 0 else exported_size types spaces made.exports)
-sized_so config types spaces size made (Some shape) exports given also h = let fixed = h.fixed_size (inr (rw given refl)) in omega (arith, fixed)
-sized_so config types spaces size made None (Some shape) none given h = let fixed = h.fixed_size (inl (rw given refl)) in omega (arith, fixed)
+sized_so config types spaces size made (Some shape) exports given also h = let fixed = h.fixed_size (inr (rw given refl)) in
+    omega (arith, fixed)
+sized_so config types spaces size made None (Some shape) none given h = let fixed = h.fixed_size (inl (rw given refl)) in
+    omega (arith, fixed)
 sized_so config types spaces size made None None none free h = h.type_size (λ fixes. exports_free config none free fixes)
 
-pub made_size : (config : Config) (types : List SubType) (spaces : EntitySpaces) (size : ℕ) (made : Exports) → AreExportsMade config types spaces size made
+pub made_size : (config : Config) (types : List SubType) (spaces : EntitySpaces) (size : ℕ) (made : Exports)
+    → AreExportsMade config types spaces size made
     → made.type_size ≡ size + (if is_some config.module_shape || is_some config.exports then 0 else exported_size types spaces made.exports)
 made_size config types spaces size made h = sized_so config types spaces size made config.module_shape config.exports refl refl h
 
@@ -54,7 +62,8 @@ module _ (distinct : Bool) (config : Config) (drawn : PartsSoFar) (h : IsDrawnFo
   abbrev m : ModuleParts
   m = parts_of config drawn
 
-  most : (count : Count) → MaximumApplies config count → count_of m count ≤ max (maximum_of config count) (items_of_shapes config count) + items_of_export_shape config count
+  most : (count : Count) → MaximumApplies config count → count_of m count ≤ max (maximum_of config count) (items_of_shapes config count) +
+      items_of_export_shape config count
   most counts.Types asked = h.whole.most_types
   most counts.Imports asked = omega (arith, h.whole.count, h.whole.most_imports)
   most counts.Tags asked = h.whole.most counts.Tags tt
@@ -88,7 +97,8 @@ module _ (distinct : Bool) (config : Config) (drawn : PartsSoFar) (h : IsDrawnFo
     most = most;
     tables = h.whole.tables;
     memories = h.whole.memories;
-    type_size = let exports = made_size config drawn.types.types (spaces_in drawn.imported.spaces) drawn.imported.type_size _ h.contents.exports in omega (arith, exports, h.whole.type_size, imports_counted, exports_counted config m);
+    type_size = let exports = made_size config drawn.types.types (spaces_in drawn.imported.spaces) drawn.imported.type_size _
+        h.contents.exports in omega (arith, exports, h.whole.type_size, imports_counted, exports_counted config m);
     type_size_most = h.contents.exports.within;
   }
 

@@ -34,10 +34,12 @@ module _ (distinct : Bool) (config : Config) (drawn : PartsSoFar) (h : IsDrawnFo
     globals = h.whole.stands.globals;
   }
 
-  tables_defined : (place : ℕ) (initial : Option (List ConstInstr)) → slice_get m.defined_tables place ≡ Some initial → IsTableDefined m place initial
+  tables_defined : (place : ℕ) (initial : Option (List ConstInstr)) → slice_get m.defined_tables place ≡ Some initial
+      → IsTableDefined m place initial
   tables_defined place initial at = h.whole.stands.each_table place initial at
 
-  globals_defined : (place index : ℕ) (initial : List ConstInstr) → slice_get m.defined_globals place ≡ Some (index, initial) → IsGlobalDefined m place index initial
+  globals_defined : (place index : ℕ) (initial : List ConstInstr) → slice_get m.defined_globals place ≡ Some (index, initial)
+      → IsGlobalDefined m place index initial
   globals_defined place index initial at =
       let one = h.whole.stands.each_global place index initial at in
       record { in_order = one.in_order; global = one.global; stands = one.stands; initialised = one.initialised }

@@ -9,7 +9,8 @@ use Rattle.wasm_smith.specs.declared.build.parts_so_far.PartsSoFar.{PartsSoFar}
 use Rattle.wasm_smith.proofs.GrantedModuleLemmas.{granted_drawn, locals_drawn}
 use Rattle.wasm_smith.proofs.NoFloatLemmas.{no_floats_drawn}
 
-pub drawn_promises : (distinct : Bool) (config : Config) (drawn : PartsSoFar) → IsDrawnFor distinct config drawn → KeepsPromises distinct config (parts_of config drawn)
+pub drawn_promises : (distinct : Bool) (config : Config) (drawn : PartsSoFar) → IsDrawnFor distinct config drawn
+    → KeepsPromises distinct config (parts_of config drawn)
 drawn_promises distinct config drawn h = record {
   names = λ asked free. (h.free free).apart asked;
   no_floats = λ off none. no_floats_drawn config drawn (h.floats off none);
@@ -22,5 +23,6 @@ drawn_promises distinct config drawn h = record {
   no_fuel = refl;
 }
 
-pub drawn_interesting : (distinct : Bool) (config : Config) (drawn : PartsSoFar) → IsDrawnFor distinct config drawn → HasInterestingValues (parts_of config drawn)
+pub drawn_interesting : (distinct : Bool) (config : Config) (drawn : PartsSoFar) → IsDrawnFor distinct config drawn
+    → HasInterestingValues (parts_of config drawn)
 drawn_interesting distinct config drawn h = record { wide = h.interesting64; narrow = h.interesting32 }

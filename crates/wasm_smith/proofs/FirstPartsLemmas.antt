@@ -1,6 +1,7 @@
 -- The first parts of a module: imports of a shape are valid and within the bounds, and the results
 -- of steps.
-use Rattle.std.proofs.Common.{◌≡◌, ◌⊎◌, ℕ, ◌+◌, ◌<◌, ◌≤◌, ◌^◌, Bool, true, false, List, [], ◌∷◌, ◌++◌, length, inl, inr, refl, sym, ap, subst, arith, lt-ltb, length-append, append-nil}
+use Rattle.std.proofs.Common.{◌≡◌, ◌⊎◌, ℕ, ◌+◌, ◌<◌, ◌≤◌, ◌^◌, Bool, true, false, List, [], ◌∷◌, ◌++◌, length, inl, inr, refl, sym, ap}
+use Rattle.std.proofs.Common.{subst, arith, lt-ltb, length-append, append-nil}
 use Rattle.std.specs.Prelude.{All, IsTrue, IfSome, Option, Some, None, Result, Err, IsErrAnd}
 use Rattle.std.specs.List.{Contains}
 use Rattle.std.proofs.lemmas.List.Elements.{All-weaker, Contains-append_left}
@@ -33,7 +34,8 @@ use Rattle.smith_draw_definitions.specs.RequiredExports.{then_with}
 use Rattle.smith_draw_definitions.proofs.RequiredExportsLoop.{refused_by}
 
 -- there are no more of one kind than imports
-none_more : {A : Type 0} (of_kind : EntityType → List A) → ((one : EntityType) → length (of_kind one) ≤ 1) → (imports : List Import) → length (imported of_kind imports) ≤ length imports
+none_more : {A : Type 0} (of_kind : EntityType → List A) → ((one : EntityType) → length (of_kind one) ≤ 1) → (imports : List Import)
+    → length (imported of_kind imports) ≤ length imports
 none_more of_kind one [] = omega arith
 none_more of_kind one (first ∷ more) =
     let all = length-append (of_kind first.entity_type) (imported of_kind more) in
@@ -81,7 +83,8 @@ imported_room imports more few =
 defines_none : {A : Type 0} (xs : List A) → Defines xs 0 xs
 defines_none xs = record { defined = []; count_is = refl; parts = sym (append-nil xs) }
 
-pub stands_alone : (config : Config) (space : GroupedTypes) (spaces : EntitySpaces) → AreTypesValid (features_of config) space → AreEntitiesValid (features_of config) space.types spaces → AreCountsEnabled (features_of config) spaces
+pub stands_alone : (config : Config) (space : GroupedTypes) (spaces : EntitySpaces) → AreTypesValid (features_of config) space
+    → AreEntitiesValid (features_of config) space.types spaces → AreCountsEnabled (features_of config) spaces
     → StandsAfter config spaces space spaces nothing_defined
 stands_alone config space spaces types entities counts = record {
   types = types;
@@ -97,7 +100,8 @@ stands_alone config space spaces types entities counts = record {
 }
 
 -- the exports of a module shape may be defined after its imports
-pub may_begin : (config : Config) (shape : Shape) → IsSanitized config → IsShapeValid ModuleShape config shape → AreEntitiesValid (features_of config) (shape_types shape) (imported_spaces (shape_imports shape))
+pub may_begin : (config : Config) (shape : Shape) → IsSanitized config → IsShapeValid ModuleShape config shape
+    → AreEntitiesValid (features_of config) (shape_types shape) (imported_spaces (shape_imports shape))
     → MayDefineMore config (space_of shape.groups) (imported_spaces (shape_imports shape)) nothing_defined (length shape.exports)
 may_begin config shape sanitized valid entities = record {
   sanitized = sanitized;
@@ -108,7 +112,8 @@ may_begin config shape sanitized valid entities = record {
 }
 
 -- a module shape adds as many of a kind as it imports and exports
-pub items_of_one_shape : (count : Count) (shape : Shape) → (count ≡ counts.Types → ⊥) → (count ≡ counts.Imports → ⊥) → count_in (imported_spaces (shape_imports shape)) count + items_of_exports count shape ≡ items_of_module_shape count shape
+pub items_of_one_shape : (count : Count) (shape : Shape) → (count ≡ counts.Types → ⊥) → (count ≡ counts.Imports → ⊥)
+    → count_in (imported_spaces (shape_imports shape)) count + items_of_exports count shape ≡ items_of_module_shape count shape
 items_of_one_shape counts.Types shape types imports = absurd (types refl)
 items_of_one_shape counts.Imports shape types imports = absurd (imports refl)
 items_of_one_shape counts.Tags shape types imports = refl
@@ -121,7 +126,8 @@ items_of_one_shape counts.ElementSegments shape types imports = refl
 items_of_one_shape counts.Elements shape types imports = refl
 items_of_one_shape counts.DataSegments shape types imports = refl
 
-of_one : {A : Type 0} (before more all : List A) → All (λ x. Contains before x ⊎ Contains (before ++ more) x) all → All (Contains (before ++ more)) all
+of_one : {A : Type 0} (before more all : List A) → All (λ x. Contains before x ⊎ Contains (before ++ more) x) all
+    → All (Contains (before ++ more)) all
 of_one {A = A} before more all h =
     All-weaker (λ x. Contains before x ⊎ Contains (before ++ more) x) (Contains (before ++ more))
     (λ x given. elim given [
@@ -130,42 +136,53 @@ of_one {A = A} before more all h =
     ]) all h
 
 -- the tables, memories and globals that a module shape adds are its own
-pub tables_of_shape : (shape : Shape) (spaces : EntitySpaces) → AddsLimitsOf shape (imported_spaces (shape_imports shape)) spaces → All (Contains (shape_spaces shape).tables) spaces.tables
+pub tables_of_shape : (shape : Shape) (spaces : EntitySpaces) → AddsLimitsOf shape (imported_spaces (shape_imports shape)) spaces
+    → All (Contains (shape_spaces shape).tables) spaces.tables
 tables_of_shape shape spaces added = of_one (imported_spaces (shape_imports shape)).tables shape.tables spaces.tables added.tables
 
-pub memories_of_shape : (shape : Shape) (spaces : EntitySpaces) → AddsLimitsOf shape (imported_spaces (shape_imports shape)) spaces → All (Contains (shape_spaces shape).memories) spaces.memories
+pub memories_of_shape : (shape : Shape) (spaces : EntitySpaces) → AddsLimitsOf shape (imported_spaces (shape_imports shape)) spaces
+    → All (Contains (shape_spaces shape).memories) spaces.memories
 memories_of_shape shape spaces added = of_one (imported_spaces (shape_imports shape)).memories shape.memories spaces.memories added.memories
 
-pub globals_of_shape : (shape : Shape) (spaces : EntitySpaces) → AddsLimitsOf shape (imported_spaces (shape_imports shape)) spaces → All (Contains (shape_spaces shape).globals) spaces.globals
+pub globals_of_shape : (shape : Shape) (spaces : EntitySpaces) → AddsLimitsOf shape (imported_spaces (shape_imports shape)) spaces
+    → All (Contains (shape_spaces shape).globals) spaces.globals
 globals_of_shape shape spaces added = of_one (imported_spaces (shape_imports shape)).globals shape.globals spaces.globals added.globals
 
 -- the result of a refusal is that refusal
-pub refused_with : {X Y A B : Type 0} (f : A → B) (of_part : X → A × List ℕ) (of_whole : Y → B × List ℕ) (e : Error) (part : Result (A × List ℕ) Error) (result : Result Y Error) → Returns is_memory of_part (Err e) part → IsErrAnd result (λ y. y ≡ e) → Returns is_memory of_whole result (then_with f part)
-refused_with f of_part of_whole e part result given passed = refused_by of_part of_whole e part (then_with f part) result given (λ one is. ap (then_with f) is) passed
+pub refused_with : {X Y A B : Type 0} (f : A → B) (of_part : X → A × List ℕ) (of_whole : Y → B × List ℕ) (e : Error)
+    (part : Result (A × List ℕ) Error) (result : Result Y Error) → Returns is_memory of_part (Err e) part → IsErrAnd result (λ y. y ≡ e)
+    → Returns is_memory of_whole result (then_with f part)
+refused_with f of_part of_whole e part result given passed = refused_by of_part of_whole e part (then_with f part) result given
+    (λ one is. ap (then_with f) is) passed
 
 several_by : (on : Bool) (most n : ℕ) → (on ≡ false → most ≤ 1) → n ≤ most → 1 < n → on ≡ true
 several_by true most n one within several = refl
 several_by false most n one within several = absurd (omega (arith, one refl))
 
 -- if there are no more tables and memories than allowed, there are several only if that is enabled
-pub taken_enabled : (config : Config) (spaces : EntitySpaces) → IsSanitized config → AreNumbersWithin config spaces → (0 < length spaces.tags → IsTrue config.exceptions_enabled) → AreCountsEnabled (features_of config) spaces
+pub taken_enabled : (config : Config) (spaces : EntitySpaces) → IsSanitized config → AreNumbersWithin config spaces
+    → (0 < length spaces.tags → IsTrue config.exceptions_enabled) → AreCountsEnabled (features_of config) spaces
 taken_enabled config spaces sanitized within tags = record {
   tags = tags;
-  several_tables = λ some. several_by config.reference_types_enabled config.max_tables (length spaces.tables) sanitized.one_table within.tables some;
+  several_tables = λ some. several_by config.reference_types_enabled config.max_tables (length spaces.tables) sanitized.one_table
+      within.tables some;
   several_memories = λ some. lt-ltb 1 config.max_memories (omega (arith, within.memories, some));
 }
 
 -- items taken from the offered ones are among the offered and the defined ones
 pub offered_all : {A : Type 0} (offered defined taken : List A) → All (Contains offered) taken → All (Contains (offered ++ defined)) taken
-offered_all offered defined taken h = All-weaker (Contains offered) (Contains (offered ++ defined)) (λ x one. Contains-append_left offered defined x one) taken h
+offered_all offered defined taken h = All-weaker (Contains offered) (Contains (offered ++ defined))
+    (λ x one. Contains-append_left offered defined x one) taken h
 
 -- a module shape is used if there is one, available imports if there is none
-pub module_used : (config : Config) (shape : Shape) → config.module_shape ≡ Some shape → AreShapesValid config → IsShapeValid ModuleShape config shape
+pub module_used : (config : Config) (shape : Shape) → config.module_shape ≡ Some shape → AreShapesValid config
+    → IsShapeValid ModuleShape config shape
 module_used config shape given valid =
     let used : shape_for config ModuleShape ≡ Some shape = rw given refl in
     subst (λ (one : Option Shape). IfSome one (λ each. IsShapeValid ModuleShape config each)) used (valid ModuleShape)
 
-pub imports_used : (config : Config) (shape : Shape) → config.module_shape ≡ None → config.available_imports ≡ Some shape → AreShapesValid config → IsShapeValid AvailableImports config shape
+pub imports_used : (config : Config) (shape : Shape) → config.module_shape ≡ None → config.available_imports ≡ Some shape
+    → AreShapesValid config → IsShapeValid AvailableImports config shape
 imports_used config shape none given valid =
     let used : shape_for config AvailableImports ≡ Some shape = rw (none, given) refl in
     subst (λ (one : Option Shape). IfSome one (λ each. IsShapeValid AvailableImports config each)) used (valid AvailableImports)

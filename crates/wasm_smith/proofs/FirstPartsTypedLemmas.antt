@@ -51,29 +51,38 @@ no_exports spaces = record {
 }
 
 -- the references of a shape's types, tables and globals
-of_shape : (config : Config) (functions : Context) (shape : Shape) (types : GroupedTypes) (spaces : EntitySpaces) → types ≡ space_of shape.groups → All (Contains (shape_spaces shape).tables) spaces.tables → All (Contains (shape_spaces shape).globals) spaces.globals
-    → HoldsGrounded config (over functions (shape_types shape)) (shape_spaces shape) → HoldsGrounded config (over functions types.types) spaces
+of_shape : (config : Config) (functions : Context) (shape : Shape) (types : GroupedTypes) (spaces : EntitySpaces)
+    → types ≡ space_of shape.groups → All (Contains (shape_spaces shape).tables) spaces.tables
+    → All (Contains (shape_spaces shape).globals) spaces.globals
+    → HoldsGrounded config (over functions (shape_types shape)) (shape_spaces shape) → HoldsGrounded config (over functions types.types)
+    spaces
 of_shape config functions shape types spaces same tables globals h =
     let Elements = HasGroundedElements config (over functions (shape_types shape)) in
     let Values = HasGroundedValue config (over functions (shape_types shape)) in
     rw same (record {
       fields = h.fields;
       types = h.types;
-      element_types = All-weaker (Contains (shape_spaces shape).tables) Elements (λ table one. All-contains Elements (shape_spaces shape).tables table h.element_types one) spaces.tables tables;
-      globals = All-weaker (Contains (shape_spaces shape).globals) Values (λ global one. All-contains Values (shape_spaces shape).globals global h.globals one) spaces.globals globals;
+      element_types = All-weaker (Contains (shape_spaces shape).tables) Elements
+          (λ table one. All-contains Elements (shape_spaces shape).tables table h.element_types one) spaces.tables tables;
+      globals = All-weaker (Contains (shape_spaces shape).globals) Values (λ global one. All-contains Values (shape_spaces shape).globals
+          global h.globals one) spaces.globals globals;
     })
 
-by_module : (config : Config) (shape : Shape) (drawn : PartsSoFar) → config.module_shape ≡ Some shape → AreShapesValid config → AreFirstPartsByModule config shape drawn → MayBegin config drawn
+by_module : (config : Config) (shape : Shape) (drawn : PartsSoFar) → config.module_shape ≡ Some shape → AreShapesValid config
+    → AreFirstPartsByModule config shape drawn → MayBegin config drawn
 by_module config shape drawn given valid first = record {
   few_values = rw first.types (shape_few shape (module_used config shape given valid).short);
-  grounded = λ none. of_shape config (drawn_next config drawn) shape drawn.types (spaces_in drawn.imported.spaces) first.types first.tables first.globals (shape_grounded config (drawn_next config drawn) which.ModuleShape shape (rw given refl) none);
+  grounded = λ none. of_shape config (drawn_next config drawn) shape drawn.types (spaces_in drawn.imported.spaces) first.types first.tables
+      first.globals (shape_grounded config (drawn_next config drawn) which.ModuleShape shape (rw given refl) none);
   exports = first.exports_valid;
 }
 
-by_imports : (config : Config) (shape : Shape) (bytes : List ℕ) (drawn : PartsSoFar) → config.module_shape ≡ None → config.available_imports ≡ Some shape → AreShapesValid config → AreFirstPartsByImports config shape bytes drawn → MayBegin config drawn
+by_imports : (config : Config) (shape : Shape) (bytes : List ℕ) (drawn : PartsSoFar) → config.module_shape ≡ None → config.available_imports
+    ≡ Some shape → AreShapesValid config → AreFirstPartsByImports config shape bytes drawn → MayBegin config drawn
 by_imports config shape bytes drawn none given valid first = record {
   few_values = rw first.types (shape_few shape (imports_used config shape none given valid).short);
-  grounded = λ never. of_shape config (drawn_next config drawn) shape drawn.types (spaces_in drawn.imported.spaces) first.types first.tables first.globals (shape_grounded config (drawn_next config drawn) which.AvailableImports shape (rw (none, given) refl) never);
+  grounded = λ never. of_shape config (drawn_next config drawn) shape drawn.types (spaces_in drawn.imported.spaces) first.types first.tables
+      first.globals (shape_grounded config (drawn_next config drawn) which.AvailableImports shape (rw (none, given) refl) never);
   exports = rw first.exports (no_exports (spaces_in drawn.imported.spaces));
 }
 
@@ -100,9 +109,12 @@ none_fixes : (config : Config) → config.module_shape ≡ None → config.avail
 none_fixes config none free (inl fixed) = let given = rw free at fixed in search rules
 none_fixes config none free (inr fixed) = let given = rw none at fixed in search rules
 
-by_shapes : (config : Config) (bytes : List ℕ) (drawn : PartsSoFar) (of_module available : Option Shape) → config.module_shape ≡ of_module → config.available_imports ≡ available → AreShapesValid config → AreFirstParts config bytes drawn → MayBegin config drawn
-by_shapes config bytes drawn (Some shape) available given also valid first = by_module config shape drawn given valid (subst (λ (one : Option Shape). IfSome one (λ each. AreFirstPartsByModule config each drawn)) given first.by_module)
-by_shapes config bytes drawn None (Some shape) none given valid first = by_imports config shape bytes drawn none given valid (subst (λ (one : Option Shape). IfSome one (λ each. AreFirstPartsByImports config each bytes drawn)) given first.by_imports)
+by_shapes : (config : Config) (bytes : List ℕ) (drawn : PartsSoFar) (of_module available : Option Shape) → config.module_shape ≡ of_module
+    → config.available_imports ≡ available → AreShapesValid config → AreFirstParts config bytes drawn → MayBegin config drawn
+by_shapes config bytes drawn (Some shape) available given also valid first = by_module config shape drawn given valid
+    (subst (λ (one : Option Shape). IfSome one (λ each. AreFirstPartsByModule config each drawn)) given first.by_module)
+by_shapes config bytes drawn None (Some shape) none given valid first = by_imports config shape bytes drawn none given valid
+    (subst (λ (one : Option Shape). IfSome one (λ each. AreFirstPartsByImports config each bytes drawn)) given first.by_imports)
 by_shapes config bytes drawn None None none free valid first = freely config drawn (first.freely (none_fixes config none free))
 
 -- types after those that a module begins with: the properties that drawing these types preserves
@@ -118,7 +130,9 @@ pub record AreTypesAfter (config : Config) (functions : Context) (old new : Grou
 
 -- grounded references stay grounded as types are added, and the references of the added types are
 -- grounded
-grounded_later : (config : Config) (functions : Context) (old new : GroupedTypes) (spaces : EntitySpaces) → AreTypesAfter config functions old new → HoldsGrounded config (over functions old.types) spaces → HoldsGrounded config (over functions new.types) spaces
+grounded_later : (config : Config) (functions : Context) (old new : GroupedTypes) (spaces : EntitySpaces)
+    → AreTypesAfter config functions old new → HoldsGrounded config (over functions old.types) spaces
+    → HoldsGrounded config (over functions new.types) spaces
 grounded_later config functions old new spaces more h =
     let before = over functions old.types in
     let later = over functions new.types in
@@ -139,24 +153,29 @@ grounded_later config functions old new spaces more h =
     }
 
 -- more may be drawn over the first parts of a module after such types are added
-types_drawn : (config : Config) (bytes : List ℕ) (drawn : PartsSoFar) (types : GroupedTypes) → AreShapesValid config → AreFirstParts config bytes drawn → AreTypesAfter config (drawn_next config drawn) drawn.types types → AreTypesDrawn config (record drawn { types = types })
+types_drawn : (config : Config) (bytes : List ℕ) (drawn : PartsSoFar) (types : GroupedTypes) → AreShapesValid config
+    → AreFirstParts config bytes drawn → AreTypesAfter config (drawn_next config drawn) drawn.types types
+    → AreTypesDrawn config (record drawn { types = types })
 types_drawn config bytes drawn types valid first more =
     let may = by_shapes config bytes drawn config.module_shape config.available_imports refl refl valid first in
     record {
       may = record {
         so_far = stands_typed config drawn types (first_parts_stand config bytes drawn first) more.valid more.longer more.most;
         few_values = more.few_values most_listed (omega arith) may.few_values;
-        grounded = λ none. grounded_later config (drawn_next config drawn) drawn.types types (spaces_in drawn.imported.spaces) more (may.grounded none);
+        grounded = λ none. grounded_later config (drawn_next config drawn) drawn.types types (spaces_in drawn.imported.spaces) more
+            (may.grounded none);
         exports = may.exports;
         least_types = more.least;
       };
       free = λ none. let nothing = first.freely none in record {
         imports = nothing.imports;
         nothing = ap (λ (b : ModuleSoFar). b.defined) nothing.so_far;
-        small = more.few_values 20 (omega arith) (subst (λ (all : List SubType). All IsSmall all) (sym (ap (λ (b : ModuleSoFar). b.types.types) nothing.so_far)) (All-nil IsSmall));
+        small = more.few_values 20 (omega arith) (subst (λ (all : List SubType). All IsSmall all)
+            (sym (ap (λ (b : ModuleSoFar). b.types.types) nothing.so_far)) (All-nil IsSmall));
       };
       floats = λ off none. let nothing = first.freely (none_fixes config none.module_shape none.available_imports) in
-          more.floats off (subst (λ (all : List SubType). All HasNoFloat all) (sym (ap (λ (b : ModuleSoFar). b.types.types) nothing.so_far)) (All-nil HasNoFloat));
+          more.floats off (subst (λ (all : List SubType). All HasNoFloat all) (sym (ap (λ (b : ModuleSoFar). b.types.types) nothing.so_far))
+          (All-nil HasNoFloat));
     }
 
 stays_within : (most old new : ℕ) → (old ≤ most → new ≤ most) → (most ≤ old → new ≡ old) → new ≤ max most old
@@ -164,18 +183,34 @@ stays_within most old new few full = grind arith
 
 -- properties of drawn types, if drawing succeeds
 module _ {X : Type 0} (config : Config) (functions : Context) (old new : GroupedTypes) where
-  pub types_after : (result : Result X Error) → OnOk result (AreTypesValid (features_of config) new) → OnOk result (Extends old.types new.types)
-      → (length old.types ≤ config.max_types → OnOk result (length new.types ≤ config.max_types)) → (config.max_types ≤ length old.types → OnOk result (new ≡ old)) → OnOk result (config.min_types ≤ length new.types)
-      → (config.allow_floats ≡ false → All HasNoFloat old.types → OnOk result (All HasNoFloat new.types)) → ((most : ℕ) → 20 ≤ most → All (HasFewValues most) old.types → OnOk result (All (HasFewValues most) new.types))
+  pub types_after : (result : Result X Error) → OnOk result (AreTypesValid (features_of config) new)
+      → OnOk result (Extends old.types new.types)
+      → (length old.types ≤ config.max_types → OnOk result (length new.types ≤ config.max_types))
+      → (config.max_types ≤ length old.types → OnOk result (new ≡ old)) → OnOk result (config.min_types ≤ length new.types)
+      → (config.allow_floats ≡ false → All HasNoFloat old.types → OnOk result (All HasNoFloat new.types))
+      → ((most : ℕ) → 20 ≤ most → All (HasFewValues most) old.types → OnOk result (All (HasFewValues most) new.types))
       → (¬ HoldsUngroundedField config (over functions old.types) → OnOk result (¬ HoldsUngroundedField config (over functions new.types)))
-      → (AreTypesGranted config (over functions old.types) → OnOk result (AreTypesGranted config (over functions new.types))) → OnOk result (AreTypesAfter config functions old new)
+      → (AreTypesGranted config (over functions old.types) → OnOk result (AreTypesGranted config (over functions new.types)))
+      → OnOk result (AreTypesAfter config functions old new)
   types_after (Ok made) valid longer most full least floats few_values grounded granted =
-      let same : config.max_types ≤ length old.types → length new.types ≡ length old.types = λ filled. ap (λ (space : GroupedTypes). length space.types) (full filled) in
-      record { valid = valid; longer = longer; most = stays_within config.max_types (length old.types) (length new.types) most same; least = least; floats = floats; few_values = few_values; grounded = grounded; granted = granted }
+      let same : config.max_types ≤ length old.types → length new.types ≡ length old.types =
+      λ filled. ap (λ (space : GroupedTypes). length space.types) (full filled) in
+      record {
+        valid = valid;
+        longer = longer;
+        most = stays_within config.max_types (length old.types) (length new.types) most same;
+        least = least;
+        floats = floats;
+        few_values = few_values;
+        grounded = grounded;
+        granted = granted;
+      }
   types_after (Err e) valid longer most full least floats few_values grounded granted = tt
 
 -- after drawn types, more may be drawn over the first parts of a module
-pub drawn_after : {X : Type 0} (config : Config) (bytes : List ℕ) (drawn : PartsSoFar) (types : GroupedTypes) (result : Result X Error) → AreShapesValid config → AreFirstParts config bytes drawn → OnOk result (AreTypesAfter config (drawn_next config drawn) drawn.types types)
+pub drawn_after : {X : Type 0} (config : Config) (bytes : List ℕ) (drawn : PartsSoFar) (types : GroupedTypes) (result : Result X Error)
+    → AreShapesValid config → AreFirstParts config bytes drawn
+    → OnOk result (AreTypesAfter config (drawn_next config drawn) drawn.types types)
     → OnOk result (AreTypesDrawn config (record drawn { types = types }))
 drawn_after config bytes drawn types (Ok made) valid first more = types_drawn config bytes drawn types valid first more
 drawn_after config bytes drawn types (Err e) valid first more = tt

@@ -1,5 +1,6 @@
 -- The export of a counter of fuel has a new name, and a valid module stays valid with it.
-use Rattle.std.proofs.Common.{◌≡◌, ℕ, zero, suc, ◌<◌, ◌≤◌, Bool, true, false, List, [], ◌++◌, length, length-append, get_or, refl, ap, sym, subst, arith}
+use Rattle.std.proofs.Common.{◌≡◌, ℕ, zero, suc, ◌<◌, ◌≤◌, Bool, true, false, List, [], ◌++◌, length, length-append, get_or, refl, ap, sym}
+use Rattle.std.proofs.Common.{subst, arith}
 use Rattle.std.specs.Prelude.{codes, if◌then◌else◌, Result, Ok, Err}
 use Rattle.std.specs.List.{repeat}
 use Rattle.std.proofs.lemmas.Option.{slice_get-get_or}
@@ -26,10 +27,12 @@ as_long (suc n) = ap suc (as_long n)
 abbrev tail : List Export → Bool → List ℕ
 tail exports taken = if taken then repeat (longest_export exports) (codes "_") else []
 
-new_by : (exports : List Export) (taken : Bool) → is_exported exports (codes "fuel") ≡ taken → is_exported exports (codes "fuel" ++ tail exports taken) ≡ false
+new_by : (exports : List Export) (taken : Bool) → is_exported exports (codes "fuel") ≡ taken
+    → is_exported exports (codes "fuel" ++ tail exports taken) ≡ false
 new_by exports false none = none
 new_by exports true there = false_unless (is_exported exports (codes "fuel" ++ tail exports true)) (λ also.
-    let short : length (codes "fuel" ++ tail exports true) ≤ longest_export exports = exported_short (codes "fuel" ++ tail exports true) exports also in
+    let short : length (codes "fuel" ++ tail exports true) ≤ longest_export exports = exported_short (codes "fuel" ++ tail exports true)
+    exports also in
     let long = as_long (longest_export exports) in
     let whole = length-append (codes "fuel") (tail exports true) in
     omega (arith, short, long, whole))
@@ -70,6 +73,7 @@ exporting_valid m index within valid = record {
 }
 
 -- a valid module stays valid, whatever the result
-pub exported_valid : (index : ℕ) (old new : ModuleParts) (result : Result (Unit {0}) Error) → AnswersFuelExport index old new result → index < length old.globals → IsValid old → IsValid new
+pub exported_valid : (index : ℕ) (old new : ModuleParts) (result : Result (Unit {0}) Error) → AnswersFuelExport index old new result
+    → index < length old.globals → IsValid old → IsValid new
 exported_valid index old new (Ok u) added within valid = subst IsValid (sym added) (exporting_valid old index within valid)
 exported_valid index old new (Err error) (memory, kept) within valid = subst IsValid (sym kept) valid

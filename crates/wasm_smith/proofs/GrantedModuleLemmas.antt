@@ -36,7 +36,8 @@ module _ (config : Config) (drawn : PartsSoFar) (whole : StandsWhole config draw
   was_ungrounded : (value : ValType) → IsUngrounded config context value → IsUngrounded config before value
   was_ungrounded (vals.Ref reference) (not_null, none) = (
     not_null,
-    λ on grounded. none on (subst (λ (imported : ℕ). IsGrounded (record context { imported_funcs = imported }) reference.heap_type) (left_over whole.stands.funcs) grounded),
+    λ on grounded. none on (subst (λ (imported : ℕ). IsGrounded (record context { imported_funcs = imported }) reference.heap_type)
+        (left_over whole.stands.funcs) grounded),
   )
   was_ungrounded vals.I32 never = never
   was_ungrounded vals.I64 never = never
@@ -46,11 +47,16 @@ module _ (config : Config) (drawn : PartsSoFar) (whole : StandsWhole config draw
 
   module _ (contents : HasGrantedContents config before drawn.imported.spaces.tables drawn.contents) where
     pub locals_drawn : HasGrantedLocals config m
-    locals_drawn = All-weaker (IsGranted config before) (IsGranted config context) (value_later config before context was_ungrounded) (flat_map (λ (body : Code). body.locals) drawn.contents.code) contents.locals
+    locals_drawn = All-weaker (IsGranted config before) (IsGranted config context) (value_later config before context was_ungrounded)
+        (flat_map (λ (body : Code). body.locals) drawn.contents.code) contents.locals
 
     pub granted_drawn : HoldsGrounded config before (spaces_in drawn.imported.spaces) → HoldsGranted config m
     granted_drawn held = record {
-      values = all_values_joined (IsGranted config context) drawn.types.types (spaces_in drawn.imported.spaces) (types_later config before context was_ungrounded drawn.types.types held.types)
-          (elements_later config before context was_ungrounded drawn.imported.spaces.tables held.element_types) (globals_later config before context was_ungrounded drawn.imported.spaces.globals held.globals);
-      elems = All-weaker (HasGroundedItems config before) (HasGroundedItems config context) (λ (segment : ElementSegment). value_later config before context was_ungrounded (vals.Ref segment.ty)) drawn.contents.segments.elems (contents.items held.element_types);
+      values = all_values_joined (IsGranted config context) drawn.types.types (spaces_in drawn.imported.spaces)
+          (types_later config before context was_ungrounded drawn.types.types held.types)
+          (elements_later config before context was_ungrounded drawn.imported.spaces.tables held.element_types)
+          (globals_later config before context was_ungrounded drawn.imported.spaces.globals held.globals);
+      elems = All-weaker (HasGroundedItems config before) (HasGroundedItems config context)
+          (λ (segment : ElementSegment). value_later config before context was_ungrounded (vals.Ref segment.ty))
+          drawn.contents.segments.elems (contents.items held.element_types);
     }

@@ -57,15 +57,19 @@ unpacked_null I8 h = λ never. never
 unpacked_null I16 h = λ never. never
 unpacked_null (Val value) h = h
 
-fields_null : (inner : CompositeInnerType) → AreHeld MayBeNull inner → All (λ (field : FieldType). MayBeNull (unpacked field.element_type)) (fields_of inner)
-fields_null (Struct structure) h = All-weaker (λ (field : FieldType). IsStored MayBeNull field.element_type) (λ (field : FieldType). MayBeNull (unpacked field.element_type)) (λ field. unpacked_null field.element_type) structure.fields h
-fields_null (Array array) h = All-cons (λ (field : FieldType). MayBeNull (unpacked field.element_type)) array.0 [] (unpacked_null array.0.element_type h) (All-nil (λ (field : FieldType). MayBeNull (unpacked field.element_type)))
+fields_null : (inner : CompositeInnerType) → AreHeld MayBeNull inner → All (λ (field : FieldType). MayBeNull (unpacked field.element_type))
+    (fields_of inner)
+fields_null (Struct structure) h = All-weaker (λ (field : FieldType). IsStored MayBeNull field.element_type)
+    (λ (field : FieldType). MayBeNull (unpacked field.element_type)) (λ field. unpacked_null field.element_type) structure.fields h
+fields_null (Array array) h = All-cons (λ (field : FieldType). MayBeNull (unpacked field.element_type)) array.0 []
+    (unpacked_null array.0.element_type h) (All-nil (λ (field : FieldType). MayBeNull (unpacked field.element_type)))
 fields_null (Func function) h = All-nil (λ (field : FieldType). MayBeNull (unpacked field.element_type))
 
 no_field : (inner : CompositeInnerType) → All MayBeNull (values_of inner) → ¬ Any IsNonNullable (field_values (fields_of inner))
 no_field inner values (k, value, inside, at, never) =
     All-contains MayBeNull (field_values (fields_of inner)) value
-    (All-map MayBeNull (λ (field : FieldType). unpacked field.element_type) (fields_of inner) (fields_null inner (held_from_values MayBeNull inner values)))
+    (All-map MayBeNull (λ (field : FieldType). unpacked field.element_type) (fields_of inner)
+    (fields_null inner (held_from_values MayBeNull inner values)))
     (k, inside, at) never
 
 -- a nullable value is granted, whatever is grounded
@@ -79,7 +83,9 @@ pub record AreValuesGranted (config : Config) (context : Context) (types : List 
   pub globals : All (HasGroundedValue config context) spaces.globals
 
 module _ (config : Config) (types : List SubType) (spaces : EntitySpaces) (none : ¬ Any IsNonNullable (values_in types spaces)) where
-  apart : All (λ (t : SubType). All MayBeNull (values_of t.composite_type.inner)) types × All (λ (table : TableType). MayBeNull (Ref table.element_type)) spaces.tables × All (λ (global : GlobalType). MayBeNull global.val_type) spaces.globals
+  apart : All (λ (t : SubType). All MayBeNull (values_of t.composite_type.inner)) types
+      × All (λ (table : TableType). MayBeNull (Ref table.element_type)) spaces.tables
+      × All (λ (global : GlobalType). MayBeNull global.val_type) spaces.globals
   apart = all_values_apart MayBeNull types spaces (none_has IsNonNullable (values_in types spaces) none)
 
   -- if no value is a non-nullable reference, none is ungrounded
@@ -90,8 +96,10 @@ module _ (config : Config) (types : List SubType) (spaces : EntitySpaces) (none 
       record {
         of_types = All-weaker (λ (t : SubType). All MayBeNull (values_of t.composite_type.inner)) (HasGranted config context)
             (λ t h. All-weaker MayBeNull (IsGranted config context) granted (values_of t.composite_type.inner) h) types of_types;
-        element_types = All-weaker (λ (table : TableType). MayBeNull (Ref table.element_type)) (HasGroundedElements config context) (λ table. granted (Ref table.element_type)) spaces.tables of_tables;
-        globals = All-weaker (λ (global : GlobalType). MayBeNull global.val_type) (HasGroundedValue config context) (λ global. granted global.val_type) spaces.globals of_globals;
+        element_types = All-weaker (λ (table : TableType). MayBeNull (Ref table.element_type)) (HasGroundedElements config context)
+            (λ table. granted (Ref table.element_type)) spaces.tables of_tables;
+        globals = All-weaker (λ (global : GlobalType). MayBeNull global.val_type) (HasGroundedValue config context)
+            (λ global. granted global.val_type) spaces.globals of_globals;
       }
 
   grounded_values : (functions : Context) → HoldsGrounded config (over functions types) spaces
@@ -100,16 +108,23 @@ module _ (config : Config) (types : List SubType) (spaces : EntitySpaces) (none 
       let context = over functions types in
       let all = granted_values context in
       record {
-        fields = λ (k, t, inside, at, holds). no_field t.composite_type.inner (All-contains (λ (t : SubType). All MayBeNull (values_of t.composite_type.inner)) types t of_types (k, inside, at))
-            (any_weaker (IsUngrounded config context) IsNonNullable (ungrounded_not_null config context) (field_values (fields_of t.composite_type.inner)) holds);
+        fields = λ (k, t, inside, at, holds). no_field t.composite_type.inner
+            (All-contains (λ (t : SubType). All MayBeNull (values_of t.composite_type.inner)) types t of_types (k, inside, at))
+            (any_weaker (IsUngrounded config context) IsNonNullable (ungrounded_not_null config context)
+            (field_values (fields_of t.composite_type.inner)) holds);
         types = all.of_types;
         element_types = all.element_types;
         globals = all.globals;
       }
 
-module _ (config : Config) (context : Context) (for_use : Which) (shape : Shape) (used : shape_for config for_use ≡ Some shape) (none : HoldsNonNullable config → ⊥) where
+module _ (config : Config) (context : Context) (for_use : Which) (shape : Shape) (used : shape_for config for_use ≡ Some shape)
+    (none : HoldsNonNullable config → ⊥) where
   none_held : ¬ Any IsNonNullable (shape_values shape)
-  none_held holds = none (for_use, subst (λ (one : Option Shape). IsSomeAnd one (λ each. Any IsNonNullable (shape_values each))) (sym used) holds)
+  none_held holds = none (
+    for_use,
+    subst (λ (one : Option Shape). IsSomeAnd one (λ each. Any IsNonNullable (shape_values each)))
+        (sym used) holds,
+  )
 
   -- a shape in use holds no such reference if no shape in use holds one
   pub shape_grounded : HoldsGrounded config (over context (shape_types shape)) (shape_spaces shape)
@@ -125,27 +140,34 @@ beside_shape config shape = drawn_beside config (shape_types shape) (imported_sp
 
 -- if the exports of a module shape may have nothing to choose from, a shape in use holds such a
 -- reference
-shape_lacks : (config : Config) (shape : Shape) → config.module_shape ≡ Some shape → MayLackIn config (beside_shape config shape) shape → HoldsNonNullable config
+shape_lacks : (config : Config) (shape : Shape) → config.module_shape ≡ Some shape → MayLackIn config (beside_shape config shape) shape
+    → HoldsNonNullable config
 shape_lacks config shape given (inl value) = (which.ModuleShape, rw given value)
 shape_lacks config shape given (inr field) = elim (holds_or_not config) [
   | inl holds ↦ holds
   | inr none ↦ absurd ((shape_grounded config (beside_shape config shape) which.ModuleShape shape (rw given refl) none).fields field)
 ]
 
-module_lacks : (config : Config) (shape : Shape) (e : Error) → config.module_shape ≡ Some shape → (e ≡ errors.Memory) ⊎ ((e ≡ errors.EmptyChoose) × MayLackIn config (beside_shape config shape) shape) → MayRefuse config e
+module_lacks : (config : Config) (shape : Shape) (e : Error) → config.module_shape ≡ Some shape → (e ≡ errors.Memory)
+    ⊎ ((e ≡ errors.EmptyChoose) × MayLackIn config (beside_shape config shape) shape) → MayRefuse config e
 module_lacks config shape e given (inl memory) = subst (MayRefuse config) (sym memory) tt
 module_lacks config shape e given (inr (empty, lacks)) = subst (MayRefuse config) (sym empty) (shape_lacks config shape given lacks)
 
 -- a module shape adds its exports
-module_brings : (config : Config) (shape : Shape) (count : Count) → config.module_shape ≡ Some shape → 0 < items_of_module_shape count shape → Brings config count
+module_brings : (config : Config) (shape : Shape) (count : Count) → config.module_shape ≡ Some shape → 0 < items_of_module_shape count shape
+    → Brings config count
 module_brings config shape count given some = inr (rw given some)
 
-module_refused : (config : Config) (shape : Shape) (e : Error) → config.module_shape ≡ Some shape → MayRefuseRequired config (beside_shape config shape) shape e → MayRefuse config e
-module_refused config shape (errors.IncorrectFormat SeveralMemories) given (some, one) = (module_brings config shape counts.Memories given (omega (arith, some)), one)
-module_refused config shape (errors.IncorrectFormat SeveralTables) given (some, one) = (module_brings config shape counts.Tables given (omega (arith, some)), one)
+module_refused : (config : Config) (shape : Shape) (e : Error) → config.module_shape ≡ Some shape
+    → MayRefuseRequired config (beside_shape config shape) shape e → MayRefuse config e
+module_refused config shape (errors.IncorrectFormat SeveralMemories) given (some, one) =
+    (module_brings config shape counts.Memories given (omega (arith, some)), one)
+module_refused config shape (errors.IncorrectFormat SeveralTables) given (some, one) =
+    (module_brings config shape counts.Tables given (omega (arith, some)), one)
 module_refused config shape e given h = module_lacks config shape e given h
 
-refused_by_module : (config : Config) (e : Error) (of_module : Option Shape) → config.module_shape ≡ of_module → IsSomeAnd of_module (λ shape. MayRefuseRequired config (beside_shape config shape) shape e) → MayRefuse config e
+refused_by_module : (config : Config) (e : Error) (of_module : Option Shape) → config.module_shape ≡ of_module
+    → IsSomeAnd of_module (λ shape. MayRefuseRequired config (beside_shape config shape) shape e) → MayRefuse config e
 refused_by_module config e (Some shape) given h = module_refused config shape e given h
 refused_by_module config e None given h = absurd h
 

@@ -17,10 +17,12 @@ use Rattle.smith_module_rules.specs.Held.{expressions_of}
 use Rattle.smith_module_rules.specs.Promises.{HasNoFloats, initial_of}
 use Rattle.wasm_smith.specs.declared.build.parts_so_far.PartsSoFar.{PartsSoFar}
 
-of_types : (types : List SubType) → Each HasNoFloat types → All IsNoFloat (flat_map (λ (t : SubType). values_of t.composite_type.inner) types)
+of_types : (types : List SubType) → Each HasNoFloat types
+    → All IsNoFloat (flat_map (λ (t : SubType). values_of t.composite_type.inner) types)
 of_types [] each = All-nil IsNoFloat
 of_types (t ∷ types) each =
-    All-append IsNoFloat (values_of t.composite_type.inner) (flat_map (λ (t : SubType). values_of t.composite_type.inner) types) each.0 (of_types types each.1)
+    All-append IsNoFloat (values_of t.composite_type.inner) (flat_map (λ (t : SubType). values_of t.composite_type.inner) types) each.0
+    (of_types types each.1)
 
 pub no_floats_drawn : (config : Config) (drawn : PartsSoFar) → HasNoFloatParts drawn → HasNoFloats (parts_of config drawn)
 no_floats_drawn config drawn h =
@@ -31,7 +33,10 @@ no_floats_drawn config drawn h =
     let initials = map (λ (one : ℕ × List ConstInstr). one.1) drawn.definitions.globals in
     let items = flat_map (λ (segment : ElementSegment). expressions_of segment.items) drawn.contents.segments.elems in
     record {
-      values = All-append IsNoFloat types (globals ++ locals) (of_types drawn.types.types (recursion_from_All HasNoFloat drawn.types.types h.types))
-          (All-append IsNoFloat globals locals (All-map IsNoFloat (λ (global : GlobalType). global.val_type) drawn.imported.spaces.globals h.defined.globals) h.contents.locals);
-      constants = All-append (All GivesNoFloat) tables (initials ++ items) h.defined.tables (All-append (All GivesNoFloat) initials items h.defined.initials h.contents.items);
+      values = All-append IsNoFloat types (globals ++ locals)
+          (of_types drawn.types.types (recursion_from_All HasNoFloat drawn.types.types h.types))
+          (All-append IsNoFloat globals locals (All-map IsNoFloat (λ (global : GlobalType). global.val_type) drawn.imported.spaces.globals
+          h.defined.globals) h.contents.locals);
+      constants = All-append (All GivesNoFloat) tables (initials ++ items) h.defined.tables
+          (All-append (All GivesNoFloat) initials items h.defined.initials h.contents.items);
     }

@@ -10,7 +10,8 @@ use Rattle.smith_config.specs.Shapes.{Shapes, in_use, no_shapes}
 use Rattle.smith_module_rules.specs.Refusals.{AreShapesValid, shape_for}
 
 none_in_use : (config : Config) → HasNoShapes config → shapes_of config ≡ no_shapes
-none_in_use config none = λ i. in_use (record { available_imports = none.available_imports i; exports = none.exports i; module_shape = none.module_shape i })
+none_in_use config none =
+    λ i. in_use (record { available_imports = none.available_imports i; exports = none.exports i; module_shape = none.module_shape i })
 
 none_for : (config : Config) (for_use : Which) → HasNoShapes config → shape_for config for_use ≡ None
 none_for config which.ModuleShape none = ap (λ (used : Shapes). used.module_shape) (none_in_use config none)

@@ -46,12 +46,15 @@ some_by : (found : Bool) (xs : List ValType) → list_any never_null xs ≡ foun
 some_by true xs is = inl (any_so told xs (Any-from_list_any never_null xs is))
 some_by false xs is = inr (λ some. let found = list_any-from_Any never_null xs (any_so tells xs some) in cc)
 
-given_or_not : (given : Option Shape) → IsSomeAnd given (λ shape. Any IsNonNullable (shape_values shape)) ⊎ (IsSomeAnd given (λ shape. Any IsNonNullable (shape_values shape)) → ⊥)
+given_or_not : (given : Option Shape) → IsSomeAnd given (λ shape. Any IsNonNullable (shape_values shape))
+    ⊎ (IsSomeAnd given (λ shape. Any IsNonNullable (shape_values shape)) → ⊥)
 given_or_not (Some shape) = some_by (list_any never_null (shape_values shape)) (shape_values shape) refl
 given_or_not None = inr (λ some. search rules)
 
-none_of : (config : Config) → (IsSomeAnd (shape_for config which.AvailableImports) (λ shape. Any IsNonNullable (shape_values shape)) → ⊥) → (IsSomeAnd (shape_for config which.Exports) (λ shape. Any IsNonNullable (shape_values shape)) → ⊥)
-    → (IsSomeAnd (shape_for config which.ModuleShape) (λ shape. Any IsNonNullable (shape_values shape)) → ⊥) → (for_use : Which) → IsSomeAnd (shape_for config for_use) (λ shape. Any IsNonNullable (shape_values shape)) → ⊥
+none_of : (config : Config) → (IsSomeAnd (shape_for config which.AvailableImports) (λ shape. Any IsNonNullable (shape_values shape)) → ⊥)
+    → (IsSomeAnd (shape_for config which.Exports) (λ shape. Any IsNonNullable (shape_values shape)) → ⊥)
+    → (IsSomeAnd (shape_for config which.ModuleShape) (λ shape. Any IsNonNullable (shape_values shape)) → ⊥) → (for_use : Which)
+    → IsSomeAnd (shape_for config for_use) (λ shape. Any IsNonNullable (shape_values shape)) → ⊥
 none_of config offered exported shaped which.AvailableImports h = offered h
 none_of config offered exported shaped which.Exports h = exported h
 none_of config offered exported shaped which.ModuleShape h = shaped h

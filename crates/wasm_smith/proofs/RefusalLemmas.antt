@@ -20,7 +20,8 @@ use Rattle.wasm_smith.specs.DrawnSteps.{HoldsGrounded}
 use Rattle.smith_module_rules.specs.Refusals.{HasShape, HoldsNonNullable, MayLackExports, MayRefuse}
 
 -- a configuration has no shapes, or a shape that is used
-shapes_by : (config : Config) (of_module available exports : Option Shape) → config.module_shape ≡ of_module → config.available_imports ≡ available → config.exports ≡ exports → HasNoShapes config ⊎ HasShape config
+shapes_by : (config : Config) (of_module available exports : Option Shape) → config.module_shape ≡ of_module → config.available_imports
+    ≡ available → config.exports ≡ exports → HasNoShapes config ⊎ HasShape config
 shapes_by config (Some shape) available exports of_module free fixed = inr (which.ModuleShape, rw of_module refl)
 shapes_by config None (Some shape) exports of_module free fixed = inr (which.AvailableImports, rw (of_module, free) refl)
 shapes_by config None None (Some shape) of_module free fixed = inr (which.Exports, rw (of_module, fixed) refl)
@@ -40,7 +41,8 @@ pub exports_refuse : (config : Config) (e : Error) → (FixesExports config → 
 exports_refuse config e free (inl (all, inl memory)) = subst (MayRefuse config) (sym memory) tt
 exports_refuse config e free (inl (all, inr size)) = subst (MayRefuse config) (sym size) (all, free)
 exports_refuse config e free (inr (some, inl memory)) = subst (MayRefuse config) (sym memory) tt
-exports_refuse config e free (inr (some, inr (unmet, asked, short))) = subst (MayRefuse config) (sym unmet) ((free, some), (asked, lack_exports config short))
+exports_refuse config e free (inr (some, inr (unmet, asked, short))) = subst (MayRefuse config) (sym unmet)
+    ((free, some), (asked, lack_exports config short))
 
 module _ (config : Config) (context : Context) (tables : List TableType) where
   -- element segments are refused only as contents may be
@@ -55,7 +57,8 @@ module _ (config : Config) (context : Context) (tables : List TableType) where
   none_lacks each (k, table, inside, is, lacks) = each k table inside (rw is lacks)
 
   -- contents are refused only as a module may be
-  pub contents_refuse : {X : Type 0} (r : Result X Error) → (MayLackItem config context tables → HoldsNonNullable config) → IfErr r (MayRefuseContents config context tables) → IfErr r (MayRefuse config)
+  pub contents_refuse : {X : Type 0} (r : Result X Error) → (MayLackItem config context tables → HoldsNonNullable config)
+      → IfErr r (MayRefuseContents config context tables) → IfErr r (MayRefuse config)
   contents_refuse (Ok made) lacks h = tt
   contents_refuse (Err errors.EmptyChoose) lacks h = lacks h
   contents_refuse (Err errors.Memory) lacks h = h
@@ -65,10 +68,17 @@ module _ (config : Config) (context : Context) (tables : List TableType) where
   contents_refuse (Err (errors.Shape for_use fault)) lacks h = h
 
 -- if there may be nothing to choose from, a shape in use holds a non-nullable reference
-pub lacks_so : (config : Config) (context : Context) (spaces : EntitySpaces) → ((HoldsNonNullable config → ⊥) → HoldsGrounded config context spaces) → MayLackItem config context spaces.tables → HoldsNonNullable config
+pub lacks_so : (config : Config) (context : Context) (spaces : EntitySpaces)
+    → ((HoldsNonNullable config → ⊥) → HoldsGrounded config context spaces) → MayLackItem config context spaces.tables
+    → HoldsNonNullable config
 lacks_so config context spaces grounded lack = elim (holds_or_not config) [
   | inl holds ↦ holds
-  | inr none ↦ let all = grounded none in elim lack [ inl field ↦ absurd (all.fields field) | inr table ↦ absurd (none_lacks config context spaces.tables all.element_types table) ]
+  | inr none ↦ let all = grounded none in
+      elim lack [
+        | inl field ↦ absurd (all.fields field)
+        | inr table ↦ absurd
+            (none_lacks config context spaces.tables all.element_types table)
+      ]
 ]
 
 -- if no shape fixes them, imports are refused only as a module may be

@@ -13,7 +13,8 @@ use Rattle.smith_config.specs.declared.config.Config.{Config}
 use Rattle.smith_config.specs.declared.shape.Shape.{Shape}
 use Rattle.smith_config.specs.Shapes.{IsShapeValid, IsShort, in_use, shape_imports}
 use Rattle.smith_module_rules.specs.ShapeImports.{count_in}
-use Rattle.smith_module_rules.specs.Bounds.{items_of_export_shape, items_of_shapes, items_of_available_imports, items_of_module_shape, counts_as, items_of_exports, where_given}
+use Rattle.smith_module_rules.specs.Bounds.{items_of_export_shape, items_of_shapes, items_of_available_imports, items_of_module_shape}
+use Rattle.smith_module_rules.specs.Bounds.{counts_as, items_of_exports, where_given}
 use Rattle.smith_draw_definitions.specs.Defined.{HasRoom}
 use Rattle.smith_module_rules.specs.Refusals.{AreShapesValid, shape_for}
 use Rattle.smith_module_rules.specs.ExportedItems.{Export}
@@ -43,7 +44,8 @@ few_exported count shape short = let here = no_more_counted count shape.exports 
 
 few_imported : (count : Count) (imports : List Import) → length imports ≤ 2 ^ 29 → count_in (imported_spaces imports) count ≤ 2 ^ 29
 few_imported count imports short =
-    let room : HasRoom (imported_spaces imports) (2 ^ 32 - 1 - 2 ^ 29) = imported_room imports (2 ^ 32 - 1 - 2 ^ 29) (omega (arith, short)) in
+    let room : HasRoom (imported_spaces imports) (2 ^ 32 - 1 - 2 ^ 29) = imported_room imports (2 ^ 32 - 1 - 2 ^ 29)
+    (omega (arith, short)) in
     elim count as (λ (of_kind : Count). count_in (imported_spaces imports) of_kind ≤ 2 ^ 29) [
       | counts.Tags ↦ omega (arith, room.tags)
       | counts.Funcs ↦ omega (arith, room.funcs)
@@ -65,21 +67,29 @@ few_by_imports : (count : Count) (shape : Shape) → IsShort shape → items_of_
 few_by_imports counts.Types shape short = omega (arith, short.types)
 few_by_imports _ shape short = omega arith
 
-few_given : (Holds : Shape → Type 0) (of_shape : Shape → ℕ) (most : ℕ) → ((shape : Shape) → Holds shape → of_shape shape ≤ most) → (given : Option Shape) → IfSome given Holds → where_given of_shape given ≤ most
+few_given : (Holds : Shape → Type 0) (of_shape : Shape → ℕ) (most : ℕ) → ((shape : Shape) → Holds shape → of_shape shape ≤ most)
+    → (given : Option Shape) → IfSome given Holds → where_given of_shape given ≤ most
 few_given Holds of_shape most few (Some shape) h = few shape h
 few_given Holds of_shape most few None h = omega arith
 
 -- with a module shape no other shape adds an item
-few_in_use : (config : Config) (count : Count) (available exports shaped : Option Shape) → let used = in_use (record { available_imports = available; exports = exports; module_shape = shaped }) in
-    IfSome used.module_shape (IsShapeValid which.ModuleShape config) → IfSome used.available_imports (IsShapeValid which.AvailableImports config)
-    → where_given (items_of_module_shape count) used.module_shape + where_given (items_of_available_imports count) used.available_imports ≤ 2 ^ 30
+few_in_use : (config : Config) (count : Count) (available exports shaped : Option Shape) → let used =
+    in_use (record { available_imports = available; exports = exports; module_shape = shaped }) in
+    IfSome used.module_shape (IsShapeValid which.ModuleShape config)
+    → IfSome used.available_imports (IsShapeValid which.AvailableImports config)
+    → where_given (items_of_module_shape count) used.module_shape + where_given (items_of_available_imports count) used.available_imports
+    ≤ 2 ^ 30
 few_in_use config count available exports (Some shape) own offered = let few = few_by_module count shape own.short in omega (arith, few)
-few_in_use config count available exports None own offered = let few = few_given (IsShapeValid which.AvailableImports config) (items_of_available_imports count) (2 ^ 30) (λ shape valid. few_by_imports count shape valid.short) available offered in omega (arith, few)
+few_in_use config count available exports None own offered = let few = few_given (IsShapeValid which.AvailableImports config)
+    (items_of_available_imports count) (2 ^ 30) (λ shape valid. few_by_imports count shape valid.short) available offered in
+    omega (arith, few)
 
 -- shapes may have few items past a maximum
 pub few_items_of_shapes : (config : Config) → AreShapesValid config → (count : Count) → items_of_shapes config count ≤ 2 ^ 30
-few_items_of_shapes config valid count = few_in_use config count config.available_imports config.exports config.module_shape (valid which.ModuleShape) (valid which.AvailableImports)
+few_items_of_shapes config valid count = few_in_use config count config.available_imports config.exports config.module_shape
+    (valid which.ModuleShape) (valid which.AvailableImports)
 
 -- shapes add few items to a maximum
 pub few_items_of_export_shape : (config : Config) → AreShapesValid config → (count : Count) → items_of_export_shape config count ≤ 2 ^ 29
-few_items_of_export_shape config valid count = few_given (IsShapeValid which.Exports config) (items_of_exports count) (2 ^ 29) (λ shape short. few_exported count shape short.short) (shape_for config which.Exports) (valid which.Exports)
+few_items_of_export_shape config valid count = few_given (IsShapeValid which.Exports config) (items_of_exports count) (2 ^ 29)
+    (λ shape short. few_exported count shape short.short) (shape_for config which.Exports) (valid which.Exports)

@@ -26,7 +26,15 @@ use Rattle.wasm_smith.specs.declared.build.parts_so_far.PartsSoFar.{PartsSoFar}
 
 -- the context of functions, of which this number is imported, without types and globals
 abbrev pub functions_over : Config → List ℕ → ℕ → Context
-functions_over config funcs imported = record { features = features_of config; types = []; funcs = funcs; globals = []; imported_funcs = imported; imported_globals = 0; visible = 0 }
+functions_over config funcs imported = record {
+  features = features_of config;
+  types = [];
+  funcs = funcs;
+  globals = [];
+  imported_funcs = imported;
+  imported_globals = 0;
+  visible = 0;
+}
 
 -- the context of the functions so far
 abbrev pub functions_so_far : Config → ModuleSoFar → Context
@@ -34,18 +42,21 @@ functions_so_far config so_far = functions_over config so_far.spaces.funcs (leng
 
 -- the state with more types at the end
 abbrev pub with_types_at : Config → ModuleSoFar → List ℕ → ModuleSoFar × List ℕ
-with_types_at config so_far bytes = let types = types_at config (functions_so_far config so_far) so_far.types bytes in (record so_far { types = types.0 }, types.1)
+with_types_at config so_far bytes = let types = types_at config (functions_so_far config so_far) so_far.types bytes in
+    (record so_far { types = types.0 }, types.1)
 
 -- the state with imports, unless a shape fixes them; with `distinct` no two have the same names
 unfoldable pub imported_at : Bool → Config → ModuleSoFar → List ℕ → Result (ModuleSoFar × List ℕ) Error
 imported_at distinct config so_far bytes =
     if is_some config.available_imports || is_some config.module_shape then Ok (so_far, bytes)
-    else then_with (λ groups. record so_far { groups = groups; spaces = imported_spaces (flattened groups) }) (in_full (imports_at config so_far.types.types distinct bytes))
+    else then_with (λ groups. record so_far { groups = groups; spaces = imported_spaces (flattened groups) })
+    (in_full (imports_at config so_far.types.types distinct bytes))
 
 -- the state with entities defined after those so far
 unfoldable pub defined_at : Config → ModuleSoFar → List ℕ → Result (ModuleSoFar × List ℕ) Error
 defined_at config so_far bytes =
-    then_with (λ (made : EntitySpaces × Definitions). record so_far { spaces = made.0; defined = made.1 }) (definitions_at config so_far.types.types so_far.spaces so_far.defined bytes)
+    then_with (λ (made : EntitySpaces × Definitions). record so_far { spaces = made.0; defined = made.1 })
+    (definitions_at config so_far.types.types so_far.spaces so_far.defined bytes)
 
 -- the amount that the imports of a module add to its type size
 abbrev pub size_so_far : Config → ModuleSoFar → ℕ
@@ -56,8 +67,14 @@ size_so_far config so_far = size_of_imports config so_far.types.types (flattened
 abbrev pub exported_for : Config → Option Shape → Option Shape → ModuleSoFar → List ℕ → Result (ModuleSoFar × List ℕ) Error
 exported_for config (Some shape) exports so_far bytes = Ok (so_far, bytes)
 exported_for config None (Some shape) so_far bytes =
-    then_with (λ (made : Required). record so_far { types = made.types; spaces = made.spaces; defined = made.defined; exports = made.exports }) (required_at true config shape so_far.types so_far.spaces so_far.defined bytes)
-exported_for config None None so_far bytes = then_with (λ exports. record so_far { exports = exports }) (in_full (exports_at config so_far.types.types so_far.spaces (size_so_far config so_far) bytes))
+    then_with (λ (made : Required). record so_far {
+      types = made.types;
+      spaces = made.spaces;
+      defined = made.defined;
+      exports = made.exports;
+    }) (required_at true config shape so_far.types so_far.spaces so_far.defined bytes)
+exported_for config None None so_far bytes = then_with (λ exports. record so_far { exports = exports })
+    (in_full (exports_at config so_far.types.types so_far.spaces (size_so_far config so_far) bytes))
 
 unfoldable pub exported_at : Config → ModuleSoFar → List ℕ → Result (ModuleSoFar × List ℕ) Error
 exported_at config so_far bytes = exported_for config config.module_shape config.exports so_far bytes
@@ -67,7 +84,8 @@ exported_at config so_far bytes = exported_for config config.module_shape config
 abbrev pub exports_of : Config → ModuleSoFar → Exports
 exports_of config so_far = record {
   exports = so_far.exports;
-  type_size = size_so_far config so_far + (if is_some config.module_shape || is_some config.exports then 0 else exported_size so_far.types.types so_far.spaces so_far.exports);
+  type_size = size_so_far config so_far + (if is_some config.module_shape || is_some config.exports then 0 else exported_size
+      so_far.types.types so_far.spaces so_far.exports);
 }
 
 -- the module of a state, the contents drawn after it, and whether an import section is written; its
@@ -117,7 +135,8 @@ module_at distinct config bytes = do
   defined ← defined_at config imported.0 import_flag.1
   exported ← exported_at config defined.0 defined.1
   let whole = exported.0
-  contents ← after_exports_at config whole.types.types (imported_spaces (flattened whole.groups)) whole.spaces (exports_of config whole) exported.1
+  contents ← after_exports_at config whole.types.types (imported_spaces (flattened whole.groups)) whole.spaces (exports_of config whole)
+      exported.1
   Ok (module_of config whole contents.0 import_flag.0, contents.1)
 
 -- the parts that were drawn, as a module

@@ -67,7 +67,8 @@ after_exports_at config types imported spaces made bytes = do
   let type_flag = section_flag_at (length types) bytes
   let start = start_at config types spaces.funcs type_flag.1
   segments ← all_segments_at config types imported spaces start.1
-  let code = bodies_at config (without_globals (segment_scope config types imported spaces)) (length spaces.funcs - length imported.funcs) segments.1
+  let code = bodies_at config (without_globals (segment_scope config types imported spaces)) (length spaces.funcs - length imported.funcs)
+      segments.1
   Ok (
     record {
       exports = made.exports;
@@ -82,14 +83,15 @@ after_exports_at config types imported spaces made bytes = do
 
 -- exports are valid, and within the type size together with the imports; unless a shape fixes them,
 -- they are as the configuration requires; exports that a shape fixes add nothing
-pub record AreExportsMade (config : Config) (types : List SubType) (spaces : EntitySpaces) (imports_size : ℕ) (made : Exports) : Type 0 where
-  pub valid : AreExportsValid spaces made.exports
-  pub most : (FixesExports config → ⊥) → config.export_everything ≡ false → length made.exports ≤ config.max_exports
-  pub least : (FixesExports config → ⊥) → config.export_everything ≡ false → config.min_exports ≤ length made.exports
-  pub everything : (FixesExports config → ⊥) → IsTrue config.export_everything → AreAllExported spaces made.exports
-  pub type_size : (FixesExports config → ⊥) → made.type_size ≡ imports_size + exported_size types spaces made.exports
-  pub fixed_size : FixesExports config → made.type_size ≡ imports_size
-  pub within : made.type_size ≤ config.max_type_size
+pub record AreExportsMade (config : Config) (types : List SubType) (spaces : EntitySpaces) (imports_size : ℕ) (made : Exports) : Type 0
+  where
+    pub valid : AreExportsValid spaces made.exports
+    pub most : (FixesExports config → ⊥) → config.export_everything ≡ false → length made.exports ≤ config.max_exports
+    pub least : (FixesExports config → ⊥) → config.export_everything ≡ false → config.min_exports ≤ length made.exports
+    pub everything : (FixesExports config → ⊥) → IsTrue config.export_everything → AreAllExported spaces made.exports
+    pub type_size : (FixesExports config → ⊥) → made.type_size ≡ imports_size + exported_size types spaces made.exports
+    pub fixed_size : FixesExports config → made.type_size ≡ imports_size
+    pub within : made.type_size ≤ config.max_type_size
 
 -- segments are valid, within the minimums and maximums, and with `disallow_traps` the items and
 -- bytes that they copy fit
@@ -107,7 +109,8 @@ pub record AreSegmentsFit (config : Config) (types : List SubType) (imported spa
 
 -- exports, a type section if there are types, a valid start function if one is allowed, segments,
 -- and a body for each defined function
-pub record AreContents (config : Config) (types : List SubType) (imported spaces : EntitySpaces) (imports_size : ℕ) (contents : Contents) : Type 0 where
+pub record AreContents (config : Config) (types : List SubType) (imported spaces : EntitySpaces) (imports_size : ℕ)
+    (contents : Contents) : Type 0 where
   pub exports : AreExportsMade config types spaces imports_size (record { exports = contents.exports; type_size = contents.type_size })
   pub encodes_types : 0 < length types → IsTrue contents.encodes_types
   pub start : IsStartValid types spaces.funcs contents.start

@@ -27,7 +27,8 @@ pub record IsDrawnFor (distinct : Bool) (config : Config) (drawn : PartsSoFar) :
   pub least_types : config.min_types ≤ length drawn.types.types
   pub least : (count : Count) → IsOfEntities count → minimum_of config count ≤ count_in (spaces_in drawn.imported.spaces) count
   pub free : (FixesImports config → ⊥) → AreFreeImports distinct config drawn.imported
-  pub contents : AreContents config drawn.types.types (imported_in drawn.imported) (spaces_in drawn.imported.spaces) drawn.imported.type_size drawn.contents
+  pub contents : AreContents config drawn.types.types (imported_in drawn.imported) (spaces_in drawn.imported.spaces)
+      drawn.imported.type_size drawn.contents
   pub interesting64 : AreAll (IsInteresting64 drawn.imported.spaces.tables drawn.imported.spaces.memories) drawn.interesting_values64
   pub interesting32 : AreAll (IsInteresting32 drawn.imported.spaces.tables drawn.imported.spaces.memories) drawn.interesting_values32
   pub encodes_imports : 0 < length drawn.imported.groups → IsTrue drawn.encodes_imports

@@ -79,7 +79,8 @@ pub record AreImportsDrawn (config : Config) (drawn : PartsSoFar) : Type 0 where
 -- imports that no shape fixes: with `distinct` no two have the same names, and there are at least
 -- the minimum
 pub record AreFreeImports (distinct : Bool) (config : Config) (imported : Imported) : Type 0 where
-  pub apart : IsTrue distinct → AreDistinct {A = List ℕ × List ℕ} (map (λ (one : Import). (one.«module», one.name)) (flattened imported.groups))
+  pub apart : IsTrue distinct → AreDistinct {A = List ℕ × List ℕ} (map (λ (one : Import). (one.«module», one.name))
+      (flattened imported.groups))
   pub least : config.min_imports ≤ imported.count
 
 -- the state after entities are defined: the minimum of each kind is met

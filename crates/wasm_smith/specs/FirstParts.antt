@@ -1,5 +1,6 @@
 -- The first parts of a module, from the shapes that its configuration uses. Rules of this project.
-use Rattle.std.specs.Prelude.{◌≡◌, ℕ, ◌+◌, ◌≤◌, max, false, ◌⊎◌, ⊤, is_some, IfSome, IsSomeAnd, List, [], Option, Some, None, length, sum_by, All, Result, Ok, if◌then◌else◌}
+use Rattle.std.specs.Prelude.{◌≡◌, ℕ, ◌+◌, ◌≤◌, max, false, ◌⊎◌, ⊤, is_some, IfSome, IsSomeAnd, List, [], Option, Some, None, length}
+use Rattle.std.specs.Prelude.{sum_by, All, Result, Ok, if◌then◌else◌}
 use Rattle.std.specs.List.{AllZip, Contains}
 use Rattle.smith_bytes.specs.declared.error.Error.{Error}
 use Rattle.smith_bytes.specs.declared.error.Error.TheVariants as errors
@@ -54,7 +55,13 @@ module_so_far drawn = record {
 
 -- the empty state
 abbrev pub nothing_so_far : ModuleSoFar
-nothing_so_far = record { types = record { types = []; groups = [] }; groups = []; spaces = imported_spaces []; defined = nothing_defined; exports = [] }
+nothing_so_far = record {
+  types = record { types = []; groups = [] };
+  groups = [];
+  spaces = imported_spaces [];
+  defined = nothing_defined;
+  exports = [];
+}
 
 pub record HasNothing (drawn : PartsSoFar) : Type 0 where
   pub so_far : module_so_far drawn ≡ nothing_so_far
@@ -65,14 +72,28 @@ pub record HasNothing (drawn : PartsSoFar) : Type 0 where
 unfoldable pub first_parts_by_module_at : Config → Shape → List ℕ → Result (ModuleSoFar × List ℕ) Error
 first_parts_by_module_at config shape bytes =
     then_with
-    (λ (made : Required). record { types = made.types; groups = kept_groups config shape; spaces = made.spaces; defined = made.defined; exports = made.exports })
+    (λ (made : Required). record {
+      types = made.types;
+      groups = kept_groups config shape;
+      spaces = made.spaces;
+      defined = made.defined;
+      exports = made.exports;
+    })
     (required_at false config shape (space_of shape.groups) (imported_spaces (shape_imports shape)) nothing_defined bytes)
 
 -- the state from available imports: the types of their shape, and those imports that the bytes take
 unfoldable pub first_parts_by_imports_at : Config → Shape → List ℕ → ModuleSoFar × List ℕ
 first_parts_by_imports_at config shape bytes =
-    let taken = available_at config shape bytes in
-    (record { types = space_of shape.groups; groups = taken.0; spaces = imported_spaces (flattened taken.0); defined = nothing_defined; exports = [] }, taken.1)
+    let taken = available_at config shape bytes in (
+      record {
+        types = space_of shape.groups;
+        groups = taken.0;
+        spaces = imported_spaces (flattened taken.0);
+        defined = nothing_defined;
+        exports = [];
+      },
+      taken.1,
+    )
 
 -- the state from the shapes that are used: a module shape, else available imports, else the empty
 -- state
@@ -93,11 +114,13 @@ pub record AreFirstPartsByModule (config : Config) (shape : Shape) (drawn : Part
   pub type_size : drawn.imported.type_size ≡ 0
   pub valid : All (IsImportsValid (features_of config)) drawn.imported.groups
   pub stands : StandsAfter config (imported_spaces (shape_imports shape)) drawn.types (spaces_in drawn.imported.spaces) drawn.definitions
-  pub counted : (count : Count) → (count ≡ counts.Types → ⊥) → (count ≡ counts.Imports → ⊥) → count_in (spaces_in drawn.imported.spaces) count ≡ items_of_module_shape count shape
+  pub counted : (count : Count) → (count ≡ counts.Types → ⊥) → (count ≡ counts.Imports → ⊥)
+      → count_in (spaces_in drawn.imported.spaces) count ≡ items_of_module_shape count shape
   pub tables : All (Contains (shape_spaces shape).tables) drawn.imported.spaces.tables
   pub memories : All (Contains (shape_spaces shape).memories) drawn.imported.spaces.memories
   pub globals : All (Contains (shape_spaces shape).globals) drawn.imported.spaces.globals
-  pub exports : AllZip (IsSameExport (λ mine yours. mine ≡ yours) (spaces_in drawn.imported.spaces) (shape_spaces shape)) drawn.contents.exports shape.exports
+  pub exports : AllZip (IsSameExport (λ mine yours. mine ≡ yours) (spaces_in drawn.imported.spaces) (shape_spaces shape))
+      drawn.contents.exports shape.exports
   pub exports_valid : AreExportsValid (spaces_in drawn.imported.spaces) drawn.contents.exports
 
 -- the parts of a module from available imports, all of them valid and within the bounds
@@ -107,7 +130,8 @@ pub record AreFirstPartsByImports (config : Config) (shape : Shape) (bytes : Lis
   pub count : drawn.imported.count ≡ length (flattened drawn.imported.groups)
   pub type_size : drawn.imported.type_size ≡ sizes_of (shape_types shape) (flattened drawn.imported.groups)
   pub valid : All (IsImportsValid (features_of config)) drawn.imported.groups
-  pub stands : StandsAfter config (imported_spaces (flattened drawn.imported.groups)) drawn.types (spaces_in drawn.imported.spaces) drawn.definitions
+  pub stands : StandsAfter config (imported_spaces (flattened drawn.imported.groups)) drawn.types (spaces_in drawn.imported.spaces)
+      drawn.definitions
   pub within : AreImportsWithin config (shape_types shape) (flattened drawn.imported.groups)
   pub tables : All (Contains (shape_spaces shape).tables) drawn.imported.spaces.tables
   pub memories : All (Contains (shape_spaces shape).memories) drawn.imported.spaces.memories
@@ -123,7 +147,9 @@ pub record AreFirstParts (config : Config) (bytes : List ℕ) (drawn : PartsSoFa
 
 -- errors of the shapes that are used: lack of memory, or errors of the exports of a module shape
 abbrev pub MayRefuseFirstParts : Config → Error → Type 0
-MayRefuseFirstParts config e = (e ≡ errors.Memory) ⊎ IsSomeAnd config.module_shape (λ shape. MayRefuseRequired config (drawn_beside config (shape_types shape) (imported_spaces (shape_imports shape)) nothing_defined) shape e)
+MayRefuseFirstParts config e = (e ≡ errors.Memory) ⊎ IsSomeAnd config.module_shape
+    (λ shape. MayRefuseRequired config (drawn_beside config (shape_types shape) (imported_spaces (shape_imports shape)) nothing_defined)
+    shape e)
 
 -- a kind of entities
 abbrev pub IsOfEntities : Count → Type 0
@@ -154,8 +180,10 @@ IsMemoryKept config memory = Contains (of_shapes (λ spaces. spaces.memories) co
 pub record StandsSoFar (config : Config) (drawn : PartsSoFar) : Type 0 where
   pub groups : All (IsImportsValid (features_of config)) drawn.imported.groups
   pub count : drawn.imported.count ≡ length (flattened drawn.imported.groups)
-  pub stands : StandsAfter config (imported_spaces (flattened drawn.imported.groups)) drawn.types (spaces_in drawn.imported.spaces) drawn.definitions
-  pub most : (count : Count) → IsOfEntities count → count_in (spaces_in drawn.imported.spaces) count ≤ max (maximum_of config count) (items_of_shapes config count)
+  pub stands : StandsAfter config (imported_spaces (flattened drawn.imported.groups)) drawn.types (spaces_in drawn.imported.spaces)
+      drawn.definitions
+  pub most : (count : Count) → IsOfEntities count → count_in (spaces_in drawn.imported.spaces) count ≤ max (maximum_of config count)
+      (items_of_shapes config count)
   pub most_types : length drawn.types.types ≤ max config.max_types (items_of_shapes config counts.Types)
   pub most_imports : length (flattened drawn.imported.groups) ≤ max config.max_imports (items_of_shapes config counts.Imports)
   pub tables : All (IsTableKept config) drawn.imported.spaces.tables
@@ -168,9 +196,12 @@ pub record StandsSoFar (config : Config) (drawn : PartsSoFar) : Type 0 where
 pub record StandsWhole (config : Config) (drawn : PartsSoFar) : Type 0 where
   pub groups : All (IsImportsValid (features_of config)) drawn.imported.groups
   pub count : drawn.imported.count ≡ length (flattened drawn.imported.groups)
-  pub stands : StandsAfter config (imported_spaces (flattened drawn.imported.groups)) drawn.types (spaces_in drawn.imported.spaces) drawn.definitions
-  pub most : (count : Count) → IsOfEntities count → count_in (spaces_in drawn.imported.spaces) count ≤ max (maximum_of config count) (items_of_shapes config count) + items_of_export_shape config count
-  pub most_types : length drawn.types.types ≤ max config.max_types (items_of_shapes config counts.Types) + items_of_export_shape config counts.Types
+  pub stands : StandsAfter config (imported_spaces (flattened drawn.imported.groups)) drawn.types (spaces_in drawn.imported.spaces)
+      drawn.definitions
+  pub most : (count : Count) → IsOfEntities count → count_in (spaces_in drawn.imported.spaces) count ≤ max (maximum_of config count)
+      (items_of_shapes config count) + items_of_export_shape config count
+  pub most_types : length drawn.types.types ≤ max config.max_types (items_of_shapes config counts.Types) + items_of_export_shape config
+      counts.Types
   pub most_imports : length (flattened drawn.imported.groups) ≤ max config.max_imports (items_of_shapes config counts.Imports)
   pub tables : All (IsTableKept config) drawn.imported.spaces.tables
   pub memories : All (IsMemoryKept config) drawn.imported.spaces.memories

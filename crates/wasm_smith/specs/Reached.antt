@@ -19,7 +19,8 @@ pub record BeginsWithMember (config : Config) (groups : List (List SubType)) (fu
 
 -- the rest after such lists begins with bytes that spell these numbers and byte lists, which may
 -- follow
-pub record BeginsWithRest (config : Config) (groups : List (List SubType)) (funcs : List ℕ) (numbers : List ℤ) (passive : List (List ℕ)) (bytes : List ℕ) : Type 0 where
+pub record BeginsWithRest (config : Config) (groups : List (List SubType)) (funcs : List ℕ) (numbers : List ℤ) (passive : List (List ℕ))
+    (bytes : List ℕ) : Type 0 where
   pub may_stand : IsRest config numbers passive
   pub piece : List ℕ
   pub after : List ℕ
@@ -29,10 +30,12 @@ pub record BeginsWithRest (config : Config) (groups : List (List SubType)) (func
 -- the module has the lists that a source begins with, unless memory runs out
 abbrev pub ReachesMembers : Config → List ℕ → Result ModuleParts Error → Type 0
 ReachesMembers config bytes answer =
-    (groups : List (List SubType)) (funcs remaining : List ℕ) → BeginsWithMember config groups funcs bytes remaining → MatchResult answer (HasMember groups funcs) (λ e. e ≡ Memory)
+    (groups : List (List SubType)) (funcs remaining : List ℕ) → BeginsWithMember config groups funcs bytes remaining
+    → MatchResult answer (HasMember groups funcs) (λ e. e ≡ Memory)
 
 -- the module has the rest that follows these lists, unless memory runs out
 abbrev pub ReachesRests : Config → List ℕ → Result ModuleParts Error → Type 0
 ReachesRests config bytes answer =
-    (groups : List (List SubType)) (funcs remaining : List ℕ) (numbers : List ℤ) (passive : List (List ℕ)) → BeginsWithMember config groups funcs bytes remaining
+    (groups : List (List SubType)) (funcs remaining : List ℕ) (numbers : List ℤ) (passive : List (List ℕ))
+    → BeginsWithMember config groups funcs bytes remaining
     → BeginsWithRest config groups funcs numbers passive remaining → MatchResult answer (HasRest numbers passive) (λ e. e ≡ Memory)

@@ -13,5 +13,7 @@ use Rattle.smith_module_rules.specs.Module.{ModuleParts}
 -- them, whatever follows, has these lists, unless memory runs out
 abbrev pub SpelledComesBack : Type 0
 SpelledComesBack =
-    (distinct : Bool) (given : Config) (groups : List (List SubType)) (funcs piece remaining left : List ℕ) (answer : Result ModuleParts Error)
-    → AnswersSpelling given groups funcs (Ok (Some piece)) → IsGenerated distinct given (piece ++ remaining) answer left → MatchResult answer (HasMember groups funcs) (λ e. e ≡ Memory)
+    (distinct : Bool) (given : Config) (groups : List (List SubType)) (funcs piece remaining left : List ℕ)
+    (answer : Result ModuleParts Error)
+    → AnswersSpelling given groups funcs (Ok (Some piece)) → IsGenerated distinct given (piece ++ remaining) answer left
+    → MatchResult answer (HasMember groups funcs) (λ e. e ≡ Memory)

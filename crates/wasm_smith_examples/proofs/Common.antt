@@ -29,14 +29,36 @@ unfoldable pub use Rattle.smith_draw_contents.specs.AllExports.{everything_at, e
 unfoldable pub use Rattle.smith_draw_contents.specs.DataSegments.{counting_at, data_at, data_segments_at}
 unfoldable pub use Rattle.smith_draw_consts.specs.TriedLists.{try_grow_at}
 unfoldable pub use Rattle.smith_draw_contents.specs.DrawnBodies.{bodies_at}
-unfoldable pub use Rattle.smith_draw_contents.specs.ElementSegments.{element_kinds_at, element_segments_at, all_element_segments_at, table_kinds_at}
+unfoldable pub use Rattle.smith_draw_contents.specs.ElementSegments.{
+  element_kinds_at,
+  element_segments_at,
+  all_element_segments_at,
+  table_kinds_at,
+}
 unfoldable pub use Rattle.smith_draw_contents.specs.Exporting.{export_at, export_name_at, exports_from, free_exports_at}
 unfoldable pub use Rattle.smith_draw_contents.specs.Start.{start_at, start_wanted_at}
-unfoldable pub use Rattle.smith_draw_definitions.specs.Definitions.{definitions_at, funcs_at, globals_at, items_defined_at, items_tried_at, memories_at, tables_at, tags_at, type_indices_at}
+unfoldable pub use Rattle.smith_draw_definitions.specs.Definitions.{
+  definitions_at,
+  funcs_at,
+  globals_at,
+  items_defined_at,
+  items_tried_at,
+  memories_at,
+  tables_at,
+  tags_at,
+  type_indices_at,
+}
 unfoldable pub use Rattle.smith_draw_types.specs.Choices.{chosen_at}
 unfoldable pub use Rattle.smith_draw_types.specs.CompositeTypes.{composite_type_at, func_type_at, val_types_at}
 unfoldable pub use Rattle.smith_draw_types.specs.GlobalTypes.{global_type_at}
-unfoldable pub use Rattle.smith_draw_types.specs.RecGroups.{least_types_at, more_types_at, new_group_at, rec_group_at, types_at, types_until_at}
+unfoldable pub use Rattle.smith_draw_types.specs.RecGroups.{
+  least_types_at,
+  more_types_at,
+  new_group_at,
+  rec_group_at,
+  types_at,
+  types_until_at,
+}
 unfoldable pub use Rattle.smith_draw_types.specs.SubTypes.{root_type_at, sub_type_at, sub_type_of_at, supertypes}
 unfoldable pub use Rattle.smith_draw_types.specs.TypeUses.{is_tag_type, is_unshared_function}
 unfoldable pub use Rattle.smith_draw_types.specs.ValueTypes.{sharedness_at, val_type_at}

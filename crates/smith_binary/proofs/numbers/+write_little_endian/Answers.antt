@@ -11,4 +11,5 @@ returns-then-count-eq0-clause-writes t c = no_digits c.args.count c.args.value c
 
 pub returns-clause-writes : goal.returns-clause-writes
 returns-clause-writes t c =
-    on_ok_weaker c.write_little_endian.result (digit_written c.args.count c.args.value c.if-count-eq0.false c.in_ok-push.ensures.ok) c.write_little_endian.ensures.writes
+    on_ok_weaker c.write_little_endian.result (digit_written c.args.count c.args.value c.if-count-eq0.false c.in_ok-push.ensures.ok)
+    c.write_little_endian.ensures.writes

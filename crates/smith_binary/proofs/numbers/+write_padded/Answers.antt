@@ -2,7 +2,8 @@ use Rattle.std.proofs.Common.{arith, inl, inr}
 use Rattle.std.proofs.lemmas.Result.{on_ok_weaker}
 use Rattle.smith_binary.proofs.PaddedLemmas.{Continues, padded_end, padded_more}
 use Rattle.smith_binary.proofs.numbers.+write_padded.Goals as goal
-use Rattle.smith_binary.proofs.numbers.+write_padded.Goals.{else-value-lt128-via-then-value-lt128+else-least-le1, else-value-lt128-via-else-value-lt128}
+use Rattle.smith_binary.proofs.numbers.+write_padded.Goals.{else-value-lt128-via-then-value-lt128+else-least-le1}
+use Rattle.smith_binary.proofs.numbers.+write_padded.Goals.{else-value-lt128-via-else-value-lt128}
 
 pub returns-then-least-le1-clause-writes : goal.returns-then-least-le1-clause-writes
 returns-then-least-le1-clause-writes t c =
@@ -17,5 +18,6 @@ returns-clause-writes t c =
       | else-value-lt128-via-else-value-lt128 w ↦ inl w.if-value-lt128.false
     ] in
     on_ok_weaker c.write_padded.result
-    (λ rest bits fits wide. padded_more bits c.args.value c.args.least on fits wide c.in_ok-push.ensures.ok (rw c.saturating_sub.ensures at rest))
+    (λ rest bits fits wide. padded_more bits c.args.value c.args.least on fits wide c.in_ok-push.ensures.ok
+    (rw c.saturating_sub.ensures at rest))
     c.write_padded.ensures.writes

@@ -15,10 +15,12 @@ pub returns-clause-writes : goal.returns-clause-writes
 returns-clause-writes c =
     on_ok_weaker c.write_sized.result
     (λ sized. written_plain (func_body_is c.args.locals.now c.args.instructions.now)
-    (content_written c.fresh-content.ensures (joined_written c.in_ok-encode_locals.ensures.written c.in_ok-encode_expr.ensures.written) sized))
+    (content_written c.fresh-content.ensures (joined_written c.in_ok-encode_locals.ensures.written c.in_ok-encode_expr.ensures.written)
+    sized))
     (rw c.as_slice.ensures at c.write_sized.ensures.writes)
 
 pub returns-clause-fault : goal.returns-clause-fault
 returns-clause-fault c =
     let content = joined_written c.in_ok-encode_locals.ensures.written c.in_ok-encode_expr.ensures.written in
-    fault_weaker c.write_sized.result (λ long. inr (inr (long_content c.args.sink.now.least c.fresh-content.ensures content long))) (rw c.as_slice.ensures at c.write_sized.ensures.fault)
+    fault_weaker c.write_sized.result (λ long. inr (inr (long_content c.args.sink.now.least c.fresh-content.ensures content long)))
+    (rw c.as_slice.ensures at c.write_sized.ensures.fault)

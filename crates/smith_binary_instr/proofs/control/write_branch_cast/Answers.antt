@@ -3,4 +3,6 @@ use Rattle.smith_binary.proofs.WrittenLemmas.{joined_written}
 use Rattle.smith_binary_instr.proofs.control.write_branch_cast.Goals as goal
 
 pub returns-clause-writes : goal.returns-clause-writes
-returns-clause-writes c = on_ok_weaker c.encode-2.result (λ last. joined_written c.in_ok-write_prefixed.ensures.writes (joined_written (rw c.cast_byte.ensures at c.in_ok-write_byte.ensures.writes) (joined_written c.in_ok-write_u32.ensures.writes (joined_written c.in_ok-encode.ensures.writes last)))) c.encode-2.ensures.writes
+returns-clause-writes c = on_ok_weaker c.encode-2.result (λ last. joined_written c.in_ok-write_prefixed.ensures.writes
+    (joined_written (rw c.cast_byte.ensures at c.in_ok-write_byte.ensures.writes) (joined_written c.in_ok-write_u32.ensures.writes
+    (joined_written c.in_ok-encode.ensures.writes last)))) c.encode-2.ensures.writes

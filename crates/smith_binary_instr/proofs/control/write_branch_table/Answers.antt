@@ -3,4 +3,5 @@ use Rattle.smith_binary.proofs.WrittenLemmas.{joined_written}
 use Rattle.smith_binary_instr.proofs.control.write_branch_table.Goals as goal
 
 pub returns-clause-writes : goal.returns-clause-writes
-returns-clause-writes c = on_ok_weaker c.write_u32.result (λ last. joined_written c.in_ok-write_byte.ensures.writes (joined_written c.in_ok-encode.ensures.writes last)) c.write_u32.ensures.writes
+returns-clause-writes c = on_ok_weaker c.write_u32.result (λ last. joined_written c.in_ok-write_byte.ensures.writes
+    (joined_written c.in_ok-encode.ensures.writes last)) c.write_u32.ensures.writes

@@ -3,4 +3,5 @@ use Rattle.smith_binary.proofs.WrittenLemmas.{joined_written}
 use Rattle.smith_binary_instr.proofs.control.write_try_table.Goals as goal
 
 pub returns-clause-writes : goal.returns-clause-writes
-returns-clause-writes c = on_ok_weaker c.encode.result (λ last. joined_written c.in_ok-write_byte.ensures.writes (joined_written c.in_ok-write_block_type.ensures.writes last)) c.encode.ensures.writes
+returns-clause-writes c = on_ok_weaker c.encode.result (λ last. joined_written c.in_ok-write_byte.ensures.writes
+    (joined_written c.in_ok-write_block_type.ensures.writes last)) c.encode.ensures.writes

@@ -3,4 +3,5 @@ use Rattle.smith_binary.proofs.WrittenLemmas.{joined_written}
 use Rattle.smith_binary_instr.proofs.opcodes.write_prefixed_indices.Goals as goal
 
 pub returns-clause-writes : goal.returns-clause-writes
-returns-clause-writes c = on_ok_weaker c.write_u32-2.result (λ last. joined_written c.in_ok-write_prefixed.ensures.writes (joined_written c.in_ok-write_u32.ensures.writes last)) c.write_u32-2.ensures.writes
+returns-clause-writes c = on_ok_weaker c.write_u32-2.result (λ last. joined_written c.in_ok-write_prefixed.ensures.writes
+    (joined_written c.in_ok-write_u32.ensures.writes last)) c.write_u32-2.ensures.writes

@@ -3,4 +3,5 @@ use Rattle.smith_binary.proofs.WrittenLemmas.{joined_written}
 use Rattle.smith_binary_instr.proofs.vector.write_on_lane.Goals as goal
 
 pub returns-clause-writes : goal.returns-clause-writes
-returns-clause-writes c = on_ok_weaker c.write_byte.result (joined_written c.in_ok-write_numbered.ensures.writes) c.write_byte.ensures.writes
+returns-clause-writes c = on_ok_weaker c.write_byte.result (joined_written c.in_ok-write_numbered.ensures.writes)
+    c.write_byte.ensures.writes

@@ -9,7 +9,8 @@ pub returns-clause-short : goal.returns-clause-short
 returns-clause-short c = one_function_short
 
 pub returns-clause-with_many_locals : goal.returns-clause-with_many_locals
-returns-clause-with_many_locals c = λ locals many. IsTooLong.bodies (inl (inr (0, (locals, 0x00 ∷ 0x0B ∷ []), omega arith, refl, inl (inl many))))
+returns-clause-with_many_locals c =
+    λ locals many. IsTooLong.bodies (inl (inr (0, (locals, 0x00 ∷ 0x0B ∷ []), omega arith, refl, inl (inl many))))
 
 pub returns-clause-with_many_bytes : goal.returns-clause-with_many_bytes
 unfolding Each
@@ -25,7 +26,13 @@ returns-clause-with_many_bytes c = λ bytes many.
         spelled = record {
           first = 0x00 ∷ [];
           second = bytes;
-          is_first = record { first = 0x00 ∷ []; second = []; is_first = (unsigned_last 32 0 (omega arith) (omega arith)).spelled; is_second = refl; whole = refl };
+          is_first = record {
+            first = 0x00 ∷ [];
+            second = [];
+            is_first = (unsigned_last 32 0 (omega arith) (omega arith)).spelled;
+            is_second = refl;
+            whole = refl;
+          };
           is_second = refl;
           whole = refl;
         };

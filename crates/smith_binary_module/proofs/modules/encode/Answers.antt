@@ -18,7 +18,8 @@ use Rattle.smith_binary_module.proofs.MappedLemmas.{long_mapped}
 use Rattle.smith_binary_module.proofs.modules.encode.Goals as goal
 
 -- the bodies of a module are too long, or other parts are
-too_long : (m : ModuleParts) → IsTooLong m ⊎ (IsLongList (λ (code : Code). IsLongBody (body_of m.fuel_globals code)) m.code ⊎ IsLongContent (AreOwnBodies m)) → IsTooLong m
+too_long : (m : ModuleParts) → IsTooLong m ⊎ (IsLongList (λ (code : Code). IsLongBody (body_of m.fuel_globals code)) m.code
+    ⊎ IsLongContent (AreOwnBodies m)) → IsTooLong m
 too_long m (inl other) = other
 too_long m (inr long) = IsTooLong.bodies (long_mapped IsBodyWritten IsLongBody (body_of m.fuel_globals) m.code long)
 
@@ -44,4 +45,5 @@ pub returns-clause-spelling : goal.returns-clause-spelling
 returns-clause-spelling c = rw (c.fuel_globals.ensures, c.code.ensures.items) at c.encode_with_bodies.ensures.spelling
 
 pub returns-clause-fault : goal.returns-clause-fault
-returns-clause-fault c = fault_weaker c.encode_with_bodies.result (too_long c.args.module.now) (rw (c.fuel_globals.ensures, c.code.ensures.items) at c.encode_with_bodies.ensures.fault)
+returns-clause-fault c = fault_weaker c.encode_with_bodies.result (too_long c.args.module.now)
+    (rw (c.fuel_globals.ensures, c.code.ensures.items) at c.encode_with_bodies.ensures.fault)

@@ -11,4 +11,7 @@ returns-clause-writes c = rw (c.is_filled.ensures, c.data.ensures) at c.write_se
 
 pub returns-clause-fault : goal.returns-clause-fault
 returns-clause-fault c =
-    fault_weaker c.write_section_if.result (λ long. IsTooLong.datas (long_mapped IsData IsLongData data_of c.args.module.now.datas (long_as data_spelled c.args.module.now.datas long.1))) (rw (c.is_filled.ensures, c.data.ensures) at c.write_section_if.ensures.fault)
+    fault_weaker c.write_section_if.result
+    (λ long. IsTooLong.datas (long_mapped IsData IsLongData data_of c.args.module.now.datas
+    (long_as data_spelled c.args.module.now.datas long.1)))
+    (rw (c.is_filled.ensures, c.data.ensures) at c.write_section_if.ensures.fault)

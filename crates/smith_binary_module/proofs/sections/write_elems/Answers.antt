@@ -11,4 +11,7 @@ returns-clause-writes c = rw (c.is_filled.ensures, c.elems.ensures) at c.write_s
 
 pub returns-clause-fault : goal.returns-clause-fault
 returns-clause-fault c =
-    fault_weaker c.write_section_if.result (λ long. IsTooLong.elems (long_mapped IsElem IsLongElem elem_of c.args.module.now.elems (long_as elem_spelled c.args.module.now.elems long.1))) (rw (c.is_filled.ensures, c.elems.ensures) at c.write_section_if.ensures.fault)
+    fault_weaker c.write_section_if.result
+    (λ long. IsTooLong.elems (long_mapped IsElem IsLongElem elem_of c.args.module.now.elems
+    (long_as elem_spelled c.args.module.now.elems long.1)))
+    (rw (c.is_filled.ensures, c.elems.ensures) at c.write_section_if.ensures.fault)

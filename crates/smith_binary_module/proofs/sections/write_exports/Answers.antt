@@ -6,4 +6,5 @@ pub returns-clause-writes : goal.returns-clause-writes
 returns-clause-writes c = rw (c.is_filled.ensures, c.exports.ensures) at c.write_section_if.ensures.writes
 
 pub returns-clause-fault : goal.returns-clause-fault
-returns-clause-fault c = fault_weaker c.write_section_if.result (λ long. IsTooLong.exports long.1) (rw (c.is_filled.ensures, c.exports.ensures) at c.write_section_if.ensures.fault)
+returns-clause-fault c = fault_weaker c.write_section_if.result (λ long. IsTooLong.exports long.1)
+    (rw (c.is_filled.ensures, c.exports.ensures) at c.write_section_if.ensures.fault)

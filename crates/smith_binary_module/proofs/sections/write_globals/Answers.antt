@@ -10,7 +10,19 @@ use Rattle.smith_binary_module.proofs.MappedLemmas.{section_mapped, pairs_mapped
 use Rattle.smith_binary_module.proofs.sections.write_globals.Goals as goal
 
 pub returns-clause-writes : goal.returns-clause-writes
-returns-clause-writes c = on_ok_weaker c.write_section_if.result (written_as (section_mapped _ 6 IsGlobalIn initialised_global (zip (defined (length c.args.module.now.defined_globals) c.args.module.now.globals) c.args.module.now.defined_globals))) (rw (c.is_filled.ensures, c.defined_items.ensures, c.defined_globals-definitions.ensures, c.globals.ensures) at c.write_section_if.ensures.writes)
+returns-clause-writes c = on_ok_weaker c.write_section_if.result
+    (written_as (section_mapped _ 6 IsGlobalIn initialised_global
+    (zip (defined (length c.args.module.now.defined_globals) c.args.module.now.globals) c.args.module.now.defined_globals)))
+    (rw (c.is_filled.ensures, c.defined_items.ensures, c.defined_globals-definitions.ensures, c.globals.ensures) at
+    c.write_section_if.ensures.writes)
 
 pub returns-clause-fault : goal.returns-clause-fault
-returns-clause-fault c = fault_weaker c.write_section_if.result (λ long. IsTooLong.globals (pairs_mapped IsGlobal initialised_global (zip (defined (length c.args.module.now.defined_globals) c.args.module.now.globals) c.args.module.now.defined_globals) long.1)) (rw (c.is_filled.ensures, c.defined_items.ensures, c.defined_globals-definitions.ensures, c.globals.ensures) at c.write_section_if.ensures.fault)
+returns-clause-fault c = fault_weaker c.write_section_if.result
+    (λ long. IsTooLong.globals
+    (pairs_mapped IsGlobal initialised_global (zip (defined (length c.args.module.now.defined_globals) c.args.module.now.globals)
+    c.args.module.now.defined_globals) long.1)) (rw (
+      c.is_filled.ensures,
+      c.defined_items.ensures,
+      c.defined_globals-definitions.ensures,
+      c.globals.ensures,
+    ) at c.write_section_if.ensures.fault)

@@ -6,4 +6,5 @@ pub returns-clause-writes : goal.returns-clause-writes
 returns-clause-writes c = rw (c.writes_imports.ensures, c.imports.ensures) at c.write_section_if.ensures.writes
 
 pub returns-clause-fault : goal.returns-clause-fault
-returns-clause-fault c = fault_weaker c.write_section_if.result (λ long. IsTooLong.imports long.1) (rw (c.writes_imports.ensures, c.imports.ensures) at c.write_section_if.ensures.fault)
+returns-clause-fault c = fault_weaker c.write_section_if.result (λ long. IsTooLong.imports long.1)
+    (rw (c.writes_imports.ensures, c.imports.ensures) at c.write_section_if.ensures.fault)

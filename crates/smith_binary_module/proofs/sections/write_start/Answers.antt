@@ -9,7 +9,9 @@ returns-in-Some-clause-writes c = rw (← c.start.ensures, c.in-Some.is) c.write
 
 pub returns-in-Some-clause-fault : goal.returns-in-Some-clause-fault
 returns-in-Some-clause-fault c =
-    fault_weaker c.write_section_if.result (λ long. elim long.1 [ inl never ↦ absurd never | inr content ↦ absurd (index_never_long _ content) ]) c.write_section_if.ensures.fault
+    fault_weaker c.write_section_if.result
+    (λ long. elim long.1 [ inl never ↦ absurd never | inr content ↦ absurd (index_never_long _ content) ])
+    c.write_section_if.ensures.fault
 
 pub returns-in-None-clause-writes : goal.returns-in-None-clause-writes
 returns-in-None-clause-writes c = rw (← c.start.ensures, c.in-None.is) (nothing_written (λ s. refl))

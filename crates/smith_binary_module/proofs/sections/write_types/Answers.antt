@@ -8,7 +8,11 @@ use Rattle.smith_binary_module.proofs.MappedLemmas.{section_mapped, long_mapped}
 use Rattle.smith_binary_module.proofs.sections.write_types.Goals as goal
 
 pub returns-clause-writes : goal.returns-clause-writes
-returns-clause-writes c = on_ok_weaker c.write_section_if.result (written_as (section_mapped _ 1 IsRecGroupWrittenIn (group_at c.args.module.now.types) (c.args.module.now.groups))) (rw (c.writes_types.ensures, c.types.ensures, c.rec_groups.ensures) at c.write_section_if.ensures.writes)
+returns-clause-writes c = on_ok_weaker c.write_section_if.result
+    (written_as (section_mapped _ 1 IsRecGroupWrittenIn (group_at c.args.module.now.types) (c.args.module.now.groups)))
+    (rw (c.writes_types.ensures, c.types.ensures, c.rec_groups.ensures) at c.write_section_if.ensures.writes)
 
 pub returns-clause-fault : goal.returns-clause-fault
-returns-clause-fault c = fault_weaker c.write_section_if.result (λ long. IsTooLong.types (long_mapped IsRecGroupWritten IsLongGroup (group_at c.args.module.now.types) (c.args.module.now.groups) long.1)) (rw (c.writes_types.ensures, c.types.ensures, c.rec_groups.ensures) at c.write_section_if.ensures.fault)
+returns-clause-fault c = fault_weaker c.write_section_if.result
+    (λ long. IsTooLong.types (long_mapped IsRecGroupWritten IsLongGroup (group_at c.args.module.now.types) (c.args.module.now.groups)
+    long.1)) (rw (c.writes_types.ensures, c.types.ensures, c.rec_groups.ensures) at c.write_section_if.ensures.fault)

@@ -13,4 +13,5 @@ returns-clause-writes c =
 pub returns-clause-fault : goal.returns-clause-fault
 returns-clause-fault c =
     let content = joined_written c.in_ok-encode_locals.ensures.written c.in_ok-write_expression.ensures.writes in
-    fault_weaker c.write_sized.result (λ long. inr (inr (long_content c.args.sink.now.least c.fresh-content.ensures content long))) (rw c.as_slice.ensures at c.write_sized.ensures.fault)
+    fault_weaker c.write_sized.result (λ long. inr (inr (long_content c.args.sink.now.least c.fresh-content.ensures content long)))
+    (rw c.as_slice.ensures at c.write_sized.ensures.fault)

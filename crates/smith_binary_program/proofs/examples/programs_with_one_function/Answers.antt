@@ -6,7 +6,8 @@ use Rattle.smith_syntax.specs.declared.code.Code.{Code}
 use Rattle.smith_syntax.specs.declared.code.Instructions.TheVariants.{Unreachable}
 use Rattle.smith_binary_sections.specs.Codes.{IsRun}
 use Rattle.smith_binary_sections.specs.Long.{IsNeverLong}
-use Rattle.smith_binary_sections.proofs.SizeLemmas.{AtMost, bytes_within, joined_within, none_within, not_long, no_long_items, one_long_item, one_within, sized_within}
+use Rattle.smith_binary_sections.proofs.SizeLemmas.{AtMost, bytes_within, joined_within, none_within, not_long, no_long_items}
+use Rattle.smith_binary_sections.proofs.SizeLemmas.{one_long_item, one_within, sized_within}
 use Rattle.smith_binary_module.specs.ExampleModules.{one_function}
 use Rattle.smith_binary_module.proofs.ExampleLemmas.{one_function_short}
 use Rattle.smith_instr.specs.declared.instr.Instr.TheVariants as instr
@@ -24,11 +25,13 @@ given = (record { locals = []; instructions = Unreachable }, body.Drawn (instr.N
 
 content_within : AtMost 7 (IsFuncWritten [] (instr.Nop ∷ []))
 unfolding Each
-content_within = joined_within 5 2 (none_within (λ local. IsRun (1, local))) (joined_within 1 1 (joined_within 1 0 (bytes_within (0x01 ∷ [])) (bytes_within [])) (bytes_within (0x0B ∷ [])))
+content_within = joined_within 5 2 (none_within (λ local. IsRun (1, local)))
+    (joined_within 1 1 (joined_within 1 0 (bytes_within (0x01 ∷ [])) (bytes_within [])) (bytes_within (0x0B ∷ [])))
 
 -- the format has a form of `nop`
 nop_short : Any IsLongInstr (instr.Nop ∷ []) → ⊥
-nop_short (k, x, inside, is, long) = All-from_recursion (λ y. IsLongInstr y → ⊥) (instr.Nop ∷ []) ((λ h. h), tt) k x inside (subst IsLongInstr (sym is) long)
+nop_short (k, x, inside, is, long) = All-from_recursion (λ y. IsLongInstr y → ⊥) (instr.Nop ∷ []) ((λ h. h), tt) k x inside
+    (subst IsLongInstr (sym is) long)
 
 body_short : IsLongDrawn [] [] (instr.Nop ∷ []) → ⊥
 body_short (inl long) = no_long_items IsNeverLong long
@@ -44,4 +47,11 @@ pub returns-clause-short : goal.returns-clause-short
 returns-clause-short c = program_short
 
 pub returns-clause-with_many_locals : goal.returns-clause-with_many_locals
-returns-clause-with_many_locals c = λ locals many. inr (inl (inr (0, (record { locals = locals; instructions = Unreachable }, body.Drawn (instr.Nop ∷ [])), omega arith, refl, inl (inl many))))
+returns-clause-with_many_locals c =
+    λ locals many. inr (inl (inr (
+      0,
+      (record { locals = locals; instructions = Unreachable }, body.Drawn (instr.Nop ∷ [])),
+      omega arith,
+      refl,
+      inl (inl many),
+    )))

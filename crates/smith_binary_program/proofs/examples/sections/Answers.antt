@@ -12,7 +12,13 @@ use Rattle.smith_binary_program.proofs.examples.sections.Goals as goal
 alone : Each IsAnySection (12 ∷ []) (0x0C ∷ 0x01 ∷ 0x00 ∷ [])
 unfolding Each
 alone =
-    let sized : IsSized (λ (content : List ℕ). Unit {0}) (0x01 ∷ 0x00 ∷ []) = record { content = 0x00 ∷ []; is_content = tt; form = both (0x01 ∷ []) (0x00 ∷ []) (unsigned_last 32 1 (omega arith) (omega arith)).spelled refl } in
+    let sized : IsSized (λ (content : List ℕ). Unit {0}) (0x01 ∷ 0x00 ∷ []) =
+    record {
+      content = 0x00 ∷ [];
+      is_content = tt;
+      form = both (0x01 ∷ []) (0x00 ∷ [])
+          (unsigned_last 32 1 (omega arith) (omega arith)).spelled refl;
+    } in
     both (0x0C ∷ 0x01 ∷ 0x00 ∷ []) [] (both (0x0C ∷ []) (0x01 ∷ 0x00 ∷ []) refl sized) refl
 
 length_joined : (bytes one other : List ℕ) → bytes ≡ one ++ other → length bytes ≡ length one + length other

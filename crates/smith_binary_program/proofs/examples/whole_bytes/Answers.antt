@@ -38,7 +38,8 @@ sections =
     (none (IsOptionalSection.absent refl refl)
     (none (IsOptionalSection.absent refl refl)
     (none (IsOptionalSection.absent refl refl)
-    (none refl (none (IsOptionalSection.absent refl refl) (none (IsOptionalSection.absent tt refl) (none (IsOptionalSection.absent refl refl) (IsOptionalSection.absent refl refl)))))))))))))
+    (none refl (none (IsOptionalSection.absent refl refl)
+    (none (IsOptionalSection.absent tt refl) (none (IsOptionalSection.absent refl refl) (IsOptionalSection.absent refl refl)))))))))))))
 
 spelled : IsModule (program_contents empty []) preamble
 spelled = record { each = refl; form = sections }

@@ -14,7 +14,9 @@ returns-clause-spelled c =
     let m = c.args.program.now.«module» in
     let bodies = c.args.program.now.bodies in
     let each : HasBodies m.num_defined_funcs m.funcs m.code = rw c.module-module.ensures at c.code.ensures.each in
-    IfOk-weaker c.encode_with_bodies.result (λ bytes. IsModuleAround (contents_of m) (IsSectionIf (is_filled m.code) 10 (AreBodiesOf m.fuel_globals m.code bodies)) bytes.items) (λ bytes. IsProgramBinary m bodies bytes.items)
+    IfOk-weaker c.encode_with_bodies.result
+    (λ bytes. IsModuleAround (contents_of m) (IsSectionIf (is_filled m.code) 10 (AreBodiesOf m.fuel_globals m.code bodies)) bytes.items)
+    (λ bytes. IsProgramBinary m bodies bytes.items)
     (λ bytes. program_is m bodies each c.bodies.ensures.each bytes.items)
     (rw (c.fuel_globals.ensures, c.code.ensures.items, c.bodies.ensures.items, c.module-module.ensures)
     at c.encode_with_bodies.ensures.spelled)

@@ -6,4 +6,5 @@ use Rattle.smith_binary_sections.proofs.instructions.write_vector_const.Goals as
 
 pub returns-clause-writes : goal.returns-clause-writes
 returns-clause-writes c =
-    on_ok_weaker c.write_vector.result (joined_written c.in_ok-write_prefixed.ensures.writes) (rw (to_z-of_z w128 c.args.value c.ranges.value) at c.write_vector.ensures.writes)
+    on_ok_weaker c.write_vector.result (joined_written c.in_ok-write_prefixed.ensures.writes)
+    (rw (to_z-of_z w128 c.args.value c.ranges.value) at c.write_vector.ensures.writes)

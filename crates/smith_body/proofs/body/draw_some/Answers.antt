@@ -19,14 +19,16 @@ pub returns-clause-allowed : goal.returns-clause-allowed
 returns-clause-allowed c = all_enabled c.args.scope.now _ (body_allowed c.in_ok-draw_results.ensures.drawn c.new.ensures)
 
 pub returns-clause-trapless : goal.returns-clause-trapless
-returns-clause-trapless c = λ disallowed. all_trapless c.args.scope.now _ (body_allowed c.in_ok-draw_results.ensures.drawn c.new.ensures) disallowed
+returns-clause-trapless c = λ disallowed. all_trapless c.args.scope.now _ (body_allowed c.in_ok-draw_results.ensures.drawn c.new.ensures)
+    disallowed
 
 pub returns-clause-short : goal.returns-clause-short
 returns-clause-short c = body_short c.in_ok-draw_results.ensures.drawn c.new.ensures
 
 pub returns-clause-exact : goal.returns-clause-exact
 returns-clause-exact c = record {
-  exact = body_exact c.args.scope.now.config.now (bare c.args.scope.now) c.args.budget c.args.u.now _ _ c.requires.some c.in_ok-draw_results.ensures.exact
+  exact = body_exact c.args.scope.now.config.now (bare c.args.scope.now) c.args.budget c.args.u.now _ _ c.requires.some
+      c.in_ok-draw_results.ensures.exact
       (rw (c.new.ensures, c.new-2.ensures, c.in_ok-push.ensures.items, c.new-labels.ensures.items, c.in_ok-from_slice.ensures.ok) refl);
   memory = tt;
   left = c.draw_results.ensures.left;

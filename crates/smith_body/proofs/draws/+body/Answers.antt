@@ -2,62 +2,95 @@ use Rattle.std.proofs.Common.{◌≡◌, ◌≤◌, refl, sym, subst, arith, ◌
 use Rattle.smith_body_nodes.proofs.ResultLemmas.{ok_both}
 use Rattle.std.proofs.lemmas.Result.{on_ok_weaker}
 use Rattle.std.proofs.lemmas.List.{take_all}
-use Rattle.smith_body.proofs.DrawnLemmas.{paid_for, drawn_none, drawn_then, drawn_within, drawn_turn, plain_drawn, enclosed_drawn, if_drawn, labels_kept, try_drawn}
+use Rattle.smith_body.proofs.DrawnLemmas.{paid_for, drawn_none, drawn_then, drawn_within, drawn_turn, plain_drawn, enclosed_drawn, if_drawn}
+use Rattle.smith_body.proofs.DrawnLemmas.{labels_kept, try_drawn}
 use Rattle.smith_body.specs.Bodies.{drawing_at, statement_at}
 use Rattle.smith_syntax.specs.FeatureBits.{features_in}
 use Rattle.smith_body.specs.DraftSteps.{state_of}
 use Rattle.smith_body_nodes.proofs.StopLemmas.{node_goes_on}
 use Rattle.smith_body_nodes.specs.Nodes.{IsNode, label_of, opened}
 use Rattle.smith_body_nodes.specs.Scopes.{bare, where_stands, widest}
-use Rattle.smith_body.proofs.ExactLemmas.{all_left, chosen_ending, chosen_statement, chosen_value, deep_statements, drops_written, enclosed_exact, forbidden_ending, forbidden_statement, head_enclosed, head_if, head_try, if_exact, inside_exact, last_statements, last_value, next_value, no_ending, no_values, node_exact, none_left, one_less, opened_again, opened_once, other_value, plain_exact, results_dead, results_drawn, results_ended, results_still, stopped, unpaid_value}
+use Rattle.smith_body.proofs.ExactLemmas.{all_left, chosen_ending, chosen_statement, chosen_value, deep_statements, drops_written}
+use Rattle.smith_body.proofs.ExactLemmas.{enclosed_exact, forbidden_ending, forbidden_statement, head_enclosed, head_if, head_try, if_exact}
+use Rattle.smith_body.proofs.ExactLemmas.{inside_exact, last_statements, last_value, next_value, no_ending, no_values, node_exact}
+use Rattle.smith_body.proofs.ExactLemmas.{none_left, one_less, opened_again, opened_once, other_value, plain_exact, results_dead}
+use Rattle.smith_body.proofs.ExactLemmas.{results_drawn, results_ended, results_still, stopped, unpaid_value}
 use Rattle.smith_instr.specs.Contexts.{AreValid}
 use Rattle.smith_instr.specs.declared.instr.Instr.TheVariants as instr
 use Rattle.smith_body_nodes.proofs.NodeLemmas.{no_valid}
-use Rattle.smith_body.proofs.draws.+body.Goals.{draw_value-then-depth-eq0-via-then-depth-eq0, draw_value-then-depth-eq0-via-else-depth-eq0+then-draft-eq0, draw_masked-then-draft-eq0-via-then-draft-eq0, draw_masked-then-draft-eq0-via-else-draft-eq0+then-not-is_allowed, draw_masked-then-draft-eq0-via-else-draft-eq0+else-not-is_allowed+then-not-is_allowed-2}
+use Rattle.smith_body.proofs.draws.+body.Goals.{draw_value-then-depth-eq0-via-then-depth-eq0}
+use Rattle.smith_body.proofs.draws.+body.Goals.{draw_value-then-depth-eq0-via-else-depth-eq0+then-draft-eq0}
+use Rattle.smith_body.proofs.draws.+body.Goals.{draw_masked-then-draft-eq0-via-then-draft-eq0}
+use Rattle.smith_body.proofs.draws.+body.Goals.{draw_masked-then-draft-eq0-via-else-draft-eq0+then-not-is_allowed}
+use Rattle.smith_body.proofs.draws.+body.Goals.{draw_masked-then-draft-eq0-via-else-draft-eq0+else-not-is_allowed+then-not-is_allowed-2}
 use Rattle.smith_body.proofs.draws.+body.Goals as goal
 use Rattle.smith_body.proofs.LeftLemmas.{node_drawn, spare_few, spare_valid}
 use Rattle.smith_body.proofs.RepeatLemmas.{budget_less, inside_drawn, opened_drawn, repeated_drawn, repeated_exact, without_params}
-use Rattle.smith_body.proofs.OperandLemmas.{next_operand, by_way, constant_drawn, near_constant, near_value, written_state, masked_drawn, masked_value, masks_written, no_mask, no_masking, unpaid_masked}
+use Rattle.smith_body.proofs.OperandLemmas.{next_operand, by_way, constant_drawn, near_constant, near_value, written_state, masked_drawn}
+use Rattle.smith_body.proofs.OperandLemmas.{masked_value, masks_written, no_mask, no_masking, unpaid_masked}
 use Rattle.smith_body.specs.declared.operands.OperandWay.TheVariants as way
 use Rattle.smith_body.specs.Operands.{address_constant, mask_of, masking}
 
 pub draw_value-returns-then-depth-eq0-clause-exact : goal.draw_value-returns-then-depth-eq0-clause-exact
 draw_value-returns-then-depth-eq0-clause-exact t c = elim c.then-depth-eq0.branch [
   | draw_value-then-depth-eq0-via-then-depth-eq0 w ↦
-      on_ok_weaker c.write_leaf.result (λ is. last_value c.args.scope.now.config.now c.args.depth c.args.wanted (state_of c.args.scope.now c.args.draft.now c.args.u.now) (omega (arith, w.if-depth-eq0.true)) ∙ is) c.write_leaf.ensures.exact
+      on_ok_weaker c.write_leaf.result (λ is. last_value c.args.scope.now.config.now c.args.depth c.args.wanted
+      (state_of c.args.scope.now c.args.draft.now c.args.u.now) (omega (arith, w.if-depth-eq0.true)) ∙ is) c.write_leaf.ensures.exact
   | draw_value-then-depth-eq0-via-else-depth-eq0+then-draft-eq0 w ↦
-      on_ok_weaker c.write_leaf.result (λ is. unpaid_value c.args.scope.now.config.now c.args.depth c.args.wanted (state_of c.args.scope.now c.args.draft.now c.args.u.now) (omega (arith, w.if-draft-eq0.true)) ∙ is) c.write_leaf.ensures.exact
+      on_ok_weaker c.write_leaf.result (λ is. unpaid_value c.args.scope.now.config.now c.args.depth c.args.wanted
+      (state_of c.args.scope.now c.args.draft.now c.args.u.now) (omega (arith, w.if-draft-eq0.true)) ∙ is) c.write_leaf.ensures.exact
 ]
 
 pub draw_value-returns-in-Some-clause-exact : goal.draw_value-returns-in-Some-clause-exact
 draw_value-returns-in-Some-clause-exact t c =
-    on_ok_weaker c.draw_node.result (λ is. chosen_value c.args.scope.now.config.now c.args.depth c.args.wanted (state_of c.args.scope.now c.args.draft.now c.args.u.now) c.in-Some.node _ (omega arith) (omega arith) (rw c.in-Some.is at c.in_ok-chosen.ensures.exact) ∙ is) c.draw_node.ensures.exact
+    on_ok_weaker c.draw_node.result (λ is. chosen_value c.args.scope.now.config.now c.args.depth c.args.wanted
+    (state_of c.args.scope.now c.args.draft.now c.args.u.now) c.in-Some.node _ (omega arith) (omega arith)
+    (rw c.in-Some.is at c.in_ok-chosen.ensures.exact) ∙ is) c.draw_node.ensures.exact
 
 pub draw_value-returns-in-None-clause-exact : goal.draw_value-returns-in-None-clause-exact
 draw_value-returns-in-None-clause-exact t c =
-    on_ok_weaker c.write_leaf-in-None.result (λ is. other_value c.args.scope.now.config.now c.args.depth c.args.wanted (state_of c.args.scope.now c.args.draft.now c.args.u.now) _ (omega arith) (omega arith) (rw c.in-None.is at c.in_ok-chosen.ensures.exact) ∙ is) c.write_leaf-in-None.ensures.exact
+    on_ok_weaker c.write_leaf-in-None.result (λ is. other_value c.args.scope.now.config.now c.args.depth c.args.wanted
+    (state_of c.args.scope.now c.args.draft.now c.args.u.now) _ (omega arith) (omega arith)
+    (rw c.in-None.is at c.in_ok-chosen.ensures.exact) ∙ is) c.write_leaf-in-None.ensures.exact
 
 pub draw_values-loop-value-init : goal.draw_values-loop-value-init
-draw_values-loop-value-init t c = record { drawn = drawn_none c.args.scope.now c.args.draft.now; exact = refl; labels = c.requires.labels; kept = λ whole h. h }
+draw_values-loop-value-init t c = record {
+  drawn = drawn_none c.args.scope.now c.args.draft.now;
+  exact = refl;
+  labels = c.requires.labels;
+  kept = λ whole h. h;
+}
 
 pub draw_values-loop-value-preserved : goal.draw_values-loop-value-preserved
 draw_values-loop-value-preserved t c = record {
-  drawn = drawn_turn c.args.wanted.now c.loop-value.value-index _ c.requires.valid c.loop-value-test.true c.loop-value.invariant.drawn c.in_ok-draw_value.ensures.drawn;
-  exact = c.loop-value.invariant.exact ∙ next_value (drawing_at c.args.scope.now.config.now c.args.depth) c.args.wanted.now c.loop-value.value-index _ _ _ c.loop-value-test.true c.in_ok-draw_value.ensures.exact;
+  drawn = drawn_turn c.args.wanted.now c.loop-value.value-index _ c.requires.valid c.loop-value-test.true c.loop-value.invariant.drawn
+      c.in_ok-draw_value.ensures.drawn;
+  exact = c.loop-value.invariant.exact ∙ next_value (drawing_at c.args.scope.now.config.now c.args.depth) c.args.wanted.now
+      c.loop-value.value-index _ _ _ c.loop-value-test.true c.in_ok-draw_value.ensures.exact;
   labels = labels_kept c.in_ok-draw_value.ensures.drawn c.loop-value.invariant.labels;
   kept = λ whole h. c.draw_value.ensures.left whole (c.loop-value.invariant.kept whole h);
 }
 
 pub draw_values-returns-clause-drawn : goal.draw_values-returns-clause-drawn
-draw_values-returns-clause-drawn t c = rw (take_all c.loop-value.value-index c.args.wanted.now (omega arith)) at c.loop-value.invariant.drawn
+draw_values-returns-clause-drawn t c = rw (take_all c.loop-value.value-index c.args.wanted.now (omega arith)) at
+    c.loop-value.invariant.drawn
 
 pub draw_statements-loop-draft-init : goal.draw_statements-loop-draft-init
-draw_statements-loop-draft-init t c = record { drawn = drawn_none c.args.scope.now c.args.draft.now; rest = all_left (statement_at c.args.scope.now.config.now (drawing_at c.args.scope.now.config.now (c.args.depth - 1))) (state_of c.args.scope.now c.args.draft.now c.args.u.now); labels = c.requires.labels; kept = λ whole h. h }
+draw_statements-loop-draft-init t c = record {
+  drawn = drawn_none c.args.scope.now c.args.draft.now;
+  rest = all_left (statement_at c.args.scope.now.config.now (drawing_at c.args.scope.now.config.now (c.args.depth - 1)))
+      (state_of c.args.scope.now c.args.draft.now c.args.u.now);
+  labels = c.requires.labels;
+  kept = λ whole h. h;
+}
 
 pub draw_statements-loop-draft-preserved : goal.draw_statements-loop-draft-preserved
 draw_statements-loop-draft-preserved t c = record {
   drawn = drawn_then c.loop-draft.invariant.drawn c.in_ok-draw_statement.ensures.drawn;
-  rest = one_less (statement_at c.args.scope.now.config.now (drawing_at c.args.scope.now.config.now (c.args.depth - 1))) _ _ _ c.int_in_range-number.result _ (omega arith) (rw (c.new.ensures.start, c.new.ensures.end) at c.int_in_range-number.ensures.exact) (rw (← c.interval.ensures.exact) (omega (arith, c.if-number-interval-eq0.false))) c.in_ok-draw_statement.ensures.exact c.in_ok-draw_statement.ensures.less c.loop-draft.invariant.rest;
+  rest = one_less (statement_at c.args.scope.now.config.now (drawing_at c.args.scope.now.config.now (c.args.depth - 1))) _ _ _
+      c.int_in_range-number.result _ (omega arith) (rw (c.new.ensures.start, c.new.ensures.end) at c.int_in_range-number.ensures.exact)
+      (rw (← c.interval.ensures.exact) (omega (arith, c.if-number-interval-eq0.false))) c.in_ok-draw_statement.ensures.exact
+      c.in_ok-draw_statement.ensures.less c.loop-draft.invariant.rest;
   labels = labels_kept c.in_ok-draw_statement.ensures.drawn c.loop-draft.invariant.labels;
   kept = λ whole h. c.draw_statement.ensures.left whole (c.int_in_range-number.ensures.left whole (c.loop-draft.invariant.kept whole h));
 }
@@ -67,14 +100,16 @@ draw_statements-returns-then-depth-eq0-clause-drawn t c = drawn_none c.args.scop
 
 pub draw_head-returns-in-Plain-clause-drawn : goal.draw_head-returns-in-Plain-clause-drawn
 draw_head-returns-in-Plain-clause-drawn t c = λ operands given values typed below valid goes_on local.
-    on_ok_weaker c.write_plain.result (plain_drawn c.args.head c.in-Plain.instruction operands given values c.args.sets c.in-Plain.is typed below valid c.requires.allowed.instruction goes_on local) c.write_plain.ensures.written
+    on_ok_weaker c.write_plain.result (plain_drawn c.args.head c.in-Plain.instruction operands given values c.args.sets c.in-Plain.is typed
+    below valid c.requires.allowed.instruction goes_on local) c.write_plain.ensures.written
 
 pub draw_enclosed-returns-clause-drawn : goal.draw_enclosed-returns-clause-drawn
 draw_enclosed-returns-clause-drawn t c = λ values fits may below valid.
     let sides = c.args.sides.now in
     let start = rw (c.opening_instr.ensures, c.label_of-label.ensures) at c.in_ok-write_opening.ensures.opened in
     let drawn = c.in_ok-draw_inside.ensures.drawn in
-    ok_both c.write_end.result (enclosed_drawn c.args.opening c.args.ty sides.params sides.results values fits may c.requires.sides.results below valid c.requires.allowed c.requires.sides.few start drawn c.len-height.result c.len-height.ensures)
+    ok_both c.write_end.result (enclosed_drawn c.args.opening c.args.ty sides.params sides.results values fits may c.requires.sides.results
+    below valid c.requires.allowed c.requires.sides.few start drawn c.len-height.result c.len-height.ensures)
     c.write_end.ensures.ended (c.write_end.ensures.left_label _ _ (drawn.same ∙ start.labels))
 
 pub draw_if-returns-clause-drawn : goal.draw_if-returns-clause-drawn
@@ -83,8 +118,11 @@ draw_if-returns-clause-drawn t c = λ values fits below valid.
     let start = rw c.as_slice.ensures at c.in_ok-write_opening.ensures.opened in
     let first = c.in_ok-draw_inside.ensures.drawn in
     let last = c.in_ok-draw_inside-2.ensures.drawn in
-    ok_both c.write_end.result (if_drawn c.args.ty sides.params sides.results values fits below valid c.requires.allowed c.requires.sides.few start first c.len-height.result c.len-height.ensures c.in_ok-write_else.ensures.ended c.in_ok-write_else.ensures.same last)
-    c.write_end.ensures.ended (c.write_end.ensures.left_label _ _ (last.same ∙ (c.in_ok-write_else.ensures.same ∙ (first.same ∙ start.labels))))
+    ok_both c.write_end.result (if_drawn c.args.ty sides.params sides.results values fits below valid c.requires.allowed
+    c.requires.sides.few start first c.len-height.result c.len-height.ensures c.in_ok-write_else.ensures.ended
+    c.in_ok-write_else.ensures.same last)
+    c.write_end.ensures.ended
+    (c.write_end.ensures.left_label _ _ (last.same ∙ (c.in_ok-write_else.ensures.same ∙ (first.same ∙ start.labels))))
 
 pub draw_if-returns-clause-left : goal.draw_if-returns-clause-left
 draw_if-returns-clause-left t c = λ whole h. c.draw_inside-2.ensures.left whole (c.draw_inside.ensures.left whole h)
@@ -108,7 +146,8 @@ draw_node-settle_values-requires-clause-drops t c = rw (c.as_slice-2.ensures, c.
 pub draw_node-returns-clause-drawn : goal.draw_node-returns-clause-drawn
 draw_node-returns-clause-drawn t c = λ values fits goes_on.
     let spare = c.in_ok-spare.ensures.exact in
-    let valid = subst (AreValid (bare c.args.scope.now)) (sym spare) (spare_valid c.args.scope.now c.args.draft.now.labels.items c.args.node.head
+    let valid = subst (AreValid (bare c.args.scope.now)) (sym spare)
+    (spare_valid c.args.scope.now c.args.draft.now.labels.items c.args.node.head
     c.args.node.drops c.requires.scope c.requires.labels c.requires.inside) in
     let operands = rw c.as_slice.ensures at c.in_ok-draw_operands.ensures.drawn in
     let settles = rw c.as_slice-2.ensures at c.in_ok-settle_values.ensures.drawn in
@@ -122,34 +161,47 @@ draw_node-returns-clause-drawn t c = λ values fits goes_on.
 pub draw_statement-returns-then-not-is_node_allowed-clause-drawn : goal.draw_statement-returns-then-not-is_node_allowed-clause-drawn
 draw_statement-returns-then-not-is_node_allowed-clause-drawn t c =
     rw c.saturating_sub-draft.ensures
-    (paid_for {n = 0} (omega arith) c.requires.paid (drawn_none c.args.scope.now (record c.args.draft.now { budget = c.args.draft.now.budget - 1 })))
+    (paid_for {n = 0} (omega arith) c.requires.paid
+    (drawn_none c.args.scope.now (record c.args.draft.now { budget = c.args.draft.now.budget - 1 })))
 
 pub draw_statement-returns-clause-drawn : goal.draw_statement-returns-clause-drawn
 draw_statement-returns-clause-drawn t c =
     c.draw_node.ensures.drawn [] c.in_ok-node.ensures.node
-    (node_goes_on (features_in c.args.scope.now.features) c.args.scope.now.config.now c.in_ok-node.node (sym c.is_node_allowed.ensures.exact ∙ c.if-not-is_node_allowed.false))
+    (node_goes_on (features_in c.args.scope.now.features) c.args.scope.now.config.now c.in_ok-node.node (sym c.is_node_allowed.ensures.exact
+    ∙ c.if-not-is_node_allowed.false))
 
 pub draw_values-returns-clause-exact : goal.draw_values-returns-clause-exact
-draw_values-returns-clause-exact t c = c.loop-value.invariant.exact ∙ no_values (drawing_at c.args.scope.now.config.now c.args.depth) c.args.wanted.now c.loop-value.value-index _ (omega arith)
+draw_values-returns-clause-exact t c = c.loop-value.invariant.exact ∙ no_values (drawing_at c.args.scope.now.config.now c.args.depth)
+    c.args.wanted.now c.loop-value.value-index _ (omega arith)
 
 pub draw_statements-returns-then-depth-eq0-clause-exact : goal.draw_statements-returns-then-depth-eq0-clause-exact
-draw_statements-returns-then-depth-eq0-clause-exact t c = last_statements c.args.scope.now.config.now c.args.depth (state_of c.args.scope.now c.args.draft.now c.args.u.now) (omega arith)
+draw_statements-returns-then-depth-eq0-clause-exact t c = last_statements c.args.scope.now.config.now c.args.depth
+    (state_of c.args.scope.now c.args.draft.now c.args.u.now) (omega arith)
 
 pub draw_statements-returns-then-number-interval-eq0-clause-exact : goal.draw_statements-returns-then-number-interval-eq0-clause-exact
 draw_statements-returns-then-number-interval-eq0-clause-exact t c =
     deep_statements c.args.scope.now.config.now c.args.depth (state_of c.args.scope.now c.args.draft.now c.args.u.now) (omega arith)
-    ∙ stopped (statement_at c.args.scope.now.config.now (drawing_at c.args.scope.now.config.now (c.args.depth - 1))) _ _ c.int_in_range-number.result _ (omega arith) (rw (c.new.ensures.start, c.new.ensures.end) at c.int_in_range-number.ensures.exact) (rw (← c.interval.ensures.exact) (omega (arith, c.if-number-interval-eq0.true))) c.loop-draft.invariant.rest
+    ∙ stopped (statement_at c.args.scope.now.config.now (drawing_at c.args.scope.now.config.now (c.args.depth - 1))) _ _
+    c.int_in_range-number.result _ (omega arith) (rw (c.new.ensures.start, c.new.ensures.end) at c.int_in_range-number.ensures.exact)
+    (rw (← c.interval.ensures.exact) (omega (arith, c.if-number-interval-eq0.true))) c.loop-draft.invariant.rest
 
 pub draw_statements-returns-clause-exact : goal.draw_statements-returns-clause-exact
-draw_statements-returns-clause-exact t c = deep_statements c.args.scope.now.config.now c.args.depth (state_of c.args.scope.now c.args.draft.now c.args.u.now) (omega arith) ∙ none_left (statement_at c.args.scope.now.config.now (drawing_at c.args.scope.now.config.now (c.args.depth - 1))) _ _ (omega arith) c.loop-draft.invariant.rest
+draw_statements-returns-clause-exact t c = deep_statements c.args.scope.now.config.now c.args.depth
+    (state_of c.args.scope.now c.args.draft.now c.args.u.now) (omega arith)
+    ∙ none_left (statement_at c.args.scope.now.config.now (drawing_at c.args.scope.now.config.now (c.args.depth - 1))) _ _ (omega arith)
+    c.loop-draft.invariant.rest
 
 pub draw_statement-returns-then-not-is_node_allowed-clause-exact : goal.draw_statement-returns-then-not-is_node_allowed-clause-exact
 draw_statement-returns-then-not-is_node_allowed-clause-exact t c =
-    rw c.saturating_sub-draft.ensures (forbidden_statement c.args.scope.now.config.now (drawing_at c.args.scope.now.config.now (c.args.depth - 1)) (state_of c.args.scope.now c.args.draft.now c.args.u.now) _ _ c.in_ok-node.ensures.exact (sym c.is_node_allowed.ensures.exact ∙ c.if-not-is_node_allowed.true))
+    rw c.saturating_sub-draft.ensures (forbidden_statement c.args.scope.now.config.now
+    (drawing_at c.args.scope.now.config.now (c.args.depth - 1)) (state_of c.args.scope.now c.args.draft.now c.args.u.now) _ _
+    c.in_ok-node.ensures.exact (sym c.is_node_allowed.ensures.exact ∙ c.if-not-is_node_allowed.true))
 
 pub draw_statement-returns-clause-exact : goal.draw_statement-returns-clause-exact
 draw_statement-returns-clause-exact t c =
-    on_ok_weaker c.draw_node.result (λ is. chosen_statement c.args.scope.now.config.now (drawing_at c.args.scope.now.config.now (c.args.depth - 1)) (state_of c.args.scope.now c.args.draft.now c.args.u.now) _ _ c.in_ok-node.ensures.exact (sym c.is_node_allowed.ensures.exact ∙ c.if-not-is_node_allowed.false) ∙ is) c.draw_node.ensures.exact
+    on_ok_weaker c.draw_node.result (λ is. chosen_statement c.args.scope.now.config.now
+    (drawing_at c.args.scope.now.config.now (c.args.depth - 1)) (state_of c.args.scope.now c.args.draft.now c.args.u.now) _ _
+    c.in_ok-node.ensures.exact (sym c.is_node_allowed.ensures.exact ∙ c.if-not-is_node_allowed.false) ∙ is) c.draw_node.ensures.exact
 
 pub draw_node-returns-clause-exact : goal.draw_node-returns-clause-exact
 draw_node-returns-clause-exact t c =
@@ -164,7 +216,9 @@ draw_node-returns-clause-exact t c =
 
 pub draw_head-returns-in-Plain-clause-exact : goal.draw_head-returns-in-Plain-clause-exact
 draw_head-returns-in-Plain-clause-exact t c =
-    on_ok_weaker c.write_plain.result (λ done. plain_exact c.args.scope.now c.args.scope.now.config.now (drawing_at c.args.scope.now.config.now c.args.depth) c.args.head c.in-Plain.instruction c.args.sets c.args.draft.now _ c.args.u.now c.in-Plain.is done) c.write_plain.ensures.written
+    on_ok_weaker c.write_plain.result (λ done. plain_exact c.args.scope.now c.args.scope.now.config.now
+    (drawing_at c.args.scope.now.config.now c.args.depth) c.args.head c.in-Plain.instruction c.args.sets c.args.draft.now _ c.args.u.now
+    c.in-Plain.is done) c.write_plain.ensures.written
 
 pub draw_head-returns-in-Enclosed-clause-exact : goal.draw_head-returns-in-Enclosed-clause-exact
 draw_head-returns-in-Enclosed-clause-exact t c =
@@ -266,14 +320,18 @@ draw_repeated-returns-clause-left t c = λ whole h.
 
 pub draw_head-returns-in-If-clause-exact : goal.draw_head-returns-in-If-clause-exact
 draw_head-returns-in-If-clause-exact t c =
-    on_ok_weaker c.draw_if.result (λ is. head_if c.args.scope.now.config.now (drawing_at c.args.scope.now.config.now c.args.depth) c.args.head c.in-If.ty c.in-If.sides c.args.sets (state_of c.args.scope.now c.args.draft.now c.args.u.now) c.in-If.is ∙ is) c.draw_if.ensures.exact
+    on_ok_weaker c.draw_if.result (λ is. head_if c.args.scope.now.config.now (drawing_at c.args.scope.now.config.now c.args.depth)
+    c.args.head c.in-If.ty c.in-If.sides c.args.sets (state_of c.args.scope.now c.args.draft.now c.args.u.now) c.in-If.is ∙ is)
+    c.draw_if.ensures.exact
 
 pub draw_enclosed-returns-clause-exact : goal.draw_enclosed-returns-clause-exact
 draw_enclosed-returns-clause-exact t c =
     let sides = c.args.sides.now in
     let start = rw (c.opening_instr.ensures, c.label_of-label.ensures) at c.in_ok-write_opening.ensures.opened in
     let drawn = c.in_ok-draw_inside.ensures.drawn in
-    ok_both c.write_end.result (enclosed_exact c.args.scope.now (drawing_at c.args.scope.now.config.now c.args.depth) (opened c.args.opening c.args.ty) (label_of c.args.opening sides.params sides.results) sides c.args.draft.now _ _ _ _ _ c.len-height.result start c.in_ok-draw_inside.ensures.exact drawn c.len-height.ensures)
+    ok_both c.write_end.result (enclosed_exact c.args.scope.now (drawing_at c.args.scope.now.config.now c.args.depth)
+    (opened c.args.opening c.args.ty) (label_of c.args.opening sides.params sides.results) sides c.args.draft.now _ _ _ _ _
+    c.len-height.result start c.in_ok-draw_inside.ensures.exact drawn c.len-height.ensures)
     c.write_end.ensures.ended (c.write_end.ensures.left_label _ _ (drawn.same ∙ start.labels))
 
 pub draw_if-returns-clause-exact : goal.draw_if-returns-clause-exact
@@ -282,9 +340,11 @@ draw_if-returns-clause-exact t c =
     let start = rw c.as_slice.ensures at c.in_ok-write_opening.ensures.opened in
     let first = c.in_ok-draw_inside.ensures.drawn in
     let last = c.in_ok-draw_inside-2.ensures.drawn in
-    ok_both c.write_end.result (if_exact c.args.scope.now (drawing_at c.args.scope.now.config.now c.args.depth) c.args.ty sides c.args.draft.now _ _ _ _ _ _ _ _ c.len-height.result start c.in_ok-draw_inside.ensures.exact first c.len-height.ensures
+    ok_both c.write_end.result (if_exact c.args.scope.now (drawing_at c.args.scope.now.config.now c.args.depth) c.args.ty sides
+    c.args.draft.now _ _ _ _ _ _ _ _ c.len-height.result start c.in_ok-draw_inside.ensures.exact first c.len-height.ensures
     c.in_ok-write_else.ensures.ended c.in_ok-write_else.ensures.same c.in_ok-draw_inside-2.ensures.exact last)
-    c.write_end.ensures.ended (c.write_end.ensures.left_label _ _ (last.same ∙ (c.in_ok-write_else.ensures.same ∙ (first.same ∙ start.labels))))
+    c.write_end.ensures.ended
+    (c.write_end.ensures.left_label _ _ (last.same ∙ (c.in_ok-write_else.ensures.same ∙ (first.same ∙ start.labels))))
 
 pub draw_inside-returns-clause-exact : goal.draw_inside-returns-clause-exact
 draw_inside-returns-clause-exact t c =
@@ -295,14 +355,17 @@ draw_inside-returns-clause-exact t c =
 
 pub draw_head-returns-in-Try-clause-exact : goal.draw_head-returns-in-Try-clause-exact
 draw_head-returns-in-Try-clause-exact t c =
-    on_ok_weaker c.draw_try.result (λ is. head_try c.args.scope.now.config.now (drawing_at c.args.scope.now.config.now c.args.depth) c.args.head c.in-Try.ty c.in-Try.clauses c.in-Try.sides c.args.sets (state_of c.args.scope.now c.args.draft.now c.args.u.now) c.in-Try.is ∙ is) c.draw_try.ensures.exact
+    on_ok_weaker c.draw_try.result (λ is. head_try c.args.scope.now.config.now (drawing_at c.args.scope.now.config.now c.args.depth)
+    c.args.head c.in-Try.ty c.in-Try.clauses c.in-Try.sides c.args.sets (state_of c.args.scope.now c.args.draft.now c.args.u.now)
+    c.in-Try.is ∙ is) c.draw_try.ensures.exact
 
 pub draw_try-returns-clause-drawn : goal.draw_try-returns-clause-drawn
 draw_try-returns-clause-drawn t c = λ values fits caught below valid.
     let sides = c.args.sides.now in
     let start = rw c.as_slice.ensures at c.in_ok-write_opening.ensures.opened in
     let drawn = c.in_ok-draw_inside.ensures.drawn in
-    ok_both c.write_end.result (try_drawn c.args.ty c.args.clauses sides.params sides.results values fits caught below valid c.requires.allowed c.requires.sides.few start drawn c.len-height.result c.len-height.ensures)
+    ok_both c.write_end.result (try_drawn c.args.ty c.args.clauses sides.params sides.results values fits caught below valid
+    c.requires.allowed c.requires.sides.few start drawn c.len-height.result c.len-height.ensures)
     c.write_end.ensures.ended (c.write_end.ensures.left_label _ _ (drawn.same ∙ start.labels))
 
 pub draw_try-returns-clause-exact : goal.draw_try-returns-clause-exact
@@ -310,61 +373,99 @@ draw_try-returns-clause-exact t c =
     let sides = c.args.sides.now in
     let start = rw c.as_slice.ensures at c.in_ok-write_opening.ensures.opened in
     let drawn = c.in_ok-draw_inside.ensures.drawn in
-    ok_both c.write_end.result (enclosed_exact c.args.scope.now (drawing_at c.args.scope.now.config.now c.args.depth) (instr.TryTable c.args.ty c.args.clauses) sides.results sides c.args.draft.now _ _ _ _ _ c.len-height.result start c.in_ok-draw_inside.ensures.exact drawn c.len-height.ensures)
+    ok_both c.write_end.result (enclosed_exact c.args.scope.now (drawing_at c.args.scope.now.config.now c.args.depth)
+    (instr.TryTable c.args.ty c.args.clauses) sides.results sides c.args.draft.now _ _ _ _ _ c.len-height.result start
+    c.in_ok-draw_inside.ensures.exact drawn c.len-height.ensures)
     c.write_end.ensures.ended (c.write_end.ensures.left_label _ _ (drawn.same ∙ start.labels))
 
 pub draw_results-returns-then-not-ends-clause-drawn : goal.draw_results-returns-then-not-ends-clause-drawn
-draw_results-returns-then-not-ends-clause-drawn t c = on_ok_weaker c.draw_values.result (λ values. drawn_within (omega arith) (drawn_then c.in_ok-ends.ensures.drawn values)) c.draw_values.ensures.drawn
+draw_results-returns-then-not-ends-clause-drawn t c =
+    on_ok_weaker c.draw_values.result (λ values. drawn_within (omega arith) (drawn_then c.in_ok-ends.ensures.drawn values))
+    c.draw_values.ensures.drawn
 
 pub draw_results-returns-then-not-ended-clause-drawn : goal.draw_results-returns-then-not-ended-clause-drawn
 draw_results-returns-then-not-ended-clause-drawn t c =
-    on_ok_weaker c.draw_values-then-not-ended.result (λ values. drawn_within (omega arith) (drawn_then (drawn_then c.in_ok-ends.ensures.drawn c.in_ok-ended.ensures.drawn) values)) c.draw_values-then-not-ended.ensures.drawn
+    on_ok_weaker c.draw_values-then-not-ended.result
+    (λ values. drawn_within (omega arith) (drawn_then (drawn_then c.in_ok-ends.ensures.drawn c.in_ok-ended.ensures.drawn) values))
+    c.draw_values-then-not-ended.ensures.drawn
 
 pub draw_results-returns-then-number-lt7-clause-drawn : goal.draw_results-returns-then-number-lt7-clause-drawn
 draw_results-returns-then-number-lt7-clause-drawn t c =
-    drawn_within (omega arith) (drawn_then c.in_ok-ends.ensures.drawn (c.in_ok-ended.ensures.any c.args.wanted.now c.requires.valid c.if-not-ended.false))
+    drawn_within (omega arith)
+    (drawn_then c.in_ok-ends.ensures.drawn (c.in_ok-ended.ensures.any c.args.wanted.now c.requires.valid c.if-not-ended.false))
 
 pub draw_results-returns-clause-drawn : goal.draw_results-returns-clause-drawn
 draw_results-returns-clause-drawn t c =
     on_ok_weaker c.draw_values-2.result
-    (λ values. drawn_within (omega arith) (drawn_then (drawn_then (drawn_then c.in_ok-ends.ensures.drawn c.in_ok-ended.ensures.drawn) c.in_ok-_ends.ensures.drawn) values)) c.draw_values-2.ensures.drawn
+    (λ values. drawn_within (omega arith)
+    (drawn_then (drawn_then (drawn_then c.in_ok-ends.ensures.drawn c.in_ok-ended.ensures.drawn) c.in_ok-_ends.ensures.drawn) values))
+    c.draw_values-2.ensures.drawn
 
 pub draw_results-returns-then-not-ends-clause-exact : goal.draw_results-returns-then-not-ends-clause-exact
 draw_results-returns-then-not-ends-clause-exact t c =
-    on_ok_weaker c.draw_values.result (λ is. results_drawn (drawing_at c.args.scope.now.config.now c.args.depth) c.args.wanted.now (state_of c.args.scope.now c.args.draft.now c.args.u.now) _ (rw c.if-not-ends.true at c.in_ok-ends.ensures.exact) ∙ is) c.draw_values.ensures.exact
+    on_ok_weaker c.draw_values.result (λ is. results_drawn (drawing_at c.args.scope.now.config.now c.args.depth) c.args.wanted.now
+    (state_of c.args.scope.now c.args.draft.now c.args.u.now) _ (rw c.if-not-ends.true at c.in_ok-ends.ensures.exact) ∙ is)
+    c.draw_values.ensures.exact
 
 pub draw_results-returns-then-not-ended-clause-exact : goal.draw_results-returns-then-not-ended-clause-exact
 draw_results-returns-then-not-ended-clause-exact t c =
     on_ok_weaker c.draw_values-then-not-ended.result
-    (λ is. results_still (drawing_at c.args.scope.now.config.now c.args.depth) c.args.wanted.now (state_of c.args.scope.now c.args.draft.now c.args.u.now) _ _ (rw c.if-not-ends.false at c.in_ok-ends.ensures.exact) (rw c.if-not-ended.true at c.in_ok-ended.ensures.exact) ∙ is) c.draw_values-then-not-ended.ensures.exact
+    (λ is. results_still (drawing_at c.args.scope.now.config.now c.args.depth) c.args.wanted.now
+    (state_of c.args.scope.now c.args.draft.now c.args.u.now) _ _ (rw c.if-not-ends.false at c.in_ok-ends.ensures.exact)
+    (rw c.if-not-ended.true at c.in_ok-ended.ensures.exact) ∙ is) c.draw_values-then-not-ended.ensures.exact
 
 pub draw_results-returns-then-number-lt7-clause-exact : goal.draw_results-returns-then-number-lt7-clause-exact
 draw_results-returns-then-number-lt7-clause-exact t c =
     let drawn = rw (c.new.ensures.start, c.new.ensures.end) at c.int_in_range-number.ensures.exact in
-    results_ended (drawing_at c.args.scope.now.config.now c.args.depth) c.args.wanted.now (state_of c.args.scope.now c.args.draft.now c.args.u.now) _ _ c.int_in_range-number.result _ (rw c.if-not-ends.false at c.in_ok-ends.ensures.exact) (rw c.if-not-ended.false at c.in_ok-ended.ensures.exact) drawn (omega (arith, c.if-number-lt7.true))
+    results_ended (drawing_at c.args.scope.now.config.now c.args.depth) c.args.wanted.now
+    (state_of c.args.scope.now c.args.draft.now c.args.u.now) _ _ c.int_in_range-number.result _
+    (rw c.if-not-ends.false at c.in_ok-ends.ensures.exact) (rw c.if-not-ended.false at c.in_ok-ended.ensures.exact) drawn
+    (omega (arith, c.if-number-lt7.true))
 
 pub draw_results-returns-clause-exact : goal.draw_results-returns-clause-exact
 draw_results-returns-clause-exact t c =
-    let seven : c.int_in_range-number.result ≡ 7 = omega (arith, c.int_in_range-number.ensures.within, c.new.ensures.start, c.new.ensures.end, c.if-number-lt7.false) in
+    let seven : c.int_in_range-number.result ≡ 7 = omega (
+      arith,
+      c.int_in_range-number.ensures.within,
+      c.new.ensures.start,
+      c.new.ensures.end,
+      c.if-number-lt7.false,
+    ) in
     let drawn = rw (c.new.ensures.start, c.new.ensures.end, seven) at c.int_in_range-number.ensures.exact in
     on_ok_weaker c.draw_values-2.result
-    (λ is. results_dead (drawing_at c.args.scope.now.config.now c.args.depth) c.args.wanted.now (state_of c.args.scope.now c.args.draft.now c.args.u.now) _ _ _ _ _ (rw c.if-not-ends.false at c.in_ok-ends.ensures.exact) (rw c.if-not-ended.false at c.in_ok-ended.ensures.exact) drawn c.in_ok-_ends.ensures.exact ∙ is) c.draw_values-2.ensures.exact
+    (λ is. results_dead (drawing_at c.args.scope.now.config.now c.args.depth) c.args.wanted.now
+    (state_of c.args.scope.now c.args.draft.now c.args.u.now) _ _ _ _ _ (rw c.if-not-ends.false at c.in_ok-ends.ensures.exact)
+    (rw c.if-not-ended.false at c.in_ok-ended.ensures.exact) drawn c.in_ok-_ends.ensures.exact ∙ is) c.draw_values-2.ensures.exact
 
 pub draw_ending-draw_node-requires : goal.draw_ending-draw_node-requires
 draw_ending-draw_node-requires t c =
-    let fits : IsNode (where_stands c.args.scope.now c.args.draft.now) c.args.draft.now.set.items [] c.in-Some.node = rw c.in-Some.is at (c.in_ok-chosen.ensures.offer [] (no_valid (bare c.args.scope.now))) in
-    (omega (arith, c.requires.deep), (c.requires.scope, (c.requires.labels, (fits.valid, (fits.inside, (c.is_node_allowed.ensures.allowed c.if-not-is_node_allowed.false, c.requires.paid))))))
+    let fits : IsNode (where_stands c.args.scope.now c.args.draft.now) c.args.draft.now.set.items [] c.in-Some.node =
+    rw c.in-Some.is at (c.in_ok-chosen.ensures.offer [] (no_valid (bare c.args.scope.now))) in (
+      omega (arith, c.requires.deep),
+      (
+        c.requires.scope,
+        (
+          c.requires.labels,
+          (fits.valid, (fits.inside, (c.is_node_allowed.ensures.allowed c.if-not-is_node_allowed.false, c.requires.paid))),
+        ),
+      ),
+    )
 
 pub draw_ending-returns-in_default-clause-exact : goal.draw_ending-returns-in_default-clause-exact
-draw_ending-returns-in_default-clause-exact t c = no_ending c.args.scope.now.config.now c.args.depth (state_of c.args.scope.now c.args.draft.now c.args.u.now) _ c.requires.deep (rw c.in_default.is at c.in_ok-chosen.ensures.exact)
+draw_ending-returns-in_default-clause-exact t c = no_ending c.args.scope.now.config.now c.args.depth
+    (state_of c.args.scope.now c.args.draft.now c.args.u.now) _ c.requires.deep (rw c.in_default.is at c.in_ok-chosen.ensures.exact)
 
 pub draw_ending-returns-then-not-is_node_allowed-clause-exact : goal.draw_ending-returns-then-not-is_node_allowed-clause-exact
 draw_ending-returns-then-not-is_node_allowed-clause-exact t c =
-    forbidden_ending c.args.scope.now.config.now c.args.depth (state_of c.args.scope.now c.args.draft.now c.args.u.now) _ c.in-Some.node c.requires.deep (rw c.in-Some.is at c.in_ok-chosen.ensures.exact) (sym c.is_node_allowed.ensures.exact ∙ c.if-not-is_node_allowed.true)
+    forbidden_ending c.args.scope.now.config.now c.args.depth (state_of c.args.scope.now c.args.draft.now c.args.u.now) _ c.in-Some.node
+    c.requires.deep (rw c.in-Some.is at c.in_ok-chosen.ensures.exact) (sym c.is_node_allowed.ensures.exact
+    ∙ c.if-not-is_node_allowed.true)
 
 pub draw_ending-returns-clause-exact : goal.draw_ending-returns-clause-exact
 draw_ending-returns-clause-exact t c =
-    chosen_ending c.args.scope.now.config.now c.args.depth (state_of c.args.scope.now c.args.draft.now c.args.u.now) _ _ c.in-Some.node c.requires.deep (rw c.in-Some.is at c.in_ok-chosen.ensures.exact) (sym c.is_node_allowed.ensures.exact ∙ c.if-not-is_node_allowed.false) c.in_ok-draw_node.ensures.exact
+    chosen_ending c.args.scope.now.config.now c.args.depth (state_of c.args.scope.now c.args.draft.now c.args.u.now) _ _ c.in-Some.node
+    c.requires.deep (rw c.in-Some.is at c.in_ok-chosen.ensures.exact) (sym c.is_node_allowed.ensures.exact
+    ∙ c.if-not-is_node_allowed.false) c.in_ok-draw_node.ensures.exact
 
 pub draw_ending-returns-in_default-clause-drawn : goal.draw_ending-returns-in_default-clause-drawn
 draw_ending-returns-in_default-clause-drawn t c = drawn_none c.args.scope.now c.args.draft.now
@@ -376,13 +477,15 @@ pub draw_ending-returns-clause-drawn : goal.draw_ending-returns-clause-drawn
 draw_ending-returns-clause-drawn t c =
     let fits = rw c.in-Some.is at (c.in_ok-chosen.ensures.offer [] (no_valid (bare c.args.scope.now))) in
     c.in_ok-draw_node.ensures.drawn [] fits
-    (node_goes_on (features_in c.args.scope.now.features) c.args.scope.now.config.now c.in-Some.node (sym c.is_node_allowed.ensures.exact ∙ c.if-not-is_node_allowed.false))
+    (node_goes_on (features_in c.args.scope.now.features) c.args.scope.now.config.now c.in-Some.node (sym c.is_node_allowed.ensures.exact
+    ∙ c.if-not-is_node_allowed.false))
 
 pub draw_ending-returns-clause-any : goal.draw_ending-returns-clause-any
 draw_ending-returns-clause-any t c = λ values valid ended.
     let fits = rw c.in-Some.is at (c.in_ok-chosen.ensures.offer values valid) in
     c.in_ok-draw_node.ensures.drawn values fits
-    (node_goes_on (features_in c.args.scope.now.features) c.args.scope.now.config.now c.in-Some.node (sym c.is_node_allowed.ensures.exact ∙ c.if-not-is_node_allowed.false))
+    (node_goes_on (features_in c.args.scope.now.features) c.args.scope.now.config.now c.in-Some.node (sym c.is_node_allowed.ensures.exact
+    ∙ c.if-not-is_node_allowed.false))
 
 pub draw_operands-loop-place-init : goal.draw_operands-loop-place-init
 draw_operands-loop-place-init t c = record {

@@ -69,7 +69,8 @@ decreases-draw_node l = 8 * l.depth + 7
 abbrev pub invariant-draw_values-loop-value : goal.invariant-draw_values-loop-value
 invariant-draw_values-loop-value l = record {
   drawn : IsDrawn l.scope [] (take l.value-index l.wanted) (length (take l.value-index l.wanted)) l.fn.draft l.draft;
-  exact : values_at (drawing_at l.scope.config.now l.depth) l.wanted (state_of l.scope l.fn.draft l.fn.u) ≡ values_at (drawing_at l.scope.config.now l.depth) (drop l.value-index l.wanted) (state_of l.scope l.draft l.u);
+  exact : values_at (drawing_at l.scope.config.now l.depth) l.wanted (state_of l.scope l.fn.draft l.fn.u)
+      ≡ values_at (drawing_at l.scope.config.now l.depth) (drop l.value-index l.wanted) (state_of l.scope l.draft l.u);
   labels : AreLabels l.scope l.draft.labels.items;
   kept : KeepsPieces l.fn.u l.u;
 }
@@ -78,7 +79,8 @@ abbrev pub invariant-draw_operands-loop-place : goal.invariant-draw_operands-loo
 invariant-draw_operands-loop-place l = record {
   drawn : IsDrawn l.scope [] (take l.place l.operands) (length (take l.place l.operands)) l.fn.draft l.draft;
   exact : operands_at l.scope.config.now (drawing_at l.scope.config.now l.depth) l.head l.operands (state_of l.scope l.fn.draft l.fn.u)
-      ≡ operands_at l.scope.config.now (drawing_at l.scope.config.now l.depth) l.head (drop l.place l.operands) (state_of l.scope l.draft l.u);
+      ≡ operands_at l.scope.config.now (drawing_at l.scope.config.now l.depth) l.head (drop l.place l.operands)
+      (state_of l.scope l.draft l.u);
   labels : AreLabels l.scope l.draft.labels.items;
   kept : KeepsPieces l.fn.u l.u;
 }
@@ -89,7 +91,9 @@ decreases-draw_statements-loop-draft l = l.draft.budget
 abbrev pub invariant-draw_statements-loop-draft : goal.invariant-draw_statements-loop-draft
 invariant-draw_statements-loop-draft l = record {
   drawn : IsDrawn l.scope [] [] 0 l.fn.draft l.draft;
-  rest : AreLeft (statement_at l.scope.config.now (drawing_at l.scope.config.now (l.depth - 1))) (statements_within (statement_at l.scope.config.now (drawing_at l.scope.config.now (l.depth - 1))) l.fn.draft.budget (state_of l.scope l.fn.draft l.fn.u)) (state_of l.scope l.draft l.u);
+  rest : AreLeft (statement_at l.scope.config.now (drawing_at l.scope.config.now (l.depth - 1)))
+      (statements_within (statement_at l.scope.config.now (drawing_at l.scope.config.now (l.depth - 1))) l.fn.draft.budget
+      (state_of l.scope l.fn.draft l.fn.u)) (state_of l.scope l.draft l.u);
   labels : AreLabels l.scope l.draft.labels.items;
   kept : KeepsPieces l.fn.u l.u;
 }

@@ -11,4 +11,5 @@ returns-clause-exact c = λ scope bytes.
 pub returns-clause-drawn : goal.returns-clause-drawn
 returns-clause-drawn c = λ scope counts.
     on_ok_weaker c.write_plain-2.result
-    (λ done. count_drawn c.args.local _ counts (rw c.constant.ensures at c.in_ok-write_plain.ensures.written) done) c.write_plain-2.ensures.written
+    (λ done. count_drawn c.args.local _ counts (rw c.constant.ensures at c.in_ok-write_plain.ensures.written) done)
+    c.write_plain-2.ensures.written

@@ -4,4 +4,5 @@ use Rattle.smith_body_aggregates.proofs.creations.choose_struct_default.Goals as
 
 pub returns-clause-offer : goal.returns-clause-offer
 returns-clause-offer c =
-    rw c.in_ok-node.ensures.exact (struct_default_gives (where_stands c.args.scope.now c.args.draft.now) c.args.draft.now.set.items c.args.wanted c.in-Some.ty c.requires.scope.orderly c.requires.wanted c.in-Some.ensures.offered)
+    rw c.in_ok-node.ensures.exact (struct_default_gives (where_stands c.args.scope.now c.args.draft.now) c.args.draft.now.set.items
+    c.args.wanted c.in-Some.ty c.requires.scope.orderly c.requires.wanted c.in-Some.ensures.offered)

@@ -5,5 +5,6 @@ use Rattle.smith_body_aggregates.proofs.field_writes.choose_array_set.Goals as g
 
 pub returns-clause-node : goal.returns-clause-node
 returns-clause-node c =
-    ok_like _ c.plain-2.result (array_set_gives (where_stands c.args.scope.now c.args.draft.now) c.args.draft.now.set.items c.in-Some.array.0 c.in-Some.array.1 c.requires.named c.in-Some.ensures.there c.in-Some.ensures.valid c.in-Some.ensures.usable)
+    ok_like _ c.plain-2.result (array_set_gives (where_stands c.args.scope.now c.args.draft.now) c.args.draft.now.set.items
+    c.in-Some.array.0 c.in-Some.array.1 c.requires.named c.in-Some.ensures.there c.in-Some.ensures.valid c.in-Some.ensures.usable)
     (rw (c.nullable_to.ensures, c.unpack.ensures) at c.plain-2.ensures.exact)

@@ -11,12 +11,15 @@ returns-clause-offer c =
     let there = function_there context c.in-Some.index c.in-Some-function_of.function.now at in
     let results = c.requires.scope.results_valid there.0 c.in-Some-function_of.function.now there.2 in
     rw (c.in_ok-node.ensures.exact, c.as_slice.ensures, c.saturating_sub-drops.ensures, c.len.ensures)
-    (call_for context c.args.draft.now.set.items c.args.wanted c.in-Some.index c.in-Some-function_of.function.now c.requires.scope.orderly c.requires.scope.params_valid results c.requires.wanted c.in-Some.ensures.offered at)
+    (call_for context c.args.draft.now.set.items c.args.wanted c.in-Some.index c.in-Some-function_of.function.now c.requires.scope.orderly
+    c.requires.scope.params_valid results c.requires.wanted c.in-Some.ensures.offered at)
 
 pub returns-in_default-clause-exact : goal.returns-in_default-clause-exact
-returns-in_default-clause-exact c = call_none (where_stands c.args.scope.now c.args.draft.now) c.args.wanted c.args.u.now _ c.in_default.ensures.exact
+returns-in_default-clause-exact c = call_none (where_stands c.args.scope.now c.args.draft.now) c.args.wanted c.args.u.now _
+    c.in_default.ensures.exact
 
 pub returns-clause-exact : goal.returns-clause-exact
 returns-clause-exact c =
     rw (c.in_ok-node.ensures.exact, c.as_slice.ensures, c.saturating_sub-drops.ensures, c.len.ensures)
-    (call_there (where_stands c.args.scope.now c.args.draft.now) c.args.wanted c.args.u.now _ c.in-Some.index c.in-Some-function_of.function.now c.in-Some.ensures.exact c.in-Some-function_of.ensures)
+    (call_there (where_stands c.args.scope.now c.args.draft.now) c.args.wanted c.args.u.now _ c.in-Some.index
+    c.in-Some-function_of.function.now c.in-Some.ensures.exact c.in-Some-function_of.ensures)

@@ -7,6 +7,7 @@ use Rattle.smith_body_examples.proofs.blocks.alone.Goals as goal
 
 pub returns-clause-alone_with_other_results : goal.returns-clause-alone_with_other_results
 returns-clause-alone_with_other_results c = λ is.
-    let same : number 1 ∷ number 2 ∷ instr.If (block.Func 1) ∷ instr.GlobalSet 1 ∷ instr.Else ∷ instr.GlobalSet 1 ∷ instr.End ∷ [] ≡ number 1 ∷ number 2 ∷ instr.If (block.Func 1) ∷ instr.GlobalSet 1 ∷ instr.End ∷ [] =
+    let same : number 1 ∷ number 2 ∷ instr.If (block.Func 1) ∷ instr.GlobalSet 1 ∷ instr.Else ∷ instr.GlobalSet 1 ∷ instr.End ∷ []
+    ≡ number 1 ∷ number 2 ∷ instr.If (block.Func 1) ∷ instr.GlobalSet 1 ∷ instr.End ∷ [] =
     ap (λ (drawn : List Instr × List ℕ). drawn.0) (sym c.with_an_else.ensures.else_for_other_results ∙ is) in
     cc

@@ -9,8 +9,12 @@ use Rattle.smith_body_law.proofs.ExampleLemmas.{both_apart, no_array_there, no_s
 
 pub returns-clause-exceptions : goal.returns-clause-exceptions
 unfolding is_heap_below
-returns-clause-exceptions c =
-    (refl, is_barren (with_type empty_struct) empty_struct (plain heap.Exn) refl refl (no_struct_below empty_struct (plain heap.Exn) refl) (λ index element there below. no_array_there empty_struct (λ element is. cc) index element there) (both_apart empty_struct (plain heap.Exn) refl refl refl refl))
+returns-clause-exceptions c = (
+  refl,
+  is_barren (with_type empty_struct) empty_struct (plain heap.Exn) refl refl (no_struct_below empty_struct (plain heap.Exn) refl)
+      (λ index element there below. no_array_there empty_struct (λ element is. cc) index element there)
+      (both_apart empty_struct (plain heap.Exn) refl refl refl refl),
+)
 
 pub returns-clause-nullable : goal.returns-clause-nullable
 returns-clause-nullable c is = cc

@@ -12,5 +12,9 @@ returns-clause-named c is = is.1.no_function 0 0 (0, omega arith, refl) refl (re
 
 pub returns-clause-not_named : goal.returns-clause-not_named
 unfolding is_heap_below
-returns-clause-not_named c =
-    (refl, is_barren (naming []) plain_func (Concrete 0) refl refl (λ (index, by). no_struct_there plain_func (λ fields is. cc) index by.fields by.struct) (λ index element there below. no_array_there plain_func (λ element is. cc) index element there) (both_apart plain_func (Concrete 0) refl refl refl refl))
+returns-clause-not_named c = (
+  refl,
+  is_barren (naming []) plain_func (Concrete 0) refl refl (λ (index, by). no_struct_there plain_func (λ fields is. cc) index
+      by.fields by.struct) (λ index element there below. no_array_there plain_func (λ element is. cc) index element there)
+      (both_apart plain_func (Concrete 0) refl refl refl refl),
+)

@@ -1,5 +1,6 @@
 use Rattle.std.proofs.Common.{ap}
-use Rattle.smith_body_leaves.specs.Constants.{alternating, doubles, floats, halves, integers32, integers64, lane_families, lanes_at, lanes_by, same_bytes}
+use Rattle.smith_body_leaves.specs.Constants.{alternating, doubles, floats, halves, integers32, integers64, lane_families, lanes_at}
+use Rattle.smith_body_leaves.specs.Constants.{lanes_by, same_bytes}
 use Rattle.smith_body_leaves.specs.declared.constant_tables.LaneFamily.TheVariants as lane
 use Rattle.smith_body_leaves.proofs.ConstantLemmas.{both_listed, by_family, changed, listed}
 use Rattle.smith_body_leaves.proofs.constants.draw_lanes.Goals as goal

@@ -5,7 +5,9 @@ use Rattle.smith_body_leaves.proofs.SingleLemmas.{no_single, single_before, sing
 use Rattle.smith_body_leaves.proofs.creations.write_singles.Goals as goal
 
 pub first_single-single-requires-clause-wanted : goal.first_single-single-requires-clause-wanted
-first_single-single-requires-clause-wanted c = rw c.unpack.ensures (field_valid (bare c.args.scope.now) c.args.fields.now c.loop-index.index _ c.requires.fields c.loop-index-test.true)
+first_single-single-requires-clause-wanted c =
+    rw c.unpack.ensures (field_valid (bare c.args.scope.now) c.args.fields.now c.loop-index.index _ c.requires.fields
+    c.loop-index-test.true)
 
 pub loop-index-init : goal.loop-index-init
 loop-index-init c = record { out = refl; set = refl; same = refl; budget = refl }
@@ -18,7 +20,8 @@ loop-index-preserved c =
     let set = c.args.draft.now.set.items in
     let is = single_before c.args.scope.now c.args.draft.now c.loop-index.draft _ _ so_far.set so_far.same c.first_single-single.ensures in
     record {
-      out = single_written config context set c.args.fields.now c.loop-index.index _ _ _ _ c.first_single-single.result c.loop-index-test.true (rw c.unpack.ensures at is) c.in_ok-write_some.ensures.out so_far.out;
+      out = single_written config context set c.args.fields.now c.loop-index.index _ _ _ _ c.first_single-single.result
+          c.loop-index-test.true (rw c.unpack.ensures at is) c.in_ok-write_some.ensures.out so_far.out;
       set = c.write_some.ensures.set ∙ so_far.set;
       same = c.write_some.ensures.same ∙ so_far.same;
       budget = c.write_some.ensures.budget ∙ so_far.budget;
@@ -26,4 +29,5 @@ loop-index-preserved c =
 
 pub returns-clause-out : goal.returns-clause-out
 returns-clause-out c =
-    no_single c.args.scope.now.config.now (where_stands c.args.scope.now c.args.draft.now) c.args.draft.now.set.items c.args.fields.now c.loop-index.index _ _ (omega arith) c.loop-index.invariant.out
+    no_single c.args.scope.now.config.now (where_stands c.args.scope.now c.args.draft.now) c.args.draft.now.set.items c.args.fields.now
+    c.loop-index.index _ _ (omega arith) c.loop-index.invariant.out

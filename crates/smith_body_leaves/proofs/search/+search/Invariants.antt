@@ -20,4 +20,5 @@ decreases-unary_leaf l = 5 * l.more + 4
 
 abbrev pub invariant-created_leaf-loop-ty : goal.invariant-created_leaf-loop-ty
 invariant-created_leaf-loop-ty l =
-    None ≡ first_below (created_over l.scope.config.now (where_stands l.scope l.draft) (leaf_within l.scope.config.now (where_stands l.scope l.draft) l.draft.set.items l.more false) l.wanted) l.ty
+    None ≡ first_below (created_over l.scope.config.now (where_stands l.scope l.draft)
+    (leaf_within l.scope.config.now (where_stands l.scope l.draft) l.draft.set.items l.more false) l.wanted) l.ty

@@ -3,4 +3,6 @@ use Rattle.smith_body_memory.proofs.MemoryNodeLemmas.{grow_node}
 use Rattle.smith_body_memory.proofs.memories.choose_growth.Goals as goal
 
 pub returns-clause-offer : goal.returns-clause-offer
-returns-clause-offer c = rw c.in_ok-node.ensures.exact (grow_node (where_stands c.args.scope.now c.args.draft.now) c.args.draft.now.set.items c.args.wanted c.args.index c.requires.addressed)
+returns-clause-offer c =
+    rw c.in_ok-node.ensures.exact (grow_node (where_stands c.args.scope.now c.args.draft.now) c.args.draft.now.set.items c.args.wanted
+    c.args.index c.requires.addressed)

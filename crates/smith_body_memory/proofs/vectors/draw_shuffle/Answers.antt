@@ -18,8 +18,11 @@ loop-index-preserved c =
     let drawn = rw (c.new.ensures.start, c.new.ensures.end) at c.int_in_range.ensures.exact in
     let inside : c.loop-index.index < length c.loop-index.lanes = omega (arith, c.loop-index.invariant.long, c.loop-index-test.true) in
     record {
-      drawn = shuffled_more _ _ _ _ c.loop-index.index c.int_in_range.result c.loop-index.invariant.drawn drawn ∙ sym (ap (λ (done : List ℕ). (done, c.int_in_range.new.self)) (take_more_set c.loop-index.lanes c.loop-index.index c.int_in_range.result inside));
-      within = All-set (λ (lane : ℕ). lane < 32) c.loop-index.lanes c.loop-index.index c.int_in_range.result (omega (arith, c.int_in_range.ensures.within, c.new.ensures.end)) c.loop-index.invariant.within;
+      drawn = shuffled_more _ _ _ _ c.loop-index.index c.int_in_range.result c.loop-index.invariant.drawn drawn
+          ∙ sym (ap (λ (done : List ℕ). (done, c.int_in_range.new.self))
+          (take_more_set c.loop-index.lanes c.loop-index.index c.int_in_range.result inside));
+      within = All-set (λ (lane : ℕ). lane < 32) c.loop-index.lanes c.loop-index.index c.int_in_range.result
+          (omega (arith, c.int_in_range.ensures.within, c.new.ensures.end)) c.loop-index.invariant.within;
       long = length-set c.loop-index.lanes c.loop-index.index c.int_in_range.result ∙ c.loop-index.invariant.long;
       kept = λ whole h. c.int_in_range.ensures.left whole (c.loop-index.invariant.kept whole h);
     }

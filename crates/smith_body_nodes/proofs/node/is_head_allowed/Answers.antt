@@ -5,4 +5,5 @@ pub returns-in-Try-clause-exact : goal.returns-in-Try-clause-exact
 returns-in-Try-clause-exact c = try_head c.args.scope.now _ _ _ _ c.is_try_allowed.result c.in-Try.is c.is_try_allowed.ensures.exact
 
 pub returns-in-Try-clause-allowed : goal.returns-in-Try-clause-allowed
-returns-in-Try-clause-allowed c = try_head_allowed c.args.scope.now _ _ _ _ c.is_try_allowed.result c.in-Try.is c.is_try_allowed.ensures.exact c.is_try_allowed.ensures.drops
+returns-in-Try-clause-allowed c = try_head_allowed c.args.scope.now _ _ _ _ c.is_try_allowed.result c.in-Try.is
+    c.is_try_allowed.ensures.exact c.is_try_allowed.ensures.drops

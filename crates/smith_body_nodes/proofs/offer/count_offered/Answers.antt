@@ -9,11 +9,13 @@ loop-index-init g c = record { counted = counted_none _; few = omega arith }
 pub loop-index-preserved : goal.loop-index-preserved
 loop-index-preserved g c = elim c.if-is_offered.branch [
   | then-is_offered w ↦ record {
-    counted = counted_more _ c.loop-index.index c.loop-index.count _ (sym c.is_offered.ensures ∙ w.if-is_offered.true) c.loop-index.invariant.counted w.count-is;
+    counted = counted_more _ c.loop-index.index c.loop-index.count _ (sym c.is_offered.ensures ∙ w.if-is_offered.true)
+        c.loop-index.invariant.counted w.count-is;
     few = omega (arith, w.count-is, c.loop-index.invariant.few);
   }
   | else-is_offered w ↦ record {
-    counted = counted_same _ c.loop-index.index c.loop-index.count _ (sym c.is_offered.ensures ∙ w.if-is_offered.false) c.loop-index.invariant.counted w.count-is;
+    counted = counted_same _ c.loop-index.index c.loop-index.count _ (sym c.is_offered.ensures ∙ w.if-is_offered.false)
+        c.loop-index.invariant.counted w.count-is;
     few = omega (arith, w.count-is, c.loop-index.invariant.few);
   }
 ]

@@ -9,11 +9,15 @@ pub returns-in_default-clause-below : goal.returns-in_default-clause-below
 returns-in_default-clause-below c = itself_below (bare c.args.scope.now).types c.args.from
 
 pub returns-clause-exact : goal.returns-clause-exact
-returns-clause-exact c = rw c.reference_or.ensures (local_some (bare c.args.scope.now) c.args.from c.args.u.now _ c.in-Some.index _ c.in-Some.ensures.exact c.in-Some.ensures.below)
+returns-clause-exact c = rw c.reference_or.ensures (local_some (bare c.args.scope.now) c.args.from c.args.u.now _ c.in-Some.index _
+    c.in-Some.ensures.exact c.in-Some.ensures.below)
 
 pub returns-clause-valid : goal.returns-clause-valid
 returns-clause-valid c =
-    rw c.reference_or.ensures (below_valid (bare c.args.scope.now) _ c.args.from (c.requires.scope.locals c.in-Some.index _ c.in-Some.ensures.below) c.requires.from)
+    rw c.reference_or.ensures (below_valid (bare c.args.scope.now) _ c.args.from
+    (c.requires.scope.locals c.in-Some.index _ c.in-Some.ensures.below) c.requires.from)
 
 pub returns-clause-below : goal.returns-clause-below
-returns-clause-below c = rw c.reference_or.ensures (drawn_below (bare c.args.scope.now) c.args.from c.in-Some.index _ c.requires.scope.orderly c.in-Some.ensures.below c.in-Some.ensures.offered)
+returns-clause-below c =
+    rw c.reference_or.ensures (drawn_below (bare c.args.scope.now) c.args.from c.in-Some.index _ c.requires.scope.orderly
+    c.in-Some.ensures.below c.in-Some.ensures.offered)

@@ -12,5 +12,6 @@ returns-clause-exact c =
     IfOk-weaker c.growth_of.result
     (λ (chosen : Option Node). chosen ≡ table_growth_node context c.args.wanted c.arbitrary-grown.result c.in-Some.index)
     (λ (chosen : Option Node). table_growth_at context c.args.wanted c.args.u.now ≡ (chosen, c.choose_table_addressed.new.u))
-    (λ (chosen : Option Node) is. table_grown context c.args.wanted c.args.u.now _ _ c.arbitrary-grown.result c.in-Some.index chosen c.arbitrary-grown.ensures.exact c.in-Some.ensures.exact is)
+    (λ (chosen : Option Node) is. table_grown context c.args.wanted c.args.u.now _ _ c.arbitrary-grown.result c.in-Some.index chosen
+    c.arbitrary-grown.ensures.exact c.in-Some.ensures.exact is)
     c.growth_of.ensures.exact

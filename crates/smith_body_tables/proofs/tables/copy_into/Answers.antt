@@ -5,5 +5,6 @@ use Rattle.smith_body_tables.proofs.tables.copy_into.Goals as goal
 
 pub returns-clause-node : goal.returns-clause-node
 returns-clause-node c =
-    ok_like _ c.plain-2.result (copy_node (where_stands c.args.scope.now c.args.draft.now) c.args.draft.now.set.items c.args.into.0 c.in-Some.from c.args.into.1 _ c.requires.scope.orderly c.requires.into c.in-Some.ensures.below c.in-Some.ensures.offered)
+    ok_like _ c.plain-2.result (copy_node (where_stands c.args.scope.now c.args.draft.now) c.args.draft.now.set.items c.args.into.0
+    c.in-Some.from c.args.into.1 _ c.requires.scope.orderly c.requires.into c.in-Some.ensures.below c.in-Some.ensures.offered)
     (rw (c.address.ensures, c.address-2.ensures, c.narrower.ensures) at c.plain-2.ensures.exact)

@@ -3,7 +3,11 @@ use Rattle.smith_bytes.proofs.EndianLemmas.{digit_more, digit_fits, big_endian_m
 use Rattle.smith_bytes.proofs.digits.read_big_endian.Goals as goal
 
 pub overflow_mul-number : goal.overflow_mul-number
-overflow_mul-number c = omega (arith, digit_fits c.loop-digit.digit-index c.loop-digit.number 0 c.loop-digit.invariant.fits (omega arith) (omega arith))
+overflow_mul-number c = omega (
+  arith,
+  digit_fits c.loop-digit.digit-index c.loop-digit.number 0 c.loop-digit.invariant.fits (omega arith)
+      (omega arith),
+)
 
 pub overflow_add-number : goal.overflow_add-number
 overflow_add-number c =

@@ -17,6 +17,7 @@ pub returns-clause-added : goal.returns-clause-added
 returns-clause-added c =
     rw (path_is _ _ _ c.in_ok-url.ensures.exact c.deref.ensures)
     (record {
-      has = λ other. hash_set_updates_text (string_bytes c.in_ok-path.path) c.args.names.now c.insert.new.self true c.in_ok-insert.ensures.updates other;
+      has = λ other. hash_set_updates_text (string_bytes c.in_ok-path.path) c.args.names.now c.insert.new.self true
+          c.in_ok-insert.ensures.updates other;
       size = added_size _ _ c.in_ok-insert.ensures.len c.in_ok-insert.ensures.added c.in_ok-path.ensures.made.fresh;
     })

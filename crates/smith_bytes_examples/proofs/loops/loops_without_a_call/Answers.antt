@@ -8,7 +8,13 @@ returns-clause-none_may_be g c = λ f bytes. record { calls = 0; last = f; left 
 
 pub returns-clause-stopped_at_once : goal.returns-clause-stopped_at_once
 unfolding bool_at
-returns-clause-stopped_at_once g c = λ f. record { calls = 0; last = f; left = 0 ∷ 9 ∷ []; run = (refl, refl); ends = at_bool (9 ∷ []) (omega arith) refl }
+returns-clause-stopped_at_once g c = λ f. record {
+  calls = 0;
+  last = f;
+  left = 0 ∷ 9 ∷ [];
+  run = (refl, refl);
+  ends = at_bool (9 ∷ []) (omega arith) refl;
+}
 
 pub returns-clause-past_the_end : goal.returns-clause-past_the_end
 unfolding bool_at

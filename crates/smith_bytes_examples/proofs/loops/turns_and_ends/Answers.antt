@@ -4,4 +4,5 @@ use Rattle.smith_bytes_examples.proofs.loops.turns_and_ends.Goals as goal
 
 pub returns-clause-not_asked_for : goal.returns-clause-not_asked_for
 unfolding bool_at
-returns-clause-not_asked_for g c = λ f f' answer bytes bytes' turn. let goes : false ≡ true = ap (λ (r : Bool × List ℕ). r.0) turn.goes in cc goes
+returns-clause-not_asked_for g c = λ f f' answer bytes bytes' turn. let goes : false ≡ true = ap (λ (r : Bool × List ℕ). r.0) turn.goes in
+    cc goes

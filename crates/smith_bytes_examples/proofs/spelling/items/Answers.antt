@@ -17,13 +17,17 @@ returns-clause-two c = record {
 }
 
 -- the values read from two bytes
-read : (piece : List ℕ) → Each SpellsByte (6 ∷ 7 ∷ []) piece → grow_at (λ (made : List ℕ). range_at 0 255) 2 2 [] (piece ++ []) ≡ (6 ∷ 7 ∷ [], [])
-read piece each = each_read SpellsByte (λ (made : List ℕ). range_at 0 255) 2 [] (6 ∷ 7 ∷ []) piece [] (λ made x piece after h. number_read x 0 255 piece after h) refl each
+read : (piece : List ℕ) → Each SpellsByte (6 ∷ 7 ∷ []) piece → grow_at (λ (made : List ℕ). range_at 0 255) 2 2 [] (piece ++ [])
+    ≡ (6 ∷ 7 ∷ [], [])
+read piece each = each_read SpellsByte (λ (made : List ℕ). range_at 0 255) 2 [] (6 ∷ 7 ∷ []) piece []
+    (λ made x piece after h. number_read x 0 255 piece after h) refl each
 
 pub returns-clause-turned_round : goal.returns-clause-turned_round
 unfolding grow_at range_at digit_count
-returns-clause-turned_round c = λ each. let first : 7 ≡ 6 = ap (λ (r : List ℕ × List ℕ). get_or r.0 0 0) (read (7 ∷ 6 ∷ []) each) in omega (arith, first)
+returns-clause-turned_round c = λ each. let first : 7 ≡ 6 = ap (λ (r : List ℕ × List ℕ). get_or r.0 0 0) (read (7 ∷ 6 ∷ []) each) in
+    omega (arith, first)
 
 pub returns-clause-one_missing : goal.returns-clause-one_missing
 unfolding grow_at range_at digit_count
-returns-clause-one_missing c = λ each. let second : 0 ≡ 7 = ap (λ (r : List ℕ × List ℕ). get_or r.0 1 0) (read (6 ∷ []) each) in omega (arith, second)
+returns-clause-one_missing c = λ each. let second : 0 ≡ 7 = ap (λ (r : List ℕ × List ℕ). get_or r.0 1 0) (read (6 ∷ []) each) in
+    omega (arith, second)

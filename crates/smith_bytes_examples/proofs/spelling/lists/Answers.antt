@@ -9,7 +9,13 @@ returns-clause-stopped c = record {
   first = 1 ∷ [];
   second = 6 ∷ 0 ∷ [];
   is_first = record { byte = 1; whole = refl; lowest = refl };
-  is_second = record { first = 6 ∷ []; second = 0 ∷ []; is_first = record { digits = refl; read = refl }; is_second = record { byte = 0; whole = refl; lowest = refl }; whole = refl };
+  is_second = record {
+    first = 6 ∷ [];
+    second = 0 ∷ [];
+    is_first = record { digits = refl; read = refl };
+    is_second = record { byte = 0; whole = refl; lowest = refl };
+    whole = refl;
+  };
   whole = refl;
 }
 

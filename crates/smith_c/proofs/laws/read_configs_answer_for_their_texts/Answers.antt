@@ -9,17 +9,20 @@ use Rattle.smith_c.specs.declared.answer.Answer.{Answer}
 use Rattle.smith_c.specs.declared.kept.KeptConfig.{KeptConfig}
 use Rattle.smith_c.proofs.laws.read_configs_answer_for_their_texts.Goals as goal
 
-answered : {IsOutput IsOther : List ℕ → Type 0} {MayRefuse MayRefuseToo : Refusal → Type 0} → ((bytes : List ℕ) → IsOutput bytes → IsOther bytes)
+answered : {IsOutput IsOther : List ℕ → Type 0} {MayRefuse MayRefuseToo : Refusal → Type 0}
+    → ((bytes : List ℕ) → IsOutput bytes → IsOther bytes)
     → ((refusal : Refusal) → MayRefuse refusal → MayRefuseToo refusal) → (before after : List ℕ) (answer : Answer)
     → IsAnswered IsOutput MayRefuse before after answer → IsAnswered IsOther MayRefuseToo before after answer
 answered outputs refusals before after answer (IsAnswered.made {bytes = bytes} is put) = IsAnswered.made (outputs bytes is) put
-answered outputs refusals before after answer (IsAnswered.refused {refusal = refusal} may same is) = IsAnswered.refused (refusals refusal may) same is
+answered outputs refusals before after answer (IsAnswered.refused {refusal = refusal} may same is) =
+    IsAnswered.refused (refusals refusal may) same is
 
 explained : {IsGiven IsOther : Type 0} {MayRefuse MayRefuseToo : Refusal → Type 0} → (IsGiven → IsOther)
     → ((refusal : Refusal) → MayRefuse refusal → MayRefuseToo refusal) → (before after : List ℕ) (answer : Answer)
     → IsExplained IsGiven MayRefuse before after answer → IsExplained IsOther MayRefuseToo before after answer
 explained outputs refusals before after answer (IsExplained.given given same is) = IsExplained.given (outputs given) same is
-explained outputs refusals before after answer (IsExplained.explained {refusal = refusal} may puts) = IsExplained.explained (refusals refusal may) puts
+explained outputs refusals before after answer (IsExplained.explained {refusal = refusal} may puts) =
+    IsExplained.explained (refusals refusal may) puts
 
 answers_for : (text : List ℕ) (config : KeptConfig) → IsRequest text (request_of config) → AnswersFor config text
 answers_for text config read = record {

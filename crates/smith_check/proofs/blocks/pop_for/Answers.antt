@@ -8,12 +8,15 @@ use Rattle.smith_check.proofs.blocks.pop_for.Goals as goal
 
 pub returns-then-pop_all : goal.returns-then-pop_all
 returns-then-pop_all c =
-    rw c.in-If.is (popped_below (bare c.args.scope.now) c.args.params.now (I32 ∷ []) (held c.args.operands.now) (held c.pop_all.new.self) (held c.pop_all-then-pop_all.new.self)
+    rw c.in-If.is (popped_below (bare c.args.scope.now) c.args.params.now (I32 ∷ []) (held c.args.operands.now) (held c.pop_all.new.self)
+    (held c.pop_all-then-pop_all.new.self)
     c.pop_all-then-pop_all.result c.if-pop_all.ensures c.pop_all-then-pop_all.ensures)
 
 pub returns-else-pop_all : goal.returns-else-pop_all
 returns-else-pop_all c =
-    rw c.if-pop_all.false (rw c.in-If.is (nothing_above_values (bare c.args.scope.now) c.args.params.now (I32 ∷ []) (held c.args.operands.now) c.if-pop_all.ensures))
+    rw c.if-pop_all.false
+    (rw c.in-If.is (nothing_above_values (bare c.args.scope.now) c.args.params.now (I32 ∷ []) (held c.args.operands.now)
+    c.if-pop_all.ensures))
 
 pub returns-in-Block : goal.returns-in-Block
 returns-in-Block c = rw c.in-Block.is c.pop_all-in-Block.ensures

@@ -30,24 +30,31 @@ pub loop-i-preserved : goal.loop-i-preserved
 loop-i-preserved c =
     let x = c.index-body-i-in-loop-i.result in
     let within : c.loop-i.i < length c.args.body.now = omega arith in (
-      reached_more (bare c.args.scope.now) c.loop-i.checker c.check.new.self (take c.loop-i.i c.args.body.now) (take (c.loop-i.i + 1) c.args.body.now) x
+      reached_more (bare c.args.scope.now) c.loop-i.checker c.check.new.self (take c.loop-i.i c.args.body.now)
+          (take (c.loop-i.i + 1) c.args.body.now) x
           (one_more c.args.body.now c.loop-i.i x within c.index-body-i-in-loop-i.is) c.loop-i.invariant.0
-          (subst (λ b. MatchBool b (Goes (bare c.args.scope.now) x c.loop-i.checker c.check.new.self) (Stops (bare c.args.scope.now) x c.loop-i.checker)) c.if-not-goes.false c.in_ok-goes.ensures.ok),
+          (subst (λ b. MatchBool b (Goes (bare c.args.scope.now) x c.loop-i.checker c.check.new.self)
+          (Stops (bare c.args.scope.now) x c.loop-i.checker)) c.if-not-goes.false c.in_ok-goes.ensures.ok),
       All-more (λ (instruction : Instr). IsTrue (is_covered instruction)) c.args.body.now c.loop-i.i x within c.loop-i.invariant.1
-          (subst (λ (instruction : Instr). IsTrue (is_covered instruction)) (same_at c.args.body.now c.loop-i.i c.index-body-i.result x within c.index-body-i.is c.index-body-i-in-loop-i.is ∙ c.index-body-i-in-loop-i.is)
+          (subst (λ (instruction : Instr). IsTrue (is_covered instruction))
+          (same_at c.args.body.now c.loop-i.i c.index-body-i.result x within c.index-body-i.is c.index-body-i-in-loop-i.is
+          ∙ c.index-body-i-in-loop-i.is)
           (sym c.is_covered.ensures ∙ c.if-not-is_covered.false)),
     )
 
 pub check-requires-clause-covered : goal.check-requires-clause-covered
 check-requires-clause-covered c =
-    subst (λ (instruction : Instr). IsTrue (is_covered instruction)) (same_at c.args.body.now c.loop-i.i c.index-body-i.result c.index-body-i-in-loop-i.result (omega arith) c.index-body-i.is c.index-body-i-in-loop-i.is)
+    subst (λ (instruction : Instr). IsTrue (is_covered instruction))
+    (same_at c.args.body.now c.loop-i.i c.index-body-i.result c.index-body-i-in-loop-i.result (omega arith) c.index-body-i.is
+    c.index-body-i-in-loop-i.is)
     (sym c.is_covered.ensures ∙ c.if-not-is_covered.false)
 
 pub returns-then-not-is_covered-clause-ok : goal.returns-then-not-is_covered-clause-ok
 returns-then-not-is_covered-clause-ok c = record {
   before = c.loop-i.invariant.1;
   first = c.index-body-i.result;
-  there = slice_get-get_or c.args.body.now c.loop-i.i c.index-body-i.result (omega arith) ∙ ap (λ (instruction : Instr). Some instruction) (sym c.index-body-i.is);
+  there = slice_get-get_or c.args.body.now c.loop-i.i c.index-body-i.result (omega arith) ∙ ap (λ (instruction : Instr). Some instruction)
+      (sym c.index-body-i.is);
   uncovered = sym c.is_covered.ensures ∙ c.if-not-is_covered.true;
 }
 
@@ -55,15 +62,19 @@ pub returns-then-not-goes-clause-ok : goal.returns-then-not-goes-clause-ok
 returns-then-not-goes-clause-ok c =
     let x = c.index-body-i-in-loop-i.result in
     let within : c.loop-i.i < length c.args.body.now = omega arith in
-    refused_at (bare c.args.scope.now) c.loop-i.checker c.args.body.now c.loop-i.i x within (one_more c.args.body.now c.loop-i.i x within c.index-body-i-in-loop-i.is) c.loop-i.invariant.0
-    (subst (λ b. MatchBool b (Goes (bare c.args.scope.now) x c.loop-i.checker c.check.new.self) (Stops (bare c.args.scope.now) x c.loop-i.checker)) c.if-not-goes.true c.in_ok-goes.ensures.ok)
+    refused_at (bare c.args.scope.now) c.loop-i.checker c.args.body.now c.loop-i.i x within
+    (one_more c.args.body.now c.loop-i.i x within c.index-body-i-in-loop-i.is) c.loop-i.invariant.0
+    (subst (λ b. MatchBool b (Goes (bare c.args.scope.now) x c.loop-i.checker c.check.new.self)
+    (Stops (bare c.args.scope.now) x c.loop-i.checker)) c.if-not-goes.true c.in_ok-goes.ensures.ok)
 
 pub returns-then-not-is_finished-clause-ok : goal.returns-then-not-is_finished-clause-ok
 returns-then-not-is_finished-clause-ok c =
-    refused_end (bare c.args.scope.now) c.loop-i.checker c.args.body.now (take c.loop-i.i c.args.body.now) (take_all c.loop-i.i c.args.body.now (omega arith)) c.loop-i.invariant.0
+    refused_end (bare c.args.scope.now) c.loop-i.checker c.args.body.now (take c.loop-i.i c.args.body.now)
+    (take_all c.loop-i.i c.args.body.now (omega arith)) c.loop-i.invariant.0
     c.if-not-is_finished.ensures
 
 pub returns-clause-ok : goal.returns-clause-ok
 returns-clause-ok c =
-    accepted (bare c.args.scope.now) c.loop-i.checker c.args.body.now (take c.loop-i.i c.args.body.now) (take_all c.loop-i.i c.args.body.now (omega arith)) c.loop-i.invariant.0
+    accepted (bare c.args.scope.now) c.loop-i.checker c.args.body.now (take c.loop-i.i c.args.body.now)
+    (take_all c.loop-i.i c.args.body.now (omega arith)) c.loop-i.invariant.0
     c.if-not-is_finished.ensures

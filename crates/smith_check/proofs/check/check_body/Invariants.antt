@@ -7,4 +7,5 @@ use Rattle.smith_check.specs.Checks.{IsReached}
 use Rattle.smith_check.proofs.check.check_body.Given as goal
 
 abbrev pub invariant-loop-i : goal.invariant-loop-i
-invariant-loop-i l = IsReached (bare l.scope) l.checker (take l.i l.body) × All (λ (instruction : Instr). IsTrue (is_covered instruction)) (take l.i l.body)
+invariant-loop-i l = IsReached (bare l.scope) l.checker (take l.i l.body) × All (λ (instruction : Instr). IsTrue (is_covered instruction))
+    (take l.i l.body)

@@ -15,7 +15,8 @@ apply-requires-clause-valid c = one_valid (bare c.args.scope.now) I32 tt
 
 pub returns-clause-ok : goal.returns-clause-ok
 returns-clause-ok c = λ value labels set.
-    tried_values (bare c.args.scope.now) labels (instr.I32Const value) set [] (I32 ∷ []) [] (I32 ∷ []) (held c.args.operands.now) _ c.apply.result (λ os rs t. t) (λ os rs t. t)
+    tried_values (bare c.args.scope.now) labels (instr.I32Const value) set [] (I32 ∷ []) [] (I32 ∷ []) (held c.args.operands.now) _
+    c.apply.result (λ os rs t. t) (λ os rs t. t)
     (refl, refl)
     (λ os rs t. t)
     refl refl c.apply.ensures.ok

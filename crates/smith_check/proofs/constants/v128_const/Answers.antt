@@ -18,7 +18,8 @@ apply-requires-clause-valid c = one_valid (bare c.args.scope.now) V128 (c.is_val
 
 pub returns-clause-ok : goal.returns-clause-ok
 returns-clause-ok c = λ value labels set.
-    tried_values (bare c.args.scope.now) labels (instr.V128Const value) set [] (V128 ∷ []) [] (V128 ∷ []) (held c.args.operands.now) _ c.apply.result (λ os rs t. t) (λ os rs t. t)
+    tried_values (bare c.args.scope.now) labels (instr.V128Const value) set [] (V128 ∷ []) [] (V128 ∷ []) (held c.args.operands.now) _
+    c.apply.result (λ os rs t. t) (λ os rs t. t)
     (refl, refl)
     (λ os rs t. t)
     refl refl c.apply.ensures.ok
@@ -26,5 +27,6 @@ returns-clause-ok c = λ value labels set.
 pub returns-then-not-is_valid-clause-ok : goal.returns-then-not-is_valid-clause-ok
 returns-then-not-is_valid-clause-ok c = λ value labels set before after covered s.
     let (these, those, has, is, also) = s.typed in
-    no_vector (bare c.args.scope.now) s.results s.framed.given (also ∙ ap (λ ts. values ts) has.1) s.framed.offered.below s.framed.offered.valid
+    no_vector (bare c.args.scope.now) s.results s.framed.given (also ∙ ap (λ ts. values ts) has.1) s.framed.offered.below
+    s.framed.offered.valid
     (λ h. false≢true (sym c.if-not-is_valid.true ∙ c.is_valid.ensures.1 h))

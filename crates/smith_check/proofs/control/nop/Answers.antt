@@ -11,7 +11,8 @@ apply-requires-clause-expected c = no_range c.args.scope.now.types.now.types
 
 pub returns-clause-ok : goal.returns-clause-ok
 returns-clause-ok c = λ labels set.
-    tried_values (bare c.args.scope.now) labels instr.Nop set [] [] [] [] (held c.args.operands.now) _ c.apply.result (λ os rs t. t) (λ os rs t. t)
+    tried_values (bare c.args.scope.now) labels instr.Nop set [] [] [] [] (held c.args.operands.now) _ c.apply.result (λ os rs t. t)
+    (λ os rs t. t)
     (refl, refl)
     (λ os rs t. t)
     refl refl c.apply.ensures.ok

@@ -15,5 +15,6 @@ leave_with-requires-clause-expected c = one_in_range c.args.scope.now.types.now.
 
 pub returns : goal.returns
 returns c = λ labels set.
-    tried_leaving (bare c.args.scope.now) labels instr.ThrowRef set (values (nullable_to (Abstract false abstract.Exn) ∷ [])) c.leave_with.result (held c.args.operands.now) (held c.leave_with.new.self)
+    tried_leaving (bare c.args.scope.now) labels instr.ThrowRef set (values (nullable_to (Abstract false abstract.Exn) ∷ []))
+    c.leave_with.result (held c.args.operands.now) (held c.leave_with.new.self)
     (record { typed = λ os rs t. t; only = λ os rs t. t }) c.leave_with.ensures

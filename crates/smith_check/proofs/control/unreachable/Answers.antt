@@ -9,7 +9,8 @@ use Rattle.smith_check.proofs.StepLemmas.{tried_leaving}
 
 pub returns : goal.returns
 returns c = λ labels set.
-    tried_leaving (bare c.args.scope.now) labels instr.Unreachable set (values []) c.leave_with.result (held c.args.operands.now) (held c.leave_with.new.self)
+    tried_leaving (bare c.args.scope.now) labels instr.Unreachable set (values []) c.leave_with.result (held c.args.operands.now)
+    (held c.leave_with.new.self)
     (record { typed = λ os rs t. t; only = λ os rs t. t }) c.leave_with.ensures
 
 pub leave_with-requires-clause-expected : goal.leave_with-requires-clause-expected

@@ -1,5 +1,5 @@
 use Rattle.std.proofs.Common.{◌∙◌, sym}
-use Rattle.smith_check.proofs.AmongLemmas.{among, among_is}
+use Rattle.smith_instr.proofs.AmongLemmas.{among, among_is}
 use Rattle.smith_check.proofs.variables.is_among.Goals as goal
 
 pub returns : goal.returns

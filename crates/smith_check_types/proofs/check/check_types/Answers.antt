@@ -5,7 +5,10 @@ use Rattle.smith_check_types.proofs.check.check_types.Goals as goal
 
 pub type_space_of-requires : goal.type_space_of-requires
 type_space_of-requires c =
-    record { few = few_types c.args.groups.now _ _ (same_groups _ _ _ _ _ c.in_ok-indices.ensures.canonical c.as_slice-places.ensures c.in_ok-canonical.ensures.ok c.as_slice.ensures) c.requires.few }
+    record {
+      few = few_types c.args.groups.now _ _ (same_groups _ _ _ _ _ c.in_ok-indices.ensures.canonical c.as_slice-places.ensures
+          c.in_ok-canonical.ensures.ok c.as_slice.ensures) c.requires.few;
+    }
 
 pub returns-then-not-are_groups_in_scope-clause-decided : goal.returns-then-not-are_groups_in_scope-clause-decided
 returns-then-not-are_groups_in_scope-clause-decided c =

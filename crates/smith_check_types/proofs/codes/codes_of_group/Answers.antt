@@ -8,4 +8,5 @@ use Rattle.smith_check_types.proofs.codes.codes_of_group.Goals as goal
 pub returns-clause-ok : goal.returns-clause-ok
 returns-clause-ok c =
     c.into_vec.ensures ∙ c.loop-ty.invariant
-    ∙ pieces_all type_codes (renamed (rolled_index c.args.indices.now (length c.args.indices.now))) c.args.group.now c.loop-ty.ty-index c.loop-ty-test.false
+    ∙ pieces_all type_codes (renamed (rolled_index c.args.indices.now (length c.args.indices.now))) c.args.group.now c.loop-ty.ty-index
+    c.loop-ty-test.false

@@ -7,4 +7,5 @@ use Rattle.smith_check_types.specs.Renamed.{renamed}
 use Rattle.smith_check_types.proofs.codes.codes_of_group.Given as goal
 
 abbrev pub invariant-loop-ty : goal.invariant-loop-ty
-invariant-loop-ty l = l.codes ≡ flat_map (λ (t : SubType). type_codes (renamed (rolled_index l.indices (length l.indices)) t)) (take l.ty-index l.group)
+invariant-loop-ty l = l.codes ≡ flat_map (λ (t : SubType). type_codes (renamed (rolled_index l.indices (length l.indices)) t))
+    (take l.ty-index l.group)

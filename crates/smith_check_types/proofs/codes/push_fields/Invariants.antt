@@ -8,4 +8,5 @@ use Rattle.smith_check_types.proofs.codes.push_fields.Given as goal
 
 abbrev pub invariant-loop-field : goal.invariant-loop-field
 invariant-loop-field l =
-    l.codes ≡ l.initial.codes ++ flat_map (λ (field : FieldType). field_codes (renamed_field (rolled_index l.indices (length l.indices)) field)) (take l.field-index l.fields)
+    l.codes ≡ l.initial.codes ++ flat_map
+    (λ (field : FieldType). field_codes (renamed_field (rolled_index l.indices (length l.indices)) field)) (take l.field-index l.fields)

@@ -8,4 +8,5 @@ use Rattle.smith_check_types.proofs.codes.push_values.Given as goal
 
 abbrev pub invariant-loop-value : goal.invariant-loop-value
 invariant-loop-value l =
-    l.codes ≡ l.initial.codes ++ flat_map (λ (value : ValType). val_codes (renamed_val (rolled_index l.indices (length l.indices)) value)) (take l.value-index l.values)
+    l.codes ≡ l.initial.codes ++ flat_map (λ (value : ValType). val_codes (renamed_val (rolled_index l.indices (length l.indices)) value))
+    (take l.value-index l.values)

@@ -1,5 +1,6 @@
 use Rattle.std.proofs.Common.{arith, rules}
-use Rattle.smith_check_types.proofs.ScopeLemmas.{members_start, members_room, members_turn, members_refused, members_done, never_true, always_true}
+use Rattle.smith_check_types.proofs.ScopeLemmas.{members_start, members_room, members_turn, members_refused, members_done, never_true}
+use Rattle.smith_check_types.proofs.ScopeLemmas.{always_true}
 use Rattle.smith_check_types.proofs.scope.are_members_in_scope.Goals as goal
 
 pub loop-ty-init : goal.loop-ty-init

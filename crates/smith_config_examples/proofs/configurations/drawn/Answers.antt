@@ -1,4 +1,5 @@
-use Rattle.smith_config_examples.proofs.Common.{refl, range_at, bool_at, digit_count, with_kind, config_at, maximums_at, sizes_at, proposals_at, instruction_kinds_at, rules_at}
+use Rattle.smith_config_examples.proofs.Common.{refl, range_at, bool_at, digit_count, with_kind, config_at, maximums_at, sizes_at}
+use Rattle.smith_config_examples.proofs.Common.{proposals_at, instruction_kinds_at, rules_at}
 use Rattle.smith_config_examples.proofs.configurations.drawn.Goals as goal
 
 pub returns : goal.returns

@@ -1,4 +1,7 @@
-use Rattle.smith_config_examples.proofs.Common.{◌≡◌, List, [], ◌∷◌, ◌++◌, Some, subst, rules, arith, ModuleShape, ShapeFault, BadType, Index, every_feature, open_type, empty_struct, Shape, default_config, IsShort, HasShapeFault, AreTypesRight, shape_faults, empty_shape, of_types, first_too_long, first_bad_type, All}
+use Rattle.smith_config_examples.proofs.Common.{◌≡◌, List, [], ◌∷◌, ◌++◌, Some, subst, rules, arith, ModuleShape, ShapeFault, BadType}
+use Rattle.smith_config_examples.proofs.Common.{Index, every_feature, open_type, empty_struct, Shape, default_config, IsShort}
+use Rattle.smith_config_examples.proofs.Common.{HasShapeFault, AreTypesRight, shape_faults, empty_shape, of_types, first_too_long}
+use Rattle.smith_config_examples.proofs.Common.{first_bad_type, All}
 use Rattle.smith_config_examples.proofs.ShapeFaultExamples as wrong
 use Rattle.smith_config_examples.proofs.first_shape_faults.first_faults.Goals as goal
 
@@ -13,7 +16,9 @@ wrong_type : AreTypesRight twice_wrong → ⊥
 wrong_type right = wrong.below_itself every_feature right.types
 
 -- BadType comes before Index
-type_earlier : (before after : List ShapeFault) → shape_faults ≡ before ++ Index ∷ after → All (λ other. ¬ HasShapeFault ModuleShape default_config twice_wrong other) before → ¬ HasShapeFault ModuleShape default_config twice_wrong BadType
+type_earlier : (before after : List ShapeFault) → shape_faults ≡ before ++ Index ∷ after
+    → All (λ other. ¬ HasShapeFault ModuleShape default_config twice_wrong other) before
+    → ¬ HasShapeFault ModuleShape default_config twice_wrong BadType
 type_earlier [] after order earlier = cc
 type_earlier (first ∷ []) after order earlier = cc
 type_earlier (first ∷ second ∷ before) after order earlier =
@@ -26,5 +31,6 @@ returns c = record {
   type_before_index = first_bad_type ModuleShape default_config twice_wrong short wrong_type;
   index_after_type = λ first. type_earlier first.before first.after first.order first.earlier wrong_type;
   length_before_all = λ tags long.
-      first_too_long ModuleShape default_config (record empty_shape { tags = tags }) (λ short. let few = short.tags in absurd (omega (arith, few, long)));
+      first_too_long ModuleShape default_config (record empty_shape { tags = tags }) (λ short. let few = short.tags in
+      absurd (omega (arith, few, long)));
 }

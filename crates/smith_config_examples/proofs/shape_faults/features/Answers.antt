@@ -1,4 +1,6 @@
-use Rattle.smith_config_examples.proofs.Common.{rules, ◌≡◌, true, false, [], Some, None, arith, refl, All-cons, All-nil, IsMemoryValid, IsGlobalValid, open_type, plain_func, memory, constant_global, GlobalType, MemoryType, I32, V128, AreTypesValid-single, no_types, default_config, features_of, every_feature}
+use Rattle.smith_config_examples.proofs.Common.{rules, ◌≡◌, true, false, [], Some, None, arith, refl, All-cons, All-nil, IsMemoryValid}
+use Rattle.smith_config_examples.proofs.Common.{IsGlobalValid, open_type, plain_func, memory, constant_global, GlobalType, MemoryType, I32}
+use Rattle.smith_config_examples.proofs.Common.{V128, AreTypesValid-single, no_types, default_config, features_of, every_feature}
 use Rattle.smith_config_examples.proofs.ShapeFaultExamples as wrong
 use Rattle.smith_config_examples.proofs.shape_faults.features.Goals as goal
 
@@ -12,7 +14,8 @@ returns-clause-vector c = (
     counts = search rules;
   },
   λ on.
-      let one : IsGlobalValid (features_of (record default_config { simd_enabled = false })) [] (constant_global V128) = on.globals 0 (constant_global V128) (omega arith) in
+      let one : IsGlobalValid (features_of (record default_config { simd_enabled = false })) [] (constant_global V128) =
+      on.globals 0 (constant_global V128) (omega arith) in
       let never : false ≡ true = one.value in
       cc never,
 )

@@ -26,10 +26,12 @@ returns-clause-shared_memory_without_maximum c = λ right.
     cc ((valid.shared refl).1)
 
 pub returns-clause-depth_of_63 : goal.returns-clause-depth_of_63
-returns-clause-depth_of_63 c = λ wrong. wrong (record { tables = search rules; memories = search rules; shallow = chain_shallow 63 (omega arith) })
+returns-clause-depth_of_63 c =
+    λ wrong. wrong (record { tables = search rules; memories = search rules; shallow = chain_shallow 63 (omega arith) })
 
 pub returns-clause-depth_of_64 : goal.returns-clause-depth_of_64
-returns-clause-depth_of_64 c = λ right. let most : 64 ≤ 63 = right.shallow.each 63 64 (chain_deep 64 63 (omega arith)) in omega (arith, most)
+returns-clause-depth_of_64 c = λ right. let most : 64 ≤ 63 = right.shallow.each 63 64 (chain_deep 64 63 (omega arith)) in
+    omega (arith, most)
 
 pub returns-clause-limits_crossed : goal.returns-clause-limits_crossed
 returns-clause-limits_crossed c = λ right.

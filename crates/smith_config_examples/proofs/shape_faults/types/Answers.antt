@@ -1,4 +1,5 @@
-use Rattle.smith_config_examples.proofs.Common.{rules, arith, common_steps, ◌≡◌, true, false, None, refl, funcref, anyref, constant_global, table, every_feature}
+use Rattle.smith_config_examples.proofs.Common.{rules, arith, common_steps, ◌≡◌, true, false, None, refl, funcref, anyref, constant_global}
+use Rattle.smith_config_examples.proofs.Common.{table, every_feature}
 use Rattle.smith_config_examples.proofs.ShapeFaultExamples as wrong
 use Rattle.smith_config_examples.proofs.shape_faults.types.Goals as goal
 

@@ -9,7 +9,12 @@ pub returns-clause-without_their_feature : goal.returns-clause-without_their_fea
 returns-clause-without_their_feature c = record {
   short = search rules;
   nothing_left_out = search rules;
-  consistent = record { types = types_valid (features_of config); shallow = shallow; entities = entities_valid (features_of config); exports = exports_valid };
+  consistent = record {
+    types = types_valid (features_of config);
+    shallow = shallow;
+    entities = entities_valid (features_of config);
+    exports = exports_valid;
+  };
   counts = search rules;
   plain = λ other. cc;
 }

@@ -1,4 +1,8 @@
-use Rattle.smith_config_examples.proofs.Common.{rules, arith, common_steps, ◌≡◌, false, List, [], ◌∷◌, None, refl, All-cons, All-nil, Features, funcref, IsOrderly, IsTableValid, IsTagValid, SubType, TableType, I32, memory, table, codes, final_type, empty_struct, taking, default_config, features_of, IsShort, IsInnerShort, HasNothingLeftOut, IsValTypeIncluded, IsConsistent, IsPlain, shape_spaces, passed_on, memory_passed_on, exported_table, AreTypesValid-single, no_types}
+use Rattle.smith_config_examples.proofs.Common.{rules, arith, common_steps, ◌≡◌, false, List, [], ◌∷◌, None, refl, All-cons, All-nil}
+use Rattle.smith_config_examples.proofs.Common.{Features, funcref, IsOrderly, IsTableValid, IsTagValid, SubType, TableType, I32, memory}
+use Rattle.smith_config_examples.proofs.Common.{table, codes, final_type, empty_struct, taking, default_config, features_of, IsShort}
+use Rattle.smith_config_examples.proofs.Common.{IsInnerShort, HasNothingLeftOut, IsValTypeIncluded, IsConsistent, IsPlain, shape_spaces}
+use Rattle.smith_config_examples.proofs.Common.{passed_on, memory_passed_on, exported_table, AreTypesValid-single, no_types}
 use Rattle.smith_syntax.specs.declared.entity_type.EntityType.TheVariants as entity
 use Rattle.smith_syntax.specs.declared.entity_type.ExportKind.TheVariants as kind
 use Rattle.smith_syntax.specs.declared.value_type.AbstractHeapType.TheVariants as heap
@@ -14,7 +18,13 @@ nothing_left_out : HasNothingLeftOut passed_on
 nothing_left_out = search rules
 
 consistent : IsConsistent (features_of default_config) passed_on
-consistent = record { types = types_valid (features_of default_config); shallow = shallow; entities = entities_valid (features_of default_config); exports = exports_valid }
+consistent = record {
+  types = types_valid (features_of default_config);
+  shallow = shallow;
+  entities = entities_valid
+      (features_of default_config);
+  exports = exports_valid;
+}
 
 plain : IsPlain passed_on
 plain = search rules
@@ -25,9 +35,27 @@ tag_types = final_type (taking (I32 ∷ [])) ∷ []
 
 pub returns : goal.returns
 returns c = record {
-  as_available_imports = record { short = short; nothing_left_out = nothing_left_out; consistent = consistent; counts = tt; plain = λ other. cc };
-  as_exports = record { short = short; nothing_left_out = nothing_left_out; consistent = consistent; counts = search rules; plain = λ _. plain };
-  one_of_each_kind = record { short = search rules; nothing_left_out = search rules; consistent = one_of_each_kind_consistent; counts = search rules; plain = λ _. search rules };
+  as_available_imports = record {
+    short = short;
+    nothing_left_out = nothing_left_out;
+    consistent = consistent;
+    counts = tt;
+    plain = λ other. cc;
+  };
+  as_exports = record {
+    short = short;
+    nothing_left_out = nothing_left_out;
+    consistent = consistent;
+    counts = search rules;
+    plain = λ _. plain;
+  };
+  one_of_each_kind = record {
+    short = search rules;
+    nothing_left_out = search rules;
+    consistent = one_of_each_kind_consistent;
+    counts = search rules;
+    plain = λ _. search rules;
+  };
   memory_passed_on = record {
     short = search rules;
     nothing_left_out = search rules;
@@ -36,7 +64,8 @@ returns c = record {
       shallow = shallow_if_few [] (search rules) (omega arith);
       entities = search rules;
       exports = record {
-        stand = stand_alone (shape_spaces memory_passed_on) (codes "m", kind.Memory, 0) (entity.Memory (memory 1 None)) (memory 1 None, refl, refl);
+        stand = stand_alone (shape_spaces memory_passed_on) (codes "m", kind.Memory, 0) (entity.Memory (memory 1 None))
+            (memory 1 None, refl, refl);
         distinct = search rules;
       };
     };
@@ -66,7 +95,11 @@ returns c = record {
             memories = search rules;
             globals = search rules;
           };
-          exports = record { stand = stand_alone (shape_spaces exported_table) (codes "t", kind.Table, 0) (entity.Table functions) (functions, refl, refl); distinct = search rules };
+          exports = record {
+            stand = stand_alone (shape_spaces exported_table) (codes "t", kind.Table, 0) (entity.Table functions)
+                (functions, refl, refl);
+            distinct = search rules;
+          };
         };
         counts = search rules;
         plain = λ _. search rules;
@@ -81,7 +114,11 @@ returns c = record {
           types = AreTypesValid-single features [] [] (final_type (taking (I32 ∷ []))) orderly (no_types features) (search rules);
           shallow = shallow_if_few tag_types orderly (omega arith);
           entities = record {
-            tags = All-cons (IsTagValid tag_types) 0 [] (record { params = I32 ∷ []; results = [] }, (final_type (taking (I32 ∷ [])), refl, refl), refl) (All-nil (IsTagValid tag_types));
+            tags = All-cons (IsTagValid tag_types) 0 [] (
+              record { params = I32 ∷ []; results = [] },
+              (final_type (taking (I32 ∷ [])), refl, refl),
+              refl,
+            ) (All-nil (IsTagValid tag_types));
             funcs = search rules;
             tables = search rules;
             memories = search rules;
@@ -112,14 +149,26 @@ returns c = record {
       tables = search rules;
       globals = search rules;
     };
-    consistent = record { types = chain_valid (features_of default_config) refl 63; shallow = chain_shallow 63 (omega arith); entities = search rules; exports = search rules };
+    consistent = record {
+      types = chain_valid (features_of default_config) refl 63;
+      shallow = chain_shallow 63 (omega arith);
+      entities = search rules;
+      exports = search rules;
+    };
     counts = search rules;
     plain = λ other. cc;
   };
-  as_a_module_shape = record { short = short; nothing_left_out = nothing_left_out; consistent = consistent; counts = search rules; plain = λ other. cc };
+  as_a_module_shape = record {
+    short = short;
+    nothing_left_out = nothing_left_out;
+    consistent = consistent;
+    counts = search rules;
+    plain = λ other. cc;
+  };
   too_long = first_of (search rules, grind (arith, common_steps));
   something_left_out = first_of (search rules, grind (arith, common_steps));
   tag_without_exceptions = first_of (search rules, grind (arith, common_steps));
-  exported_struct_type = λ valid. let never : heap.Struct ≡ heap.Func = ((valid.plain refl).types 0 (final_type empty_struct) (omega arith)).function in cc never;
+  exported_struct_type = λ valid. let never : heap.Struct ≡ heap.Func =
+      ((valid.plain refl).types 0 (final_type empty_struct) (omega arith)).function in cc never;
   a_name_twice = λ valid. let same : 0 ≡ 1 = valid.consistent.exports.distinct.once 0 1 (codes "a") refl refl in omega (arith, same);
 }

@@ -9,7 +9,8 @@ use Rattle.smith_config_json.proofs.value.listed_kinds.Given as goal
 -- the kinds of the rest, beside those so far, are the kinds of the list
 abbrev pub invariant-loop-kind : goal.invariant-loop-kind
 invariant-loop-kind l = record {
-  listed : (v : Result InstructionKinds Fault) (rest : List Token) → AreListed l.all l.reader v rest → AreListed no_kind l.initial.reader v rest;
+  listed : (v : Result InstructionKinds Fault) (rest : List Token) → AreListed l.all l.reader v rest
+      → AreListed no_kind l.initial.reader v rest;
   shorter : length l.reader ≤ length l.initial.reader;
 }
 

@@ -7,7 +7,8 @@ use Rattle.smith_binary_read_instr.specs.InstrReadings.{prefixed_at, instr_at}
 use Rattle.smith_binary_read_instr.specs.MemoryReadings.{bytes_instr_at, bulk_at}
 use Rattle.smith_binary_read_instr.specs.NumericReadings.{saturating_of}
 use Rattle.smith_decode.specs.BodyReadings.{body_whole, body_at, run_at}
-use Rattle.smith_decode.specs.Locations.{after_each_at, begins_in, found_section_at, from_item_at, instruction_begins, item_begins, section_content_at}
+use Rattle.smith_decode.specs.Locations.{after_each_at, begins_in, found_section_at, from_item_at, instruction_begins, item_begins}
+use Rattle.smith_decode.specs.Locations.{section_content_at}
 use Rattle.smith_decode.specs.ModuleReadings.{preamble_at}
 use Rattle.smith_decode.proofs.examples.locations.Goals as goal
 
@@ -20,22 +21,26 @@ unfolding found_section_at begins_in section_content_at preamble_at unsigned_at 
 returns-clause-data_count c = refl
 
 pub returns-clause-body : goal.returns-clause-body
-unfolding found_section_at begins_in section_content_at preamble_at unsigned_at content_at item_begins from_item_at after_each_at body_at body_whole sized_at list_at each_at expr_at nested_at nested_instr_at is_over instr_at prefixed_at bulk_at bytes_instr_at
+unfolding found_section_at begins_in section_content_at preamble_at unsigned_at content_at item_begins from_item_at after_each_at body_at
+    body_whole sized_at list_at each_at expr_at nested_at nested_instr_at is_over instr_at prefixed_at bulk_at bytes_instr_at
     saturating_of
 returns-clause-body c = refl
 
 pub returns-clause-instruction : goal.returns-clause-instruction
-unfolding found_section_at begins_in section_content_at preamble_at unsigned_at content_at instruction_begins from_item_at after_each_at body_at body_whole sized_at list_at each_at expr_at nested_at nested_instr_at is_over instr_at prefixed_at bulk_at bytes_instr_at
+unfolding found_section_at begins_in section_content_at preamble_at unsigned_at content_at instruction_begins from_item_at after_each_at
+    body_at body_whole sized_at list_at each_at expr_at nested_at nested_instr_at is_over instr_at prefixed_at bulk_at bytes_instr_at
     saturating_of run_at
 returns-clause-instruction c = refl
 
 pub returns-clause-last_end : goal.returns-clause-last_end
-unfolding found_section_at begins_in section_content_at preamble_at unsigned_at content_at instruction_begins from_item_at after_each_at body_at body_whole sized_at list_at each_at expr_at nested_at nested_instr_at is_over instr_at prefixed_at bulk_at bytes_instr_at
+unfolding found_section_at begins_in section_content_at preamble_at unsigned_at content_at instruction_begins from_item_at after_each_at
+    body_at body_whole sized_at list_at each_at expr_at nested_at nested_instr_at is_over instr_at prefixed_at bulk_at bytes_instr_at
     saturating_of run_at
 returns-clause-last_end c = refl
 
 pub returns-clause-no_second_body : goal.returns-clause-no_second_body
-unfolding found_section_at begins_in section_content_at preamble_at unsigned_at content_at item_begins from_item_at after_each_at body_at body_whole sized_at list_at each_at expr_at nested_at nested_instr_at is_over instr_at prefixed_at bulk_at bytes_instr_at
+unfolding found_section_at begins_in section_content_at preamble_at unsigned_at content_at item_begins from_item_at after_each_at body_at
+    body_whole sized_at list_at each_at expr_at nested_at nested_instr_at is_over instr_at prefixed_at bulk_at bytes_instr_at
     saturating_of
 returns-clause-no_second_body c = refl
 

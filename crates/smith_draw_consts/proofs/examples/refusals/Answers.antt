@@ -5,4 +5,5 @@ pub returns-clause-a_field_that_may_not_be_null : goal.returns-clause-a_field_th
 returns-clause-a_field_that_may_not_be_null c = inr (3, _, omega arith, refl, (0, _, omega arith, refl, (refl, λ never. absurd (cc never))))
 
 pub returns-clause-an_element_that_may_not_be_null : goal.returns-clause-an_element_that_may_not_be_null
-returns-clause-an_element_that_may_not_be_null c = inr (0, _, omega arith, refl, (0, _, omega arith, refl, (refl, λ never. absurd (cc never))))
+returns-clause-an_element_that_may_not_be_null c =
+    inr (0, _, omega arith, refl, (0, _, omega arith, refl, (refl, λ never. absurd (cc never))))

@@ -8,6 +8,7 @@ use Rattle.smith_draw_consts.proofs.examples.spaces.Goals as goal
 
 pub returns-clause-a_global_without_its_feature : goal.returns-clause-a_global_without_its_feature
 returns-clause-a_global_without_its_feature c = λ config spaces off one h.
-    let each = recursion_from_All (IsGlobalValid (features_of config) spaces.types.now.types) (constant_global V128 ∷ []) (rw one at h.globals) in
+    let each = recursion_from_All (IsGlobalValid (features_of config) spaces.types.now.types) (constant_global V128 ∷ [])
+    (rw one at h.globals) in
     let enabled : config.simd_enabled ≡ true = each.0.value in
     cc (off, enabled)

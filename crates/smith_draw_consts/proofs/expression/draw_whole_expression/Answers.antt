@@ -15,7 +15,8 @@ returns-in_err-draw_expression-clause-refusal c =
     passed_on _ c.from_residual.result c.in_err-draw_expression.field-0.0 c.from_residual.ensures.1 c.in_err-draw_expression.ensures.refusal
 
 pub returns-clause-exact : goal.returns-clause-exact
-returns-clause-exact c = whole_read _ _ _ _ _ _ _ c.draw_expression.new.fuel (rw c.new-drawn.ensures at c.in_ok-draw_expression.ensures.exact)
+returns-clause-exact c = whole_read _ _ _ _ _ _ _ c.draw_expression.new.fuel
+    (rw c.new-drawn.ensures at c.in_ok-draw_expression.ensures.exact)
 
 pub returns-in_err-draw_expression-clause-none : goal.returns-in_err-draw_expression-clause-none
 returns-in_err-draw_expression-clause-none c =

@@ -11,8 +11,10 @@ loop-index-preserved c =
     let place : ℕ = c.loop-index.index in
     let inside : place < length context.funcs = c.loop-index-test.true in
     let index : ℕ = get_or context.funcs place 0 in
-    let there : slice_get context.funcs (length c.loop-index.funcs.items) ≡ Some index = ap (slice_get context.funcs) c.loop-index.invariant.here ∙ slice_get-get_or context.funcs place 0 inside in
+    let there : slice_get context.funcs (length c.loop-index.funcs.items) ≡ Some index =
+    ap (slice_get context.funcs) c.loop-index.invariant.here ∙ slice_get-get_or context.funcs place 0 inside in
     record {
-      read = one_recorded (λ function each. each) context.funcs index index c.loop-index.funcs.items c.push.new.self.items c.loop-index.invariant.read there refl c.push.ensures.items;
+      read = one_recorded (λ function each. each) context.funcs index index c.loop-index.funcs.items c.push.new.self.items
+          c.loop-index.invariant.read there refl c.push.ensures.items;
       here = c.push.ensures.len ∙ ap (λ (n : ℕ). n + 1) c.loop-index.invariant.here;
     }

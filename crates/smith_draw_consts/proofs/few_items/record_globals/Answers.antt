@@ -15,8 +15,10 @@ loop-index-preserved c =
     let index : ℕ = c.loop-index.index in
     let inside : index < length context.globals = omega (arith, c.loop-index-test.true, c.requires.scope.seen) in
     let global : GlobalType = get_or context.globals index d in
-    let there : slice_get context.globals (length c.loop-index.kinds.items) ≡ Some global = ap (slice_get context.globals) c.loop-index.invariant.here ∙ slice_get-get_or context.globals index d inside in
+    let there : slice_get context.globals (length c.loop-index.kinds.items) ≡ Some global =
+    ap (slice_get context.globals) c.loop-index.invariant.here ∙ slice_get-get_or context.globals index d inside in
     record {
-      read = one_recorded (λ place each. readable each) context.globals global c.readable.result c.loop-index.kinds.items c.push.new.self.items c.loop-index.invariant.read there c.readable.ensures c.push.ensures.items;
+      read = one_recorded (λ place each. readable each) context.globals global c.readable.result c.loop-index.kinds.items
+          c.push.new.self.items c.loop-index.invariant.read there c.readable.ensures c.push.ensures.items;
       here = c.push.ensures.len ∙ ap (λ (n : ℕ). n + 1) c.loop-index.invariant.here;
     }

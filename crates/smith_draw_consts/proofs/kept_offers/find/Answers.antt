@@ -6,7 +6,8 @@ use Rattle.smith_draw_consts.proofs.KeptOfferLemmas.{kept_there}
 use Rattle.smith_draw_consts.proofs.kept_offers.find.Goals as goal
 
 pub returns-then-is_for-clause-found : goal.returns-then-is_for-clause-found
-returns-then-is_for-clause-found c = kept_there c.args.kept.now c.loop-place.place _ c.index-kept-place.result c.args.wanted c.args.visible c.loop-place-test.true c.index-kept-place.is (c.is_for.ensures.0 c.if-is_for.true)
+returns-then-is_for-clause-found c = kept_there c.args.kept.now c.loop-place.place _ c.index-kept-place.result c.args.wanted c.args.visible
+    c.loop-place-test.true c.index-kept-place.is (c.is_for.ensures.0 c.if-is_for.true)
 
 pub loop-place-preserved : goal.loop-place-preserved
 loop-place-preserved c = λ i d inside for. elim (cases_lt i c.loop-place.place) [
@@ -14,6 +15,7 @@ loop-place-preserved c = λ i d inside for. elim (cases_lt i c.loop-place.place)
   | inr h ↦
       let kept = c.args.kept.now in
       let here : i ≡ c.loop-place.place = omega (arith, h, inside) in
-      let same = ap (λ (n : ℕ). get_or kept n d) here ∙ get_or_default kept c.loop-place.place d _ c.loop-place-test.true ∙ sym c.index-kept-place.is in
+      let same = ap (λ (n : ℕ). get_or kept n d) here ∙ get_or_default kept c.loop-place.place d _ c.loop-place-test.true
+      ∙ sym c.index-kept-place.is in
       both_ways c.is_for.result c.if-is_for.false (c.is_for.ensures.1 (subst (IsFor c.args.wanted c.args.visible) same for))
 ]

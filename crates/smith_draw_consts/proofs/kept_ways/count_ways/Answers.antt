@@ -15,8 +15,10 @@ loop-index-preserved c =
     let same : types ≡ context.types = c.types-types.ensures.value in
     let inside : index < length types = omega (arith, c.loop-index-test.true, c.requires.there, ap length same) in
     let stepped : offered_before offer types (index + 1) ≡ offered_before offer types index + c.count_ways_by-count.result =
-    offered_more offer types index _ inside ∙ ap (λ (n : ℕ). offered_before offer types index + n) (sym c.count_ways_by-count.ensures.count) in
-    let more = subst (λ (xs : List SubType). offered_before offer xs (index + 1) ≡ offered_before offer xs index + c.count_ways_by-count.result) same stepped in
+    offered_more offer types index _ inside ∙ ap (λ (n : ℕ). offered_before offer types index + n)
+    (sym c.count_ways_by-count.ensures.count) in
+    let more = subst (λ (xs : List SubType). offered_before offer xs (index + 1) ≡ offered_before offer xs index +
+    c.count_ways_by-count.result) same stepped in
     record {
       counted = omega (arith, more, c.loop-index.invariant.counted);
       few = omega (arith, c.loop-index.invariant.few, c.count_ways_by-count.ensures.few);

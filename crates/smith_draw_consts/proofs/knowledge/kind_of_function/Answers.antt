@@ -27,7 +27,8 @@ returns-in-Few c = λ type at.
     let whole = few (goal.at.returns-in-Few c).In-Few in
     let funcs : List ℕ = c.in-Few.items.now.funcs.items in
     let recorded : slice_index c.as_slice.result.now c.args.index ≡ type =
-    ap (λ (all : List ℕ). slice_index all c.args.index) c.as_slice.ensures.value ∙ get_or_from_slice_get funcs c.args.index type 0 (whole.read.funcs.same c.args.index type (omega (arith, whole.funcs, c.requires.there)) at) in
+    ap (λ (all : List ℕ). slice_index all c.args.index) c.as_slice.ensures.value ∙ get_or_from_slice_get funcs c.args.index type 0
+    (whole.read.funcs.same c.args.index type (omega (arith, whole.funcs, c.requires.there)) at) in
     ap (λ (reference : ValType). Some reference) (c.function_reference.ensures ∙ ap (function_reference context c.args.index) recorded)
 
 pub kind_of-requires-clause-there : goal.kind_of-requires-clause-there
@@ -39,11 +40,13 @@ pub kind_of-requires-clause-classed : goal.kind_of-requires-clause-classed
 kind_of-requires-clause-classed c =
     let context = context_of c.args.scope.now in
     let all = many (goal.at.kind_of-requires-clause-classed c).In-Many in
-    class_exists context.types (λ function type. Some (function_reference context function type)) context.funcs 0 c.in-Many.items.now.funcs c.args.index all.read.funcs (omega (arith, all.funcs, c.requires.there))
+    class_exists context.types (λ function type. Some (function_reference context function type)) context.funcs 0 c.in-Many.items.now.funcs
+    c.args.index all.read.funcs (omega (arith, all.funcs, c.requires.there))
 
 pub returns-in-Many : goal.returns-in-Many
 returns-in-Many c = λ type at.
     let context = context_of c.args.scope.now in
     let all = many (goal.at.returns-in-Many c).In-Many in
     let classes = c.in-Many.items.now.funcs in
-    same_element classes.kinds (slice_index classes.of c.args.index) c.kind_of.result (Some (function_reference context c.args.index type)) c.kind_of.ensures (all.read.funcs.same c.args.index type (omega (arith, all.funcs, c.requires.there)) at)
+    same_element classes.kinds (slice_index classes.of c.args.index) c.kind_of.result (Some (function_reference context c.args.index type))
+    c.kind_of.ensures (all.read.funcs.same c.args.index type (omega (arith, all.funcs, c.requires.there)) at)

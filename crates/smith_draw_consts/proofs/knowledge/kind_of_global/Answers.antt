@@ -27,7 +27,8 @@ returns-in-Few c = λ global at.
     let whole = few (goal.at.returns-in-Few c).In-Few in
     let kinds : List (Option ValType) = c.in-Few.items.now.globals.items in
     ap (λ (all : List (Option ValType)). slice_index_or all c.args.index None) c.as_slice.ensures.value
-    ∙ get_or_from_slice_get kinds c.args.index (readable global) None (whole.read.globals.same c.args.index global (omega (arith, whole.globals, c.requires.there)) at)
+    ∙ get_or_from_slice_get kinds c.args.index (readable global) None
+    (whole.read.globals.same c.args.index global (omega (arith, whole.globals, c.requires.there)) at)
 
 pub kind_of-requires-clause-there : goal.kind_of-requires-clause-there
 kind_of-requires-clause-there c =
@@ -39,10 +40,12 @@ kind_of-requires-clause-classed c =
     let context = context_of c.args.scope.now in
     let d : GlobalType = record { val_type = I32; mutable = false; shared = false } in
     let all = many (goal.at.kind_of-requires-clause-classed c).In-Many in
-    class_exists context.types (λ index global. readable global) context.globals d c.in-Many.items.now.globals c.args.index all.read.globals (omega (arith, all.globals, c.requires.there))
+    class_exists context.types (λ index global. readable global) context.globals d c.in-Many.items.now.globals c.args.index all.read.globals
+    (omega (arith, all.globals, c.requires.there))
 
 pub returns-in-Many : goal.returns-in-Many
 returns-in-Many c = λ global at.
     let all = many (goal.at.returns-in-Many c).In-Many in
     let classes = c.in-Many.items.now.globals in
-    same_element classes.kinds (slice_index classes.of c.args.index) c.kind_of.result (readable global) c.kind_of.ensures (all.read.globals.same c.args.index global (omega (arith, all.globals, c.requires.there)) at)
+    same_element classes.kinds (slice_index classes.of c.args.index) c.kind_of.result (readable global) c.kind_of.ensures
+    (all.read.globals.same c.args.index global (omega (arith, all.globals, c.requires.there)) at)

@@ -10,7 +10,8 @@ returns-then-count-eq0-clause-none c = (refl, none_at _ _ _ refl (sym c.count_of
 
 pub returns-then-count-eq0-clause-refusal : goal.returns-then-count-eq0-clause-refusal
 returns-then-count-eq0-clause-refusal c =
-    nothing_offered c.args.scope.now.config.now (context_of c.args.scope.now) c.args.wanted c.args.fuel _ _ c.requires.scope refl (sym c.count_offers-count.ensures ∙ c.if-count-eq0.true) refl
+    nothing_offered c.args.scope.now.config.now (context_of c.args.scope.now) c.args.wanted c.args.fuel _ _ c.requires.scope refl
+    (sym c.count_offers-count.ensures ∙ c.if-count-eq0.true) refl
 
 pub returns-in-Ok-clause-none : goal.returns-in-Ok-clause-none
 returns-in-Ok-clause-none c =
@@ -26,9 +27,12 @@ returns-in-Ok-clause-refusal c =
 
 pub returns-in-Err-clause-exact : goal.returns-in-Err-clause-exact
 returns-in-Err-clause-exact c =
-    found_chosen _ _ _ _ _ (rw (c.new.ensures.start, c.new.ensures.end, c.count_offers-count.ensures) at c.int_in_range-place.ensures.exact) (sym c.past_offers.ensures ∙ c.in-Err.is)
+    found_chosen _ _ _ _ _ (rw (c.new.ensures.start, c.new.ensures.end, c.count_offers-count.ensures) at c.int_in_range-place.ensures.exact)
+    (sym c.past_offers.ensures ∙ c.in-Err.is)
 
 pub returns-in-Err-clause-fits : goal.returns-in-Err-clause-fits
 returns-in-Err-clause-fits c =
-    chosen_fits c.args.scope.now.config.now (context_of c.args.scope.now) c.args.wanted c.args.fuel c.requires.scope c.requires.wanted _ refl _ _ _
-    (found_chosen _ _ _ _ _ (rw (c.new.ensures.start, c.new.ensures.end, c.count_offers-count.ensures) at c.int_in_range-place.ensures.exact) (sym c.past_offers.ensures ∙ c.in-Err.is))
+    chosen_fits c.args.scope.now.config.now (context_of c.args.scope.now) c.args.wanted c.args.fuel c.requires.scope c.requires.wanted _
+    refl _ _ _
+    (found_chosen _ _ _ _ _ (rw (c.new.ensures.start, c.new.ensures.end, c.count_offers-count.ensures) at
+    c.int_in_range-place.ensures.exact) (sym c.past_offers.ensures ∙ c.in-Err.is))

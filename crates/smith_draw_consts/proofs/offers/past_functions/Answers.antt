@@ -9,7 +9,8 @@ use Rattle.smith_draw_consts.proofs.offers.past_functions.Goals.{In-Some}
 
 -- the counts are of all that is offered
 all : (c : In-Some) → IsWhole (context_of c.args.scope.now) c.args.wanted c.in-Some.kept.now
-all c = counts_whole (context_of c.args.scope.now) c.args.wanted c.args.known c.in-Some.kept c.requires.known (sym c.in-Some.is ∙ c.counts.ensures)
+all c = counts_whole (context_of c.args.scope.now) c.args.wanted c.args.known c.in-Some.kept c.requires.known
+    (sym c.in-Some.is ∙ c.counts.ensures)
 
 pub search_from-first-requires : goal.search_from-first-requires
 search_from-first-requires c =

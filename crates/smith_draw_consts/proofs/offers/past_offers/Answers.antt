@@ -8,7 +8,8 @@ returns-in_err-place c = found_first _ _ _ _ _ c.in_err-place.ensures c.from_res
 
 pub returns-in_err-place-2 : goal.returns-in_err-place-2
 unfolding offers
-returns-in_err-place-2 c = found_next _ _ _ _ _ c.in_ok-place.ensures (found_first _ _ _ _ _ c.in_err-place-2.ensures c.from_residual-in_err-place-2.ensures.1)
+returns-in_err-place-2 c = found_next _ _ _ _ _ c.in_ok-place.ensures
+    (found_first _ _ _ _ _ c.in_err-place-2.ensures c.from_residual-in_err-place-2.ensures.1)
 
 pub returns : goal.returns
 unfolding offers

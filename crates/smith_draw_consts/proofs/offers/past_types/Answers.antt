@@ -30,12 +30,15 @@ returns-in-Some c =
     let first = c.search_from-first.result.0 in
     let inside : first ≤ length context.types = omega (arith, whole.seen, c.search_from-first.ensures.index) in
     c.past_types_from.ensures
-    ∙ past_from (ways_by context c.args.wanted c.args.fuel c.args.arrays) context.types first c.args.place c.search_from-first.result.1 inside
-    (c.search_from-first.ensures.place (offered_before (ways_by context c.args.wanted c.args.fuel c.args.arrays) context.types) refl whole.counted)
+    ∙ past_from (ways_by context c.args.wanted c.args.fuel c.args.arrays) context.types first c.args.place c.search_from-first.result.1
+    inside
+    (c.search_from-first.ensures.place (offered_before (ways_by context c.args.wanted c.args.fuel c.args.arrays) context.types) refl
+    whole.counted)
 
 pub returns-then-fuel-eq0 : goal.returns-then-fuel-eq0
 unfolding past
 returns-then-fuel-eq0 c =
     let context = context_of c.args.scope.now in
-    let none : types_offers context c.args.wanted c.args.fuel c.args.arrays ≡ [] = rw (c.if-arrays.true, c.if-fuel-eq0.true) (no_arrays context c.args.wanted) in
+    let none : types_offers context c.args.wanted c.args.fuel c.args.arrays ≡ [] = rw (c.if-arrays.true, c.if-fuel-eq0.true)
+    (no_arrays context c.args.wanted) in
     ap (λ (choices : List Choice). past choices c.args.place) (sym none)

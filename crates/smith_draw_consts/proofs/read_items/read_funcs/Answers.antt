@@ -17,11 +17,18 @@ loop-index-preserved c =
     let index : ℕ = get_or context.funcs place 0 in
     let at : slice_get context.funcs place ≡ Some index = slice_get-get_or context.funcs place 0 inside in
     let kind : Option ValType = c.recorded_function-reference.result in
-    let there : slice_get context.funcs (length c.loop-index.classes.of) ≡ Some index = ap (slice_get context.funcs) c.loop-index.invariant.here ∙ at in
-    let is : kind ≡ Some (function_reference context (length c.loop-index.classes.of) index) = c.recorded_function-reference.ensures index at ∙ ap (λ (n : ℕ). Some (function_reference context n index)) (sym c.loop-index.invariant.here) in
-    let exists : IfSome kind (IsValInRange context.types) = function_kind_exists context c.requires.scope place kind inside c.recorded_function-reference.ensures in
+    let there : slice_get context.funcs (length c.loop-index.classes.of) ≡ Some index =
+    ap (slice_get context.funcs) c.loop-index.invariant.here ∙ at in
+    let is : kind ≡ Some (function_reference context (length c.loop-index.classes.of) index) =
+    c.recorded_function-reference.ensures index at ∙ ap (λ (n : ℕ). Some (function_reference context n index))
+    (sym c.loop-index.invariant.here) in
+    let exists : IfSome kind (IsValInRange context.types) = function_kind_exists context c.requires.scope place kind inside
+    c.recorded_function-reference.ensures in
     record {
-      read = classes_noted context.types (λ function type. Some (function_reference context function type)) context.funcs index kind c.loop-index.classes c.note.new.self c.loop-index.invariant.read there is exists c.in_ok-note.ensures.noted;
-      flags = λ types wanted flags are. flags_noted types wanted kind c.loop-index.classes c.note.new.self flags c.in_ok-note.ensures.noted (c.loop-index.invariant.flags types wanted flags are);
-      here = one_noted kind c.loop-index.classes c.note.new.self c.in_ok-note.ensures.noted ∙ ap (λ (n : ℕ). n + 1) c.loop-index.invariant.here;
+      read = classes_noted context.types (λ function type. Some (function_reference context function type)) context.funcs index kind
+          c.loop-index.classes c.note.new.self c.loop-index.invariant.read there is exists c.in_ok-note.ensures.noted;
+      flags = λ types wanted flags are. flags_noted types wanted kind c.loop-index.classes c.note.new.self flags c.in_ok-note.ensures.noted
+          (c.loop-index.invariant.flags types wanted flags are);
+      here = one_noted kind c.loop-index.classes c.note.new.self c.in_ok-note.ensures.noted
+          ∙ ap (λ (n : ℕ). n + 1) c.loop-index.invariant.here;
     }

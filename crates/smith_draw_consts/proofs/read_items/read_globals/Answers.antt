@@ -20,10 +20,15 @@ loop-index-preserved c =
     let global : GlobalType = get_or context.globals index d in
     let at : slice_get context.globals index ≡ Some global = slice_get-get_or context.globals index d inside in
     let kind : Option ValType = c.recorded_global-kind.result in
-    let there : slice_get context.globals (length c.loop-index.classes.of) ≡ Some global = ap (slice_get context.globals) c.loop-index.invariant.here ∙ at in
-    let exists : IfSome kind (IsValInRange context.types) = global_kind_exists context c.requires.scope d index kind inside c.recorded_global-kind.ensures in
+    let there : slice_get context.globals (length c.loop-index.classes.of) ≡ Some global =
+    ap (slice_get context.globals) c.loop-index.invariant.here ∙ at in
+    let exists : IfSome kind (IsValInRange context.types) = global_kind_exists context c.requires.scope d index kind inside
+    c.recorded_global-kind.ensures in
     record {
-      read = classes_noted context.types (λ place each. readable each) context.globals global kind c.loop-index.classes c.note.new.self c.loop-index.invariant.read there (c.recorded_global-kind.ensures global at) exists c.in_ok-note.ensures.noted;
-      flags = λ types wanted flags are. flags_noted types wanted kind c.loop-index.classes c.note.new.self flags c.in_ok-note.ensures.noted (c.loop-index.invariant.flags types wanted flags are);
-      here = one_noted kind c.loop-index.classes c.note.new.self c.in_ok-note.ensures.noted ∙ ap (λ (n : ℕ). n + 1) c.loop-index.invariant.here;
+      read = classes_noted context.types (λ place each. readable each) context.globals global kind c.loop-index.classes c.note.new.self
+          c.loop-index.invariant.read there (c.recorded_global-kind.ensures global at) exists c.in_ok-note.ensures.noted;
+      flags = λ types wanted flags are. flags_noted types wanted kind c.loop-index.classes c.note.new.self flags c.in_ok-note.ensures.noted
+          (c.loop-index.invariant.flags types wanted flags are);
+      here = one_noted kind c.loop-index.classes c.note.new.self c.in_ok-note.ensures.noted
+          ∙ ap (λ (n : ℕ). n + 1) c.loop-index.invariant.here;
     }

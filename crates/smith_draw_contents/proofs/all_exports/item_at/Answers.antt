@@ -19,4 +19,5 @@ pub overflow_cast-result-2 : goal.overflow_cast-result-2
 overflow_cast-result-2 c = omega (arith, length-every_item (spaces_in c.args.spaces.now))
 
 pub returns : goal.returns
-returns c = tag_at (spaces_in c.args.spaces.now) c.args.place _ (omega arith) (omega (arith, length-every_item (spaces_in c.args.spaces.now)))
+returns c = tag_at (spaces_in c.args.spaces.now) c.args.place _ (omega arith)
+    (omega (arith, length-every_item (spaces_in c.args.spaces.now)))

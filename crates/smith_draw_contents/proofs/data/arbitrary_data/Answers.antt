@@ -8,4 +8,5 @@ pub returns-clause-least : goal.returns-clause-least
 returns-clause-least c = c.draw_data.ensures.least (c.requires.passes.ordered DataSegments tt)
 
 pub returns-clause-reach : goal.returns-clause-reach
-returns-clause-reach c = λ least none. data_taken c.args.config.now (seen_by c.args.config.now c.args.spaces.now true) _ _ _ c.draw_data.result least none c.draw_data.ensures.exact
+returns-clause-reach c = λ least none. data_taken c.args.config.now (seen_by c.args.config.now c.args.spaces.now true) _ _ _
+    c.draw_data.result least none c.draw_data.ensures.exact

@@ -4,14 +4,20 @@ use Rattle.smith_draw_contents.proofs.data.draw_byte_list.Goals as goal
 
 pub returns-then-not-goes_on : goal.returns-then-not-goes_on
 returns-then-not-goes_on c = record {
-  exact = grow_stop c.loop-made.invariant (rw c.len-made-end.ensures at c.loop-made-test.true) c.goes_on.ensures.exact c.if-not-goes_on.true;
+  exact = grow_stop c.loop-made.invariant (rw c.len-made-end.ensures at c.loop-made-test.true) c.goes_on.ensures.exact
+      c.if-not-goes_on.true;
   memory = search rules;
   left = search rules;
 }
 
 pub loop-made-preserved : goal.loop-made-preserved
 loop-made-preserved c =
-    grow_go c.loop-made.invariant (rw c.len-made-end.ensures at c.loop-made-test.true) c.goes_on.ensures.exact c.if-not-goes_on.false c.arbitrary.ensures.exact c.in_ok-push.ensures.ok c.goes_on.ensures.left c.arbitrary.ensures.left
+    grow_go c.loop-made.invariant (rw c.len-made-end.ensures at c.loop-made-test.true) c.goes_on.ensures.exact c.if-not-goes_on.false
+    c.arbitrary.ensures.exact c.in_ok-push.ensures.ok c.goes_on.ensures.left c.arbitrary.ensures.left
 
 pub returns : goal.returns
-returns c = record { exact = grow_full c.loop-made.invariant (rw c.len-made-end.ensures at c.loop-made-test.false); memory = search rules; left = search rules }
+returns c = record {
+  exact = grow_full c.loop-made.invariant (rw c.len-made-end.ensures at c.loop-made-test.false);
+  memory = search rules;
+  left = search rules;
+}

@@ -6,5 +6,6 @@ returns-then-place-eq0-clause-valid c = λ context tell. c.draw_constant.ensures
 
 pub returns-clause-valid : goal.returns-clause-valid
 returns-clause-valid c = λ context tell.
-    let inside : c.int_in_range-place.result - 1 < length c.args.globals.now = omega (arith, c.int_in_range-place.ensures.within, c.new.ensures.end, c.len.ensures, c.if-place-eq0.false) in
+    let inside : c.int_in_range-place.result - 1 < length c.args.globals.now =
+    omega (arith, c.int_in_range-place.ensures.within, c.new.ensures.end, c.len.ensures, c.if-place-eq0.false) in
     rw c.at.ensures (tell (c.int_in_range-place.result - 1) 0 inside)

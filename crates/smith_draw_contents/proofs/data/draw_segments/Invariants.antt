@@ -9,6 +9,8 @@ use Rattle.smith_draw_contents.proofs.data.draw_segments.Given as goal
 
 abbrev pub invariant-loop-made : goal.invariant-loop-made
 invariant-loop-made l = record {
-  growing : IsGrowing (λ _. data_segment_at l.config l.targets) l.config.min_data_segments l.config.max_data_segments l.made l.segments l.fn.u l.u (data_segments_at l.config l.targets l.fn.u);
-  fit : (context : Context) (memories : List MemoryType) → AreTargets l.config context memories l.targets → All (IsDataFit l.config context memories) l.segments;
+  growing : IsGrowing (λ _. data_segment_at l.config l.targets) l.config.min_data_segments l.config.max_data_segments l.made l.segments
+      l.fn.u l.u (data_segments_at l.config l.targets l.fn.u);
+  fit : (context : Context) (memories : List MemoryType) → AreTargets l.config context memories l.targets
+      → All (IsDataFit l.config context memories) l.segments;
 }

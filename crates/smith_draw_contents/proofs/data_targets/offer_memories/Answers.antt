@@ -7,11 +7,13 @@ loop-memory-init c = counting_begin c.args.memories.now c.new-offered.result c.a
 
 pub loop-memory-preserved-then-not-is_target : goal.loop-memory-preserved-then-not-is_target
 loop-memory-preserved-then-not-is_target c =
-    counting_skip c.loop-memory.invariant c.loop-memory-test.true (search rules) c.is_target.ensures.exact c.if-not-is_target.true c.in_ok-leave_out.ensures.ok c.is_target.ensures.left
+    counting_skip c.loop-memory.invariant c.loop-memory-test.true (search rules) c.is_target.ensures.exact c.if-not-is_target.true
+    c.in_ok-leave_out.ensures.ok c.is_target.ensures.left
 
 pub loop-memory-preserved : goal.loop-memory-preserved
 loop-memory-preserved c =
-    counting_more c.loop-memory.invariant c.loop-memory-test.true (search rules) c.is_target.ensures.exact c.if-not-is_target.false c.offer.ensures c.is_target.ensures.left
+    counting_more c.loop-memory.invariant c.loop-memory-test.true (search rules) c.is_target.ensures.exact c.if-not-is_target.false
+    c.offer.ensures c.is_target.ensures.left
 
 pub returns-clause-exact : goal.returns-clause-exact
 returns-clause-exact c = counting_done c.loop-memory.invariant c.loop-memory-test.false

@@ -11,7 +11,8 @@ returns-then-not-goes_on c = record {
 
 pub loop-made-preserved : goal.loop-made-preserved
 loop-made-preserved c =
-    grow_go c.loop-made.invariant c.loop-made-test.true c.goes_on.ensures.exact c.if-not-goes_on.false c.choose.ensures.exact c.in_ok-push.ensures.ok c.goes_on.ensures.left c.choose.ensures.left
+    grow_go c.loop-made.invariant c.loop-made-test.true c.goes_on.ensures.exact c.if-not-goes_on.false c.choose.ensures.exact
+    c.in_ok-push.ensures.ok c.goes_on.ensures.left c.choose.ensures.left
 
 pub returns : goal.returns
 returns c = record { exact = grow_full c.loop-made.invariant c.loop-made-test.false; memory = search rules; left = search rules }

@@ -24,16 +24,20 @@ loop-made-init c =
     })
 
 pub returns-then-not-goes_on-clause-exact : goal.returns-then-not-goes_on-clause-exact
-returns-then-not-goes_on-clause-exact c = try_stop c.loop-made.invariant.growing c.loop-made-test.true c.goes_on.ensures.exact c.if-not-goes_on.true
+returns-then-not-goes_on-clause-exact c = try_stop c.loop-made.invariant.growing c.loop-made-test.true c.goes_on.ensures.exact
+    c.if-not-goes_on.true
 
 pub loop-made-preserved : goal.loop-made-preserved
 loop-made-preserved c =
     let context = seen_by c.args.config.now c.args.spaces.now true in
     let item = c.in_ok-draw_expression_item.ensures in
     record {
-      growing = try_go c.loop-made.invariant.growing c.loop-made-test.true c.goes_on.ensures.exact c.if-not-goes_on.false item.exact c.in_ok-push.ensures.ok c.goes_on.ensures.left item.left;
-      typed = rw c.in_ok-push.ensures.ok (All-push (IsConstExpr context (Ref c.args.ty)) c.loop-made.items _ c.loop-made.invariant.typed item.typed);
-      floats = λ calm. rw c.in_ok-push.ensures.ok (All-push (All GivesNoFloat) c.loop-made.items _ (c.loop-made.invariant.floats calm) (item.floats calm));
+      growing = try_go c.loop-made.invariant.growing c.loop-made-test.true c.goes_on.ensures.exact c.if-not-goes_on.false item.exact
+          c.in_ok-push.ensures.ok c.goes_on.ensures.left item.left;
+      typed = rw c.in_ok-push.ensures.ok (All-push (IsConstExpr context (Ref c.args.ty)) c.loop-made.items _ c.loop-made.invariant.typed
+          item.typed);
+      floats = λ calm. rw c.in_ok-push.ensures.ok (All-push (All GivesNoFloat) c.loop-made.items _ (c.loop-made.invariant.floats calm)
+          (item.floats calm));
       kept = item.kept;
     }
 
@@ -42,5 +46,7 @@ returns-clause-exact c = try_full c.loop-made.invariant.growing c.loop-made-test
 
 pub returns-in_err-draw_expression_item-clause-exact : goal.returns-in_err-draw_expression_item-clause-exact
 returns-in_err-draw_expression_item-clause-exact c =
-    refused_with {X = List ConstInstr} (λ drawn. (drawn, c.draw_expression_item.new.u)) _ c.in_err-draw_expression_item.field-0.0 _ _ c.from_residual.result c.in_err-draw_expression_item.ensures.exact
-    (try_refused c.loop-made.invariant.growing c.loop-made-test.true c.goes_on.ensures.exact c.if-not-goes_on.false) c.from_residual.ensures.1
+    refused_with {X = List ConstInstr} (λ drawn. (drawn, c.draw_expression_item.new.u)) _ c.in_err-draw_expression_item.field-0.0 _ _
+    c.from_residual.result c.in_err-draw_expression_item.ensures.exact
+    (try_refused c.loop-made.invariant.growing c.loop-made-test.true c.goes_on.ensures.exact c.if-not-goes_on.false)
+    c.from_residual.ensures.1

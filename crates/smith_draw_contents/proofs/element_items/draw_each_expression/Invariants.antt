@@ -13,7 +13,8 @@ abbrev pub invariant-loop-made : goal.invariant-loop-made
 invariant-loop-made l =
     let context = seen_by l.config l.spaces true in
     record {
-      growing : IsTrying (λ _. expression_item_at l.config context l.ty) l.config.min_elements l.most l.made l.items l.fn.u l.u (drawn_expressions_at l.config context l.ty l.most l.fn.u);
+      growing : IsTrying (λ _. expression_item_at l.config context l.ty) l.config.min_elements l.most l.made l.items l.fn.u l.u
+          (drawn_expressions_at l.config context l.ty l.most l.fn.u);
       typed : All (IsConstExpr context (Ref l.ty)) l.items;
       floats : All HasNoFloat l.spaces.types.now.types → All (All GivesNoFloat) l.items;
       kept : AreKeptOffers context l.kept;

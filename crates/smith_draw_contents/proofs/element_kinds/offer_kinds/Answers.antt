@@ -14,6 +14,8 @@ returns c =
     let exact = rw (← c.new.ensures) at (c.in_ok-offered.ensures.kinds config) in
     record {
       draws = record { exact = exact; memory = tt; left = c.in_ok-offered.ensures.left };
-      offered = drawn_is (All (IsKindOffered config types tables)) _ (kinds_offered config types tables c.args.u.now c.requires.tables) exact;
-      bulk = drawn_is (λ (kinds : List KindChoice). length kinds ≡ 0 → config.bulk_memory_enabled ≡ false) _ (no_kind config tables c.args.u.now) exact;
+      offered = drawn_is (All (IsKindOffered config types tables)) _ (kinds_offered config types tables c.args.u.now c.requires.tables)
+          exact;
+      bulk = drawn_is (λ (kinds : List KindChoice). length kinds ≡ 0 → config.bulk_memory_enabled ≡ false) _
+          (no_kind config tables c.args.u.now) exact;
     }

@@ -7,4 +7,5 @@ pub returns-then-left-most : goal.returns-then-left-most
 returns-then-left-most c =
     let types = c.args.types.now.types in
     let funcs = c.args.funcs.now in
-    sym (length_all (is_func_below types c.args.left) 0 funcs (all_below types c.args.most c.args.left funcs c.requires.most (omega (arith, c.if-left-most.true))))
+    sym (length_all (is_func_below types c.args.left) 0 funcs (all_below types c.args.most c.args.left funcs c.requires.most
+    (omega (arith, c.if-left-most.true))))

@@ -14,8 +14,10 @@ loop-func-preserved c =
       | then-size-most w ↦ (omega (arith, w.most-is, w.if-size-most), omega (arith, w.most-is))
       | else-size-most w ↦ (omega (arith, w.most-is), omega (arith, w.most-is, w.if-size-most))
     ] in
-    let so_far = All-weaker (IsFuncWithin types c.loop-func.most) (IsFuncWithin types more) (λ func within. omega (arith, within, grown.0)) (take c.loop-func.func-index funcs) c.loop-func.invariant in
-    All-more (IsFuncWithin types more) funcs c.loop-func.func-index 0 c.loop-func-test.true so_far (omega (arith, c.func_size-size.ensures, grown.1))
+    let so_far = All-weaker (IsFuncWithin types c.loop-func.most) (IsFuncWithin types more) (λ func within. omega (arith, within, grown.0))
+    (take c.loop-func.func-index funcs) c.loop-func.invariant in
+    All-more (IsFuncWithin types more) funcs c.loop-func.func-index 0 c.loop-func-test.true so_far
+    (omega (arith, c.func_size-size.ensures, grown.1))
 
 pub returns : goal.returns
 returns c = rw (take_all c.loop-func.func-index c.args.funcs.now (omega (arith, c.loop-func-test.false))) at c.loop-func.invariant

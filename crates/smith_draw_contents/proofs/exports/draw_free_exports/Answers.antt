@@ -16,4 +16,5 @@ pub returns-clause-within : goal.returns-clause-within
 returns-clause-within c = IfOk-weaker c.draw_exports.result _ _ (λ made h. h.fit.within) c.draw_exports.ensures.kept
 
 pub returns-clause-none : goal.returns-clause-none
-returns-clause-none c = λ none. no_export_taken c.args.config.now c.args.types.now.types (spaces_in c.args.spaces.now) c.args.imports_size _ _ c.draw_exports.result none c.draw_exports.ensures.exact
+returns-clause-none c = λ none. no_export_taken c.args.config.now c.args.types.now.types (spaces_in c.args.spaces.now) c.args.imports_size _
+    _ c.draw_exports.result none c.draw_exports.ensures.exact

@@ -11,7 +11,9 @@ push_globals-pushed-requires-clause-kept c = c.new-kept.ensures _
 pub returns-clause-filled : goal.returns-clause-filled
 returns-clause-filled c =
     let standing = scope_among c.args.types.now.types c.args.funcs.now c.args.imported_funcs c.args.imported_globals c.args.globals.now in
-    returned_so c.push_globals-pushed.result (globals_fill c.args.config.now standing c.args.globals.now _ c.args.initials.now _ _ _ (c.requires.may.passes.ordered counts.Globals tt)) c.push_globals-pushed.ensures.exact
+    returned_so c.push_globals-pushed.result (globals_fill c.args.config.now standing c.args.globals.now _ c.args.initials.now _ _ _
+    (c.requires.may.passes.ordered counts.Globals tt)) c.push_globals-pushed.ensures.exact
 
 pub returns-clause-reach : goal.returns-clause-reach
-returns-clause-reach c = λ least none unmade. returned_so c.push_globals-pushed.result (λ drawn. globals_taken _ _ least none unmade drawn) c.push_globals-pushed.ensures.exact
+returns-clause-reach c = λ least none unmade. returned_so c.push_globals-pushed.result (λ drawn. globals_taken _ _ least none unmade drawn)
+    c.push_globals-pushed.ensures.exact

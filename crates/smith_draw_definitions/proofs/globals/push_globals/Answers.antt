@@ -5,7 +5,8 @@ use Rattle.smith_bytes.specs.declared.error.Count.TheVariants as counts
 use Rattle.smith_draw_consts.proofs.TriedStepLemmas.{refused_with}
 use Rattle.smith_draw_definitions.specs.Definitions.{Global, scope_among}
 use Rattle.smith_draw_definitions.proofs.KeptOfferLemmas.{kept_pushed}
-use Rattle.smith_draw_definitions.proofs.GlobalsLoop.{none_made, define_more, define_refused, define_stop, define_full, count_is, globals_added}
+use Rattle.smith_draw_definitions.proofs.GlobalsLoop.{none_made, define_more, define_refused, define_stop, define_full, count_is}
+use Rattle.smith_draw_definitions.proofs.GlobalsLoop.{globals_added}
 use Rattle.smith_draw_definitions.proofs.globals.push_globals.Goals as goal
 
 pub loop-made-init : goal.loop-made-init
@@ -18,7 +19,8 @@ loop-made-init c =
 
 pub returns-then-not-goes_on-clause-exact : goal.returns-then-not-goes_on-clause-exact
 returns-then-not-goes_on-clause-exact c =
-    define_stop c.loop-made.invariant.defining (rw (c.saturating_sub-made-end.ensures, c.len-before.ensures) at c.loop-made-test.true) (rw (c.saturating_sub-least.ensures, c.len-before.ensures) at c.goes_on.ensures.exact) c.if-not-goes_on.true
+    define_stop c.loop-made.invariant.defining (rw (c.saturating_sub-made-end.ensures, c.len-before.ensures) at c.loop-made-test.true)
+    (rw (c.saturating_sub-least.ensures, c.len-before.ensures) at c.goes_on.ensures.exact) c.if-not-goes_on.true
 
 pub returns-then-not-goes_on-clause-grounded : goal.returns-then-not-goes_on-clause-grounded
 returns-then-not-goes_on-clause-grounded c = globals_added c.loop-made.invariant.defining
@@ -37,7 +39,15 @@ draw_initialised_global-requires-clause-spaces c =
       globals = rw same c.loop-made.invariant.defining.valid;
       imported = rw same (omega (arith, count, c.requires.imported));
       few_funcs = may.few_funcs;
-      few_globals = rw same (omega (arith, count, c.len-before.ensures, c.saturating_sub-made-end.ensures, c.loop-made-test.true, c.requires.few, may.passes.few counts.Globals));
+      few_globals = rw same (omega (
+        arith,
+        count,
+        c.len-before.ensures,
+        c.saturating_sub-made-end.ensures,
+        c.loop-made-test.true,
+        c.requires.few,
+        may.passes.few counts.Globals,
+      ));
     }
 
 pub loop-made-preserved : goal.loop-made-preserved
@@ -48,7 +58,8 @@ loop-made-preserved c =
     let standing = scope_among c.args.types.now.types c.args.funcs.now c.args.imported_funcs c.args.imported_globals c.args.globals.now in
     record {
       defining =
-          define_more c.loop-made.invariant.defining (rw (c.saturating_sub-made-end.ensures, c.len-before.ensures) at c.loop-made-test.true) (rw (c.saturating_sub-least.ensures, c.len-before.ensures) at c.goes_on.ensures.exact) c.if-not-goes_on.false
+          define_more c.loop-made.invariant.defining (rw (c.saturating_sub-made-end.ensures, c.len-before.ensures) at c.loop-made-test.true)
+          (rw (c.saturating_sub-least.ensures, c.len-before.ensures) at c.goes_on.ensures.exact) c.if-not-goes_on.false
           (rw (c.as_slice.ensures, visible, ← seen) at drawn.exact)
           drawn.valid
           (rw (c.as_slice.ensures, visible, ← seen) at drawn.initialised)
@@ -60,13 +71,15 @@ loop-made-preserved c =
           c.goes_on.ensures.left
           drawn.left;
       kept =
-          kept_pushed c.args.config.now standing c.loop-made.globals _ _ _ c.requires.may.valid.orderly c.requires.may.funcs c.loop-made.invariant.defining.valid c.in_ok-push.ensures.ok
+          kept_pushed c.args.config.now standing c.loop-made.globals _ _ _ c.requires.may.valid.orderly c.requires.may.funcs
+          c.loop-made.invariant.defining.valid c.in_ok-push.ensures.ok
           (rw (c.as_slice.ensures, visible, ← seen) at drawn.kept);
     }
 
 pub returns-clause-exact : goal.returns-clause-exact
 returns-clause-exact c =
-    define_full c.loop-made.invariant.defining (rw (c.saturating_sub-made-end.ensures, c.len-before.ensures) at c.loop-made-test.false) (rw c.len-before.ensures at c.discard_past_maximum.ensures.exact)
+    define_full c.loop-made.invariant.defining (rw (c.saturating_sub-made-end.ensures, c.len-before.ensures) at c.loop-made-test.false)
+    (rw c.len-before.ensures at c.discard_past_maximum.ensures.exact)
 
 pub draw_initialised_global-requires-clause-kept : goal.draw_initialised_global-requires-clause-kept
 draw_initialised_global-requires-clause-kept c =
@@ -78,7 +91,9 @@ pub returns-in_err-global-clause-exact : goal.returns-in_err-global-clause-exact
 returns-in_err-global-clause-exact c =
     let visible = and-true c.args.config.now.gc_enabled in
     let seen = length-take-le c.args.imported_globals c.args.globals.now c.requires.imported in
-    refused_with {X = Global} (λ drawn. (drawn, c.draw_initialised_global.new.u)) _ c.in_err-global.field-0.0 _ _ c.from_residual.result c.in_err-global.ensures.exact
-    (λ refused. define_refused c.loop-made.invariant.defining (rw (c.saturating_sub-made-end.ensures, c.len-before.ensures) at c.loop-made-test.true) (rw (c.saturating_sub-least.ensures, c.len-before.ensures) at c.goes_on.ensures.exact) c.if-not-goes_on.false
+    refused_with {X = Global} (λ drawn. (drawn, c.draw_initialised_global.new.u)) _ c.in_err-global.field-0.0 _ _ c.from_residual.result
+    c.in_err-global.ensures.exact
+    (λ refused. define_refused c.loop-made.invariant.defining (rw (c.saturating_sub-made-end.ensures, c.len-before.ensures) at
+    c.loop-made-test.true) (rw (c.saturating_sub-least.ensures, c.len-before.ensures) at c.goes_on.ensures.exact) c.if-not-goes_on.false
     (rw (c.as_slice.ensures, visible, ← seen) at refused))
     c.from_residual.ensures.1

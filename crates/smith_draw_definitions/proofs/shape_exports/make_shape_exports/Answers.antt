@@ -15,23 +15,30 @@ pub returns-clause-kept : goal.returns-clause-kept
 returns-clause-kept c = IfOk-weaker c.push_exports-made.result _ _ (λ exports made. made.same) c.push_exports-made.ensures.required
 
 pub returns-clause-valid : goal.returns-clause-valid
-returns-clause-valid c = IfOk-weaker c.push_exports-made.result _ _ (λ exports made. valid_so _ _ _ exports _ made.same c.requires.valid.consistent.exports) c.push_exports-made.ensures.required
+returns-clause-valid c = IfOk-weaker c.push_exports-made.result _ _
+    (λ exports made. valid_so _ _ _ exports _ made.same c.requires.valid.consistent.exports) c.push_exports-made.ensures.required
 
 pub returns-clause-stands : goal.returns-clause-stands
-returns-clause-stands c = λ imported now. IfOk-weaker c.push_exports-made.result _ _ (λ exports made. made.stands imported now) c.push_exports-made.ensures.required
+returns-clause-stands c = λ imported now. IfOk-weaker c.push_exports-made.result _ _ (λ exports made. made.stands imported now)
+    c.push_exports-made.ensures.required
 
 pub returns-clause-types : goal.returns-clause-types
-returns-clause-types c = IfOk-weaker c.push_exports-made.result _ _ (λ exports made. made.unchanged refl) c.push_exports-made.ensures.required
+returns-clause-types c = IfOk-weaker c.push_exports-made.result _ _ (λ exports made. made.unchanged refl)
+    c.push_exports-made.ensures.required
 
 pub returns-clause-spaces : goal.returns-clause-spaces
-returns-clause-spaces c = IfOk-weaker c.push_exports-made.result _ _ (λ exports made. made.spaces_grown) c.push_exports-made.ensures.required
+returns-clause-spaces c = IfOk-weaker c.push_exports-made.result _ _ (λ exports made. made.spaces_grown)
+    c.push_exports-made.ensures.required
 
 pub returns-clause-memory : goal.returns-clause-memory
 returns-clause-memory c = λ none on several.
-    IfErr-weaker c.push_exports-made.result _ _ (λ e. only_memory c.args.config.now (drawn_beside c.args.config.now c.args.types.now.types (spaces_in c.args.spaces.now) c.args.definitions.now) c.args.shape.now e none on several) c.push_exports-made.ensures.refusal
+    IfErr-weaker c.push_exports-made.result _ _
+    (λ e. only_memory c.args.config.now (drawn_beside c.args.config.now c.args.types.now.types (spaces_in c.args.spaces.now)
+    c.args.definitions.now) c.args.shape.now e none on several) c.push_exports-made.ensures.refusal
 
 pub returns-clause-counted : goal.returns-clause-counted
-returns-clause-counted c = λ count other. IfOk-weaker c.push_exports-made.result _ _ (λ exports made. made.counted count other) c.push_exports-made.ensures.required
+returns-clause-counted c = λ count other. IfOk-weaker c.push_exports-made.result _ _ (λ exports made. made.counted count other)
+    c.push_exports-made.ensures.required
 
 pub returns-clause-limits : goal.returns-clause-limits
 returns-clause-limits c = IfOk-weaker c.push_exports-made.result _ _ (λ exports made. made.limits) c.push_exports-made.ensures.required

@@ -21,9 +21,11 @@ numbers_whole = search rules
 
 pub returns-clause-many : goal.returns-clause-many
 returns-clause-many c = λ kept many is all are.
-    let there : slice_get many.kept.items 1 ≡ Some numbers = subst (λ (entries : List KeptOffer). slice_get entries 1 ≡ Some numbers) (sym are) refl in
+    let there : slice_get many.kept.items 1 ≡ Some numbers = subst (λ (entries : List KeptOffer). slice_get entries 1 ≡ Some numbers)
+    (sym are) refl in
     record {
       few = λ none. let wrong : None ≡ Some many = sym none ∙ is in cc;
       many = subst (λ (o : Option ManyItems). IfSome o (λ many. AreAllRead context many.items)) (sym is) all;
-      counted = subst (λ (o : Option ManyItems). IfSome o (λ many. IsWholeAt context many.kept.items 1 I32)) (sym is) (numbers, there, numbers_whole);
+      counted = subst (λ (o : Option ManyItems). IfSome o (λ many. IsWholeAt context many.kept.items 1 I32)) (sym is)
+          (numbers, there, numbers_whole);
     }

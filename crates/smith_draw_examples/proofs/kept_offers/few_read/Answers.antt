@@ -9,15 +9,18 @@ use Rattle.smith_draw_examples.proofs.kept_offers.few_read.Goals as goal
 
 pub returns-clause-a_mutable_global_with_a_type : goal.returns-clause-a_mutable_global_with_a_type
 returns-clause-a_mutable_global_with_a_type c = λ few has are.
-    let wrong : Some (Some I32) ≡ Some None = global_at (context_with usual_features 3) few (Some I32 ∷ Some I32 ∷ []) [] 1 (variable_global I32) has are (omega arith) refl in
+    let wrong : Some (Some I32) ≡ Some None = global_at (context_with usual_features 3) few (Some I32 ∷ Some I32 ∷ []) [] 1
+    (variable_global I32) has are (omega arith) refl in
     cc
 
 pub returns-clause-an_immutable_global_without : goal.returns-clause-an_immutable_global_without
 returns-clause-an_immutable_global_without c = λ few has are.
-    let wrong : Some None ≡ Some (Some I32) = global_at (context_with usual_features 3) few (None ∷ []) [] 0 (constant_global I32) has are (omega arith) refl in
+    let wrong : Some None ≡ Some (Some I32) = global_at (context_with usual_features 3) few (None ∷ []) [] 0 (constant_global I32) has are
+    (omega arith) refl in
     cc
 
 pub returns-clause-a_global_of_another_type : goal.returns-clause-a_global_of_another_type
 returns-clause-a_global_of_another_type c = λ few has are.
-    let wrong : Some (Some I64) ≡ Some (Some I32) = global_at (context_with usual_features 3) few (Some I64 ∷ []) [] 0 (constant_global I32) has are (omega arith) refl in
+    let wrong : Some (Some I64) ≡ Some (Some I32) = global_at (context_with usual_features 3) few (Some I64 ∷ []) [] 0 (constant_global I32)
+    has are (omega arith) refl in
     cc

@@ -9,5 +9,6 @@ use Rattle.smith_draw_examples.proofs.kept_offers.few_whole.Goals as goal
 
 pub returns-clause-a_wrong_type : goal.returns-clause-a_wrong_type
 returns-clause-a_wrong_type c = λ few has whole.
-    let wrong : Some (Some I64) ≡ Some (Some I32) = global_at (context_with usual_features 3) few (Some I32 ∷ None ∷ Some I64 ∷ []) (0 ∷ 0 ∷ []) 2 (constant_global I32) has whole.read (omega arith) refl in
+    let wrong : Some (Some I64) ≡ Some (Some I32) = global_at (context_with usual_features 3) few (Some I32 ∷ None ∷ Some I64 ∷ [])
+    (0 ∷ 0 ∷ []) 2 (constant_global I32) has whole.read (omega arith) refl in
     cc

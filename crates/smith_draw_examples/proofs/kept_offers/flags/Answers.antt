@@ -7,13 +7,17 @@ use Rattle.smith_draw_consts.specs.KeptOffers.{AreFlags, is_offered}
 use Rattle.smith_draw_examples.proofs.kept_offers.flags.Goals as goal
 
 -- flags that are each right
-flags_of : (kinds : List (Option ValType)) (flags : List Bool) → length flags ≤ length kinds → ((k : ℕ) (d : Option ValType) → k < length flags → slice_get flags k ≡ Some (is_offered [] I32 (get_or kinds k d))) → AreFlags [] I32 kinds flags
+flags_of : (kinds : List (Option ValType)) (flags : List Bool) → length flags ≤ length kinds
+    → ((k : ℕ) (d : Option ValType) → k < length flags → slice_get flags k ≡ Some (is_offered [] I32 (get_or kinds k d)))
+    → AreFlags [] I32 kinds flags
 flags_of kinds flags few each = record {
   few = few;
-  right = λ k kind inside at. each k kind inside ∙ ap (λ (found : Option ValType). Some (is_offered [] I32 found)) (get_or_from_slice_get kinds k kind kind at);
+  right = λ k kind inside at. each k kind inside ∙ ap (λ (found : Option ValType). Some (is_offered [] I32 found))
+      (get_or_from_slice_get kinds k kind kind at);
 }
 
-all_right : (k : ℕ) (d : Option ValType) → k < 3 → slice_get (false ∷ false ∷ true ∷ []) k ≡ Some (is_offered [] I32 (get_or (Some I64 ∷ None ∷ Some I32 ∷ []) k d))
+all_right : (k : ℕ) (d : Option ValType) → k < 3 → slice_get (false ∷ false ∷ true ∷ []) k
+    ≡ Some (is_offered [] I32 (get_or (Some I64 ∷ None ∷ Some I32 ∷ []) k d))
 all_right zero d inside = refl
 all_right (suc zero) d inside = refl
 all_right (suc (suc zero)) d inside = refl

@@ -28,11 +28,13 @@ unfolding is_heap_below
 too_few_not_kept = search rules
 
 -- a record in which no item has been read is correct if its entries are
-kept_of : (kept : ManyItems) (entries : List KeptOffer) → HasEntries kept entries → All (IsEntry context kept.items) entries → AreManyKept context kept
+kept_of : (kept : ManyItems) (entries : List KeptOffer) → HasEntries kept entries → All (IsEntry context kept.items) entries
+    → AreManyKept context kept
 kept_of kept entries (globals, funcs, are) correct = record {
   items = record {
     globals = no_classes context.types (λ index global. readable global) context.globals kept.items.globals globals.0 globals.1;
-    funcs = no_classes context.types (λ function index. Some (function_reference context function index)) context.funcs kept.items.funcs funcs.0 funcs.1;
+    funcs = no_classes context.types (λ function index. Some (function_reference context function index)) context.funcs kept.items.funcs
+        funcs.0 funcs.1;
   };
   entries = subst (λ (offers : List KeptOffer). All (IsEntry context kept.items) offers) (sym are) correct;
 }
@@ -52,9 +54,12 @@ returns-clause-of_two_types c = λ kept is.
       globals = no_flags context.types functions.wanted kept.items.globals.kinds [] refl;
       funcs = no_flags context.types functions.wanted kept.items.funcs.kinds [] refl;
     } in
-    kept_of kept (numbers ∷ functions ∷ []) is (All-from_recursion (IsEntry context kept.items) (numbers ∷ functions ∷ []) (first, (second, tt)))
+    kept_of kept (numbers ∷ functions ∷ []) is (All-from_recursion (IsEntry context kept.items) (numbers ∷ functions ∷ [])
+    (first, (second, tt)))
 
 pub returns-clause-of_which_one_is_wrong : goal.returns-clause-of_which_one_is_wrong
 returns-clause-of_which_one_is_wrong c = λ kept is all.
-    let entries : All (IsEntry context kept.items) (numbers ∷ too_few_functions ∷ []) = subst (λ (offers : List KeptOffer). All (IsEntry context kept.items) offers) is.2 all.entries in
-    too_few_not_kept (All-head (IsEntry context kept.items) too_few_functions [] (All-tail (IsEntry context kept.items) numbers (too_few_functions ∷ []) entries)).kept
+    let entries : All (IsEntry context kept.items) (numbers ∷ too_few_functions ∷ []) =
+    subst (λ (offers : List KeptOffer). All (IsEntry context kept.items) offers) is.2 all.entries in
+    too_few_not_kept (All-head (IsEntry context kept.items) too_few_functions []
+    (All-tail (IsEntry context kept.items) numbers (too_few_functions ∷ []) entries)).kept

@@ -42,10 +42,12 @@ pub returns-clause-a_struct : goal.returns-clause-a_struct
 returns-clause-a_struct c = struct_granted
 
 pub returns-clause-giving_a_struct : goal.returns-clause-giving_a_struct
-returns-clause-giving_a_struct c = All-from_recursion (IsGranted not_nullable (context_of_types struct_and_below)) (to_struct ∷ []) (struct_granted, tt)
+returns-clause-giving_a_struct c = All-from_recursion (IsGranted not_nullable (context_of_types struct_and_below)) (to_struct ∷ [])
+    (struct_granted, tt)
 
 pub returns-clause-taking_what_nothing_grounds : goal.returns-clause-taking_what_nothing_grounds
-returns-clause-taking_what_nothing_grounds c = λ all. any_not_granted (All-head (IsGranted not_nullable (context_of_types [])) to_any [] all)
+returns-clause-taking_what_nothing_grounds c =
+    λ all. any_not_granted (All-head (IsGranted not_nullable (context_of_types [])) to_any [] all)
 
 pub returns-clause-holding_it : goal.returns-clause-holding_it
 returns-clause-holding_it c = λ all. any_not_granted (All-head (IsGranted not_nullable (context_of_types [])) to_any [] all)
@@ -57,8 +59,10 @@ beside = final_type empty_struct ∷ final_type (giving (to_struct ∷ [])) ∷ 
 pub returns-clause-beside_the_struct : goal.returns-clause-beside_the_struct
 returns-clause-beside_the_struct c =
     let Granted = IsGranted not_nullable (context_of_types beside) in
-    let grounded : Granted to_struct = λ h. h.1 refl (inl (0, grounded_at beside false (Concrete 0) 0 (final_type empty_struct) refl refl itself)) in
-    All-from_recursion (HasGranted not_nullable (context_of_types beside)) beside (All-nil Granted, (All-from_recursion Granted (to_struct ∷ []) (grounded, tt), tt))
+    let grounded : Granted to_struct =
+    λ h. h.1 refl (inl (0, grounded_at beside false (Concrete 0) 0 (final_type empty_struct) refl refl itself)) in
+    All-from_recursion (HasGranted not_nullable (context_of_types beside)) beside
+    (All-nil Granted, (All-from_recursion Granted (to_struct ∷ []) (grounded, tt), tt))
 
 -- a function type alone, with a parameter that is a reference to anything
 abbrev alone : List SubType
@@ -76,4 +80,5 @@ any_alone (inr (function, index, at, below)) = cc at
 
 pub returns-clause-beside_no_struct : goal.returns-clause-beside_no_struct
 returns-clause-beside_no_struct c = λ all.
-    All-head (IsGranted not_nullable (context_of_types alone)) to_any [] (All-head (HasGranted not_nullable (context_of_types alone)) (final_type (taking (to_any ∷ []))) [] all) (refl, λ on. any_alone)
+    All-head (IsGranted not_nullable (context_of_types alone)) to_any [] (All-head (HasGranted not_nullable (context_of_types alone))
+    (final_type (taking (to_any ∷ []))) [] all) (refl, λ on. any_alone)

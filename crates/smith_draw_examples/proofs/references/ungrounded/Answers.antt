@@ -19,7 +19,8 @@ use Rattle.smith_draw_types.proofs.FilledLemmas.{each_none}
 use Rattle.smith_draw_examples.proofs.references.ungrounded.Goals as goal
 
 pub returns-clause-to_a_struct : goal.returns-clause-to_a_struct
-returns-clause-to_a_struct c = λ h. h.1 refl (inl (0, grounded_at struct_and_below false (Concrete 0) 0 (open_type None empty_struct) refl refl itself))
+returns-clause-to_a_struct c =
+    λ h. h.1 refl (inl (0, grounded_at struct_and_below false (Concrete 0) 0 (open_type None empty_struct) refl refl itself))
 
 abbrev held_array : List SubType
 held_array = final_type (array (constant (Val (Ref (not_null (plain heap.Func)))))) ∷ []
@@ -46,5 +47,9 @@ returns-clause-in_a_field_that_is_grounded c =
     let IsLacking = IsUngrounded (record default_config { non_nullable_enabled = true }) (context_of_types referring) in
     each_none (λ (t : SubType). Any IsLacking (field_values (fields_of t.composite_type.inner))) referring (
       each_none IsLacking [] tt,
-      (each_none IsLacking (Ref (not_null (Concrete 0)) ∷ []) ((λ h. h.1 refl (inl (0, grounded_at referring false (Concrete 0) 0 (final_type empty_struct) refl refl itself))), tt), tt),
+      (
+        each_none IsLacking (Ref (not_null (Concrete 0)) ∷ [])
+            ((λ h. h.1 refl (inl (0, grounded_at referring false (Concrete 0) 0 (final_type empty_struct) refl refl itself))), tt),
+        tt,
+      ),
     )

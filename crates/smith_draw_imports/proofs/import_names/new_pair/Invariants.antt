@@ -8,7 +8,8 @@ use Rattle.smith_draw_imports.proofs.import_names.new_pair.Given as goal
 abbrev pub invariant-loop-pair : goal.invariant-loop-pair
 invariant-loop-pair l = record {
   from : string_bytes l.pair.0 ≡ string_bytes l.fn.from;
-  making : IsMaking (has_pair l.pairs (string_bytes l.fn.from)) (decimal (hash_set_len l.pairs)) (string_bytes l.fn.text) (string_bytes l.pair.1);
+  making : IsMaking (has_pair l.pairs (string_bytes l.fn.from)) (decimal (hash_set_len l.pairs)) (string_bytes l.fn.text)
+      (string_bytes l.pair.1);
 }
 
 abbrev pub decreases-loop-pair : goal.decreases-loop-pair

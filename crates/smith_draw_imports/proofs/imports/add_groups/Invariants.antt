@@ -10,7 +10,8 @@ abbrev pub invariant-loop-imported : goal.invariant-loop-imported
 invariant-loop-imported l = record {
   kept : AreKeptGrounds (import_scope l.config l.types.types (spaces_of l.imported)) l.grounds;
   so_far : IsImported l.config l.types.types l.distinct l.imported;
-  grouping : IsGrouping l.config l.types.types l.distinct l.imported.groups l.imported.count l.fn.u l.u (groups_at l.config l.types.types l.distinct (l.config.max_imports + length l.fn.u + 1) l.fn.imported.groups l.fn.u);
+  grouping : IsGrouping l.config l.types.types l.distinct l.imported.groups l.imported.count l.fn.u l.u
+      (groups_at l.config l.types.types l.distinct (l.config.max_imports + length l.fn.u + 1) l.fn.imported.groups l.fn.u);
 }
 
 abbrev pub decreases-loop-imported : goal.decreases-loop-imported

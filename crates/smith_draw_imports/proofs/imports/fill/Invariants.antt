@@ -15,7 +15,9 @@ invariant-loop-imported l = record {
   counts : Counts l.types.types l.distinct l.imported (flattened l.fn.imported.groups ++ imports_of l.group);
   fit : AreImportsFit l.config l.types.types l.distinct (flattened l.fn.imported.groups ++ imports_of l.group);
   groups : l.imported.groups ≡ l.fn.imported.groups;
-  so_far : IsFilling l.config l.types.types l.distinct (flattened l.fn.imported.groups) l.imported.count l.group l.u (fill_at l.config l.types.types l.distinct (flattened l.fn.imported.groups) (l.config.max_imports - l.fn.imported.count) l.fn.group l.fn.u);
+  so_far : IsFilling l.config l.types.types l.distinct (flattened l.fn.imported.groups) l.imported.count l.group l.u
+      (fill_at l.config l.types.types l.distinct (flattened l.fn.imported.groups) (l.config.max_imports - l.fn.imported.count) l.fn.group
+      l.fn.u);
   more : l.fn.imported.count ≤ l.imported.count;
   left : KeepsPieces l.fn.u l.u;
 }

@@ -4,7 +4,8 @@ use Rattle.smith_draw_imports.proofs.ImportGroundLemmas.{function_imported, othe
 use Rattle.smith_draw_imports.proofs.imports.note_import.Goals as goal
 
 pub returns-in_default : goal.returns-in_default
-returns-in_default c = λ config spaces h. other_imported config c.args.types.now.types spaces c.args.added c.args.grounds.now c.in_default.not-Func h
+returns-in_default c = λ config spaces h. other_imported config c.args.types.now.types spaces c.args.added c.args.grounds.now
+    c.in_default.not-Func h
 
 pub returns : goal.returns
 returns c = λ config spaces h.

@@ -9,8 +9,10 @@ pub loop-next-init : goal.loop-next-init
 loop-next-init c =
     let drawn = c.in_ok-group.ensures.draws in
     record {
-      so_far = rw c.new-made.ensures (grouped_first c.args.config.now c.args.first.now c.args.more.now c.in_ok-group.group c.args.u.now c.begin.new.u drawn.exact);
-      groups = rw c.new-made.ensures (group_alone c.in_ok-group.group c.args.first.now c.in_ok-group.ensures.one c.in_ok-group.ensures.valid);
+      so_far = rw c.new-made.ensures (grouped_first c.args.config.now c.args.first.now c.args.more.now c.in_ok-group.group c.args.u.now
+          c.begin.new.u drawn.exact);
+      groups = rw c.new-made.ensures (group_alone c.in_ok-group.group c.args.first.now c.in_ok-group.ensures.one
+          c.in_ok-group.ensures.valid);
       left = drawn.left;
     }
 
@@ -22,9 +24,11 @@ loop-next-preserved c =
     let next = c.next-item.result in
     let rest = drop (at + 1) more in
     let cut = offered_next more at next _ c.loop-next-test.true c.next-item.is in
-    let longer : take (at + 1) more ≡ take at more ++ next ∷ [] = take_more more at next c.loop-next-test.true ∙ ap (λ (x : Import). take at more ++ x ∷ []) (sym c.next-item.is) in
+    let longer : take (at + 1) more ≡ take at more ++ next ∷ [] = take_more more at next c.loop-next-test.true
+    ∙ ap (λ (x : Import). take at more ++ x ∷ []) (sym c.next-item.is) in
     record {
-      so_far = joining_more next rest c.add_next.new.made c.in_ok-group-2.group c.add_next.new.u i.so_far cut (c.in_ok-group-2.ensures.exact rest);
+      so_far = joining_more next rest c.add_next.new.made c.in_ok-group-2.group c.add_next.new.u i.so_far cut
+          (c.in_ok-group-2.ensures.exact rest);
       groups = rw longer (c.in_ok-group-2.ensures.groups (c.args.first.now ∷ take at more) i.groups);
       left = λ whole h. c.in_ok-group-2.ensures.left whole (i.left whole h);
     }
@@ -37,5 +41,6 @@ returns-clause-draws c =
 
 pub returns-clause-groups : goal.returns-clause-groups
 returns-clause-groups c =
-    let every : take c.loop-next.next-index c.args.more.now ≡ c.args.more.now = take_all c.loop-next.next-index c.args.more.now c.loop-next-test.false in
+    let every : take c.loop-next.next-index c.args.more.now ≡ c.args.more.now =
+    take_all c.loop-next.next-index c.args.more.now c.loop-next-test.false in
     rw c.in_ok-push.ensures.ok (rw every at c.loop-next.invariant.groups)

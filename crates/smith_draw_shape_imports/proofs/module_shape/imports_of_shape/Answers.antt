@@ -16,7 +16,8 @@ returns-clause-kept c =
       spaces = rw c.as_slice-imports.ensures at c.in_ok-spaces.ensures.ok;
       count = rw c.as_slice-imports.ensures at c.count_imports.ensures;
       type_size = refl;
-      valid = subst (λ (l : List Imports). All (IsImportsValid (features_of c.args.config.now)) l) (sym groups) (kept_valid (features_of c.args.config.now) compact c.args.shape.now.imports (λ on. on));
+      valid = subst (λ (l : List Imports). All (IsImportsValid (features_of c.args.config.now)) l) (sym groups)
+          (kept_valid (features_of c.args.config.now) compact c.args.shape.now.imports (λ on. on));
       entities = imported_valid c.args.config.now c.args.shape.now c.requires.valid;
       counts = imported_enabled c.args.config.now c.args.shape.now c.requires.valid;
     }

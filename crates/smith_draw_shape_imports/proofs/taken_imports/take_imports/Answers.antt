@@ -9,7 +9,8 @@ loop-one-preserved-then-not-arbitrary c =
     let next = offered_next c.args.offered.now c.loop-one.one-index c.one-item.result _ c.loop-one-test.true c.one-item.is in
     record {
       counts = i.counts;
-      so_far = picked_not c.one-item.result (drop (c.loop-one.one-index + 1) c.args.offered.now) i.so_far next c.arbitrary.ensures.exact c.if-not-arbitrary.true;
+      so_far = picked_not c.one-item.result (drop (c.loop-one.one-index + 1) c.args.offered.now) i.so_far next c.arbitrary.ensures.exact
+          c.if-not-arbitrary.true;
       left = λ whole h. c.arbitrary.ensures.left whole (i.left whole h);
     }
 
@@ -19,7 +20,8 @@ loop-one-preserved c =
     let next = offered_next c.args.offered.now c.loop-one.one-index c.one-item.result _ c.loop-one-test.true c.one-item.is in
     record {
       counts = c.in_ok-take.ensures.counts;
-      so_far = picked_one c.one-item.result (drop (c.loop-one.one-index + 1) c.args.offered.now) c.take.new.taken i.so_far next c.arbitrary.ensures.exact c.if-not-arbitrary.false c.in_ok-take.ensures.taken;
+      so_far = picked_one c.one-item.result (drop (c.loop-one.one-index + 1) c.args.offered.now) c.take.new.taken i.so_far next
+          c.arbitrary.ensures.exact c.if-not-arbitrary.false c.in_ok-take.ensures.taken;
       left = λ whole h. c.arbitrary.ensures.left whole (i.left whole h);
     }
 

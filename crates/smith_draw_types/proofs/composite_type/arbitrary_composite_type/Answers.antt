@@ -11,7 +11,8 @@ use Rattle.smith_draw_types.proofs.composite_type.arbitrary_composite_type.Goals
 pub returns : goal.returns
 returns c =
     let draws = rw (c.scope-standing.ensures, c.in_ok-call.ensures.exact) at c.draw_composite_type-drawn.ensures in
-    let drawn = composite_type_drawn c.args.config.now (standing_in c.args.config.now c.args.spaces.now) c.args.limit c.args.u.now c.requires.sanitized in
+    let drawn = composite_type_drawn c.args.config.now (standing_in c.args.config.now c.args.spaces.now) c.args.limit c.args.u.now
+    c.requires.sanitized in
     record {
       draws = draws;
       granted = of_drawn _ draws (composite_granted _ _ c.orderly.ensures _ _);
@@ -20,5 +21,7 @@ returns c =
       valid = of_drawn _ draws (values_valid _ _ _ _ _ drawn.inner.values);
       stands = of_drawn _ draws drawn.inner.stands;
       shared = of_drawn _ draws (λ must. values_shared _ _ _ _ _ must drawn.inner.values);
-      reach = IfOk-weaker c.draw_composite_type-drawn.result _ _ (λ _ e. composite_type_taken c.args.config.now (standing_in c.args.config.now c.args.spaces.now) refl _ _ _ _ c.orderly.ensures e) draws.exact;
+      reach = IfOk-weaker c.draw_composite_type-drawn.result _ _
+          (λ _ e. composite_type_taken c.args.config.now (standing_in c.args.config.now c.args.spaces.now) refl _ _ _ _ c.orderly.ensures e)
+          draws.exact;
     }

@@ -11,7 +11,8 @@ use Rattle.smith_draw_types.proofs.composite_type.arbitrary_func_type.Goals as g
 pub returns : goal.returns
 returns c =
     let draws = rw (c.scope-standing.ensures, c.in_ok-call.ensures.exact) at c.draw_func_type-drawn.ensures in
-    let drawn = func_type_drawn c.args.config.now (standing_in c.args.config.now c.args.spaces.now) c.args.must_share c.args.limit c.args.u.now c.requires.sanitized c.requires.may_share in
+    let drawn = func_type_drawn c.args.config.now (standing_in c.args.config.now c.args.spaces.now) c.args.must_share c.args.limit
+    c.args.u.now c.requires.sanitized c.requires.may_share in
     let inner = func_drawn _ _ _ _ _ drawn in
     record {
       draws = draws;
@@ -19,5 +20,7 @@ returns c =
       valid = of_drawn _ draws (func_type_valid _ _ _ _ _ drawn);
       stands = of_drawn _ draws inner.stands;
       shared = λ must. of_drawn _ draws (values_shared _ _ _ _ _ must inner.values);
-      reach = λ no. IfOk-weaker c.draw_func_type-drawn.result _ _ (λ _ e. func_type_taken c.args.config.now (standing_in c.args.config.now c.args.spaces.now) refl _ _ _ _ _ c.orderly.ensures no e) draws.exact;
+      reach = λ no. IfOk-weaker c.draw_func_type-drawn.result _ _
+          (λ _ e. func_type_taken c.args.config.now (standing_in c.args.config.now c.args.spaces.now) refl _ _ _ _ _ c.orderly.ensures no e)
+          draws.exact;
     }

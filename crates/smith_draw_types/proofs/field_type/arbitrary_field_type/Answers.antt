@@ -15,14 +15,17 @@ returns c =
     let types = c.args.spaces.now.types.now.types in
     let config = c.args.config.now in
     let exact = rw (c.scope-standing.ensures, c.without_record-call.ensures) at c.draw_field_type-drawn.ensures.exact in
-    let drawn = drawn_is (λ (ty : FieldType). IsFieldDrawn config types c.args.must_share c.args.limit ty) _ (field_type_drawn _ _ _ _ _ c.requires.sanitized c.requires.may_share) exact in
+    let drawn = drawn_is (λ (ty : FieldType). IsFieldDrawn config types c.args.must_share c.args.limit ty) _
+    (field_type_drawn _ _ _ _ _ c.requires.sanitized c.requires.may_share) exact in
     let values = values_of_storage c.draw_field_type-drawn.result.element_type in
     record {
       ok = refl;
       draws = record { exact = exact; memory = tt; left = c.draw_field_type-drawn.ensures.left };
-      granted = drawn_is (λ (ty : FieldType). All (IsGranted config (standing_in config c.args.spaces.now)) (values_of_storage ty.element_type)) _ (field_granted _ _ c.orderly.ensures _ _ _) exact;
+      granted = drawn_is (λ (ty : FieldType). All (IsGranted config (standing_in config c.args.spaces.now))
+          (values_of_storage ty.element_type)) _ (field_granted _ _ c.orderly.ensures _ _ _) exact;
       valid = values_valid config types c.args.must_share c.args.limit values drawn.values;
       stands = drawn.stands;
       shared = λ must. values_shared config types c.args.must_share c.args.limit values must drawn.values;
-      reach = λ no. field_type_taken c.args.config.now (standing_in c.args.config.now c.args.spaces.now) refl _ _ _ _ _ c.orderly.ensures no exact;
+      reach = λ no. field_type_taken c.args.config.now (standing_in c.args.config.now c.args.spaces.now) refl _ _ _ _ _ c.orderly.ensures no
+          exact;
     }

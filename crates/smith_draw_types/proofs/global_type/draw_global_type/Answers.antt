@@ -20,10 +20,13 @@ returns c =
     record {
       draws = c.draw_global.ensures;
       valid = λ space same valid.
-          let over_types = subst (λ types. global_type_at config (over context types) c.args.u.now ≡ (c.draw_global.result, c.draw_global.new.u)) (sym same) exact in
-          drawn_is (IsGlobalValid (features_of config) space.types) _ (global_type_valid config context space _ c.requires valid) over_types;
+          let over_types = subst (λ types. global_type_at config (over context types) c.args.u.now
+          ≡ (c.draw_global.result, c.draw_global.new.u)) (sym same) exact in
+          drawn_is (IsGlobalValid (features_of config) space.types) _ (global_type_valid config context space _ c.requires valid)
+          over_types;
       floats = λ off. drawn_is (λ (global : GlobalType). IsNoFloat global.val_type) _ (global_type_no_float _ _ _ off) exact;
       nullable = λ off. drawn_is (λ (global : GlobalType). ¬ IsNonNullable global.val_type) _ (global_type_nullable _ off _ _) exact;
-      grounded = drawn_is (λ (global : GlobalType). ¬ IsUngrounded config context global.val_type) _ (global_type_filled _ _ c.orderly.ensures _) exact;
+      grounded = drawn_is (λ (global : GlobalType). ¬ IsUngrounded config context global.val_type) _
+          (global_type_filled _ _ c.orderly.ensures _) exact;
       reach = global_type_taken _ _ _ _ _ exact;
     }

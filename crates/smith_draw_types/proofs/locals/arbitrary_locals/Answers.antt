@@ -10,7 +10,8 @@ pub returns : goal.returns
 returns c =
     let config = c.args.config.now in
     let context = standing_in c.args.config.now c.args.spaces.now in
-    let draws : Draws (locals_at config context c.args.u.now) c.draw_locals-drawn.result c.args.u.now c.draw_locals-drawn.new.u = rw (c.scope-standing.ensures, c.in_ok-call.ensures.exact) at c.draw_locals-drawn.ensures in
+    let draws : Draws (locals_at config context c.args.u.now) c.draw_locals-drawn.result c.args.u.now c.draw_locals-drawn.new.u =
+    rw (c.scope-standing.ensures, c.in_ok-call.ensures.exact) at c.draw_locals-drawn.ensures in
     record {
       draws = draws;
       most = of_drawn _ draws (locals_most config context c.args.u.now);

@@ -16,7 +16,8 @@ pub returns-clause-valid : goal.returns-clause-valid
 returns-clause-valid c = of_drawn _ c.draw_matching_heap_type.ensures (matching_heap_valid _ _ _ _)
 
 pub returns-clause-offered : goal.returns-clause-offered
-returns-clause-offered c = IfOk-weaker c.draw_matching_heap_type.result _ _ (λ x. matching_item _ _ _ _ x _) c.draw_matching_heap_type.ensures.exact
+returns-clause-offered c = IfOk-weaker c.draw_matching_heap_type.result _ _ (λ x. matching_item _ _ _ _ x _)
+    c.draw_matching_heap_type.ensures.exact
 
 pub returns-clause-stands : goal.returns-clause-stands
 returns-clause-stands c = of_drawn _ c.draw_matching_heap_type.ensures (below_stands _ _ _ (matching_heap_below _ _ _ _))

@@ -15,7 +15,8 @@ pub returns-in-Some : goal.returns-in-Some
 returns-in-Some c =
     let tail = rw c.in-Some.is at (c.grounded_tail.ensures c.args.config.now) in
     let offered = gc_subtypes c.args.config.now c.args.standing.now.types c.args.ty in
-    all_grounded (is_grounded c.args.standing.now) offered c.in-Some.tail.start c.count_grounded_before.result c.in-Some.tail.indices.now tail.some tail.rest c.count_grounded_before.ensures.counted _ refl
+    all_grounded (is_grounded c.args.standing.now) offered c.in-Some.tail.start c.count_grounded_before.result c.in-Some.tail.indices.now
+    tail.some tail.rest c.count_grounded_before.ensures.counted _ refl
 
 pub count_grounded_before-requires-in-None : goal.count_grounded_before-requires-in-None
 count_grounded_before-requires-in-None c =

@@ -14,12 +14,14 @@ loop-place-preserved c =
     let so_far = c.loop-place.invariant in
     elim c.if-found.branch [
       | then-found w ↦ rw w.grounded-is (record {
-        counted = counts_one (is_grounded context) offered c.loop-place.place c.offered_subtype-other.result at _ _ (sym c.is_grounded-found.ensures ∙ w.if-found.true) so_far.counted;
+        counted = counts_one (is_grounded context) offered c.loop-place.place c.offered_subtype-other.result at _ _
+            (sym c.is_grounded-found.ensures ∙ w.if-found.true) so_far.counted;
         within = omega (arith, so_far.within);
         before = omega (arith, c.loop-place-test.true);
       })
       | else-found w ↦ rw w.grounded-is (record {
-        counted = counts_none (is_grounded context) offered c.loop-place.place c.offered_subtype-other.result at _ _ (sym c.is_grounded-found.ensures ∙ w.if-found.false) so_far.counted;
+        counted = counts_none (is_grounded context) offered c.loop-place.place c.offered_subtype-other.result at _ _
+            (sym c.is_grounded-found.ensures ∙ w.if-found.false) so_far.counted;
         within = omega (arith, so_far.within);
         before = omega (arith, c.loop-place-test.true);
       })
@@ -36,4 +38,5 @@ returns-clause-counted c =
     let context = c.args.standing.now in
     let offered = gc_subtypes c.args.config.now context.types c.args.ty in
     let last : c.loop-place.place ≡ c.args.end = omega (arith, c.loop-place-test.false, c.loop-place.invariant.before) in
-    subst (λ (n : ℕ). c.loop-place.grounded + length (filter (is_grounded context) (drop n offered)) ≡ length (filter (is_grounded context) (drop 1 offered))) last c.loop-place.invariant.counted
+    subst (λ (n : ℕ). c.loop-place.grounded + length (filter (is_grounded context) (drop n offered))
+    ≡ length (filter (is_grounded context) (drop 1 offered))) last c.loop-place.invariant.counted

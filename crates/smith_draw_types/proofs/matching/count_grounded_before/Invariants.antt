@@ -6,7 +6,8 @@ use Rattle.smith_draw_types.proofs.matching.count_grounded_before.Given as goal
 
 abbrev pub invariant-loop-place : goal.invariant-loop-place
 invariant-loop-place l = record {
-  counted : l.grounded + length (filter (is_grounded l.standing) (drop l.place (gc_subtypes l.config l.standing.types l.ty))) ≡ length (filter (is_grounded l.standing) (drop 1 (gc_subtypes l.config l.standing.types l.ty)));
+  counted : l.grounded + length (filter (is_grounded l.standing) (drop l.place (gc_subtypes l.config l.standing.types l.ty)))
+      ≡ length (filter (is_grounded l.standing) (drop 1 (gc_subtypes l.config l.standing.types l.ty)));
   within : l.grounded < l.place;
   before : l.place ≤ l.end;
 }

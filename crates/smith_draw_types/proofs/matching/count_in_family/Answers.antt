@@ -8,5 +8,6 @@ pub returns : goal.returns
 returns c =
     let types = c.args.standing.now.types in
     let i = c.args.index in
-    let long = joined_long (is_grounded c.args.standing.now) (offered_direct_subtypes types i) c.args.direct.now c.requires.direct (exact_subtypes c.args.config.now types i ++ bottom_at types i) in
+    let long = joined_long (is_grounded c.args.standing.now) (offered_direct_subtypes types i) c.args.direct.now c.requires.direct
+    (exact_subtypes c.args.config.now types i ++ bottom_at types i) in
     omega (arith, long, c.count_after_direct.ensures.counted)

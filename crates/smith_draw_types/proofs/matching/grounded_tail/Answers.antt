@@ -13,5 +13,6 @@ returns-in-Some c = λ config.
       some = abstracts_some ty;
       few = abstracts_few ty;
       within = abstracts_within config types shared ty;
-      rest = ap (filter (is_grounded c.args.standing.now)) (kinds_follow config types shared ty) ∙ (rw c.in-Some.is at c.grounded_of_kinds.ensures);
+      rest = ap (filter (is_grounded c.args.standing.now)) (kinds_follow config types shared ty)
+          ∙ (rw c.in-Some.is at c.grounded_of_kinds.ensures);
     })

@@ -9,12 +9,14 @@ depth-depth-requires c = slice_get_within _ _ _ c.requires.stands
 
 pub overflow_cast-place : goal.overflow_cast-place
 overflow_cast-place c =
-    let up = is_up c.args.space.now.types c.requires.orderly c.args.index c.depth-depth.result c.args.place _ _ c.requires.stands c.depth-depth.ensures c.supertypes_of_inner-kinds.ensures c.requires.inside c.if-place-kinds.false in
+    let up = is_up c.args.space.now.types c.requires.orderly c.args.index c.depth-depth.result c.args.place _ _ c.requires.stands
+    c.depth-depth.ensures c.supertypes_of_inner-kinds.ensures c.requires.inside c.if-place-kinds.false in
     omega (arith, up.near, c.depth-depth.type_inv)
 
 pub overflow_sub-depth-2 : goal.overflow_sub-depth-2
 overflow_sub-depth-2 c =
-    let up = is_up c.args.space.now.types c.requires.orderly c.args.index c.depth-depth.result c.args.place _ _ c.requires.stands c.depth-depth.ensures c.supertypes_of_inner-kinds.ensures c.requires.inside c.if-place-kinds.false in
+    let up = is_up c.args.space.now.types c.requires.orderly c.args.index c.depth-depth.result c.args.place _ _ c.requires.stands
+    c.depth-depth.ensures c.supertypes_of_inner-kinds.ensures c.requires.inside c.if-place-kinds.false in
     omega (arith, up.near)
 
 pub ancestor-requires-clause-stands : goal.ancestor-requires-clause-stands
@@ -22,7 +24,8 @@ ancestor-requires-clause-stands c = slice_get_within _ _ _ c.requires.stands
 
 pub ancestor-requires-clause-some : goal.ancestor-requires-clause-some
 ancestor-requires-clause-some c =
-    let up = is_up c.args.space.now.types c.requires.orderly c.args.index c.depth-depth.result c.args.place _ _ c.requires.stands c.depth-depth.ensures c.supertypes_of_inner-kinds.ensures c.requires.inside c.if-place-kinds.false in
+    let up = is_up c.args.space.now.types c.requires.orderly c.args.index c.depth-depth.result c.args.place _ _ c.requires.stands
+    c.depth-depth.ensures c.supertypes_of_inner-kinds.ensures c.requires.inside c.if-place-kinds.false in
     omega (arith, up.near)
 
 pub ancestor-requires-clause-within : goal.ancestor-requires-clause-within
@@ -31,5 +34,7 @@ ancestor-requires-clause-within c = λ own deep.
 
 pub returns : goal.returns
 returns c =
-    let up = is_up c.args.space.now.types c.requires.orderly c.args.index c.depth-depth.result c.args.place _ _ c.requires.stands c.depth-depth.ensures c.supertypes_of_inner-kinds.ensures c.requires.inside c.if-place-kinds.false in
-    up_found c.args.space.now.types c.requires.orderly c.args.index c.depth-depth.result _ c.args.place _ c.depth-depth.ensures up c.if-place-kinds.false c.ancestor.ensures.deep c.ancestor.ensures.above
+    let up = is_up c.args.space.now.types c.requires.orderly c.args.index c.depth-depth.result c.args.place _ _ c.requires.stands
+    c.depth-depth.ensures c.supertypes_of_inner-kinds.ensures c.requires.inside c.if-place-kinds.false in
+    up_found c.args.space.now.types c.requires.orderly c.args.index c.depth-depth.result _ c.args.place _ c.depth-depth.ensures up
+    c.if-place-kinds.false c.ancestor.ensures.deep c.ancestor.ensures.above

@@ -7,7 +7,8 @@ use Rattle.smith_draw_types.proofs.rec_group.add_copies.Goals as goal
 
 pub add_type-requires : goal.add_type-requires
 add_type-requires c =
-    let at = subst (λ (t : SubType). t ≡ get_or c.loop-index.types.types c.loop-index.index t) (sym c.in_ok-copy.ensures.ok) (rw c.types.ensures.value at c.index-types-index.is) in
+    let at = subst (λ (t : SubType). t ≡ get_or c.loop-index.types.types c.loop-index.index t) (sym c.in_ok-copy.ensures.ok)
+    (rw c.types.ensures.value at c.index-types-index.is) in
     let old = c.args.types.now.types in
     let front = take (c.loop-index.index - c.args.start) (drop c.args.start old) in
     let len = ap (λ (ts : _). length {A = SubType} ts) c.loop-index.invariant.types in
@@ -18,9 +19,11 @@ add_type-requires c =
 
 pub loop-index-preserved : goal.loop-index-preserved
 loop-index-preserved c =
-    let at = subst (λ (t : SubType). t ≡ get_or c.loop-index.types.types c.loop-index.index t) (sym c.in_ok-copy.ensures.ok) (rw c.types.ensures.value at c.index-types-index.is) in
+    let at = subst (λ (t : SubType). t ≡ get_or c.loop-index.types.types c.loop-index.index t) (sym c.in_ok-copy.ensures.ok)
+    (rw c.types.ensures.value at c.index-types-index.is) in
     record {
-      types = copied c.args.types.now.types c.loop-index.types.types _ c.args.start c.args.end c.loop-index.index c.in_ok-copy.copy c.loop-index.auto.index (omega arith) c.requires.inside c.loop-index.invariant.types at
+      types = copied c.args.types.now.types c.loop-index.types.types _ c.args.start c.args.end c.loop-index.index c.in_ok-copy.copy
+          c.loop-index.auto.index (omega arith) c.requires.inside c.loop-index.invariant.types at
           (ap (λ (s : GroupedTypes). s.types) c.in_ok-add_type.ensures.ok);
       groups = ap (λ (s : GroupedTypes). s.groups) c.in_ok-add_type.ensures.ok ∙ c.loop-index.invariant.groups;
     }

@@ -11,14 +11,17 @@ loop-types-init c = record {
 }
 
 pub add_rec_group-requires-clause-grounds : goal.add_rec_group-requires-clause-grounds
-add_rec_group-requires-clause-grounds c = early_grown (functions_of c.args.config.now c.args.grounds.now) c.args.types.now.types c.loop-types.types.types c.args.grounds.now c.loop-types.invariant.longer c.requires.grounds
+add_rec_group-requires-clause-grounds c = early_grown (functions_of c.args.config.now c.args.grounds.now) c.args.types.now.types
+    c.loop-types.types.types c.args.grounds.now c.loop-types.invariant.longer c.requires.grounds
 
 pub loop-types-smaller : goal.loop-types-smaller
 loop-types-smaller c =
     let sound = c.types.ensures.sound in
     let few = rw c.types.ensures.value at c.loop-types-test.true in
     let longer : length c.loop-types.types.types < length c.add_rec_group.new.types.types =
-    group_adds c.args.config.now (functions_of c.args.config.now c.args.grounds.now) c.loop-types.types c.add_rec_group.new.types c.loop-types.u c.add_rec_group.new.u (record { consecutive = sound.consecutive; within = sound.within }) (omega arith) c.in_ok-add_rec_group.ensures.draws.exact in
+    group_adds c.args.config.now (functions_of c.args.config.now c.args.grounds.now) c.loop-types.types c.add_rec_group.new.types
+    c.loop-types.u c.add_rec_group.new.u (record { consecutive = sound.consecutive; within = sound.within }) (omega arith)
+    c.in_ok-add_rec_group.ensures.draws.exact in
     omega arith
 
 pub loop-types-preserved : goal.loop-types-preserved
@@ -26,11 +29,18 @@ loop-types-preserved c =
     let sound = c.types.ensures.sound in
     let few = rw c.types.ensures.value at c.loop-types-test.true in
     let longer : length c.loop-types.types.types < length c.add_rec_group.new.types.types =
-    group_adds c.args.config.now (functions_of c.args.config.now c.args.grounds.now) c.loop-types.types c.add_rec_group.new.types c.loop-types.u c.add_rec_group.new.u (record { consecutive = sound.consecutive; within = sound.within }) (omega arith) c.in_ok-add_rec_group.ensures.draws.exact in
+    group_adds c.args.config.now (functions_of c.args.config.now c.args.grounds.now) c.loop-types.types c.add_rec_group.new.types
+    c.loop-types.u c.add_rec_group.new.u (record { consecutive = sound.consecutive; within = sound.within }) (omega arith)
+    c.in_ok-add_rec_group.ensures.draws.exact in
     record {
-      so_far = least_go c.loop-types.invariant.so_far few c.in_ok-add_rec_group.ensures.draws.exact longer c.in_ok-add_rec_group.ensures.draws.left;
+      so_far = least_go c.loop-types.invariant.so_far few c.in_ok-add_rec_group.ensures.draws.exact longer
+          c.in_ok-add_rec_group.ensures.draws.left;
       longer = extends_both c.loop-types.invariant.longer c.in_ok-add_rec_group.ensures.grown;
     }
 
 pub returns-clause-draws : goal.returns-clause-draws
-returns-clause-draws c = record { exact = least_full c.loop-types.invariant.so_far (rw c.types.ensures.value at c.loop-types-test.false); memory = search rules; left = search rules }
+returns-clause-draws c = record {
+  exact = least_full c.loop-types.invariant.so_far (rw c.types.ensures.value at c.loop-types-test.false);
+  memory = search rules;
+  left = search rules;
+}

@@ -7,7 +7,8 @@ use Rattle.smith_draw_types.proofs.rec_group.add_more_types.Given as goal
 
 abbrev pub invariant-loop-types : goal.invariant-loop-types
 invariant-loop-types l = record {
-  so_far : IsAdding l.config (functions_of l.config l.grounds) l.types l.fn.u l.u (more_types_at l.config (functions_of l.config l.grounds) (length l.fn.u + 1) l.fn.types l.fn.u);
+  so_far : IsAdding l.config (functions_of l.config l.grounds) l.types l.fn.u l.u (more_types_at l.config (functions_of l.config l.grounds)
+      (length l.fn.u + 1) l.fn.types l.fn.u);
   longer : Extends l.fn.types.types l.types.types;
 }
 

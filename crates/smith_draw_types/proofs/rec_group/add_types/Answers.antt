@@ -10,7 +10,8 @@ use Rattle.smith_draw_types.proofs.SubTypeLemmas.{sub_type_follows}
 use Rattle.smith_draw_types.proofs.rec_group.add_types.Goals as goal
 
 pub draw_sub_type-requires : goal.draw_sub_type-requires
-draw_sub_type-requires c = early_grown (functions_of c.args.config.now c.args.grounds.now) c.args.types.now.types c.loop-made.types.types c.args.grounds.now c.loop-made.invariant.longer c.requires.grounds
+draw_sub_type-requires c = early_grown (functions_of c.args.config.now c.args.grounds.now) c.args.types.now.types c.loop-made.types.types
+    c.args.grounds.now c.loop-made.invariant.longer c.requires.grounds
 
 pub add_type-requires : goal.add_type-requires
 add_type-requires c = record {
@@ -20,10 +21,15 @@ add_type-requires c = record {
 
 pub loop-made-preserved : goal.loop-made-preserved
 loop-made-preserved c = record {
-  grown = until_go c.loop-made.invariant.grown c.loop-made-test.true c.in_ok-added.ensures.exact (ap (λ (s : GroupedTypes). s.types) c.in_ok-add_type.ensures.ok) c.in_ok-added.ensures.left;
+  grown = until_go c.loop-made.invariant.grown c.loop-made-test.true c.in_ok-added.ensures.exact
+      (ap (λ (s : GroupedTypes). s.types) c.in_ok-add_type.ensures.ok) c.in_ok-added.ensures.left;
   groups = ap (λ (s : GroupedTypes). s.groups) c.in_ok-add_type.ensures.ok ∙ c.loop-made.invariant.groups;
   longer = extends_one _ c.loop-made.invariant.longer (ap (λ (s : GroupedTypes). s.types) c.in_ok-add_type.ensures.ok);
 }
 
 pub returns-clause-draws : goal.returns-clause-draws
-returns-clause-draws c = record { exact = grow_full c.loop-made.invariant.grown c.loop-made-test.false; memory = search rules; left = search rules }
+returns-clause-draws c = record {
+  exact = grow_full c.loop-made.invariant.grown c.loop-made-test.false;
+  memory = search rules;
+  left = search rules;
+}

@@ -13,11 +13,14 @@ pub returns : goal.returns
 returns c =
     let types = c.args.spaces.now.types.now.types in
     let some = some_listed types c.orderly.ensures c.requires.some in
-    let draws = rw (c.scope-standing.ensures, c.in_ok-call.ensures.exact, c.supertypes-indices.ensures) at c.draw_sub_type_of-drawn.ensures in
+    let draws = rw (c.scope-standing.ensures, c.in_ok-call.ensures.exact, c.supertypes-indices.ensures) at
+    c.draw_sub_type_of-drawn.ensures in
     record {
       draws = draws;
       below = of_drawn _ draws (sub_type_of_some _ _ _ _ some);
-      valid = λ valid. of_drawn _ draws (sub_type_of_valid _ (functions_in c.args.config.now c.args.spaces.now.entities) _ _ _ c.requires.sanitized c.requires.gc valid some);
+      valid = λ valid. of_drawn _ draws (sub_type_of_valid _ (functions_in c.args.config.now c.args.spaces.now.entities) _ _ _
+          c.requires.sanitized c.requires.gc valid some);
       follows = of_drawn _ draws (sub_type_of_follows _ _ _ _ some);
-      granted = λ granted. of_drawn (HasGranted c.args.config.now (standing_in c.args.config.now c.args.spaces.now)) draws (sub_type_of_granted _ _ c.orderly.ensures _ _ _ granted);
+      granted = λ granted. of_drawn (HasGranted c.args.config.now (standing_in c.args.config.now c.args.spaces.now)) draws
+          (sub_type_of_granted _ _ c.orderly.ensures _ _ _ granted);
     }

@@ -7,7 +7,8 @@ returns-then-not-config c = record { exact = super_without_gc _ _ _ _ c.if-not-c
 
 pub returns : goal.returns
 returns c = record {
-  exact = super_with_gc _ _ _ _ _ _ _ _ c.if-not-config.false c.count_supertypes-count.ensures (rw (c.new.ensures.start, c.new.ensures.end) at c.int_in_range-place.ensures.exact) c.offered_supertype.ensures;
+  exact = super_with_gc _ _ _ _ _ _ _ _ c.if-not-config.false c.count_supertypes-count.ensures
+      (rw (c.new.ensures.start, c.new.ensures.end) at c.int_in_range-place.ensures.exact) c.offered_supertype.ensures;
   memory = search rules;
   left = search rules;
 }

@@ -15,7 +15,8 @@ pub returns-clause-draws : goal.returns-clause-draws
 returns-clause-draws c =
     let same = c.types_of-set.ensures c.args.space.now.types in
     record {
-      exact = placed _ _ _ _ _ _ _ (c.count_in-last.ensures ∙ ap length same) (rw (c.new.ensures.start, c.new.ensures.end) at c.int_in_range-place.ensures.exact) (rw same at c.index_in.ensures);
+      exact = placed _ _ _ _ _ _ _ (c.count_in-last.ensures ∙ ap length same)
+          (rw (c.new.ensures.start, c.new.ensures.end) at c.int_in_range-place.ensures.exact) (rw same at c.index_in.ensures);
       left = search rules;
     }
 

@@ -1,4 +1,5 @@
-use Rattle.smith_instr_examples.proofs.Common.{◌≡◌, true, false, List, [], ◌∷◌, ◌++◌, refl, subst, ap, funcref, FuncType, Abstract, Concrete, RefType, ValType, F32, I32, I64, Ref, nullable_to, managed, narrows}
+use Rattle.smith_instr_examples.proofs.Common.{◌≡◌, true, false, List, [], ◌∷◌, ◌++◌, refl, subst, ap, funcref, FuncType, Abstract}
+use Rattle.smith_instr_examples.proofs.Common.{Concrete, RefType, ValType, F32, I32, I64, Ref, nullable_to, managed, narrows}
 use Rattle.smith_syntax.specs.declared.value_type.AbstractHeapType.TheVariants as heap
 use Rattle.smith_instr_examples.proofs.SequenceExamples.{valid_one}
 use Rattle.smith_instr_examples.proofs.ManagedExamples.{narrows_there, narrows_alone, narrow_table}
@@ -8,7 +9,14 @@ pub returns-clause-call : goal.returns-clause-call
 returns-clause-call c = (narrows, (6, refl, narrows_there), (tt, tt), (I32 ∷ [], refl, valid_one (managed [] (I32 ∷ [])) F32 tt))
 
 pub returns-clause-indirect : goal.returns-clause-indirect
-returns-clause-indirect c = (narrows, false, narrow_table [] (I32 ∷ []), narrows_there, (tt, tt), (I32 ∷ [], refl, valid_one (managed [] (I32 ∷ [])) F32 tt))
+returns-clause-indirect c = (
+  narrows,
+  false,
+  narrow_table [] (I32 ∷ []),
+  narrows_there,
+  (tt, tt),
+  (I32 ∷ [], refl, valid_one (managed [] (I32 ∷ [])) F32 tt),
+)
 
 pub returns-clause-reference : goal.returns-clause-reference
 returns-clause-reference c = (narrows, narrows_there, (tt, tt), ([], refl, valid_one (managed [] (I32 ∷ [])) F32 tt))
@@ -25,4 +33,5 @@ other_reference (x ∷ y ∷ z ∷ below) is = cc
 pub returns-clause-reference_to_any_function : goal.returns-clause-reference_to_any_function
 returns-clause-reference_to_any_function c = λ results typed.
     let (function, at, returns, (below, is, valid)) = typed in
-    other_reference below (subst (λ (f : FuncType). I64 ∷ Ref funcref ∷ [] ≡ below ++ (f.params ++ nullable_to (Concrete 6) ∷ [])) (narrows_alone function at) is)
+    other_reference below (subst (λ (f : FuncType). I64 ∷ Ref funcref ∷ [] ≡ below ++ (f.params ++ nullable_to (Concrete 6) ∷ []))
+    (narrows_alone function at) is)

@@ -1,4 +1,5 @@
-use Rattle.smith_instr_examples.proofs.Common.{[], ◌∷◌, refl, ap, length, All-from_recursion, I32, labelled, IsCatch, step, try_table, one, framed, finished, number, managed}
+use Rattle.smith_instr_examples.proofs.Common.{[], ◌∷◌, refl, ap, length, All-from_recursion, I32, labelled, IsCatch, step, try_table, one}
+use Rattle.smith_instr_examples.proofs.Common.{framed, finished, number, managed}
 use Rattle.smith_instr.specs.declared.control.Catch.TheVariants as catch
 use Rattle.smith_instr.specs.declared.instr.Instr.TheVariants as instr
 use Rattle.smith_instr_examples.proofs.PartLemmas.{try_parts, is_inner}
@@ -14,7 +15,8 @@ returns-clause-to_an_outer_label c =
     try_table {body = number 1 ∷ instr.Throw 0 ∷ []} {more = []} {params = []} {results = []} refl (refl, refl)
     (All-from_recursion (IsCatch context) (catch.One 0 0 ∷ []) ((I32 ∷ [], (7, refl, takes_there), (I32 ∷ [], refl, (tt, tt))), tt))
     (step (one inside (number 1) [] (I32 ∷ []) [] [] [] (refl, refl) (valid_one inside I32 tt) refl)
-    (step (one inside (instr.Throw 0) (I32 ∷ []) [] [] [] [] (I32 ∷ [], (7, refl, takes_there), ([], refl, none)) none refl) (finished inside [] [] none)))
+    (step (one inside (instr.Throw 0) (I32 ∷ []) [] [] [] [] (I32 ∷ [], (7, refl, takes_there), ([], refl, none)) none refl)
+    (finished inside [] [] none)))
     (framed context [] [] [] [] [] [] (valid_none context) refl) (finished context [] [] (valid_none context))
 
 pub returns-clause-with_a_result : goal.returns-clause-with_a_result
@@ -24,7 +26,8 @@ returns-clause-with_a_result c =
     let valid = valid_one context I32 tt in
     try_table {body = number 1 ∷ []} {more = []} {params = []} {results = I32 ∷ []} refl (tt, refl, refl)
     (All-from_recursion (IsCatch context) (catch.All 0 ∷ []) (([], refl, tt), tt))
-    (step (one inside (number 1) [] (I32 ∷ []) [] [] [] (refl, refl) (valid_one inside I32 tt) refl) (finished inside (I32 ∷ []) [] (valid_one inside I32 tt)))
+    (step (one inside (number 1) [] (I32 ∷ []) [] [] [] (refl, refl) (valid_one inside I32 tt) refl)
+    (finished inside (I32 ∷ []) [] (valid_one inside I32 tt)))
     (framed context [] (I32 ∷ []) [] [] [] [] valid refl) (finished context (I32 ∷ []) [] valid)
 
 pub returns-clause-body_with_a_value_left : goal.returns-clause-body_with_a_value_left

@@ -1,4 +1,5 @@
-use Rattle.smith_instr_examples.proofs.Common.{List, [], ◌∷◌, refl, false, reference_to, Exn, Abstract, ValType, I32, final_type, taking, below_themselves, function_of}
+use Rattle.smith_instr_examples.proofs.Common.{List, [], ◌∷◌, refl, false, reference_to, Exn, Abstract, ValType, I32, final_type, taking}
+use Rattle.smith_instr_examples.proofs.Common.{below_themselves, function_of}
 use Rattle.smith_instr_examples.proofs.instructions.clauses.Goals as goal
 
 pub returns-clause-with_the_reference : goal.returns-clause-with_the_reference

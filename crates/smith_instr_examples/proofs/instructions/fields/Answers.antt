@@ -5,7 +5,13 @@ struct_at : IsStructAt (function_of [] []).types 2 (constant I8 ∷ variable (Va
 struct_at = (final_type (struct (constant I8 ∷ variable (Val I64) ∷ [])), refl, refl)
 
 pub returns-clause-packed : goal.returns-clause-packed
-returns-clause-packed c = (constant I8, record { fields = constant I8 ∷ variable (Val I64) ∷ []; structure = struct_at; there = refl }, tt, (refl, refl))
+returns-clause-packed c = (
+  constant I8,
+  record { fields = constant I8 ∷ variable (Val I64) ∷ []; structure = struct_at; there = refl },
+  tt,
+  (refl, refl),
+)
 
 pub returns-clause-variable_is_set : goal.returns-clause-variable_is_set
-returns-clause-variable_is_set c = (variable (Val I64), record { fields = constant I8 ∷ variable (Val I64) ∷ []; structure = struct_at; there = refl }, refl, (refl, refl))
+returns-clause-variable_is_set c =
+    (variable (Val I64), record { fields = constant I8 ∷ variable (Val I64) ∷ []; structure = struct_at; there = refl }, refl, (refl, refl))

@@ -7,7 +7,12 @@ pub returns-clause-struct_new : goal.returns-clause-struct_new
 returns-clause-struct_new c = (constant I16 ∷ variable (Val I64) ∷ [], example.struct_there, (refl, refl))
 
 pub returns-clause-struct_get_of_16_bits : goal.returns-clause-struct_get_of_16_bits
-returns-clause-struct_get_of_16_bits c = (constant I16, record { fields = constant I16 ∷ variable (Val I64) ∷ []; structure = example.struct_there; there = refl }, tt, (refl, refl))
+returns-clause-struct_get_of_16_bits c = (
+  constant I16,
+  record { fields = constant I16 ∷ variable (Val I64) ∷ []; structure = example.struct_there; there = refl },
+  tt,
+  (refl, refl),
+)
 
 pub returns-clause-array_set : goal.returns-clause-array_set
 returns-clause-array_set c = (variable (Val I32), example.numbers_there, refl, (refl, refl))

@@ -3,4 +3,5 @@ use Rattle.smith_module_rules.proofs.CollectedValueLemmas.{in_order}
 use Rattle.smith_module_rules.proofs.interesting_values.in_order64.Goals as goal
 
 pub returns-clause-order : goal.returns-clause-order
-returns-clause-order c = in_order _ _ _ c.in_ok-sort.ensures.permutation c.in_ok-sort.ensures.sorted (dedup_is _ _ _ c.dedup.ensures.filtered)
+returns-clause-order c = in_order _ _ _ c.in_ok-sort.ensures.permutation c.in_ok-sort.ensures.sorted
+    (dedup_is _ _ _ c.dedup.ensures.filtered)

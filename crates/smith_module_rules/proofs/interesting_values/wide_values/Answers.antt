@@ -10,5 +10,7 @@ returns-clause-those c = λ tables memories limits.
     let near = c.args.near.now in
     let constants = c.wide_constants.result.now in
     let numbers = c.deref.result.now in
-    let order : IsSortedSet near numbers = subst (IsSortedSet near) (sym c.deref.ensures.value) (subst (λ xs. IsSortedSet xs c.in_ok-numbers.numbers.items) c.in_ok-from_slice.ensures.items c.in_ok-numbers.ensures.order) in
-    IfOk-weaker c.merge64.result _ _ (λ made merged. all_wide tables memories constants near made c.wide_constants.ensures.exactly limits (order_after constants near numbers made order merged)) c.merge64.ensures.order
+    let order : IsSortedSet near numbers = subst (IsSortedSet near) (sym c.deref.ensures.value)
+    (subst (λ xs. IsSortedSet xs c.in_ok-numbers.numbers.items) c.in_ok-from_slice.ensures.items c.in_ok-numbers.ensures.order) in
+    IfOk-weaker c.merge64.result _ _ (λ made merged. all_wide tables memories constants near made c.wide_constants.ensures.exactly limits
+    (order_after constants near numbers made order merged)) c.merge64.ensures.order

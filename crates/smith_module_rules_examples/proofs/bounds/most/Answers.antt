@@ -16,4 +16,5 @@ pub returns-clause-an_element_too_many : goal.returns-clause-an_element_too_many
 returns-clause-an_element_too_many c = λ bounds. let never : 3 ≤ 2 = bounds.most counts.Elements tt in omega (arith, never)
 
 pub returns-clause-an_export_too_many : goal.returns-clause-an_export_too_many
-returns-clause-an_export_too_many c = λ bounds. let never : 1 ≤ 0 = bounds.most counts.Exports (no_exports_fixed, refl) in omega (arith, never)
+returns-clause-an_export_too_many c = λ bounds. let never : 1 ≤ 0 = bounds.most counts.Exports (no_exports_fixed, refl) in
+    omega (arith, never)

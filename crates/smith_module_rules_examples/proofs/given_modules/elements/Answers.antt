@@ -1,4 +1,5 @@
-use Rattle.smith_module_rules_examples.proofs.Common.{rules, [], refl, All-replicate, All-from_recursion, funcref, IsConstExpr, IsElementSegmentValid, Ref, IsValid, segment_context, no_function, sixty_elements}
+use Rattle.smith_module_rules_examples.proofs.Common.{rules, [], refl, All-replicate, All-from_recursion, funcref, IsConstExpr}
+use Rattle.smith_module_rules_examples.proofs.Common.{IsElementSegmentValid, Ref, IsValid, segment_context, no_function, sixty_elements}
 use Rattle.smith_module_rules_examples.proofs.PartExamples.{no_function_given}
 use Rattle.smith_module_rules_examples.proofs.given_modules.elements.Goals as goal
 

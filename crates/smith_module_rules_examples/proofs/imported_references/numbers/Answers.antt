@@ -4,7 +4,15 @@ use Rattle.smith_module_rules_examples.proofs.imported_references.numbers.Goals 
 
 pub returns : goal.returns
 returns c =
-    let read = first_read (global_context imported_read 1) (number, refl, omega arith, refl, refl) (λ (past : 1 ≤ 0). absurd (omega (arith, past))) in
+    let read = first_read (global_context imported_read 1) (number, refl, omega arith, refl, refl)
+    (λ (past : 1 ≤ 0). absurd (omega (arith, past))) in
     record {
-      an_imported_one_without_gc = search (rules, globals_defined imported_read (record { in_order = refl; global = number; stands = refl; initialised = read }, tt));
+      an_imported_one_without_gc =
+          search (
+            rules,
+            globals_defined imported_read (
+              record { in_order = refl; global = number; stands = refl; initialised = read },
+              tt,
+            ),
+          );
     }

@@ -1,4 +1,5 @@
-use Rattle.smith_module_rules_examples.proofs.Common.{rules, [], ◌∷◌, refl, All-from_recursion, IsGroupValid, AreTypesValid, module_features, module_types, group_of, arrays, three_arrays}
+use Rattle.smith_module_rules_examples.proofs.Common.{rules, [], ◌∷◌, refl, All-from_recursion, IsGroupValid, AreTypesValid}
+use Rattle.smith_module_rules_examples.proofs.Common.{module_features, module_types, group_of, arrays, three_arrays}
 use Rattle.smith_module_rules_examples.proofs.PartExamples.{one_function_valid, array_valid, array_below, group_valid}
 use Rattle.smith_module_rules_examples.proofs.modules.types_and_functions.Goals as goal
 
@@ -8,8 +9,13 @@ two_types =
     record {
       covered = search rules;
       orderly = search rules;
-      groups = All-from_recursion (IsGroupValid features arrays.types) (group_of 0 2 ∷ [])
-          (group_valid features arrays.types (group_of 0 2) ((λ from below. array_valid features arrays.types 2 refl), ((λ from below. array_below features _ 2 refl), tt)) (λ never. cc), tt);
+      groups = All-from_recursion (IsGroupValid features arrays.types) (group_of 0 2 ∷ []) (
+        group_valid features arrays.types (group_of 0 2) (
+          (λ from below. array_valid features arrays.types 2 refl),
+          ((λ from below. array_below features _ 2 refl), tt),
+        ) (λ never. cc),
+        tt,
+      );
     }
 
 three_types : AreTypesValid (module_features three_arrays) (module_types three_arrays)
@@ -20,8 +26,17 @@ three_types =
       covered = search rules;
       orderly = search rules;
       groups = All-from_recursion (IsGroupValid features types) (group_of 0 2 ∷ group_of 2 3 ∷ []) (
-        group_valid features types (group_of 0 2) ((λ from below. array_valid features types 2 refl), ((λ from below. array_below features _ 2 refl), ((λ from below. array_below features _ 2 refl), tt))) (λ never. cc),
-        (group_valid features types (group_of 2 3) ((λ from below. array_valid features types 3 refl), ((λ from below. array_below features _ 3 refl), ((λ from below. array_below features _ 3 refl), tt))) (λ never. cc), tt),
+        group_valid features types (group_of 0 2) (
+          (λ from below. array_valid features types 2 refl),
+          ((λ from below. array_below features _ 2 refl), ((λ from below. array_below features _ 2 refl), tt)),
+        ) (λ never. cc),
+        (
+          group_valid features types (group_of 2 3) (
+            (λ from below. array_valid features types 3 refl),
+            ((λ from below. array_below features _ 3 refl), ((λ from below. array_below features _ 3 refl), tt)),
+          ) (λ never. cc),
+          tt,
+        ),
       );
     }
 

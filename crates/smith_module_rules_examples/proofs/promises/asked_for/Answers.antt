@@ -1,4 +1,6 @@
-use Rattle.smith_module_rules_examples.proofs.Common.{rules, arith, [], refl, All-head, plain, default_config, FixesImports, IsGranted, module_context, HoldsGranted, HoldsNonNullable, one_number, with_references, holding_reference, for_exports, exporting, memories_in_and_out}
+use Rattle.smith_module_rules_examples.proofs.Common.{rules, arith, [], refl, All-head, plain, default_config, FixesImports, IsGranted}
+use Rattle.smith_module_rules_examples.proofs.Common.{module_context, HoldsGranted, HoldsNonNullable, one_number, with_references}
+use Rattle.smith_module_rules_examples.proofs.Common.{holding_reference, for_exports, exporting, memories_in_and_out}
 use Rattle.smith_bytes.specs.declared.error.Which.TheVariants as which
 use Rattle.smith_syntax.specs.declared.value_type.AbstractHeapType.TheVariants as heap
 use Rattle.smith_module_rules_examples.proofs.GrantedExamples.{any_not_granted, to_any}
@@ -16,7 +18,8 @@ pub returns-clause-one_name_twice_beside_exports_of_a_shape : goal.returns-claus
 returns-clause-one_name_twice_beside_exports_of_a_shape c = λ kept. not_distinct (kept.names refl exports_fix_none)
 
 pub returns-clause-a_trap : goal.returns-clause-a_trap
-returns-clause-a_trap c = λ kept. past_the_table (record { elems = (kept.inside refl).elems; data_segments = (kept.inside refl).data_segments })
+returns-clause-a_trap c =
+    λ kept. past_the_table (record { elems = (kept.inside refl).elems; data_segments = (kept.inside refl).data_segments })
 
 -- no shape in use holds a non-nullable reference
 none_given : HoldsNonNullable with_references → ⊥
@@ -30,13 +33,16 @@ none_exported (which.Exports, (place, value, inside, at, strict)) = omega (arith
 none_exported (which.ModuleShape, holds) = absurd holds
 
 unheld : ¬ HoldsGranted with_references (holding_reference [] (plain heap.Any))
-unheld held = any_not_granted (holding_reference [] (plain heap.Any)) (All-head (IsGranted with_references (module_context (holding_reference [] (plain heap.Any)))) to_any [] held.values)
+unheld held = any_not_granted (holding_reference [] (plain heap.Any))
+    (All-head (IsGranted with_references (module_context (holding_reference [] (plain heap.Any)))) to_any [] held.values)
 
 pub returns-clause-a_reference_that_nothing_grounds : goal.returns-clause-a_reference_that_nothing_grounds
 returns-clause-a_reference_that_nothing_grounds c = λ kept. unheld (kept.granted none_given)
 
 pub returns-clause-the_same_beside_another_shape : goal.returns-clause-the_same_beside_another_shape
-returns-clause-the_same_beside_another_shape c = λ kept. unheld (record { values = (kept.granted none_exported).values; elems = (kept.granted none_exported).elems })
+returns-clause-the_same_beside_another_shape c =
+    λ kept. unheld (record { values = (kept.granted none_exported).values; elems = (kept.granted none_exported).elems })
 
 pub returns-clause-a_local_that_nothing_grounds : goal.returns-clause-a_local_that_nothing_grounds
-returns-clause-a_local_that_nothing_grounds c = λ kept. any_not_granted one_number (All-head (IsGranted with_references (module_context one_number)) to_any [] kept.granted_locals)
+returns-clause-a_local_that_nothing_grounds c =
+    λ kept. any_not_granted one_number (All-head (IsGranted with_references (module_context one_number)) to_any [] kept.granted_locals)

@@ -1,4 +1,5 @@
-use Rattle.smith_module_rules_examples.proofs.Common.{arith, [], ◌∷◌, false, codes, All-head, IsImportsValid, Compact2, default_config, features_of, module_features, number, two_imports}
+use Rattle.smith_module_rules_examples.proofs.Common.{arith, [], ◌∷◌, false, codes, All-head, IsImportsValid, Compact2, default_config}
+use Rattle.smith_module_rules_examples.proofs.Common.{features_of, module_features, number, two_imports}
 use Rattle.smith_syntax.specs.declared.entity_type.EntityType.TheVariants as entity
 use Rattle.smith_module_rules_examples.proofs.refused_modules.imports.Goals as goal
 
@@ -9,5 +10,6 @@ returns-clause-an_empty_group c = λ valid.
 
 pub returns-clause-a_group_without_its_feature : goal.returns-clause-a_group_without_its_feature
 returns-clause-a_group_without_its_feature c = λ valid.
-    let group = All-head (IsImportsValid (features_of (record default_config { compact_imports_enabled = false }))) (Compact2 [] (entity.Global number) ([] ∷ codes "b" ∷ [])) [] valid in
+    let group = All-head (IsImportsValid (features_of (record default_config { compact_imports_enabled = false })))
+    (Compact2 [] (entity.Global number) ([] ∷ codes "b" ∷ [])) [] valid in
     cc group.enabled

@@ -1,4 +1,6 @@
-use Rattle.smith_module_rules_examples.proofs.Common.{arith, [], ◌∷◌, pos, negsuc, false, All-head, IsElementSegmentValid, IsDataValid, Const32, Global, segment_context, into_a_table, active_data, one_function, table_from_a_number, last_byte}
+use Rattle.smith_module_rules_examples.proofs.Common.{arith, [], ◌∷◌, pos, negsuc, false, All-head, IsElementSegmentValid, IsDataValid}
+use Rattle.smith_module_rules_examples.proofs.Common.{Const32, Global, segment_context, into_a_table, active_data, one_function}
+use Rattle.smith_module_rules_examples.proofs.Common.{table_from_a_number, last_byte}
 use Rattle.smith_module_rules_examples.proofs.RefusedExamples.{elements_refused, bytes_refused}
 use Rattle.smith_module_rules_examples.proofs.refused_modules.segments.Goals as goal
 

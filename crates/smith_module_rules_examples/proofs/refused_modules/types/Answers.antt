@@ -1,4 +1,7 @@
-use Rattle.smith_module_rules_examples.proofs.Common.{rules, arith, common_steps, ◌≡◌, true, false, [], ◌∷◌, Some, None, refl, sym, subst, same_Some, All-head, Concrete, Ref, SubType, plain, nullable, anyref, eqref, IsValTypeValid, IsGroupValid, IsSupertypeValid, by_cases_from_below, a_type, bytes_array, taking, module_features, referring_to, types_together, group_of}
+use Rattle.smith_module_rules_examples.proofs.Common.{rules, arith, common_steps, ◌≡◌, true, false, [], ◌∷◌, Some, None, refl, sym, subst}
+use Rattle.smith_module_rules_examples.proofs.Common.{same_Some, All-head, Concrete, Ref, SubType, plain, nullable, anyref, eqref}
+use Rattle.smith_module_rules_examples.proofs.Common.{IsValTypeValid, IsGroupValid, IsSupertypeValid, by_cases_from_below, a_type}
+use Rattle.smith_module_rules_examples.proofs.Common.{bytes_array, taking, module_features, referring_to, types_together, group_of}
 use Rattle.smith_syntax.specs.declared.value_type.AbstractHeapType.TheVariants as heap
 use Rattle.smith_module_rules_examples.proofs.refused_modules.types.Goals as goal
 
@@ -24,8 +27,10 @@ returns c = record {
   past_its_group = λ valid.
       let features = module_features (types_together []) in
       let first = a_type (referring_to 1) true None in
-      let group = All-head (IsGroupValid features (first ∷ a_type bytes_array true None ∷ [])) (group_of 0 1) (group_of 1 2 ∷ []) valid.groups in
-      let (references, reference) = All-head (IsValTypeValid features 1) (Ref (nullable (Concrete 1))) [] (group.members 0 first (omega arith) (omega arith) refl).values in
+      let group = All-head (IsGroupValid features (first ∷ a_type bytes_array true None ∷ [])) (group_of 0 1) (group_of 1 2 ∷ [])
+      valid.groups in
+      let (references, reference) = All-head (IsValTypeValid features 1) (Ref (nullable (Concrete 1))) []
+      (group.members 0 first (omega arith) (omega arith) refl).values in
       let (gc, within) = reference.heap_type in
       omega (arith, within);
 }

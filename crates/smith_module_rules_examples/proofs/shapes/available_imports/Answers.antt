@@ -7,7 +7,12 @@ returns-clause-kept c = both_kept
 
 pub returns-clause-the_first_kept : goal.returns-clause-the_first_kept
 unfolding is_fitting
-returns-clause-the_first_kept c = record { types = record { types = record { more = []; parts = refl }; groups = record { more = []; parts = refl } }; imports = refl }
+returns-clause-the_first_kept c =
+    record { types = record { types = record { more = []; parts = refl }; groups = record { more = []; parts = refl } }; imports = refl }
 
 pub returns-clause-kept_in_one_group : goal.returns-clause-kept_in_one_group
-returns-clause-kept_in_one_group c = record { types = record { types = record { more = []; parts = refl }; groups = record { more = []; parts = refl } }; imports = both_kept.imports }
+returns-clause-kept_in_one_group c =
+    record {
+      types = record { types = record { more = []; parts = refl }; groups = record { more = []; parts = refl } };
+      imports = both_kept.imports;
+    }

@@ -17,10 +17,14 @@ loop-place-init c = record {
 pub loop-place-preserved : goal.loop-place-preserved
 loop-place-preserved c = record {
   each = grind (arith, common_steps);
-  drawn = rw c.in_ok-push.ensures.ok (still_held (λ k body. (code : Code) → slice_get c.args.module.now.code k ≡ Some code → IsOfBody (IsDrawnAt c.args.module.now k code) code body) c.loop-place.bodies _ c.loop-place.place c.loop-place.invariant.each c.loop-place.invariant.drawn c.in_ok-draw_one.ensures.body);
-  exact = rw c.in_ok-push.ensures.ok (one_drawn c.args.module.now c.loop-place.place c.loop-place.bodies _ c.loop-place.u _ _ (omega (arith, ap length c.code-place-end.ensures.items)) c.in_ok-draw_one.ensures.exact c.loop-place.invariant.exact);
+  drawn = rw c.in_ok-push.ensures.ok (still_held (λ k body. (code : Code) → slice_get c.args.module.now.code k ≡ Some code
+      → IsOfBody (IsDrawnAt c.args.module.now k code) code body) c.loop-place.bodies _ c.loop-place.place c.loop-place.invariant.each
+      c.loop-place.invariant.drawn c.in_ok-draw_one.ensures.body);
+  exact = rw c.in_ok-push.ensures.ok (one_drawn c.args.module.now c.loop-place.place c.loop-place.bodies _ c.loop-place.u _ _
+      (omega (arith, ap length c.code-place-end.ensures.items)) c.in_ok-draw_one.ensures.exact c.loop-place.invariant.exact);
   kept = λ whole h. c.draw_one.ensures.left whole (c.loop-place.invariant.kept whole h);
 }
 
 pub returns-clause-exact : goal.returns-clause-exact
-returns-clause-exact c = all_drawn c.args.module.now c.loop-place.place c.loop-place.bodies c.loop-place.u _ (omega (arith, ap length c.code-place-end.ensures.items)) c.loop-place.invariant.exact
+returns-clause-exact c = all_drawn c.args.module.now c.loop-place.place c.loop-place.bodies c.loop-place.u _
+    (omega (arith, ap length c.code-place-end.ensures.items)) c.loop-place.invariant.exact

@@ -11,7 +11,8 @@ use Rattle.smith_program.proofs.bodies.draw_each.Given as goal
 abbrev pub invariant-loop-place : goal.invariant-loop-place
 invariant-loop-place l = record {
   each : length l.bodies ≡ l.place;
-  drawn : (k : ℕ) (body : Body) → slice_get l.bodies k ≡ Some body → (code : Code) → slice_get l.«module».code k ≡ Some code → IsOfBody (IsDrawnAt l.«module» k code) code body;
+  drawn : (k : ℕ) (body : Body) → slice_get l.bodies k ≡ Some body → (code : Code) → slice_get l.«module».code k ≡ Some code
+      → IsOfBody (IsDrawnAt l.«module» k code) code body;
   exact : after l.bodies (bodies_from l.«module» l.place (drop l.place l.«module».code) l.u) ≡ bodies_at l.«module» l.fn.u;
   kept : KeepsPieces l.fn.u l.u;
 }

@@ -26,5 +26,6 @@ draw_body-requires c =
         c.len.ensures,
         c.as_slice-6.ensures,
       )
-          (module_scope c.args.module.now c.requires.valid c.requires.there.0 c.args.function.now c.requires.there.1 c.args.code.now.locals c.requires.locals);
+          (module_scope c.args.module.now c.requires.valid c.requires.there.0 c.args.function.now c.requires.there.1 c.args.code.now.locals
+          c.requires.locals);
     }

@@ -5,7 +5,8 @@ use Rattle.smith_program_examples.proofs.valid.named_functions.Goals as goal
 
 -- the one number of a list
 only : Contains {X = ℕ} (3 ∷ []) 4 → ⊥
-only there = let same : ◌≡◌ {A = ℕ} 4 3 = All-contains (λ (n : ℕ). n ≡ 3) (3 ∷ []) 4 (All-cons (λ (n : ℕ). n ≡ 3) 3 [] refl (All-nil (λ (n : ℕ). n ≡ 3))) there in omega arith
+only there = let same : ◌≡◌ {A = ℕ} 4 3 = All-contains (λ (n : ℕ). n ≡ 3) (3 ∷ []) 4
+    (All-cons (λ (n : ℕ). n ≡ 3) 3 [] refl (All-nil (λ (n : ℕ). n ≡ 3))) there in omega arith
 
 pub returns : goal.returns
 returns c = record {

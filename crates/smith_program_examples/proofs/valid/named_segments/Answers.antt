@@ -13,7 +13,19 @@ use Rattle.smith_program_examples.proofs.valid.named_segments.Goals as goal
 
 pub returns : goal.returns
 returns c = record {
-  of_data = (0, body.Drawn (instr.Memory (memory.Init 0 1) ∷ []), omega arith, refl, (0, instr.Memory (memory.Init 0 1), omega arith, refl, refl));
+  of_data = (
+    0,
+    body.Drawn (instr.Memory (memory.Init 0 1) ∷ []),
+    omega arith,
+    refl,
+    (
+      0,
+      instr.Memory (memory.Init 0 1),
+      omega arith,
+      refl,
+      refl,
+    ),
+  );
   of_elements = no_data (instr.Table (table.Init 0 1) ∷ []) (false≢true, tt);
   in_raw_bytes = none_of (HasOne (λ (x : Instr). IsTrue (names_data x))) (body.Raw ∷ []) ((λ never. never), tt);
   counted = let some : 0 < 1 = omega arith in record { bulk_memory = refl; some = some };

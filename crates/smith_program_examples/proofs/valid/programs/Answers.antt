@@ -18,9 +18,22 @@ returns c = record {
   without_its_body = λ program. let none : ◌≡◌ {A = ℕ} 0 1 = program.typed.each in omega arith;
   with_a_value_left = λ program. example.value_left (program.typed.in_place 0 trapping (constant 1) refl refl).1;
   of_a_disabled_feature = λ program. false≢true (program.enabled 0 body.Raw (omega arith) 0 instr.Nop (omega arith));
-  of_an_undeclared_function = λ program. let there : Contains {X = ℕ} [] 0 = program.declared 0 body.Raw (omega arith) 0 instr.Nop (omega arith) in let none = there.1 in omega arith;
+  of_an_undeclared_function = λ program. let there : Contains {X = ℕ} [] 0 = program.declared 0 body.Raw (omega arith) 0 instr.Nop
+      (omega arith) in let none = there.1 in omega arith;
   of_uncounted_data = λ program.
-      let named : NameData (body.Drawn (instr.Memory (memory.DataDrop 0) ∷ []) ∷ []) = (0, body.Drawn (instr.Memory (memory.DataDrop 0) ∷ []), omega arith, refl, (0, instr.Memory (memory.DataDrop 0), omega arith, refl, refl)) in
+      let named : NameData (body.Drawn (instr.Memory (memory.DataDrop 0) ∷ []) ∷ []) = (
+        0,
+        body.Drawn (instr.Memory (memory.DataDrop 0) ∷ []),
+        omega arith,
+        refl,
+        (
+          0,
+          instr.Memory (memory.DataDrop 0),
+          omega arith,
+          refl,
+          refl,
+        ),
+      ) in
       let none : 0 < 0 = (program.data_count named).some in
       omega arith;
 }

@@ -9,4 +9,5 @@ returns-then-fuel-clause-counted c =
       added = c.in_ok-index.ensures.answer;
       bodies = c.in_ok-index.ensures.bodies;
     } in
-    exporting c.args.fuel c.args.program.now c.ensure_termination.new.self c.export_fuel.new.self c.export_fuel.result has_counter c.if-fuel.true c.export_fuel.ensures.answer c.export_fuel.ensures.bodies
+    exporting c.args.fuel c.args.program.now c.ensure_termination.new.self c.export_fuel.new.self c.export_fuel.result has_counter
+    c.if-fuel.true c.export_fuel.ensures.answer c.export_fuel.ensures.bodies

@@ -6,7 +6,8 @@ use Rattle.smith_request.proofs.manner.output.Goals as goal
 
 pub returns-in-Ok-clause-binary : goal.returns-in-Ok-clause-binary
 returns-in-Ok-clause-binary c = λ is.
-    IfOk-weaker c.write_program.result _ _ (λ bytes written. record { program = _; drawn = c.in-Ok.ensures; written = file_of c.in-Ok.ensures written })
+    IfOk-weaker c.write_program.result _ _
+    (λ bytes written. record { program = _; drawn = c.in-Ok.ensures; written = file_of c.in-Ok.ensures written })
     (c.write_program.ensures.binary is)
 
 pub returns-in-Ok-clause-text : goal.returns-in-Ok-clause-text

@@ -5,7 +5,11 @@ use Rattle.smith_request.proofs.manner.write_counted.Goals as goal
 
 pub returns-in-Ok-clause-binary : goal.returns-in-Ok-clause-binary
 returns-in-Ok-clause-binary c = λ is.
-    IfOk-weaker c.write_in-bytes.result _ _ (λ bytes encoded. record { counted = _; has_counter = c.in-Ok.ensures.counted; encoded = encoded })
+    IfOk-weaker c.write_in-bytes.result _ _ (λ bytes encoded. record {
+      counted = _;
+      has_counter = c.in-Ok.ensures.counted;
+      encoded = encoded;
+    })
     (c.write_in-bytes.ensures.binary is)
 
 pub returns-in-Ok-clause-refused : goal.returns-in-Ok-clause-refused

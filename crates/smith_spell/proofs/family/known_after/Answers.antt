@@ -25,8 +25,10 @@ with-known-requires c =
 
 pub returns-then-not-is_member_type : goal.returns-then-not-is_member_type
 returns-then-not-is_member_type c = λ whole.
-    let here = type_among c.args.config.now (all_types c.args.groups.now) c.args.group.now c.loop-place.place _ _ c.loop-place-test.true c.index-group-place.is (c.loop-place.invariant.same.1 whole) in
-    let yes = c.is_member_type.ensures.1 (subst (λ (types : List SubType). IsMemberType c.args.config.now types c.index-group-place.result) (sym c.new-earlier.ensures) here) in
+    let here = type_among c.args.config.now (all_types c.args.groups.now) c.args.group.now c.loop-place.place _ _ c.loop-place-test.true
+    c.index-group-place.is (c.loop-place.invariant.same.1 whole) in
+    let yes = c.is_member_type.ensures.1 (subst (λ (types : List SubType). IsMemberType c.args.config.now types c.index-group-place.result)
+    (sym c.new-earlier.ensures) here) in
     let no = c.if-not-is_member_type.true in
     cc
 
@@ -38,9 +40,11 @@ loop-place-preserved c =
     let inside = c.loop-place-test.true in
     let read = c.index-group-place.is in
     let now = c.loop-place.invariant in
-    let here = subst (λ (types : List SubType). IsMemberType c.args.config.now types c.index-group-place.result) c.new-earlier.ensures (c.is_member_type.ensures.0 c.if-not-is_member_type.false) in
+    let here = subst (λ (types : List SubType). IsMemberType c.args.config.now types c.index-group-place.result) c.new-earlier.ensures
+    (c.is_member_type.ensures.0 c.if-not-is_member_type.false) in
     record {
-      known = subst (λ (types : List SubType). IsKnown types c.with-known.result) (type_taken before group place _ _ inside read) (c.with-known.ensures (before ++ take place group) now.known here.root);
+      known = subst (λ (types : List SubType). IsKnown types c.with-known.result) (type_taken before group place _ _ inside read)
+          (c.with-known.ensures (before ++ take place group) now.known here.root);
       same = type_turn c.args.config.now before group place _ _ _ inside read here now.same;
     }
 
@@ -50,6 +54,8 @@ returns c =
     let group = c.args.group.now in
     let place = c.loop-place.place in
     let now = c.loop-place.invariant in (
-      now.same.0 (subst (AreMembersAfter c.args.config.now (before ++ take place group)) (sym (drop_all place group c.loop-place-test.false)) tt),
-      subst (λ (types : List SubType). IsKnown (before ++ types) c.loop-place.known) (take_all place group c.loop-place-test.false) now.known,
+      now.same.0 (subst (AreMembersAfter c.args.config.now (before ++ take place group))
+          (sym (drop_all place group c.loop-place-test.false)) tt),
+      subst (λ (types : List SubType). IsKnown (before ++ types) c.loop-place.known) (take_all place group c.loop-place-test.false)
+          now.known,
     )

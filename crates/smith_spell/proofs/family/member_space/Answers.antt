@@ -16,7 +16,8 @@ pub returns-then-not-are_funcs_valid-clause-found : goal.returns-then-not-are_fu
 returns-then-not-are_funcs_valid-clause-found c = λ h.
     let found : c.in-Some.space ≡ space_of c.args.groups.now = rw c.in-Some.is at c.in_ok-space.ensures.found in
     let same : c.types.result.now ≡ (space_of c.args.groups.now).types = c.types.ensures.value ∙ ap (λ space. space.types) found in
-    let yes = c.are_funcs_valid.ensures.1 (subst (λ (types : List SubType). AreFuncsValid types c.args.funcs.now) (sym same) (record { each = h.each_func })) in
+    let yes = c.are_funcs_valid.ensures.1 (subst (λ (types : List SubType). AreFuncsValid types c.args.funcs.now) (sym same)
+    (record { each = h.each_func })) in
     let no = c.if-not-are_funcs_valid.true in
     search rules
 
@@ -24,7 +25,8 @@ pub returns-clause-found : goal.returns-clause-found
 returns-clause-found c =
     let found : c.in-Some.space ≡ space_of c.args.groups.now = rw c.in-Some.is at c.in_ok-space.ensures.found in
     let same : c.types.result.now ≡ (space_of c.args.groups.now).types = c.types.ensures.value ∙ ap (λ space. space.types) found in
-    let valid = subst (λ (types : List SubType). AreFuncsValid types c.args.funcs.now) same (c.are_funcs_valid.ensures.0 c.if-not-are_funcs_valid.false) in
+    let valid = subst (λ (types : List SubType). AreFuncsValid types c.args.funcs.now) same
+    (c.are_funcs_valid.ensures.0 c.if-not-are_funcs_valid.false) in
     let parts = c.are_groups_in_family.ensures.0 c.if-not-are_groups_in_family.false in
     (found, family_of_groups c.args.config.now c.args.groups.now c.args.funcs.now parts c.if-funcs-config.false valid.each)
 

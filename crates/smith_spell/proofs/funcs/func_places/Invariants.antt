@@ -7,5 +7,6 @@ use Rattle.smith_spell.proofs.funcs.func_places.Given as goal
 abbrev pub invariant-loop-t : goal.invariant-loop-t
 invariant-loop-t l = record {
   few : l.count ≤ l.t-index;
-  so_far : l.places ++ counts_from (may_be_used DefinedFunc) l.count (drop l.t-index l.types) ≡ counts_from (may_be_used DefinedFunc) 0 l.types;
+  so_far : l.places ++ counts_from (may_be_used DefinedFunc) l.count (drop l.t-index l.types) ≡ counts_from (may_be_used DefinedFunc) 0
+      l.types;
 }

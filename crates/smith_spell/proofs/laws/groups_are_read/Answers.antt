@@ -6,4 +6,5 @@ use Rattle.smith_spell.proofs.laws.groups_are_read.Goals as goal
 
 pub returns : goal.returns
 returns c = λ config functions groups funcs piece after same sanitized least member h.
-    types_read config functions (ap (λ (features : Features). features.custom_descriptors) same) groups piece after sanitized least (family_fits config groups funcs member) h
+    types_read config functions (ap (λ (features : Features). features.custom_descriptors) same) groups piece after sanitized least
+    (family_fits config groups funcs member) h

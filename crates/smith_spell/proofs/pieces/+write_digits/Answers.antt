@@ -9,4 +9,5 @@ returns-then-most-eq0-clause-writes t c = rw (c.if-most-eq0.true) (nothing_writt
 
 pub returns-clause-writes : goal.returns-clause-writes
 returns-clause-writes t c =
-    on_ok_weaker c.push.result (digit_written c.args.number c.args.most (omega arith) (omega arith) c.in_ok-write_digits.ensures.writes) c.push.ensures.ok
+    on_ok_weaker c.push.result (digit_written c.args.number c.args.most (omega arith) (omega arith) c.in_ok-write_digits.ensures.writes)
+    c.push.ensures.ok

@@ -26,5 +26,7 @@ returns-in_err-own c =
 pub returns : goal.returns
 returns c =
     let found = rw c.in-Some.is at c.in_ok-own.ensures.found in
-    answered c.args.config.now c.args.groups.now c.args.funcs.now (c.requires_nothing.ensures.0 c.if-not-requires_nothing.false) found.1 c.spell_in_family-bytes.result
-    (rw found.0 at c.spell_in_family-bytes.ensures.found) c.spell_in_family-bytes.ensures.memory (rw found.0 at c.spell_in_family-bytes.ensures.allowed)
+    answered c.args.config.now c.args.groups.now c.args.funcs.now (c.requires_nothing.ensures.0 c.if-not-requires_nothing.false) found.1
+    c.spell_in_family-bytes.result
+    (rw found.0 at c.spell_in_family-bytes.ensures.found) c.spell_in_family-bytes.ensures.memory
+    (rw found.0 at c.spell_in_family-bytes.ensures.allowed)

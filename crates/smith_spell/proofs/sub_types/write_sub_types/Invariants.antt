@@ -10,5 +10,6 @@ invariant-loop-t l = record {
   counted : l.before.count ≡ l.fn.before.count + l.t-index;
   summary : (others : List SubType) → IsSummary others l.fn.before → IsSummary (others ++ take l.t-index l.types) l.before;
   leads : (others : List SubType) → IsSummary others l.fn.before
-      → Leads (SpellsSubTypes l.config (others ++ take l.t-index l.types) l.limit (drop l.t-index l.types)) (SpellsSubTypes l.config others l.limit l.types) l.fn.bytes l.bytes;
+      → Leads (SpellsSubTypes l.config (others ++ take l.t-index l.types) l.limit (drop l.t-index l.types))
+      (SpellsSubTypes l.config others l.limit l.types) l.fn.bytes l.bytes;
 }

@@ -9,4 +9,5 @@ pub write_nullable-requires : goal.write_nullable-requires
 write_nullable-requires c = λ off. elim c.requires.holds.2 [ inl nullable ↦ nullable | inr grounded ↦ let on = grounded.0 in cc ]
 
 pub returns-clause-writes : goal.returns-clause-writes
-returns-clause-writes c = ref_type_written c.args.config.now c.args.limit c.args.reference c.requires.holds.0 c.in_ok-write_heap_type.ensures.writes c.in_ok-write_nullable.ensures.writes
+returns-clause-writes c = ref_type_written c.args.config.now c.args.limit c.args.reference c.requires.holds.0
+    c.in_ok-write_heap_type.ensures.writes c.in_ok-write_nullable.ensures.writes

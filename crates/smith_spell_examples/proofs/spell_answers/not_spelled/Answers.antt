@@ -6,4 +6,5 @@ pub returns-clause-beside_a_minimum : goal.returns-clause-beside_a_minimum
 returns-clause-beside_a_minimum c = λ spellable. let never : 1 ≡ 0 = spellable.no_minimums counts.Types in cc never
 
 pub returns-clause-where_the_configuration_fails : goal.returns-clause-where_the_configuration_fails
-returns-clause-where_the_configuration_fails c = λ spellable. let few : 2147483649 ≤ 2147483648 = spellable.passes.few counts.Types in omega (arith, few)
+returns-clause-where_the_configuration_fails c = λ spellable. let few : 2147483649 ≤ 2147483648 = spellable.passes.few counts.Types in
+    omega (arith, few)

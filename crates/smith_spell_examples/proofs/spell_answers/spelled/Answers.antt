@@ -9,13 +9,18 @@ use Rattle.smith_spell_examples.proofs.spell_answers.spelled.Goals as goal
 
 pub returns-clause-nothing : goal.returns-clause-nothing
 unfolding SpellsMember SpellsGroups Listed
-returns-clause-nothing c = (nothing_spellable, joined (0 ∷ []) (0 ∷ 0 ∷ []) stop (joined (0 ∷ []) (0 ∷ []) stop (joined (0 ∷ []) [] (any_byte 0) (joined [] [] refl refl))))
+returns-clause-nothing c = (
+  nothing_spellable,
+  joined (0 ∷ []) (0 ∷ 0 ∷ []) stop
+      (joined (0 ∷ []) (0 ∷ []) stop (joined (0 ∷ []) [] (any_byte 0) (joined [] [] refl refl))),
+)
 
 pub returns-clause-a_function : goal.returns-clause-a_function
 unfolding digit_count
 returns-clause-a_function c = (
   function_spellable,
-  one_function_spelled 1 1 1 1 0 0 0 0 0 0 1 0 refl (record { digits = refl; read = refl }) refl (record { digits = refl; read = refl }) refl refl refl refl refl refl refl,
+  one_function_spelled 1 1 1 1 0 0 0 0 0 0 1 0 refl (record { digits = refl; read = refl }) refl (record { digits = refl; read = refl })
+      refl refl refl refl refl refl refl,
 )
 
 pub returns-clause-nothing_by_no_byte : goal.returns-clause-nothing_by_no_byte

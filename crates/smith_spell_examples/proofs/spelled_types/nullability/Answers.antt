@@ -6,26 +6,38 @@ use Rattle.smith_draw_types.specs.Choices.{enabled}
 use Rattle.smith_draw_types.specs.ValueTypes.{abstract_heap_types}
 use Rattle.smith_draw_types.specs.Spelling.{SpellsPlace, SpellsValType}
 use Rattle.smith_config.specs.ExampleMembers.{with_non_nullable}
-use Rattle.smith_spell_examples.proofs.SpelledExamples.{joined, go, stop, one_odd, zero_even, place_first, without_nothing, opened, after_reference}
+use Rattle.smith_spell_examples.proofs.SpelledExamples.{joined, go, stop, one_odd, zero_even, place_first, without_nothing, opened}
+use Rattle.smith_spell_examples.proofs.SpelledExamples.{after_reference}
 use Rattle.smith_spell_examples.proofs.spelled_types.nullability.Goals as goal
 
 pub returns-clause-nullable : goal.returns-clause-nullable
 unfolding digit_count
-returns-clause-nullable c = record { enabled = refl; form = joined (1 ∷ []) (0 ∷ []) (refl, joined (1 ∷ []) [] go (record { digits = refl; read = refl })) stop }
+returns-clause-nullable c =
+    record { enabled = refl; form = joined (1 ∷ []) (0 ∷ []) (refl, joined (1 ∷ []) [] go (record { digits = refl; read = refl })) stop }
 
 pub returns-clause-not_nullable : goal.returns-clause-not_nullable
 unfolding digit_count
-returns-clause-not_nullable c = record { enabled = refl; form = joined (1 ∷ []) (1 ∷ []) (refl, joined (1 ∷ []) [] go (record { digits = refl; read = refl })) go }
+returns-clause-not_nullable c =
+    record { enabled = refl; form = joined (1 ∷ []) (1 ∷ []) (refl, joined (1 ∷ []) [] go (record { digits = refl; read = refl })) go }
 
 pub returns-clause-not_nullable_of_two : goal.returns-clause-not_nullable_of_two
 unfolding digit_count
-returns-clause-not_nullable_of_two c = record { enabled = refl; form = joined (1 ∷ 0 ∷ []) (1 ∷ []) (refl, joined (1 ∷ []) (0 ∷ []) go (record { digits = refl; read = refl })) go }
+returns-clause-not_nullable_of_two c =
+    record {
+      enabled = refl;
+      form = joined (1 ∷ 0 ∷ []) (1 ∷ []) (refl, joined (1 ∷ []) (0 ∷ []) go (record { digits = refl; read = refl }))
+          go;
+    }
 
 pub returns-clause-not_nullable_and_abstract : goal.returns-clause-not_nullable_and_abstract
 unfolding digit_count
 returns-clause-not_nullable_and_abstract c = record {
   enabled = refl;
-  form = joined (3 ∷ []) (1 ∷ []) (refl, joined [] (3 ∷ []) refl (joined [] (3 ∷ []) refl (record { place = 3; stands = refl; number = record { digits = refl; read = refl } }))) go;
+  form = joined (3 ∷ []) (1 ∷ []) (
+    refl,
+    joined [] (3 ∷ []) refl
+        (joined [] (3 ∷ []) refl (record { place = 3; stands = refl; number = record { digits = refl; read = refl } })),
+  ) go;
 }
 
 pub returns-clause-nullable_by_another_bool : goal.returns-clause-nullable_by_another_bool

@@ -11,7 +11,8 @@ pub returns-clause-another_place : goal.returns-clause-another_place
 unfolding digit_count
 returns-clause-another_place c = λ h.
     let number = h.number in
-    let first : slice_get {X = ℕ} (7 ∷ 8 ∷ []) 0 ≡ Some 8 = subst (λ place. slice_get {X = ℕ} (7 ∷ 8 ∷ []) place ≡ Some 8) number.read h.stands in
+    let first : slice_get {X = ℕ} (7 ∷ 8 ∷ []) 0 ≡ Some 8 = subst (λ place. slice_get {X = ℕ} (7 ∷ 8 ∷ []) place ≡ Some 8) number.read
+    h.stands in
     cc first
 
 pub returns-clause-not_in_the_list : goal.returns-clause-not_in_the_list

@@ -12,25 +12,31 @@ use Rattle.smith_syntax.specs.declared.composite_type.SubType.{SubType}
 use Rattle.smith_config.specs.Config.{default_config}
 use Rattle.smith_config.specs.Shapes.{space_of}
 use Rattle.smith_draw_types.specs.Spelling.{RefersTo, ReferBack, GroupsFit, SpellsGroup, SpellsGroups, SpellsSubTypes, SpellsFuncType}
-use Rattle.smith_config.specs.ExampleMembers.{final, alone, one_function_type, struct_of, struct_of_bytes, struct_with, bytes_array, plain_function, with_non_nullable}
+use Rattle.smith_config.specs.ExampleMembers.{final, alone, one_function_type, struct_of, struct_of_bytes, struct_with, bytes_array}
+use Rattle.smith_config.specs.ExampleMembers.{plain_function, with_non_nullable}
 use Rattle.smith_spell_examples.proofs.GroundedExamples.{grounds_itself, none_grounded}
 use Rattle.smith_spell_examples.proofs.SpelledExamples.{joined, go, stop, bool_first, digit_first, without_nothing, opened}
 use Rattle.smith_spell_examples.proofs.spelled_types.spaces.Goals as goal
 
 refers_to_itself : ReferBack default_config [] (alone (struct_of 0)) → ⊥
-refers_to_itself back = let below : 0 < 0 = (All-head (RefersTo default_config []) (Ref (nullable (Concrete 0))) [] back.0).0 in omega (arith, below)
+refers_to_itself back = let below : 0 < 0 = (All-head (RefersTo default_config []) (Ref (nullable (Concrete 0))) [] back.0).0 in
+    omega (arith, below)
 
 -- a struct without fields, and one that refers to it
 struct_back : ReferBack with_non_nullable [] (alone (struct_of_bytes 0))
 struct_back = (All-nil (RefersTo with_non_nullable []), tt)
 
 holder_back : ReferBack with_non_nullable (alone (struct_of_bytes 0)) (alone (struct_with (Concrete 0)))
-holder_back =
-    (All-from_recursion (RefersTo with_non_nullable (alone (struct_of_bytes 0))) (Ref (not_null (Concrete 0)) ∷ []) ((omega arith, inr ((grounds_itself (struct_of_bytes 0) false).0 refl)), tt), tt)
+holder_back = (
+  All-from_recursion (RefersTo with_non_nullable (alone (struct_of_bytes 0))) (Ref (not_null (Concrete 0)) ∷ [])
+      ((omega arith, inr ((grounds_itself (struct_of_bytes 0) false).0 refl)), tt),
+  tt,
+)
 
 -- if there is no struct, none grounds
 without_struct : (types : List SubType) → ReferBack with_non_nullable [] (final (struct_with (plain heap.Any)) ∷ types) → ⊥
-without_struct types back = elim (All-head (RefersTo with_non_nullable []) (Ref (not_null (plain heap.Any))) [] back.0).1 [ inl never ↦ cc | inr grounded ↦ none_grounded false (plain heap.Any) grounded ]
+without_struct types back = elim (All-head (RefersTo with_non_nullable []) (Ref (not_null (plain heap.Any))) [] back.0).1
+    [ inl never ↦ cc | inr grounded ↦ none_grounded false (plain heap.Any) grounded ]
 
 pub returns-clause-back_to_a_struct_that_is_not_null : goal.returns-clause-back_to_a_struct_that_is_not_null
 returns-clause-back_to_a_struct_that_is_not_null c = (struct_back.0, holder_back)
@@ -62,7 +68,9 @@ function_spelled : SpellsGroup default_config [] false (alone plain_function) (1
 unfolding SpellsGroup SpellsSubTypes SpellsFuncType Listed digit_count
 function_spelled =
     let lists = joined (0 ∷ []) (0 ∷ []) stop stop in
-    let declared = joined [] (1 ∷ 1 ∷ 0 ∷ 0 ∷ []) refl (joined (1 ∷ []) (1 ∷ 0 ∷ 0 ∷ []) go (joined [] (1 ∷ 0 ∷ 0 ∷ []) refl (joined (1 ∷ []) (0 ∷ 0 ∷ []) (record { digits = refl; read = refl }) lists))) in
+    let declared = joined [] (1 ∷ 1 ∷ 0 ∷ 0 ∷ []) refl
+    (joined (1 ∷ []) (1 ∷ 0 ∷ 0 ∷ []) go
+    (joined [] (1 ∷ 0 ∷ 0 ∷ []) refl (joined (1 ∷ []) (0 ∷ 0 ∷ []) (record { digits = refl; read = refl }) lists))) in
     let types = joined (1 ∷ 1 ∷ 0 ∷ 0 ∷ []) [] (record { root = refl; unshared = refl; form = declared }) refl in
     joined (1 ∷ []) (1 ∷ 1 ∷ 0 ∷ 0 ∷ []) (joined [] (1 ∷ []) refl (record { digits = refl; read = refl })) types
 
@@ -81,7 +89,8 @@ returns-clause-a_space c = record {
 -- a space of one type comes from one group
 one_part : (t : SubType) (parts : List (List SubType)) → space_of ((t ∷ []) ∷ []) ≡ space_of parts → parts ≡ (t ∷ []) ∷ []
 one_part t [] same = cc (ap (λ (space : GroupedTypes). space.groups) same)
-one_part t (part ∷ []) same = ap (λ (group : List SubType). group ∷ []) (sym (ap (λ (space : GroupedTypes). space.types) same ∙ append-nil part))
+one_part t (part ∷ []) same = ap (λ (group : List SubType). group ∷ [])
+    (sym (ap (λ (space : GroupedTypes). space.types) same ∙ append-nil part))
 one_part t (part ∷ other ∷ parts) same = cc (ap (λ (space : GroupedTypes). space.groups) same)
 
 pub returns-clause-one_group_that_refers_to_itself : goal.returns-clause-one_group_that_refers_to_itself
@@ -93,12 +102,14 @@ pub returns-clause-one_group_of_other_bytes : goal.returns-clause-one_group_of_o
 unfolding SpellsGroup digit_count
 returns-clause-one_group_of_other_bytes c = λ spelled.
     let same : alone plain_function ≡ spelled.added = ap (λ (space : GroupedTypes). space.types) spelled.is_after in
-    let group : SpellsGroup default_config [] false (alone plain_function) (2 ∷ 1 ∷ 1 ∷ 0 ∷ 0 ∷ []) = subst (λ (added : List SubType). SpellsGroup default_config [] false added (2 ∷ 1 ∷ 1 ∷ 0 ∷ 0 ∷ [])) (sym same) spelled.spelled in
+    let group : SpellsGroup default_config [] false (alone plain_function) (2 ∷ 1 ∷ 1 ∷ 0 ∷ 0 ∷ []) =
+    subst (λ (added : List SubType). SpellsGroup default_config [] false added (2 ∷ 1 ∷ 1 ∷ 0 ∷ 0 ∷ [])) (sym same) spelled.spelled in
     cc (digit_first refl (without_nothing (opened SpellsNothing (SpellsNumber 1 0 100) group (λ part is. is)))).0
 
 pub returns-clause-a_space_that_refers_to_itself : goal.returns-clause-a_space_that_refers_to_itself
 returns-clause-a_space_that_refers_to_itself c = λ spelled.
-    let fit : GroupsFit default_config [] (alone (struct_of 0) ∷ []) = subst (GroupsFit default_config []) (one_part (final (struct_of 0)) spelled.parts spelled.is_of) spelled.fit in
+    let fit : GroupsFit default_config [] (alone (struct_of 0) ∷ []) =
+    subst (GroupsFit default_config []) (one_part (final (struct_of 0)) spelled.parts spelled.is_of) spelled.fit in
     let (filled, room, back, more) = fit in
     refers_to_itself back
 
@@ -106,11 +117,13 @@ pub returns-clause-a_space_of_other_bytes : goal.returns-clause-a_space_of_other
 unfolding SpellsGroups
 returns-clause-a_space_of_other_bytes c = λ spelled.
     let groups : SpellsGroups default_config [] false one_function_type (0 ∷ []) =
-    subst (λ (parts : List (List SubType)). SpellsGroups default_config [] false parts (0 ∷ [])) (one_part (final plain_function) spelled.parts spelled.is_of) spelled.spelled in
+    subst (λ (parts : List (List SubType)). SpellsGroups default_config [] false parts (0 ∷ []))
+    (one_part (final plain_function) spelled.parts spelled.is_of) spelled.spelled in
     cc (bool_first groups).0
 
 pub returns-clause-a_space_without_groups : goal.returns-clause-a_space_without_groups
-returns-clause-a_space_without_groups c = λ spelled. of spelled.parts (ap (λ space. space.types) spelled.is_of) (ap (λ space. space.groups) spelled.is_of)
+returns-clause-a_space_without_groups c = λ spelled. of spelled.parts (ap (λ space. space.types) spelled.is_of)
+    (ap (λ space. space.groups) spelled.is_of)
   where
     of : (parts : List (List SubType)) → alone plain_function ≡ (space_of parts).types → [] ≡ (space_of parts).groups → ⊥
     of [] types groups = cc types

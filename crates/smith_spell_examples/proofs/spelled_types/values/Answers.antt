@@ -6,16 +6,23 @@ use Rattle.smith_syntax.specs.declared.value_type.ValType.TheVariants.{I32}
 use Rattle.smith_draw_types.specs.Choices.{enabled}
 use Rattle.smith_draw_types.specs.ValueTypes.{value_classes}
 use Rattle.smith_config.specs.ExampleMembers.{single_results}
-use Rattle.smith_spell_examples.proofs.SpelledExamples.{joined, go, stop, one_odd, bool_first, digit_first, place_first, without_nothing, opened, after_reference}
+use Rattle.smith_spell_examples.proofs.SpelledExamples.{joined, go, stop, one_odd, bool_first, digit_first, place_first, without_nothing}
+use Rattle.smith_spell_examples.proofs.SpelledExamples.{opened, after_reference}
 use Rattle.smith_spell_examples.proofs.spelled_types.values.Goals as goal
 
 pub returns-clause-a_reference : goal.returns-clause-a_reference
 unfolding digit_count
-returns-clause-a_reference c = record { enabled = refl; form = joined (1 ∷ []) [] (refl, joined (1 ∷ []) [] go (record { digits = refl; read = refl })) (refl, refl) }
+returns-clause-a_reference c =
+    record { enabled = refl; form = joined (1 ∷ []) [] (refl, joined (1 ∷ []) [] go (record { digits = refl; read = refl })) (refl, refl) }
 
 pub returns-clause-a_reference_of_two : goal.returns-clause-a_reference_of_two
 unfolding digit_count
-returns-clause-a_reference_of_two c = record { enabled = refl; form = joined (1 ∷ 1 ∷ []) [] (refl, joined (1 ∷ []) (1 ∷ []) go (record { digits = refl; read = refl })) (refl, refl) }
+returns-clause-a_reference_of_two c =
+    record {
+      enabled = refl;
+      form = joined (1 ∷ 1 ∷ []) [] (refl, joined (1 ∷ []) (1 ∷ []) go (record { digits = refl; read = refl }))
+          (refl, refl);
+    }
 
 pub returns-clause-a_number : goal.returns-clause-a_number
 unfolding SpellsValType digit_count
@@ -66,7 +73,8 @@ returns-clause-no_field_once_round c = joined (21 ∷ []) [] (record { digits = 
 
 pub returns-clause-a_reference_to_another : goal.returns-clause-a_reference_to_another
 unfolding digit_count
-returns-clause-a_reference_to_another c = λ h. cc (digit_first refl (bool_first (opened (SpellsBool true) (SpellsNumber 1 0 1) h.form (λ part stands. stands.1))).1).0
+returns-clause-a_reference_to_another c =
+    λ h. cc (digit_first refl (bool_first (opened (SpellsBool true) (SpellsNumber 1 0 1) h.form (λ part stands. stands.1))).1).0
 
 pub returns-clause-a_reference_that_is_not_null : goal.returns-clause-a_reference_that_is_not_null
 returns-clause-a_reference_that_is_not_null c = λ h. cc (after_reference false false [] h).0

@@ -13,7 +13,8 @@ returns-clause-no_group_and_no_byte c = λ spelled. cc spelled.whole
 
 pub returns-clause-another_group : goal.returns-clause-another_group
 unfolding SpellsGroups
-returns-clause-another_group c = λ spelled. let same : 1 ≡ spelled.byte = cc spelled.whole in let never : 1 ≡ 0 = ap (λ n. n % 2) same ∙ spelled.lowest in cc never
+returns-clause-another_group c = λ spelled. let same : 1 ≡ spelled.byte = cc spelled.whole in let never : 1 ≡ 0 =
+    ap (λ n. n % 2) same ∙ spelled.lowest in cc never
 
 pub returns-clause-a_full_list : goal.returns-clause-a_full_list
 unfolding SpellsGroups

@@ -19,7 +19,8 @@ returns-clause-a_tag c = one_odd
 pub returns-clause-second_function_type : goal.returns-clause-second_function_type
 unfolding is_unshared_function Listed digit_count
 returns-clause-second_function_type c =
-    joined (1 ∷ []) (1 ∷ 0 ∷ []) go (joined (1 ∷ []) (0 ∷ []) (record { place = 1; stands = refl; number = record { digits = refl; read = refl } }) stop)
+    joined (1 ∷ []) (1 ∷ 0 ∷ []) go
+    (joined (1 ∷ []) (0 ∷ []) (record { place = 1; stands = refl; number = record { digits = refl; read = refl } }) stop)
 
 pub returns-clause-first_function_type : goal.returns-clause-first_function_type
 unfolding is_unshared_function Listed digit_count

@@ -4,13 +4,15 @@ use Rattle.smith_bytes.specs.Draws.{digit_count}
 use Rattle.smith_bytes.specs.Spelling.{Listed}
 use Rattle.smith_config.specs.Config.{default_config}
 use Rattle.smith_draw_types.specs.SpelledParts.{SpellsGlobal, SpellsBytes}
-use Rattle.smith_spell_examples.proofs.SpelledExamples.{joined, go, stop, one_odd, bool_first, digit_first, this_first, without_nothing, not_shared, global_parts}
+use Rattle.smith_spell_examples.proofs.SpelledExamples.{joined, go, stop, one_odd, bool_first, digit_first, this_first, without_nothing}
+use Rattle.smith_spell_examples.proofs.SpelledExamples.{not_shared, global_parts}
 use Rattle.smith_spell_examples.proofs.spelling.parts_of_rests.Goals as goal
 
 pub returns-clause-a_number : goal.returns-clause-a_number
 unfolding SpellsGlobal digit_count
 returns-clause-a_number c =
-    joined (0 ∷ 1 ∷ []) (0 ∷ 255 ∷ 255 ∷ 255 ∷ 255 ∷ []) (joined (0 ∷ []) (1 ∷ []) (record { digits = refl; read = refl }) (joined [] (1 ∷ []) refl go))
+    joined (0 ∷ 1 ∷ []) (0 ∷ 255 ∷ 255 ∷ 255 ∷ 255 ∷ []) (joined (0 ∷ []) (1 ∷ []) (record { digits = refl; read = refl })
+    (joined [] (1 ∷ []) refl go))
     (joined (0 ∷ []) (255 ∷ 255 ∷ 255 ∷ 255 ∷ []) (record { digits = refl; read = refl }) (record { four = refl; read = refl }))
 
 pub returns-clause-another_class : goal.returns-clause-another_class
@@ -23,7 +25,8 @@ returns-clause-a_constant_number c = λ h. cc (bool_first (without_nothing (digi
 
 pub returns-clause-a_sum : goal.returns-clause-a_sum
 unfolding SpellsGlobal digit_count
-returns-clause-a_sum c = λ h. cc (digit_first refl (bool_first (without_nothing (digit_first refl (global_parts default_config (pos 7) h)).1)).1).0
+returns-clause-a_sum c =
+    λ h. cc (digit_first refl (bool_first (without_nothing (digit_first refl (global_parts default_config (pos 7) h)).1)).1).0
 
 pub returns-clause-where_there_are_no_sums : goal.returns-clause-where_there_are_no_sums
 unfolding SpellsGlobal digit_count
@@ -34,13 +37,15 @@ returns-clause-where_there_are_no_sums c =
 pub returns-clause-where_types_may_be_shared : goal.returns-clause-where_types_may_be_shared
 unfolding SpellsGlobal digit_count
 returns-clause-where_types_may_be_shared c =
-    joined (0 ∷ 1 ∷ 1 ∷ []) (0 ∷ 7 ∷ 0 ∷ 0 ∷ 0 ∷ []) (joined (0 ∷ []) (1 ∷ 1 ∷ []) (record { digits = refl; read = refl }) (joined (1 ∷ []) (1 ∷ []) not_shared go))
+    joined (0 ∷ 1 ∷ 1 ∷ []) (0 ∷ 7 ∷ 0 ∷ 0 ∷ 0 ∷ []) (joined (0 ∷ []) (1 ∷ 1 ∷ []) (record { digits = refl; read = refl })
+    (joined (1 ∷ []) (1 ∷ []) not_shared go))
     (joined (0 ∷ []) (7 ∷ 0 ∷ 0 ∷ 0 ∷ []) (record { digits = refl; read = refl }) (record { four = refl; read = refl }))
 
 pub returns-clause-two_bytes : goal.returns-clause-two_bytes
 unfolding SpellsBytes
 returns-clause-two_bytes c =
-    joined (1 ∷ []) (42 ∷ 1 ∷ 0 ∷ 0 ∷ []) go (joined (42 ∷ []) (1 ∷ 0 ∷ 0 ∷ []) refl (joined (1 ∷ []) (0 ∷ 0 ∷ []) go (joined (0 ∷ []) (0 ∷ []) refl stop)))
+    joined (1 ∷ []) (42 ∷ 1 ∷ 0 ∷ 0 ∷ []) go
+    (joined (42 ∷ []) (1 ∷ 0 ∷ 0 ∷ []) refl (joined (1 ∷ []) (0 ∷ 0 ∷ []) go (joined (0 ∷ []) (0 ∷ []) refl stop)))
 
 pub returns-clause-another_byte : goal.returns-clause-another_byte
 unfolding SpellsBytes

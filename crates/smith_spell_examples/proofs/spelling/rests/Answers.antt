@@ -16,7 +16,8 @@ returns-clause-a_number c =
     joined (0 ∷ []) (0 ∷ 1 ∷ 0 ∷ 1 ∷ 0 ∷ 7 ∷ 0 ∷ 0 ∷ 0 ∷ 0 ∷ 0 ∷ 0 ∷ 0 ∷ 0 ∷ []) stop
     (joined (0 ∷ []) (1 ∷ 0 ∷ 1 ∷ 0 ∷ 7 ∷ 0 ∷ 0 ∷ 0 ∷ 0 ∷ 0 ∷ 0 ∷ 0 ∷ 0 ∷ []) stop
     (joined (1 ∷ 0 ∷ 1 ∷ 0 ∷ 7 ∷ 0 ∷ 0 ∷ 0 ∷ 0 ∷ []) (0 ∷ 0 ∷ 0 ∷ 0 ∷ []) globals
-    (joined (0 ∷ []) (0 ∷ 0 ∷ 0 ∷ []) stop (joined (0 ∷ []) (0 ∷ 0 ∷ []) (any_byte 0) (joined [] (0 ∷ 0 ∷ []) refl (joined (0 ∷ []) (0 ∷ []) stop stop))))))
+    (joined (0 ∷ []) (0 ∷ 0 ∷ 0 ∷ []) stop
+    (joined (0 ∷ []) (0 ∷ 0 ∷ []) (any_byte 0) (joined [] (0 ∷ 0 ∷ []) refl (joined (0 ∷ []) (0 ∷ []) stop stop))))))
 
 pub returns-clause-data : goal.returns-clause-data
 unfolding SpellsRest SpellsBytes Listed
@@ -27,7 +28,8 @@ returns-clause-data c =
     (joined (0 ∷ []) (0 ∷ 0 ∷ 0 ∷ 0 ∷ 1 ∷ 1 ∷ 42 ∷ 0 ∷ 0 ∷ []) stop
     (joined (0 ∷ []) (0 ∷ 0 ∷ 0 ∷ 1 ∷ 1 ∷ 42 ∷ 0 ∷ 0 ∷ []) stop
     (joined (0 ∷ []) (0 ∷ 0 ∷ 1 ∷ 1 ∷ 42 ∷ 0 ∷ 0 ∷ []) stop
-    (joined (0 ∷ []) (0 ∷ 1 ∷ 1 ∷ 42 ∷ 0 ∷ 0 ∷ []) (any_byte 0) (joined [] (0 ∷ 1 ∷ 1 ∷ 42 ∷ 0 ∷ 0 ∷ []) refl (joined (0 ∷ []) (1 ∷ 1 ∷ 42 ∷ 0 ∷ 0 ∷ []) stop lists))))))
+    (joined (0 ∷ []) (0 ∷ 1 ∷ 1 ∷ 42 ∷ 0 ∷ 0 ∷ []) (any_byte 0)
+    (joined [] (0 ∷ 1 ∷ 1 ∷ 42 ∷ 0 ∷ 0 ∷ []) refl (joined (0 ∷ []) (1 ∷ 1 ∷ 42 ∷ 0 ∷ 0 ∷ []) stop lists))))))
 
 pub returns-clause-no_start : goal.returns-clause-no_start
 unfolding SpellsRest Listed
@@ -35,9 +37,12 @@ returns-clause-no_start c =
     joined (0 ∷ []) (0 ∷ 0 ∷ 0 ∷ 0 ∷ 0 ∷ 0 ∷ []) stop
     (joined (0 ∷ []) (0 ∷ 0 ∷ 0 ∷ 0 ∷ 0 ∷ []) stop
     (joined (0 ∷ []) (0 ∷ 0 ∷ 0 ∷ 0 ∷ []) stop
-    (joined (0 ∷ []) (0 ∷ 0 ∷ 0 ∷ []) stop (joined [] (0 ∷ 0 ∷ 0 ∷ []) refl (joined (0 ∷ []) (0 ∷ 0 ∷ []) stop (joined (0 ∷ []) (0 ∷ []) stop stop))))))
+    (joined (0 ∷ []) (0 ∷ 0 ∷ 0 ∷ []) stop
+    (joined [] (0 ∷ 0 ∷ 0 ∷ []) refl (joined (0 ∷ []) (0 ∷ 0 ∷ []) stop (joined (0 ∷ []) (0 ∷ []) stop stop))))))
 
 pub returns-clause-nothing_but_a_flag : goal.returns-clause-nothing_but_a_flag
 unfolding SpellsRest Listed
 returns-clause-nothing_but_a_flag c =
-    joined [] (1 ∷ []) refl (joined [] (1 ∷ []) refl (joined [] (1 ∷ []) refl (joined [] (1 ∷ []) refl (joined (1 ∷ []) [] (any_byte 1) (joined [] [] refl (joined [] [] refl refl))))))
+    joined [] (1 ∷ []) refl
+    (joined [] (1 ∷ []) refl
+    (joined [] (1 ∷ []) refl (joined [] (1 ∷ []) refl (joined (1 ∷ []) [] (any_byte 1) (joined [] [] refl (joined [] [] refl refl))))))

@@ -9,7 +9,11 @@ returns-clause-byte_field c = record { digits = refl; read = refl }
 
 pub returns-clause-abstract_type : goal.returns-clause-abstract_type
 unfolding digit_count
-returns-clause-abstract_type c = (refl, joined [] (0 ∷ []) refl (joined [] (0 ∷ []) refl (record { place = 0; stands = refl; number = record { digits = refl; read = refl } })))
+returns-clause-abstract_type c = (
+  refl,
+  joined [] (0 ∷ []) refl
+      (joined [] (0 ∷ []) refl (record { place = 0; stands = refl; number = record { digits = refl; read = refl } })),
+)
 
 pub returns-clause-sharedness : goal.returns-clause-sharedness
 returns-clause-sharedness c = not_shared
@@ -20,7 +24,8 @@ returns-clause-a_group_after_another c = joined (1 ∷ []) (1 ∷ []) no_clone (
 
 pub returns-clause-a_group_that_is_cloned : goal.returns-clause-a_group_that_is_cloned
 unfolding digit_count
-returns-clause-a_group_that_is_cloned c = λ both. let (later, rest) = refused_first refl both in let never : 1 < 1 = later in omega (arith, never)
+returns-clause-a_group_that_is_cloned c = λ both. let (later, rest) = refused_first refl both in let never : 1 < 1 = later in
+    omega (arith, never)
 
 pub returns-clause-not_null : goal.returns-clause-not_null
 returns-clause-not_null c = λ reference. let never = reference.form.is_second.0 in cc never

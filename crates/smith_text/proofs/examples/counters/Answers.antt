@@ -11,4 +11,5 @@ pub returns-clause-written : goal.returns-clause-written
 returns-clause-written c before after has low high = omega (arith, has, low, high)
 
 pub returns-clause-one_missing : goal.returns-clause-one_missing
-returns-clause-one_missing c writes = let never : 5 ≤ 4 = writes 2 5 (omega arith) (omega arith) (omega arith) in absurd (omega (arith, never))
+returns-clause-one_missing c writes = let never : 5 ≤ 4 = writes 2 5 (omega arith) (omega arith) (omega arith) in
+    absurd (omega (arith, never))

@@ -11,5 +11,6 @@ returns-clause-all c = record {
 
 pub returns-clause-one_more : goal.returns-clause-one_more
 returns-clause-one_more c has =
-    let never : 4 ≤ 3 = has.by_measure (λ bytes. length bytes) (λ old text new appended. let same : length new ≡ length (old ++ text) = ap length appended in omega (arith, simp length-append at same)) in
+    let never : 4 ≤ 3 = has.by_measure (λ bytes. length bytes) (λ old text new appended. let same : length new ≡ length (old ++ text) = ap
+    length appended in omega (arith, simp length-append at same)) in
     absurd (omega (arith, never))

@@ -7,5 +7,6 @@ abbrev pub invariant-loop-instruction : goal.invariant-loop-instruction
 invariant-loop-instruction g l = record {
   unfailed : g.S.Sink.failed l.sink ≡ false;
   left : lines_size (drop l.instruction-index l.instructions) 0 l.level ≤ lines_size l.instructions 0 l.fn.depth;
-  writes : Writes g.S.Sink.has l.fn.sink (lines_size l.instructions 0 l.fn.depth - lines_size (drop l.instruction-index l.instructions) 0 l.level) l.sink;
+  writes : Writes g.S.Sink.has l.fn.sink (lines_size l.instructions 0 l.fn.depth - lines_size (drop l.instruction-index l.instructions) 0
+      l.level) l.sink;
 }

@@ -11,4 +11,5 @@ returns-then-own c = λ off on s is.
     let same = same_Some c.in-Some.index s (sym c.in-Some.is ∙ is) in
     let inside = c.requires.stands c.in-Some.index c.in-Some.is in
     let d : Ground = record { own = false; below = false } in
-    subst (λ m. below_at grounds m ≡ true) same (said_is (λ (ground : Ground). ground.below) grounds c.in-Some.index (get_or grounds c.in-Some.index d) d inside refl ∙ not_off (get_or grounds c.in-Some.index d).below off)
+    subst (λ m. below_at grounds m ≡ true) same (said_is (λ (ground : Ground). ground.below) grounds c.in-Some.index
+    (get_or grounds c.in-Some.index d) d inside refl ∙ not_off (get_or grounds c.in-Some.index d).below off)

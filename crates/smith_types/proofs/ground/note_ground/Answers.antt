@@ -27,8 +27,10 @@ note-requires c =
       long = rw c.as_slice-2.ensures.value (omega (arith, long, more));
       own = rw c.as_slice-2.ensures.value c.join_grounds.ensures.last;
       room = c.requires.index_room kept;
-      marked = λ same. rw c.as_slice-2.ensures.value (marked_unchanged types c.args.grounds.now.items c.join_grounds.new.grounds.items c.args.marked.now
-          (marks_unchanged types added c.requires.orderly c.requires.follows c.args.grounds.now.items c.join_grounds.new.grounds.items (c.requires.grounds kept) after
+      marked = λ same. rw c.as_slice-2.ensures.value (marked_unchanged types c.args.grounds.now.items c.join_grounds.new.grounds.items
+          c.args.marked.now
+          (marks_unchanged types added c.requires.orderly c.requires.follows c.args.grounds.now.items c.join_grounds.new.grounds.items
+          (c.requires.grounds kept) after
           (λ on s is. rw c.as_slice.ensures.value at (c.marks_above-changed.ensures same (c.is_ground-own.ensures ∙ on) s is)))
           (c.requires.marked kept));
     }
@@ -44,6 +46,7 @@ returns-clause-families c = λ kept.
     let types = c.args.types.now in
     let added = c.args.added.now in
     c.note-2.ensures types added c.args.grounds.now.items c.join_grounds.new.grounds.items refl refl
-    (λ same. marks_unchanged types added c.requires.orderly c.requires.follows c.args.grounds.now.items c.join_grounds.new.grounds.items (c.requires.grounds kept) c.join_grounds.ensures.grounds
+    (λ same. marks_unchanged types added c.requires.orderly c.requires.follows c.args.grounds.now.items c.join_grounds.new.grounds.items
+    (c.requires.grounds kept) c.join_grounds.ensures.grounds
     (λ on s is. rw c.as_slice.ensures.value at (c.marks_above-changed.ensures same (c.is_ground-own.ensures ∙ on) s is)))
     c.join_grounds.ensures.last (c.requires.families kept)

@@ -8,7 +8,9 @@ bounds-places-place c =
     omega (arith, place.jump.upto, c.requires.places.long, c.requires.inside)
 
 pub returns-then-places-place : goal.returns-then-places-place
-returns-then-places-place c = climb_declared c.args.types.now c.args.places.now c.args.index c.args.depth c.requires.places c.requires.inside c.requires.some c.requires.deeper
+returns-then-places-place c = climb_declared c.args.types.now c.args.places.now c.args.index c.args.depth c.requires.places
+    c.requires.inside c.requires.some c.requires.deeper
 
 pub returns-else-places-place : goal.returns-else-places-place
-returns-else-places-place c = climb_jumped c.args.types.now c.args.places.now c.args.index c.args.depth c.requires.places c.requires.inside c.requires.some c.requires.deeper c.if-places-place.false
+returns-else-places-place c = climb_jumped c.args.types.now c.args.places.now c.args.index c.args.depth c.requires.places c.requires.inside
+    c.requires.some c.requires.deeper c.if-places-place.false

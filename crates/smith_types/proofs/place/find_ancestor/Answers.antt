@@ -27,7 +27,8 @@ pub returns : goal.returns
 returns c =
     let place = place_at c.args.types.now c.args.places.now c.loop-at.at c.requires.places c.loop-at.invariant.inside in
     let least : c.args.depth ≤ (get_or c.args.places.now c.loop-at.at no_place).depth = c.loop-at.invariant.within _ place.depth in
-    let same : (get_or c.args.places.now c.loop-at.at no_place).depth ≡ c.args.depth = omega (arith, least, c.loop-at-test.false) in record {
+    let same : (get_or c.args.places.now c.loop-at.at no_place).depth ≡ c.args.depth = omega (arith, least, c.loop-at-test.false) in
+    record {
       depth_is = subst (λ n. HasDepth c.args.types.now c.loop-at.at n) same place.depth;
       above = c.loop-at.invariant.below;
     }

@@ -13,13 +13,16 @@ bounds-places-second c =
     omega (arith, jumps.next_inside, c.requires.places.long)
 
 pub overflow_sub-first : goal.overflow_sub-first
-overflow_sub-first c = (jumps_known c.args.types.now c.args.places.now c.args.index c.requires.orderly c.requires.places c.requires.inside).less
+overflow_sub-first c = (jumps_known c.args.types.now c.args.places.now c.args.index c.requires.orderly c.requires.places
+    c.requires.inside).less
 
 pub overflow_sub-second : goal.overflow_sub-second
-overflow_sub-second c = (jumps_known c.args.types.now c.args.places.now c.args.index c.requires.orderly c.requires.places c.requires.inside).next_less
+overflow_sub-second c = (jumps_known c.args.types.now c.args.places.now c.args.index c.requires.orderly c.requires.places
+    c.requires.inside).next_less
 
 pub returns-then-first-second : goal.returns-then-first-second
-returns-then-first-second c = (jumps_known c.args.types.now c.args.places.now c.args.index c.requires.orderly c.requires.places c.requires.inside).link
+returns-then-first-second c = (jumps_known c.args.types.now c.args.places.now c.args.index c.requires.orderly c.requires.places
+    c.requires.inside).link
 
 pub returns-else-first-second : goal.returns-else-first-second
 returns-else-first-second c = IsLink-itself c.args.types.now c.args.index

@@ -15,11 +15,13 @@ overflow_add-result c =
 pub returns-in-Some : goal.returns-in-Some
 returns-in-Some c =
     let above = place_above _ c.args.places.now _ _ c.requires.orderly c.requires.places c.requires.follows c.in-Some.is in
-    place_below c.args.types.now c.args.added.now _ _ _ _ (rw (c.with-counts.ensures, c.last_counts.ensures) (counts_more _ _ _ c.requires.places)) above c.in-Some.is c.jump_below-jump.ensures
+    place_below c.args.types.now c.args.added.now _ _ _ _ (rw (c.with-counts.ensures, c.last_counts.ensures)
+    (counts_more _ _ _ c.requires.places)) above c.in-Some.is c.jump_below-jump.ensures
 
 pub returns-in-None : goal.returns-in-None
 returns-in-None c =
-    place_alone c.args.types.now c.args.added.now _ _ (rw (c.with-counts.ensures, c.last_counts.ensures) (counts_more _ _ _ c.requires.places)) c.in-None.is (search rules)
+    place_alone c.args.types.now c.args.added.now _ _ (rw (c.with-counts.ensures, c.last_counts.ensures)
+    (counts_more _ _ _ c.requires.places)) c.in-None.is (search rules)
 
 pub with-counts-requires : goal.with-counts-requires
 with-counts-requires c = record { room = rw c.last_counts.ensures (counts_room _ _ _ c.requires.places c.requires.follows) }

@@ -14,6 +14,7 @@ returns-clause-extensible c =
     let place = c.place_of-place.result in
     let depths = depths_known types places c.requires.places in
     let longer = extensible-push 0 (length types) types c.args.added.now (depths_in places) place.depth depths.long (omega arith) in
-    let extended : c.push_where.new.indices.items ≡ extensible_from 0 (types ++ c.args.added.now ∷ []) (depths_in places ++ place.depth ∷ []) =
+    let extended : c.push_where.new.indices.items ≡ extensible_from 0 (types ++ c.args.added.now ∷ [])
+    (depths_in places ++ place.depth ∷ []) =
     c.in_ok-push_where.ensures.ok ∙ rw (c.may_have_subtypes-is_extensible.ensures, c.requires.extensible) (sym longer) in
     extended ∙ ap (extensible_from 0 (types ++ c.args.added.now ∷ [])) (sym (map-append (λ (p : Place). p.depth) places (place ∷ [])))

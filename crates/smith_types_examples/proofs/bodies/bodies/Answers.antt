@@ -1,4 +1,5 @@
-use Rattle.smith_types_examples.proofs.Common.{arith, ◌≡◌, length, replicate, length-replicate, All-replicate, I32, IsValTypeValid, usual_features}
+use Rattle.smith_types_examples.proofs.Common.{arith, ◌≡◌, length, replicate, length-replicate, All-replicate, I32, IsValTypeValid}
+use Rattle.smith_types_examples.proofs.Common.{usual_features}
 use Rattle.smith_types_examples.proofs.bodies.bodies.Goals as goal
 
 pub returns-clause-a_hundred_locals : goal.returns-clause-a_hundred_locals

@@ -1,4 +1,6 @@
-use Rattle.smith_types_examples.proofs.Common.{rules, arith, [], ◌∷◌, Some, refl, List, All-cons, All-nil, All-head, Concrete, Ref, SubType, funcref, IsTagValid, IsFuncTypeIndex, IsTableValid, IsMemoryValid, IsGlobalValid, usual_features, final_type, plain_func, nullable, memory, table, constant_global}
+use Rattle.smith_types_examples.proofs.Common.{rules, arith, [], ◌∷◌, Some, refl, List, All-cons, All-nil, All-head, Concrete, Ref, SubType}
+use Rattle.smith_types_examples.proofs.Common.{funcref, IsTagValid, IsFuncTypeIndex, IsTableValid, IsMemoryValid, IsGlobalValid}
+use Rattle.smith_types_examples.proofs.Common.{usual_features, final_type, plain_func, nullable, memory, table, constant_global}
 use Rattle.smith_types_examples.proofs.entities.entities.Goals as goal
 
 abbrev types : List SubType
@@ -6,8 +8,10 @@ types = final_type plain_func ∷ []
 
 pub returns-clause-one_of_each_kind : goal.returns-clause-one_of_each_kind
 returns-clause-one_of_each_kind c = record {
-  tags = All-cons (IsTagValid types) 0 [] (record { params = []; results = [] }, (final_type plain_func, refl, refl), refl) (All-nil (IsTagValid types));
-  funcs = All-cons (IsFuncTypeIndex types) 0 [] (record { params = []; results = [] }, (final_type plain_func, refl, refl)) (All-nil (IsFuncTypeIndex types));
+  tags = All-cons (IsTagValid types) 0 [] (record { params = []; results = [] }, (final_type plain_func, refl, refl), refl)
+      (All-nil (IsTagValid types));
+  funcs = All-cons (IsFuncTypeIndex types) 0 [] (record { params = []; results = [] }, (final_type plain_func, refl, refl))
+      (All-nil (IsFuncTypeIndex types));
   tables = search rules;
   memories = search rules;
   globals = search rules;
@@ -25,6 +29,7 @@ returns-clause-memory_above_its_maximum c = λ valid.
 
 pub returns-clause-global_of_no_type : goal.returns-clause-global_of_no_type
 returns-clause-global_of_no_type c = λ valid.
-    let (on, reference) = (All-head (IsGlobalValid usual_features types) (constant_global (Ref (nullable (Concrete 1)))) [] valid.globals).value in
+    let (on, reference) = (All-head (IsGlobalValid usual_features types) (constant_global (Ref (nullable (Concrete 1)))) []
+    valid.globals).value in
     let (enabled, inside) = reference.heap_type in
     omega (arith, inside)

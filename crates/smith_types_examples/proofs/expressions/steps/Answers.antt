@@ -1,13 +1,18 @@
-use Rattle.smith_types_examples.proofs.Common.{◌≡◌, ◌++◌, List, [], ◌∷◌, false, ap, sym, subst, refl, same_Some, slice_get, AllZip, ValType, I32, I64, Ref, I32Add, ExternConvertAny, IsValBelow, usual_features, plain, not_null, context_types, context_with, below_abstract, one_step}
+use Rattle.smith_types_examples.proofs.Common.{◌≡◌, ◌++◌, List, [], ◌∷◌, false, ap, sym, subst, refl, same_Some, slice_get, AllZip, ValType}
+use Rattle.smith_types_examples.proofs.Common.{I32, I64, Ref, I32Add, ExternConvertAny, IsValBelow, usual_features, plain, not_null}
+use Rattle.smith_types_examples.proofs.Common.{context_types, context_with, below_abstract, one_step}
 use Rattle.smith_syntax.specs.declared.value_type.AbstractHeapType.TheVariants as heap
 use Rattle.smith_types_examples.proofs.expressions.steps.Goals as goal
 
 pub returns-clause-above_others : goal.returns-clause-above_others
-returns-clause-above_others c = one_step (context_with usual_features 2) I32Add (I32 ∷ I32 ∷ []) I32 (I64 ∷ []) (I32 ∷ I32 ∷ []) (refl, refl) (tt, (tt, tt))
+returns-clause-above_others c = one_step (context_with usual_features 2) I32Add (I32 ∷ I32 ∷ []) I32 (I64 ∷ []) (I32 ∷ I32 ∷ [])
+    (refl, refl) (tt, (tt, tt))
 
 pub returns-clause-of_a_subtype : goal.returns-clause-of_a_subtype
-returns-clause-of_a_subtype c = one_step (context_with usual_features 2) ExternConvertAny (Ref (not_null (plain heap.Any)) ∷ []) (Ref (not_null (plain heap.Extern))) [] (Ref (not_null (plain heap.I31)) ∷ [])
-    (record { shared = false; nullable = false; taken = refl; given = refl }) (record { heap = below_abstract context_types false heap.I31 heap.Any refl; nullable = λ never. never }, tt)
+returns-clause-of_a_subtype c = one_step (context_with usual_features 2) ExternConvertAny (Ref (not_null (plain heap.Any)) ∷ [])
+    (Ref (not_null (plain heap.Extern))) [] (Ref (not_null (plain heap.I31)) ∷ [])
+    (record { shared = false; nullable = false; taken = refl; given = refl })
+    (record { heap = below_abstract context_types false heap.I31 heap.Any refl; nullable = λ never. never }, tt)
 
 -- an instruction takes the value on top of two
 top_taken : (rest taken : List ValType) → I32 ∷ I64 ∷ [] ≡ rest ++ taken → AllZip (IsValBelow context_types) taken (I32 ∷ []) → ⊥

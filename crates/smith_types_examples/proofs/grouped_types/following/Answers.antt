@@ -1,8 +1,10 @@
-use Rattle.smith_types_examples.proofs.Common.{◌≡◌, ◌<◌, ◌∙◌, ℕ, zero, suc, Some, None, refl, sym, ap, subst, arith, slice_get, same_Some, SubType, kind, IsAlike, open_type, empty_struct, plain_func, struct_and_below}
+use Rattle.smith_types_examples.proofs.Common.{◌≡◌, ◌<◌, ◌∙◌, ℕ, zero, suc, Some, None, refl, sym, ap, subst, arith, slice_get, same_Some}
+use Rattle.smith_types_examples.proofs.Common.{SubType, kind, IsAlike, open_type, empty_struct, plain_func, struct_and_below}
 use Rattle.smith_syntax.specs.declared.value_type.AbstractHeapType.TheVariants as heap
 use Rattle.smith_types_examples.proofs.grouped_types.following.Goals as goal
 
-stands_before : (i s : ℕ) (t : SubType) → slice_get struct_and_below i ≡ Some t → t.supertype ≡ Some s → (s < i) × ((u : SubType) × (slice_get struct_and_below s ≡ Some u) × IsAlike t u)
+stands_before : (i s : ℕ) (t : SubType) → slice_get struct_and_below i ≡ Some t → t.supertype ≡ Some s
+    → (s < i) × ((u : SubType) × (slice_get struct_and_below s ≡ Some u) × IsAlike t u)
 stands_before zero s t at sup =
     let same : open_type None empty_struct ≡ t = same_Some (open_type None empty_struct) t at in
     let never : None ≡ Some s = ap (λ (x : SubType). x.supertype) same ∙ sup in

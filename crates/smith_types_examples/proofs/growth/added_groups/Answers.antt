@@ -1,4 +1,5 @@
-use Rattle.smith_types_examples.proofs.Common.{arith, [], ◌∷◌, Some, refl, All-head, IsGroupValid, without_gc, open_type, final_type, empty_struct, plain_func, range}
+use Rattle.smith_types_examples.proofs.Common.{arith, [], ◌∷◌, Some, refl, All-head, IsGroupValid, without_gc, open_type, final_type}
+use Rattle.smith_types_examples.proofs.Common.{empty_struct, plain_func, range}
 use Rattle.smith_types_examples.proofs.growth.added_groups.Goals as goal
 
 pub returns-clause-below_itself : goal.returns-clause-below_itself

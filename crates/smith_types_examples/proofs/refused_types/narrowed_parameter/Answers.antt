@@ -1,4 +1,5 @@
-use Rattle.smith_types_examples.proofs.Common.{rules, [], ◌∷◌, Some, None, refl, Func, open_type, func, func_and_below, anyref, eqref, plain, AreBelow-refl, by_cases_from_below}
+use Rattle.smith_types_examples.proofs.Common.{rules, [], ◌∷◌, Some, None, refl, Func, open_type, func, func_and_below, anyref, eqref}
+use Rattle.smith_types_examples.proofs.Common.{plain, AreBelow-refl, by_cases_from_below}
 use Rattle.smith_syntax.specs.declared.value_type.AbstractHeapType.TheVariants as heap
 use Rattle.smith_types_examples.proofs.TypeExamples.{two_valid, below_first, first_above, eq_below_any}
 use Rattle.smith_types_examples.proofs.refused_types.narrowed_parameter.Goals as goal
@@ -21,7 +22,14 @@ returns-clause-kept c =
     two_valid upper lower (search rules) (search rules) (record {
       enabled = search rules;
       values = search rules;
-      declared = below_first upper lower refl (record { not_final = refl; matched = record { inner = record { params = AreBelow-refl types (eqref ∷ []); results = AreBelow-refl types (eqref ∷ []) }; shared = refl } });
+      declared = below_first upper lower refl
+          (record {
+            not_final = refl;
+            matched = record {
+              inner = record { params = AreBelow-refl types (eqref ∷ []); results = AreBelow-refl types (eqref ∷ []) };
+              shared = refl;
+            };
+          });
       shareable = λ never. cc never;
     })
 
@@ -33,6 +41,13 @@ returns-clause-widened c =
     two_valid upper lower (search rules) (search rules) (record {
       enabled = search rules;
       values = search rules;
-      declared = below_first upper lower refl (record { not_final = refl; matched = record { inner = record { params = (eq_below_any types, tt); results = AreBelow-refl types (eqref ∷ []) }; shared = refl } });
+      declared = below_first upper lower refl
+          (record {
+            not_final = refl;
+            matched = record {
+              inner = record { params = (eq_below_any types, tt); results = AreBelow-refl types (eqref ∷ []) };
+              shared = refl;
+            };
+          });
       shareable = λ never. cc never;
     })

@@ -1,4 +1,8 @@
-use Rattle.smith_types_examples.proofs.Common.{rules, arith, common_steps, lit<, ◌≡◌, [], ◌∷◌, true, false, Some, None, IsTrue, sym, ap, ◌∙◌, subst, refl, same_Some, Abstract, Concrete, I8, kind, shared, bottom, is_abstract_below, itself, open_type, final_type, shared_type, array, empty_struct, plain_func, struct_and_below, plain, variable, IsBelow-trans, below_declared, below_kind, below_abstract, above_bottom, by_cases_from_below, below_alone}
+use Rattle.smith_types_examples.proofs.Common.{rules, arith, common_steps, lit<, ◌≡◌, [], ◌∷◌, true, false, Some, None, IsTrue, sym, ap}
+use Rattle.smith_types_examples.proofs.Common.{◌∙◌, subst, refl, same_Some, Abstract, Concrete, I8, kind, shared, bottom, is_abstract_below}
+use Rattle.smith_types_examples.proofs.Common.{itself, open_type, final_type, shared_type, array, empty_struct, plain_func}
+use Rattle.smith_types_examples.proofs.Common.{struct_and_below, plain, variable, IsBelow-trans, below_declared, below_kind, below_abstract}
+use Rattle.smith_types_examples.proofs.Common.{above_bottom, by_cases_from_below, below_alone}
 use Rattle.smith_syntax.specs.declared.value_type.AbstractHeapType.TheVariants as heap
 use Rattle.smith_types_examples.proofs.TypeExamples.{struct_orderly, upper_not_below}
 use Rattle.smith_types_examples.proofs.subtyping.concrete_types.Goals as goal
@@ -8,7 +12,8 @@ returns c = record {
   declared = below_declared struct_and_below 1 0 (open_type (Some 0) empty_struct) refl refl;
   declared_twice =
       let types = open_type None plain_func ∷ open_type (Some 0) plain_func ∷ open_type (Some 1) plain_func ∷ [] in
-      IsBelow-trans types (below_declared types 2 1 (open_type (Some 1) plain_func) refl refl) (below_declared types 1 0 (open_type (Some 0) plain_func) refl refl);
+      IsBelow-trans types (below_declared types 2 1 (open_type (Some 1) plain_func) refl refl)
+      (below_declared types 1 0 (open_type (Some 0) plain_func) refl refl);
   itself = itself;
   not_upwards = upper_not_below;
   equal_types_apart = λ below.
@@ -16,10 +21,12 @@ returns c = record {
       below_alone types (search rules) 1 0 (final_type plain_func) (lit< tt) refl (λ (same : 1 ≡ 0). omega (arith, same)) below;
   no_such_type = first_of (search rules, grind (arith, common_steps));
   kind_and_above =
-      IsBelow-trans struct_and_below (below_kind struct_and_below 1 (open_type (Some 0) empty_struct) refl) (below_abstract struct_and_below false heap.Struct heap.Any refl);
+      IsBelow-trans struct_and_below (below_kind struct_and_below 1 (open_type (Some 0) empty_struct) refl)
+      (below_abstract struct_and_below false heap.Struct heap.Any refl);
   not_of_another_kind = λ below.
       let (t, at, shares, under) = by_cases_from_below struct_and_below struct_orderly (Concrete 1) (plain heap.Array) below in
-      let never : IsTrue (is_abstract_below heap.Struct heap.Array) = subst (λ v. IsTrue (is_abstract_below (kind v) heap.Array)) (sym (same_Some (open_type (Some 0) empty_struct) t at)) under in
+      let never : IsTrue (is_abstract_below heap.Struct heap.Array) = subst (λ v. IsTrue (is_abstract_below (kind v) heap.Array))
+      (sym (same_Some (open_type (Some 0) empty_struct) t at)) under in
       cc never;
   function_and_kind = below_kind (final_type plain_func ∷ []) 0 (final_type plain_func) refl;
   function_not_of_any = first_of (search rules, grind (arith, common_steps));

@@ -1,14 +1,20 @@
-use Rattle.smith_types_examples.proofs.Common.{arith, true, false, ◌≡◌, Some, None, sym, ap, ◌∙◌, refl, same_Some, Abstract, Concrete, Exact, bottom, shared, itself, open_type, empty_struct, struct_and_below, plain, IsBelow-trans, below_declared, below_kind, exact_below, exact_above_bottom, by_cases_from_below, below_from_by_cases}
+use Rattle.smith_types_examples.proofs.Common.{arith, true, false, ◌≡◌, Some, None, sym, ap, ◌∙◌, refl, same_Some, Abstract, Concrete}
+use Rattle.smith_types_examples.proofs.Common.{Exact, bottom, shared, itself, open_type, empty_struct, struct_and_below, plain}
+use Rattle.smith_types_examples.proofs.Common.{IsBelow-trans, below_declared, below_kind, exact_below, exact_above_bottom}
+use Rattle.smith_types_examples.proofs.Common.{by_cases_from_below, below_from_by_cases}
 use Rattle.smith_syntax.specs.declared.value_type.AbstractHeapType.TheVariants as heap
 use Rattle.smith_types_examples.proofs.TypeExamples.{struct_orderly, upper_not_below}
 use Rattle.smith_types_examples.proofs.subtyping.exact_types.Goals as goal
 
 pub returns : goal.returns
 returns c = record {
-  its_type_and_above = IsBelow-trans struct_and_below (exact_below struct_and_below 1) (below_declared struct_and_below 1 0 (open_type (Some 0) empty_struct) refl refl);
-  kind = IsBelow-trans struct_and_below (exact_below struct_and_below 1) (below_kind struct_and_below 1 (open_type (Some 0) empty_struct) refl);
+  its_type_and_above = IsBelow-trans struct_and_below (exact_below struct_and_below 1)
+      (below_declared struct_and_below 1 0 (open_type (Some 0) empty_struct) refl refl);
+  kind = IsBelow-trans struct_and_below (exact_below struct_and_below 1) (below_kind struct_and_below 1 (open_type (Some 0) empty_struct)
+      refl);
   not_what_is_below = λ below.
-      upper_not_below (below_from_by_cases struct_and_below (Concrete 0) (Concrete 1) (by_cases_from_below struct_and_below struct_orderly (Exact 0) (Concrete 1) below));
+      upper_not_below (below_from_by_cases struct_and_below (Concrete 0) (Concrete 1) (by_cases_from_below struct_and_below struct_orderly
+      (Exact 0) (Concrete 1) below));
   itself = itself;
   not_another = λ below.
       let same : 1 ≡ 0 = by_cases_from_below struct_and_below struct_orderly (Exact 1) (Exact 0) below in

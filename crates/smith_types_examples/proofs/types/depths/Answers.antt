@@ -1,4 +1,5 @@
-use Rattle.smith_types_examples.proofs.Common.{rules, arith, [], ◌∷◌, ℕ, zero, suc, ◌<◌, Some, None, refl, slice_index, HasDepth, root, deeper, open_type, empty_struct, struct_and_below}
+use Rattle.smith_types_examples.proofs.Common.{rules, arith, [], ◌∷◌, ℕ, zero, suc, ◌<◌, Some, None, refl, slice_index, HasDepth, root}
+use Rattle.smith_types_examples.proofs.Common.{deeper, open_type, empty_struct, struct_and_below}
 use Rattle.smith_types_examples.proofs.types.depths.Goals as goal
 
 on_its_own : HasDepth struct_and_below 0 1

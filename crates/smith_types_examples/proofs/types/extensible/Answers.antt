@@ -1,4 +1,5 @@
-use Rattle.smith_types_examples.proofs.Common.{◌≡◌, ℕ, zero, suc, ◌<◌, List, [], ◌∷◌, None, refl, arith, slice_index, HasDepth, root, extensible_from, open_type, final_type, empty_struct}
+use Rattle.smith_types_examples.proofs.Common.{◌≡◌, ℕ, zero, suc, ◌<◌, List, [], ◌∷◌, None, refl, arith, slice_index, HasDepth, root}
+use Rattle.smith_types_examples.proofs.Common.{extensible_from, open_type, final_type, empty_struct}
 use Rattle.smith_types_examples.proofs.types.extensible.Goals as goal
 
 alone : (i : ℕ) → i < 1 → HasDepth (open_type None empty_struct ∷ []) i (slice_index (1 ∷ []) i)

@@ -1,4 +1,5 @@
-use Rattle.smith_types_examples.proofs.Common.{◌≡◌, arith, rules, Some, refl, subst, slice_get, same_Some, open_type, empty_struct, struct_and_below}
+use Rattle.smith_types_examples.proofs.Common.{◌≡◌, arith, rules, Some, refl, subst, slice_get, same_Some, open_type, empty_struct}
+use Rattle.smith_types_examples.proofs.Common.{struct_and_below}
 use Rattle.smith_types_examples.proofs.types.following.Goals as goal
 
 pub returns-clause-below_another : goal.returns-clause-below_another

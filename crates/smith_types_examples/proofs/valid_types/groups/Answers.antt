@@ -1,4 +1,5 @@
-use Rattle.smith_types_examples.proofs.Common.{arith, [], ◌∷◌, refl, All-head, Concrete, Ref, IsValTypeValid, usual_features, final_type, struct, nullable, refers_to}
+use Rattle.smith_types_examples.proofs.Common.{arith, [], ◌∷◌, refl, All-head, Concrete, Ref, IsValTypeValid, usual_features, final_type}
+use Rattle.smith_types_examples.proofs.Common.{struct, nullable, refers_to}
 use Rattle.smith_types_examples.proofs.TypeExamples.{referring_after}
 use Rattle.smith_types_examples.proofs.valid_types.groups.Goals as goal
 

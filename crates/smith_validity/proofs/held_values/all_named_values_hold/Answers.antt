@@ -8,5 +8,6 @@ returns g c =
     let types = c.args.types.now in
     let spaces = spaces_in c.args.spaces.now in (
       λ yes. let h = c.are_named.ensures.0 yes in all_values_joined property types spaces h.of_types h.of_tables h.of_globals,
-      λ all. let (held, tables, globals) = all_values_apart property types spaces all in c.are_named.ensures.1 (record { of_types = held; of_tables = tables; of_globals = globals }),
+      λ all. let (held, tables, globals) = all_values_apart property types spaces all in
+          c.are_named.ensures.1 (record { of_types = held; of_tables = tables; of_globals = globals }),
     )

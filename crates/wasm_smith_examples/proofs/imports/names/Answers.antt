@@ -1,4 +1,5 @@
-use Rattle.wasm_smith_examples.proofs.Common.{rules, arith, common_steps, refl, encode, digits, is_utf8, chars, utf8_valid_len, range_at, digit_count, len_at, text_at, new_name, import_name_at}
+use Rattle.wasm_smith_examples.proofs.Common.{rules, arith, common_steps, refl, encode, digits, is_utf8, chars, utf8_valid_len, range_at}
+use Rattle.wasm_smith_examples.proofs.Common.{digit_count, len_at, text_at, new_name, import_name_at}
 use Rattle.wasm_smith_examples.proofs.imports.names.Goals as goal
 
 pub returns : goal.returns

@@ -14,6 +14,8 @@ returns-clause-a_flag_after c = record {
   may_stand = record { few_globals = omega arith; few_segments = omega arith; bulk = λ off. refl };
   piece = 1 ∷ [];
   after = 255 ∷ [];
-  spelled = joined [] (1 ∷ []) refl (joined [] (1 ∷ []) refl (joined [] (1 ∷ []) refl (joined [] (1 ∷ []) refl (joined (1 ∷ []) [] (any_byte 1) (joined [] [] refl (joined [] [] refl refl))))));
+  spelled = joined [] (1 ∷ []) refl
+      (joined [] (1 ∷ []) refl
+      (joined [] (1 ∷ []) refl (joined [] (1 ∷ []) refl (joined (1 ∷ []) [] (any_byte 1) (joined [] [] refl (joined [] [] refl refl))))));
   parts = refl;
 }

@@ -9,4 +9,5 @@ use Rattle.smith_binary.proofs.sink.Sink.write_s64.Goals as goal
 pub returns-clause-writes : goal.returns-clause-writes
 returns-clause-writes c =
     let fits : FitsBits 64 c.args.value = search rules in
-    on_ok_weaker c.write_signed.result (signed_written 64 c.args.value c.args.value refl fits) (rw (to_z-of_z w64 c.args.value c.ranges.value) at c.write_signed.ensures.writes)
+    on_ok_weaker c.write_signed.result (signed_written 64 c.args.value c.args.value refl fits)
+    (rw (to_z-of_z w64 c.args.value c.ranges.value) at c.write_signed.ensures.writes)

@@ -4,4 +4,5 @@ use Rattle.smith_binary.proofs.PaddedLemmas.{shortest_unsigned}
 use Rattle.smith_binary.proofs.sink.Sink.write_shortest.Goals as goal
 
 pub returns-clause-writes : goal.returns-clause-writes
-returns-clause-writes c = on_ok_weaker c.write_padded.result (shortest_unsigned c.args.value c.from.result c.from.ensures (omega arith)) c.write_padded.ensures.writes
+returns-clause-writes c = on_ok_weaker c.write_padded.result (shortest_unsigned c.args.value c.from.result c.from.ensures (omega arith))
+    c.write_padded.ensures.writes

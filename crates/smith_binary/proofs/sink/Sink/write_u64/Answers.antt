@@ -4,4 +4,5 @@ use Rattle.smith_binary.proofs.PaddedLemmas.{unsigned_written}
 use Rattle.smith_binary.proofs.sink.Sink.write_u64.Goals as goal
 
 pub returns-clause-writes : goal.returns-clause-writes
-returns-clause-writes c = on_ok_weaker c.write_padded.result (unsigned_written 64 c.args.value c.args.value c.least_length.result refl c.least_length.ensures (omega arith) (omega arith)) c.write_padded.ensures.writes
+returns-clause-writes c = on_ok_weaker c.write_padded.result (unsigned_written 64 c.args.value c.args.value c.least_length.result refl
+    c.least_length.ensures (omega arith) (omega arith)) c.write_padded.ensures.writes

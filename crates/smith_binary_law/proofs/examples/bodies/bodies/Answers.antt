@@ -30,7 +30,8 @@ returns-clause-one_local c = record {
         runs = (1, I32) ∷ [];
         cut = refl;
         few = omega arith;
-        form = both (0x01 ∷ []) (0x01 ∷ 0x7F ∷ []) (index 1 (omega arith)) (more_items IsRun (1, I32) [] (0x01 ∷ 0x7F ∷ []) [] (run_spelled 1 (omega arith)) (no_item IsRun));
+        form = both (0x01 ∷ []) (0x01 ∷ 0x7F ∷ []) (index 1 (omega arith)) (more_items IsRun (1, I32) [] (0x01 ∷ 0x7F ∷ []) []
+            (run_spelled 1 (omega arith)) (no_item IsRun));
       })
       nop_spelled;
   form = both (0x05 ∷ []) (0x01 ∷ 0x01 ∷ 0x7F ∷ 0x01 ∷ 0x0B ∷ []) (index 5 (omega arith)) refl;
@@ -44,7 +45,8 @@ returns-clause-two_locals_in_a_run c = record {
         runs = (2, I32) ∷ [];
         cut = refl;
         few = omega arith;
-        form = both (0x01 ∷ []) (0x02 ∷ 0x7F ∷ []) (index 1 (omega arith)) (more_items IsRun (2, I32) [] (0x02 ∷ 0x7F ∷ []) [] (run_spelled 2 (omega arith)) (no_item IsRun));
+        form = both (0x01 ∷ []) (0x02 ∷ 0x7F ∷ []) (index 1 (omega arith)) (more_items IsRun (2, I32) [] (0x02 ∷ 0x7F ∷ []) []
+            (run_spelled 2 (omega arith)) (no_item IsRun));
       })
       nop_spelled;
   form = both (0x05 ∷ []) (0x01 ∷ 0x02 ∷ 0x7F ∷ 0x01 ∷ 0x0B ∷ []) (index 5 (omega arith)) refl;
@@ -55,7 +57,8 @@ returns-clause-two_locals_as_written c = record {
   content = 0x02 ∷ 0x01 ∷ 0x7F ∷ 0x01 ∷ 0x7F ∷ 0x01 ∷ 0x0B ∷ [];
   is_content = both (0x02 ∷ 0x01 ∷ 0x7F ∷ 0x01 ∷ 0x7F ∷ []) (0x01 ∷ 0x0B ∷ [])
       (both (0x02 ∷ []) (0x01 ∷ 0x7F ∷ 0x01 ∷ 0x7F ∷ []) (index 2 (omega arith))
-      (more_items alone I32 (I32 ∷ []) (0x01 ∷ 0x7F ∷ []) (0x01 ∷ 0x7F ∷ []) (run_spelled 1 (omega arith)) (more_items alone I32 [] (0x01 ∷ 0x7F ∷ []) [] (run_spelled 1 (omega arith)) (no_item alone))))
+      (more_items alone I32 (I32 ∷ []) (0x01 ∷ 0x7F ∷ []) (0x01 ∷ 0x7F ∷ []) (run_spelled 1 (omega arith))
+      (more_items alone I32 [] (0x01 ∷ 0x7F ∷ []) [] (run_spelled 1 (omega arith)) (no_item alone))))
       nop_written;
   form = both (0x07 ∷ []) (0x02 ∷ 0x01 ∷ 0x7F ∷ 0x01 ∷ 0x7F ∷ 0x01 ∷ 0x0B ∷ []) (index 7 (omega arith)) refl;
 }

@@ -23,5 +23,6 @@ returns-clause-without_its_end c =
 pub returns-clause-block : goal.returns-clause-block
 returns-clause-block c =
     both (0x02 ∷ 0x40 ∷ 0x0B ∷ []) (0x0B ∷ [])
-    (more_items IsInstr (instr.Block block.Empty) (instr.End ∷ []) (0x02 ∷ 0x40 ∷ []) (0x0B ∷ []) (both (0x02 ∷ []) (0x40 ∷ []) refl refl) (more_items IsInstr instr.End [] (0x0B ∷ []) [] refl (no_item IsInstr)))
+    (more_items IsInstr (instr.Block block.Empty) (instr.End ∷ []) (0x02 ∷ 0x40 ∷ []) (0x0B ∷ []) (both (0x02 ∷ []) (0x40 ∷ []) refl refl)
+    (more_items IsInstr instr.End [] (0x0B ∷ []) [] refl (no_item IsInstr)))
     refl

@@ -5,7 +5,8 @@ use Rattle.smith_binary.specs.Pieces.{Each}
 use Rattle.smith_syntax.specs.declared.value_type.ValType.TheVariants.{I32}
 use Rattle.smith_binary_sections.specs.Codes.{IsRun}
 use Rattle.smith_binary_sections.specs.Long.{IsNeverLong}
-use Rattle.smith_binary_sections.proofs.SizeLemmas.{AtMost, bytes_within, joined_within, none_within, not_long, no_long_items, number_within, one_long_item, one_within}
+use Rattle.smith_binary_sections.proofs.SizeLemmas.{AtMost, bytes_within, joined_within, none_within, not_long, no_long_items}
+use Rattle.smith_binary_sections.proofs.SizeLemmas.{number_within, one_long_item, one_within}
 use Rattle.smith_instr.specs.declared.instr.Instr.TheVariants as instr
 use Rattle.smith_binary_instr.specs.Instructions.{IsExprWritten}
 use Rattle.smith_binary_instr.specs.Long.{IsLongFunc, IsLongInstr}
@@ -21,7 +22,8 @@ run_within = joined_within 5 1 (number_within 1) (bytes_within (0x7F ∷ []))
 
 -- the format has a form of `nop`
 nop_short : Any IsLongInstr (instr.Nop ∷ []) → ⊥
-nop_short (k, x, inside, is, long) = All-from_recursion (λ y. IsLongInstr y → ⊥) (instr.Nop ∷ []) ((λ h. h), tt) k x inside (subst IsLongInstr (sym is) long)
+nop_short (k, x, inside, is, long) = All-from_recursion (λ y. IsLongInstr y → ⊥) (instr.Nop ∷ []) ((λ h. h), tt) k x inside
+    (subst IsLongInstr (sym is) long)
 
 no_local_short : IsLongFunc [] (instr.Nop ∷ []) → ⊥
 no_local_short (inl long) = no_long_items IsNeverLong long
@@ -31,7 +33,8 @@ no_local_short (inr (inr long)) = not_long 7 (omega arith) (joined_within 5 2 (n
 one_local_short : IsLongFunc (I32 ∷ []) (instr.Nop ∷ []) → ⊥
 one_local_short (inl long) = one_long_item IsNeverLong I32 (λ never. never) long
 one_local_short (inr (inl long)) = nop_short long
-one_local_short (inr (inr long)) = not_long 13 (omega arith) (joined_within 11 2 (one_within (λ local. IsRun (1, local)) I32 6 run_within) nop_within) long
+one_local_short (inr (inr long)) = not_long 13 (omega arith) (joined_within 11 2 (one_within (λ local. IsRun (1, local)) I32 6 run_within)
+    nop_within) long
 
 pub returns-clause-no_local : goal.returns-clause-no_local
 returns-clause-no_local c = no_local_short

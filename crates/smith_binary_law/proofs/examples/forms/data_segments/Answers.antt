@@ -7,10 +7,16 @@ use Rattle.smith_binary_law.specs.ExampleSegments.{a_byte, start}
 use Rattle.smith_binary_law.proofs.SpelledExamples.{index, one_byte, other_number, start_spelled}
 use Rattle.smith_binary_law.proofs.examples.forms.data_segments.Goals as goal
 
-by_index : (memory : ℕ) → memory < 128 → IsDataIn named_memory (data_of (a_byte (data_kind.Active memory start))) (0x02 ∷ memory ∷ 0x41 ∷ 0x00 ∷ 0x0B ∷ 0x01 ∷ 0x2A ∷ [])
+by_index : (memory : ℕ) → memory < 128 → IsDataIn named_memory (data_of (a_byte (data_kind.Active memory start)))
+    (0x02 ∷ memory ∷ 0x41 ∷ 0x00 ∷ 0x0B ∷ 0x01 ∷ 0x2A ∷ [])
 by_index memory low =
-    both (0x02 ∷ []) (memory ∷ 0x41 ∷ 0x00 ∷ 0x0B ∷ 0x01 ∷ 0x2A ∷ []) (index 2 (omega arith))
-    (memory, offset_of start, refl, both (memory ∷ []) (0x41 ∷ 0x00 ∷ 0x0B ∷ 0x01 ∷ 0x2A ∷ []) (index memory low) (both (0x41 ∷ 0x00 ∷ 0x0B ∷ []) (0x01 ∷ 0x2A ∷ []) start_spelled one_byte))
+    both (0x02 ∷ []) (memory ∷ 0x41 ∷ 0x00 ∷ 0x0B ∷ 0x01 ∷ 0x2A ∷ []) (index 2 (omega arith)) (
+      memory,
+      offset_of start,
+      refl,
+      both (memory ∷ []) (0x41 ∷ 0x00 ∷ 0x0B ∷ 0x01 ∷ 0x2A ∷ []) (index memory low)
+          (both (0x41 ∷ 0x00 ∷ 0x0B ∷ []) (0x01 ∷ 0x2A ∷ []) start_spelled one_byte),
+    )
 
 pub returns-clause-first_memory : goal.returns-clause-first_memory
 returns-clause-first_memory c =

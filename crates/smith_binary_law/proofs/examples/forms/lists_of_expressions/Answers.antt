@@ -15,7 +15,8 @@ returns-clause-first_table c =
       no_function ∷ [],
       refl,
       both (0x41 ∷ 0x00 ∷ 0x0B ∷ []) (0x01 ∷ 0xD0 ∷ 0x70 ∷ 0x0B ∷ []) start_spelled
-          (both (0x01 ∷ []) (0xD0 ∷ 0x70 ∷ 0x0B ∷ []) (index 1 (omega arith)) (more_items IsExpression no_function [] (0xD0 ∷ 0x70 ∷ 0x0B ∷ []) [] null_spelled (no_item IsExpression))),
+          (both (0x01 ∷ []) (0xD0 ∷ 0x70 ∷ 0x0B ∷ []) (index 1 (omega arith))
+          (more_items IsExpression no_function [] (0xD0 ∷ 0x70 ∷ 0x0B ∷ []) [] null_spelled (no_item IsExpression))),
     )
 
 pub returns-clause-of_another_type : goal.returns-clause-of_another_type
@@ -27,7 +28,8 @@ returns-clause-of_another_type c =
       [],
       refl,
       both (0x00 ∷ []) (0x41 ∷ 0x00 ∷ 0x0B ∷ 0x6F ∷ 0x00 ∷ []) (index 0 (omega arith))
-          (both (0x41 ∷ 0x00 ∷ 0x0B ∷ []) (0x6F ∷ 0x00 ∷ []) start_spelled (both (0x6F ∷ []) (0x00 ∷ []) (IsRefType.short refl refl) (both (0x00 ∷ []) [] (index 0 (omega arith)) (no_item IsExpression)))),
+          (both (0x41 ∷ 0x00 ∷ 0x0B ∷ []) (0x6F ∷ 0x00 ∷ []) start_spelled (both (0x6F ∷ []) (0x00 ∷ []) (IsRefType.short refl refl)
+          (both (0x00 ∷ []) [] (index 0 (omega arith)) (no_item IsExpression)))),
     )
 
 pub returns-clause-without_their_type : goal.returns-clause-without_their_type

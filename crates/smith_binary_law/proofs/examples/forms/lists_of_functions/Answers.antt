@@ -16,10 +16,17 @@ first_form =
 listed : IsKindFuncs (0 ∷ []) (0x00 ∷ 0x01 ∷ 0x00 ∷ [])
 listed = both (0x00 ∷ []) (0x01 ∷ 0x00 ∷ []) refl one_function
 
-by_index : (table : ℕ) → table < 128 → IsElemIn table_funcs (elem_of (a_function (Active (Some table) start))) (0x02 ∷ table ∷ 0x41 ∷ 0x00 ∷ 0x0B ∷ 0x00 ∷ 0x01 ∷ 0x00 ∷ [])
+by_index : (table : ℕ) → table < 128 → IsElemIn table_funcs (elem_of (a_function (Active (Some table) start)))
+    (0x02 ∷ table ∷ 0x41 ∷ 0x00 ∷ 0x0B ∷ 0x00 ∷ 0x01 ∷ 0x00 ∷ [])
 by_index table low =
-    both (0x02 ∷ []) (table ∷ 0x41 ∷ 0x00 ∷ 0x0B ∷ 0x00 ∷ 0x01 ∷ 0x00 ∷ []) (index 2 (omega arith))
-    (table, offset_of start, 0 ∷ [], refl, both (table ∷ []) (0x41 ∷ 0x00 ∷ 0x0B ∷ 0x00 ∷ 0x01 ∷ 0x00 ∷ []) (index table low) (both (0x41 ∷ 0x00 ∷ 0x0B ∷ []) (0x00 ∷ 0x01 ∷ 0x00 ∷ []) start_spelled listed))
+    both (0x02 ∷ []) (table ∷ 0x41 ∷ 0x00 ∷ 0x0B ∷ 0x00 ∷ 0x01 ∷ 0x00 ∷ []) (index 2 (omega arith)) (
+      table,
+      offset_of start,
+      0 ∷ [],
+      refl,
+      both (table ∷ []) (0x41 ∷ 0x00 ∷ 0x0B ∷ 0x00 ∷ 0x01 ∷ 0x00 ∷ []) (index table low)
+          (both (0x41 ∷ 0x00 ∷ 0x0B ∷ []) (0x00 ∷ 0x01 ∷ 0x00 ∷ []) start_spelled listed),
+    )
 
 pub returns-clause-first_table : goal.returns-clause-first_table
 returns-clause-first_table c = first_form

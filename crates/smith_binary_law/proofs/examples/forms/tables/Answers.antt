@@ -10,10 +10,12 @@ use Rattle.smith_binary_law.proofs.SpelledExamples.{small, null_spelled}
 use Rattle.smith_binary_law.proofs.examples.forms.tables.Goals as goal
 
 table_spelled : IsTableType (table funcref 1 None) (0x70 ∷ 0x00 ∷ 0x01 ∷ [])
-table_spelled = both (0x70 ∷ []) (0x00 ∷ 0x01 ∷ []) (IsRefType.short refl refl) (both (0x00 ∷ []) (0x01 ∷ []) refl (both (0x01 ∷ []) [] (small 64 1 (omega arith) (omega arith)) refl))
+table_spelled = both (0x70 ∷ []) (0x00 ∷ 0x01 ∷ []) (IsRefType.short refl refl)
+    (both (0x00 ∷ []) (0x01 ∷ []) refl (both (0x01 ∷ []) [] (small 64 1 (omega arith) (omega arith)) refl))
 
 initialised_spelled : IsInitialisedTable (table funcref 1 None) no_function (0x40 ∷ 0x00 ∷ 0x70 ∷ 0x00 ∷ 0x01 ∷ 0xD0 ∷ 0x70 ∷ 0x0B ∷ [])
-initialised_spelled = both (0x40 ∷ 0x00 ∷ []) (0x70 ∷ 0x00 ∷ 0x01 ∷ 0xD0 ∷ 0x70 ∷ 0x0B ∷ []) refl (both (0x70 ∷ 0x00 ∷ 0x01 ∷ []) (0xD0 ∷ 0x70 ∷ 0x0B ∷ []) table_spelled null_spelled)
+initialised_spelled = both (0x40 ∷ 0x00 ∷ []) (0x70 ∷ 0x00 ∷ 0x01 ∷ 0xD0 ∷ 0x70 ∷ 0x0B ∷ []) refl
+    (both (0x70 ∷ 0x00 ∷ 0x01 ∷ []) (0xD0 ∷ 0x70 ∷ 0x0B ∷ []) table_spelled null_spelled)
 
 pub returns-clause-without_an_initialiser : goal.returns-clause-without_an_initialiser
 returns-clause-without_an_initialiser c = table_spelled

@@ -28,7 +28,8 @@ defined = alone (context_with usual_features 3) (RefFunc 1) (reference_to (Concr
 pub returns-clause-of_functions : goal.returns-clause-of_functions
 returns-clause-of_functions c = record {
   ty = tt;
-  items = All-from_recursion (IsTyped (context_with usual_features 3) (Ref (func_ref false))) (func_items (0 ∷ 1 ∷ [])) (imported, (defined, tt));
+  items = All-from_recursion (IsTyped (context_with usual_features 3) (Ref (func_ref false))) (func_items (0 ∷ 1 ∷ []))
+      (imported, (defined, tt));
   mode = record {
     table = table funcref 2 None;
     stands = refl;

@@ -27,12 +27,20 @@ pub returns-clause-part : goal.returns-clause-part
 returns-clause-part c = record {
   ty = record { heap_type = (refl, lit< tt); nullable = λ never. refl };
   ty_enabled = λ other. refl;
-  items = All-from_recursion (IsItem (context_with usual_features 3) (nullable (Concrete 0))) (0 ∷ []) ((0, refl, record { heap = itself; nullable = λ never. refl }), tt);
-  kind = record { table = table (nullable (Concrete 0)) 1 None; stands = refl; below = record { heap = itself; nullable = λ is. is }; offset_valid = refl };
+  items = All-from_recursion (IsItem (context_with usual_features 3) (nullable (Concrete 0))) (0 ∷ [])
+      ((0, refl, record { heap = itself; nullable = λ never. refl }), tt);
+  kind = record {
+    table = table (nullable (Concrete 0)) 1 None;
+    stands = refl;
+    below = record { heap = itself; nullable = λ is. is };
+    offset_valid = refl;
+  };
 }
 
 pub returns-clause-in_the_abstract_syntax : goal.returns-clause-in_the_abstract_syntax
 returns-clause-in_the_abstract_syntax c typed =
-    let same : table (nullable (Concrete 0)) 1 None ≡ typed.mode.table = same_Some (table (nullable (Concrete 0)) 1 None) typed.mode.table typed.mode.stands in
-    let below : IsRefBelow context_types (func_ref false) (nullable (Concrete 0)) = subst (λ (one : TableType). IsRefBelow context_types (func_ref false) one.element_type) (sym same) typed.mode.below in
+    let same : table (nullable (Concrete 0)) 1 None ≡ typed.mode.table = same_Some (table (nullable (Concrete 0)) 1 None) typed.mode.table
+    typed.mode.stands in
+    let below : IsRefBelow context_types (func_ref false) (nullable (Concrete 0)) =
+    subst (λ (one : TableType). IsRefBelow context_types (func_ref false) one.element_type) (sym same) typed.mode.below in
     not_below below.heap

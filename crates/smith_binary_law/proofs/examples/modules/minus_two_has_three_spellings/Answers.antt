@@ -9,14 +9,27 @@ returns-clause-short c = inr (record { value = refl; high = omega arith; low = o
 
 pub returns-clause-longer : goal.returns-clause-longer
 unfolding IsSigned
-returns-clause-longer c =
-    (negsuc 0, inr (record { value = refl; high = omega arith; low = omega arith; fits = omega arith }), refl, omega arith, omega arith, omega arith)
+returns-clause-longer c = (
+  negsuc 0,
+  inr (record { value = refl; high = omega arith; low = omega arith; fits = omega arith }),
+  refl,
+  omega arith,
+  omega arith,
+  omega arith,
+)
 
 pub returns-clause-longest : goal.returns-clause-longest
 unfolding IsSigned
 returns-clause-longest c = (
   negsuc 0,
-  (negsuc 0, inr (record { value = refl; high = omega arith; low = omega arith; fits = omega arith }), refl, omega arith, omega arith, omega arith),
+  (
+    negsuc 0,
+    inr (record { value = refl; high = omega arith; low = omega arith; fits = omega arith }),
+    refl,
+    omega arith,
+    omega arith,
+    omega arith,
+  ),
   refl,
   omega arith,
   omega arith,

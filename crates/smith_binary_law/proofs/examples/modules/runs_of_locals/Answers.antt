@@ -20,7 +20,8 @@ unfolding Each
 one_run count low = both (0x01 ∷ []) (count ∷ 0x7F ∷ []) (number 1 (omega arith)) (both (count ∷ 0x7F ∷ []) [] (run count low) refl)
 
 -- a list of another length does not begin with this number
-other_length : (n m : ℕ) (Second : List ℕ → Type 0) (piece : List ℕ) → m < 128 → (n ≡ m → ⊥) → Joined (IsUnsigned 32 n) Second (m ∷ piece) → ⊥
+other_length : (n m : ℕ) (Second : List ℕ → Type 0) (piece : List ℕ) → m < 128 → (n ≡ m → ⊥) → Joined (IsUnsigned 32 n) Second (m ∷ piece)
+    → ⊥
 other_length n m Second piece low differ h =
     differ ((unsigned_is_unambiguous 32).one n m h.first (m ∷ []) h.second piece h.is_first (number m low) (sym h.whole)).item
 

@@ -3,4 +3,5 @@ use Rattle.smith_binary.proofs.WrittenLemmas.{joined_written}
 use Rattle.smith_binary_sections.proofs.imports.ImportEncode.encode.Goals as goal
 
 pub returns-clause-writes : goal.returns-clause-writes
-returns-clause-writes c = on_ok_weaker c.encode-3.result (λ last. joined_written c.in_ok-encode.ensures.writes (joined_written c.in_ok-encode-2.ensures.writes last)) c.encode-3.ensures.writes
+returns-clause-writes c = on_ok_weaker c.encode-3.result (λ last. joined_written c.in_ok-encode.ensures.writes
+    (joined_written c.in_ok-encode-2.ensures.writes last)) c.encode-3.ensures.writes

@@ -13,4 +13,5 @@ returns-clause-writes c =
       | in-Const64 w ↦ search rules
       | in-Global w ↦ search rules
     ] in
-    subst (λ (xs : List ConstInstr). OnOk c.write_expression.result (Writes (λ s. IsExpressionIn s xs) c.args.sink.now c.write_expression.new.sink)) is c.write_expression.ensures.writes
+    subst (λ (xs : List ConstInstr). OnOk c.write_expression.result
+    (Writes (λ s. IsExpressionIn s xs) c.args.sink.now c.write_expression.new.sink)) is c.write_expression.ensures.writes

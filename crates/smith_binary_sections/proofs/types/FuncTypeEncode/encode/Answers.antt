@@ -3,4 +3,5 @@ use Rattle.smith_binary.proofs.WrittenLemmas.{joined_written}
 use Rattle.smith_binary_sections.proofs.types.FuncTypeEncode.encode.Goals as goal
 
 pub returns-clause-writes : goal.returns-clause-writes
-returns-clause-writes c = on_ok_weaker c.write_list-2.result (joined_written (rw c.as_slice.ensures at c.in_ok-write_list.ensures.writes)) (rw c.as_slice-2.ensures at c.write_list-2.ensures.writes)
+returns-clause-writes c = on_ok_weaker c.write_list-2.result (joined_written (rw c.as_slice.ensures at c.in_ok-write_list.ensures.writes))
+    (rw c.as_slice-2.ensures at c.write_list-2.ensures.writes)

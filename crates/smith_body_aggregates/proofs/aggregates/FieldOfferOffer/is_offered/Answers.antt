@@ -12,4 +12,5 @@ is_usable-requires-clause-field c =
 pub returns : goal.returns
 returns c =
     let inside : c.args.index < length c.args.self.now.fields.now = omega (arith, c.requires.below) in
-    field_tested (bare c.args.self.now.scope.now).types c.args.self.now.of c.args.self.now.fields.now c.args.index _ c.is_usable.result inside c.is_usable.ensures
+    field_tested (bare c.args.self.now.scope.now).types c.args.self.now.of c.args.self.now.fields.now c.args.index _ c.is_usable.result
+    inside c.is_usable.ensures

@@ -12,7 +12,8 @@ ends-requires-clause-valid c = subst (λ rs. AreValid (bare c.args.scope.now) rs
 pub returns-then-len-eq0 : goal.returns-then-len-eq0
 returns-then-len-eq0 c =
     finished_tried (bare c.args.scope.now) c.args.self.now c.ends.result (omega (arith, c.args.self.now.outers.ok))
-    (subst (λ rs. MatchBool c.ends.result (EndsHere (bare c.args.scope.now) rs (held c.args.self.now.operands)) (EndsHere (bare c.args.scope.now) rs (held c.args.self.now.operands) → ⊥))
+    (subst (λ rs. MatchBool c.ends.result (EndsHere (bare c.args.scope.now) rs (held c.args.self.now.operands))
+    (EndsHere (bare c.args.scope.now) rs (held c.args.self.now.operands) → ⊥))
     c.deref.ensures c.ends.ensures)
 
 pub returns : goal.returns

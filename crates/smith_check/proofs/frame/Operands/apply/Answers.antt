@@ -6,5 +6,6 @@ use Rattle.smith_check.proofs.frame.Operands.apply.Goals as goal
 
 pub returns-clause-ok : goal.returns-clause-ok
 returns-clause-ok c =
-    applied (bare c.args.scope.now) (values c.args.operands.now) (values c.args.results.now) (held c.args.self.now) (held c.pop_all.new.self) (held c.push_all.new.self)
+    applied (bare c.args.scope.now) (values c.args.operands.now) (values c.args.results.now) (held c.args.self.now)
+    (held c.pop_all.new.self) (held c.push_all.new.self)
     c.if-not-pop_all.ensures c.in_ok-push_all.ensures.ok

@@ -9,5 +9,6 @@ returns-then-not-pop_all-clause-ok c =
 
 pub returns-clause-ok : goal.returns-clause-ok
 returns-clause-ok c =
-    applied_below_result (bare c.args.scope.now) c.args.operands.now c.args.top.now c.args.results.now (held c.args.self.now) (held c.pop_all.new.self) (held c.apply.new.self) c.apply.result
+    applied_below_result (bare c.args.scope.now) c.args.operands.now c.args.top.now c.args.results.now (held c.args.self.now)
+    (held c.pop_all.new.self) (held c.apply.new.self) c.apply.result
     c.if-not-pop_all.ensures c.apply.ensures.ok

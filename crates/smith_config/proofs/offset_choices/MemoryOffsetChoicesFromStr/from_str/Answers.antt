@@ -14,7 +14,8 @@ pub returns-then-place-eq3 : goal.returns-then-place-eq3
 returns-then-place-eq3 c =
     let parts = split_at_commas c.args.s.now in
     let e = YieldsList-at c.into_iter-part-iterator.ensures.into_iter_gives
-    (YieldsList-from_str_split 44 c.args.s.now (lit< tt) c.split-part-items.ensures.text c.split-part-items.ensures.has_more c.split-part-items.ensures.pattern) in
+    (YieldsList-from_str_split 44 c.args.s.now (lit< tt) c.split-part-items.ensures.text c.split-part-items.ensures.has_more
+    c.split-part-items.ensures.pattern) in
     let text = c.in-Some.part.now in
     let place = c.loop-part.place in
     let turn = YieldsList-turn e c.loop-part.yielded _ c.loop-part.yielded_by _ _ c.in-Some.part c.in-Some.is c.next.ensures.steps in
@@ -27,7 +28,8 @@ pub returns-in-Err : goal.returns-in-Err
 returns-in-Err c =
     let parts = split_at_commas c.args.s.now in
     let e = YieldsList-at c.into_iter-part-iterator.ensures.into_iter_gives
-    (YieldsList-from_str_split 44 c.args.s.now (lit< tt) c.split-part-items.ensures.text c.split-part-items.ensures.has_more c.split-part-items.ensures.pattern) in
+    (YieldsList-from_str_split 44 c.args.s.now (lit< tt) c.split-part-items.ensures.text c.split-part-items.ensures.has_more
+    c.split-part-items.ensures.pattern) in
     let text = c.in-Some.part.now in
     let place = c.loop-part.place in
     let turn = YieldsList-turn e c.loop-part.yielded _ c.loop-part.yielded_by _ _ c.in-Some.part c.in-Some.is c.next.ensures.steps in
@@ -45,7 +47,8 @@ pub loop-part-preserved : goal.loop-part-preserved
 loop-part-preserved c =
     let parts = split_at_commas c.args.s.now in
     let e = YieldsList-at c.into_iter-part-iterator.ensures.into_iter_gives
-    (YieldsList-from_str_split 44 c.args.s.now (lit< tt) c.split-part-items.ensures.text c.split-part-items.ensures.has_more c.split-part-items.ensures.pattern) in
+    (YieldsList-from_str_split 44 c.args.s.now (lit< tt) c.split-part-items.ensures.text c.split-part-items.ensures.has_more
+    c.split-part-items.ensures.pattern) in
     let text = c.in-Some.part.now in
     let place = c.loop-part.place in
     let turn = YieldsList-turn e c.loop-part.yielded _ c.loop-part.yielded_by _ _ c.in-Some.part c.in-Some.is c.next.ensures.steps in
@@ -59,14 +62,16 @@ loop-part-preserved c =
       long = grind (arith, common_steps);
       few = omega arith;
       read = subst (AllZip IsNumber (take (place + 1) parts)) (sym (take_more_set c.loop-part.numbers place _ (omega arith)))
-          (AllZip-next IsNumber parts place (take place c.loop-part.numbers) text c.in-Ok.number at.0 at.1 c.loop-part.invariant.read c.in-Ok.ensures.0);
+          (AllZip-next IsNumber parts place (take place c.loop-part.numbers) text c.in-Ok.number at.0 at.1 c.loop-part.invariant.read
+          c.in-Ok.ensures.0);
     }
 
 pub returns-then-place-lt3 : goal.returns-then-place-lt3
 returns-then-place-lt3 c =
     let parts = split_at_commas c.args.s.now in
     let e = YieldsList-at c.into_iter-part-iterator.ensures.into_iter_gives
-    (YieldsList-from_str_split 44 c.args.s.now (lit< tt) c.split-part-items.ensures.text c.split-part-items.ensures.has_more c.split-part-items.ensures.pattern) in
+    (YieldsList-from_str_split 44 c.args.s.now (lit< tt) c.split-part-items.ensures.text c.split-part-items.ensures.has_more
+    c.split-part-items.ensures.pattern) in
     let end = YieldsList-end e c.loop-part.yielded _ c.loop-part.yielded_by _ _ c.in-None.is c.next.ensures.steps in
     let long : c.loop-part.place ≡ length parts = c.loop-part.invariant.count ∙ end.1 in
     let all : take c.loop-part.place parts ≡ parts = take_all _ parts (omega arith) in
@@ -85,7 +90,8 @@ pub returns-then-are_zero : goal.returns-then-are_zero
 returns-then-are_zero c =
     let parts = split_at_commas c.args.s.now in
     let e = YieldsList-at c.into_iter-part-iterator.ensures.into_iter_gives
-    (YieldsList-from_str_split 44 c.args.s.now (lit< tt) c.split-part-items.ensures.text c.split-part-items.ensures.has_more c.split-part-items.ensures.pattern) in
+    (YieldsList-from_str_split 44 c.args.s.now (lit< tt) c.split-part-items.ensures.text c.split-part-items.ensures.has_more
+    c.split-part-items.ensures.pattern) in
     let end = YieldsList-end e c.loop-part.yielded _ c.loop-part.yielded_by _ _ c.in-None.is c.next.ensures.steps in
     let numbers = c.loop-part.numbers in
     let long : c.loop-part.place ≡ length parts = c.loop-part.invariant.count ∙ end.1 in
@@ -94,7 +100,8 @@ returns-then-are_zero c =
     let whole : take c.loop-part.place numbers ≡ get_or numbers 0 0 ∷ get_or numbers 1 0 ∷ get_or numbers 2 0 ∷ [] =
     take_all _ numbers (let size = c.loop-part.invariant.long in omega arith) ∙ three numbers c.loop-part.invariant.long in
     let read : AllZip IsNumber parts (get_or numbers 0 0 ∷ get_or numbers 1 0 ∷ get_or numbers 2 0 ∷ []) =
-    subst (AllZip IsNumber parts) whole (subst (λ texts. AllZip IsNumber texts (take c.loop-part.place numbers)) all c.loop-part.invariant.read) in
+    subst (AllZip IsNumber parts) whole (subst (λ texts. AllZip IsNumber texts (take c.loop-part.place numbers)) all
+    c.loop-part.invariant.read) in
     let zero = c.are_zero.ensures.0 c.if-are_zero.true in
     subst (λ choices. AllZip IsNumber parts (choices.0 ∷ choices.1 ∷ choices.2 ∷ [])) zero read
 
@@ -102,7 +109,8 @@ pub returns : goal.returns
 returns c =
     let parts = split_at_commas c.args.s.now in
     let e = YieldsList-at c.into_iter-part-iterator.ensures.into_iter_gives
-    (YieldsList-from_str_split 44 c.args.s.now (lit< tt) c.split-part-items.ensures.text c.split-part-items.ensures.has_more c.split-part-items.ensures.pattern) in
+    (YieldsList-from_str_split 44 c.args.s.now (lit< tt) c.split-part-items.ensures.text c.split-part-items.ensures.has_more
+    c.split-part-items.ensures.pattern) in
     let end = YieldsList-end e c.loop-part.yielded _ c.loop-part.yielded_by _ _ c.in-None.is c.next.ensures.steps in
     let numbers = c.loop-part.numbers in
     let long : c.loop-part.place ≡ length parts = c.loop-part.invariant.count ∙ end.1 in
@@ -111,5 +119,6 @@ returns c =
     let whole : take c.loop-part.place numbers ≡ get_or numbers 0 0 ∷ get_or numbers 1 0 ∷ get_or numbers 2 0 ∷ [] =
     take_all _ numbers (let size = c.loop-part.invariant.long in omega arith) ∙ three numbers c.loop-part.invariant.long in
     let read : AllZip IsNumber parts (get_or numbers 0 0 ∷ get_or numbers 1 0 ∷ get_or numbers 2 0 ∷ []) =
-    subst (AllZip IsNumber parts) whole (subst (λ texts. AllZip IsNumber texts (take c.loop-part.place numbers)) all c.loop-part.invariant.read) in
+    subst (AllZip IsNumber parts) whole (subst (λ texts. AllZip IsNumber texts (take c.loop-part.place numbers)) all
+    c.loop-part.invariant.read) in
     (read, λ zero. let yes = c.are_zero.ensures.1 zero in let no = c.if-are_zero.false in search rules)

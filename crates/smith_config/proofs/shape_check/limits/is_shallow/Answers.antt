@@ -5,7 +5,8 @@ use Rattle.smith_config.proofs.shape_check.limits.is_shallow.Goals as goal
 pub loop-index-preserved : goal.loop-index-preserved
 loop-index-preserved c = record {
   whole = c.loop-index.invariant.whole;
-  before = below_more _ _ c.loop-index.invariant.before (λ depth deep. let same : depth ≡ c.depth.result = depth_alone _ deep c.depth.ensures in omega arith);
+  before = below_more _ _ c.loop-index.invariant.before (λ depth deep. let same : depth ≡ c.depth.result = depth_alone _ deep
+      c.depth.ensures in omega arith);
 }
 
 pub returns : goal.returns

@@ -7,6 +7,7 @@ use Rattle.smith_config.proofs.shape_check.names.are_names_distinct.Given as goa
 
 abbrev pub invariant-loop-one : goal.invariant-loop-one
 invariant-loop-one l = record {
-  known : (q : Bor (List ℕ)) → contains (λ (a b : Bor (List ℕ)). bytes_eq a.now b.now) l.names q ≡ has (names_of (take l.one-index l.exports)) q.now;
+  known : (q : Bor (List ℕ)) → contains (λ (a b : Bor (List ℕ)). bytes_eq a.now b.now) l.names q
+      ≡ has (names_of (take l.one-index l.exports)) q.now;
   distinct : AreDistinct (names_of (take l.one-index l.exports));
 }

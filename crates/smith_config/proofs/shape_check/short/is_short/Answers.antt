@@ -14,7 +14,8 @@ returns c =
       λ yes. record {
         groups = lists.groups;
         types = c.has_few_types.ensures.0 c.if-not-has_few_types.false;
-        inner = all_of_parts P (λ (group : List SubType). group) groups (recursion_from_All (λ (group : List SubType). All P group) groups (c.has_short_types.ensures.0 yes));
+        inner = all_of_parts P (λ (group : List SubType). group) groups (recursion_from_All (λ (group : List SubType). All P group) groups
+            (c.has_short_types.ensures.0 yes));
         import_groups = lists.import_groups;
         imports = c.has_few_imports.ensures.0 c.if-not-has_few_imports.false;
         funcs = lists.funcs;
@@ -24,5 +25,6 @@ returns c =
         globals = lists.globals;
         exports = lists.exports;
       },
-      λ short. c.has_short_types.ensures.1 (All-from_recursion (λ (group : List SubType). All P group) groups (parts_of_all P (λ (group : List SubType). group) groups short.inner)),
+      λ short. c.has_short_types.ensures.1 (All-from_recursion (λ (group : List SubType). All P group) groups
+          (parts_of_all P (λ (group : List SubType). group) groups short.inner)),
     )

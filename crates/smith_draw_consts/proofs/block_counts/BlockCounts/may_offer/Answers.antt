@@ -10,7 +10,8 @@ returns-clause-none c = λ before counted rising no.
       | inl (test, is) ↦ is
       | inr (test, other) ↦ let never : true ≡ false = ap not (sym test) ∙ no in cc
     ] in
-    none_near before c.args.self.now.seen c.args.first c.args.end rising c.requires.0 c.requires.1 (omega arith) (sym (c.start_of.ensures before counted) ∙ same ∙ c.start_of-2.ensures before counted)
+    none_near before c.args.self.now.seen c.args.first c.args.end rising c.requires.0 c.requires.1 (omega arith)
+    (sym (c.start_of.ensures before counted) ∙ same ∙ c.start_of-2.ensures before counted)
 
 pub returns-clause-some : goal.returns-clause-some
 returns-clause-some c = λ before counted yes. inr (λ none.

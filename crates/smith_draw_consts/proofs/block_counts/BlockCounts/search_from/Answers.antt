@@ -4,12 +4,18 @@ use Rattle.smith_draw_consts.proofs.block_counts.BlockCounts.search_from.Goals a
 
 pub block_of-block-requires-clause-some : goal.block_of-block-requires-clause-some
 block_of-block-requires-clause-some c =
-    omega (arith, ap length c.as_slice-starts.ensures, some_block c.requires.0 c.args.self.now c.args.place c.requires.1 c.requires.2 c.if-place-self.false)
+    omega (
+      arith,
+      ap length c.as_slice-starts.ensures,
+      some_block c.requires.0 c.args.self.now c.args.place c.requires.1 c.requires.2
+          c.if-place-self.false,
+    )
 
 pub block_of-block-requires-clause-first : goal.block_of-block-requires-clause-first
 block_of-block-requires-clause-first c =
     let some = some_block c.requires.0 c.args.self.now c.args.place c.requires.1 c.requires.2 c.if-place-self.false in
-    let first = ap (λ (xs : List ℕ). get_or xs 0 0) c.as_slice-starts.ensures ∙ first_start c.requires.0 c.args.self.now c.requires.1 c.requires.2 some in
+    let first = ap (λ (xs : List ℕ). get_or xs 0 0) c.as_slice-starts.ensures ∙ first_start c.requires.0 c.args.self.now c.requires.1
+    c.requires.2 some in
     omega (arith, first)
 
 pub returns-clause-index : goal.returns-clause-index
@@ -20,7 +26,9 @@ returns-clause-index c =
 pub returns-clause-place : goal.returns-clause-place
 returns-clause-place c = λ before none counted.
     let block = c.block_of-block.result in
-    let same : get_or c.as_slice-starts.result.now block 0 ≡ get_or c.args.self.now.starts block 0 = ap (λ (xs : List ℕ). get_or xs block 0) c.as_slice-starts.ensures in
-    let start = block_counted before c.args.self.now block counted (omega (arith, ap length c.as_slice-starts.ensures, c.block_of-block.ensures.inside)) in
+    let same : get_or c.as_slice-starts.result.now block 0 ≡ get_or c.args.self.now.starts block 0 =
+    ap (λ (xs : List ℕ). get_or xs block 0) c.as_slice-starts.ensures in
+    let start = block_counted before c.args.self.now block counted
+    (omega (arith, ap length c.as_slice-starts.ensures, c.block_of-block.ensures.inside)) in
     let here : before (block * 8) ≡ before (8 * block) = ap before (omega arith) in
     omega (arith, same, start, here, c.block_of-block.ensures.reached)

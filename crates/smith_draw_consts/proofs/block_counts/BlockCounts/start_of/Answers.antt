@@ -5,7 +5,9 @@ use Rattle.smith_draw_consts.proofs.block_counts.BlockCounts.start_of.Goals as g
 pub returns-then-block-starts : goal.returns-then-block-starts
 returns-then-block-starts c = λ before counted.
     let same = c.as_slice-starts.ensures in
-    ap (λ xs. get_or xs c.args.block 0) same ∙ start_counted before c.args.self.now c.args.block counted (omega (arith, ap length same, c.if-block-starts.true))
+    ap (λ xs. get_or xs c.args.block 0) same ∙ start_counted before c.args.self.now c.args.block counted
+    (omega (arith, ap length same, c.if-block-starts.true))
 
 pub returns : goal.returns
-returns c = λ before counted. all_counted before c.args.self.now c.args.block counted (omega (arith, ap length c.as_slice-starts.ensures, c.if-block-starts.false))
+returns c = λ before counted. all_counted before c.args.self.now c.args.block counted
+    (omega (arith, ap length c.as_slice-starts.ensures, c.if-block-starts.false))

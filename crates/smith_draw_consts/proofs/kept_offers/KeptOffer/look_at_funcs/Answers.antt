@@ -10,22 +10,33 @@ use Rattle.smith_draw_consts.proofs.kept_offers.KeptOffer.look_at_funcs.Goals as
 use Rattle.smith_draw_consts.proofs.kept_offers.KeptOffer.look_at_funcs.Goals.{After-count-offered}
 
 -- the functions are counted
-counted : (c : After-count-offered) → offered_before (function_offers (context_of c.args.scope.now) c.loop-self.self.wanted) (context_of c.args.scope.now).funcs c.min-end.result
-    ≡ offered_before (function_offers (context_of c.args.scope.now) c.loop-self.self.wanted) (context_of c.args.scope.now).funcs c.loop-self.self.funcs.seen + c.count-offered.result
+counted : (c : After-count-offered) → offered_before (function_offers (context_of c.args.scope.now) c.loop-self.self.wanted)
+    (context_of c.args.scope.now).funcs c.min-end.result
+    ≡ offered_before (function_offers (context_of c.args.scope.now) c.loop-self.self.wanted) (context_of c.args.scope.now).funcs
+    c.loop-self.self.funcs.seen + c.count-offered.result
 counted c =
     let context = context_of c.args.scope.now in
     let before = offered_before (function_offers context c.loop-self.self.wanted) context.funcs in
-    c.count-offered.ensures before (subst (λ (flags : List Bool). IsTally before c.args.items.now.funcs.of flags) (sym c.as_slice.ensures) (tally_functions context c.loop-self.self.wanted c.args.items.now.funcs c.loop-self.self.func_flags c.requires.read.read.funcs c.loop-self.invariant.entry.funcs))
+    c.count-offered.ensures before (subst (λ (flags : List Bool). IsTally before c.args.items.now.funcs.of flags) (sym c.as_slice.ensures)
+    (tally_functions context c.loop-self.self.wanted c.args.items.now.funcs c.loop-self.self.func_flags c.requires.read.read.funcs
+    c.loop-self.invariant.entry.funcs))
 
 pub count-offered-requires-clause-flags : goal.count-offered-requires-clause-flags
 count-offered-requires-clause-flags c =
     let context = context_of c.args.scope.now in
-    flag_of_each context.types (λ function index. Some (function_reference context function index)) context.funcs 0 c.args.items.now.funcs c.as_slice.result.now c.requires.read.read.funcs (rw c.as_slice.ensures c.loop-self.invariant.tested.funcs)
+    flag_of_each context.types (λ function index. Some (function_reference context function index)) context.funcs 0 c.args.items.now.funcs
+    c.as_slice.result.now c.requires.read.read.funcs (rw c.as_slice.ensures c.loop-self.invariant.tested.funcs)
 
 pub read_to-requires-clause-few : goal.read_to-requires-clause-few
 read_to-requires-clause-few c =
     let few = few_functions (context_of c.args.scope.now) c.loop-self.self.wanted c.min-end.result (omega arith) in
-    omega (arith, few, c.loop-self.invariant.entry.kept.funcs.total, counted (goal.at.read_to-requires-clause-few c).After-count-offered, c.requires.scope.few_funcs)
+    omega (
+      arith,
+      few,
+      c.loop-self.invariant.entry.kept.funcs.total,
+      counted (goal.at.read_to-requires-clause-few c).After-count-offered,
+      c.requires.scope.few_funcs,
+    )
 
 pub loop-self-preserved : goal.loop-self-preserved
 loop-self-preserved c =
@@ -38,7 +49,8 @@ loop-self-preserved c =
           globals_seen = entry.kept.globals_seen;
           globals = entry.kept.globals;
           funcs_seen = omega (arith, c.in_ok-read_to.ensures.seen);
-          funcs = c.in_ok-read_to.ensures.counted (offered_before (function_offers context c.loop-self.self.wanted) context.funcs) entry.kept.funcs (counted (goal.at.loop-self-preserved c).After-count-offered);
+          funcs = c.in_ok-read_to.ensures.counted (offered_before (function_offers context c.loop-self.self.wanted) context.funcs)
+              entry.kept.funcs (counted (goal.at.loop-self-preserved c).After-count-offered);
         };
         globals = entry.globals;
         funcs = entry.funcs;

@@ -10,7 +10,11 @@ index-requires c =
     omega (arith, slice_get_within c.in-Some.many.kept.items c.args.place there.0 there.1)
 
 pub returns-in-Some : goal.returns-in-Some
-returns-in-Some c = λ context wanted has. (rw c.in-Some.is at has.many, whole_there context c.in-Some.many.kept.items c.args.place wanted _ c.index.result.now (rw c.in-Some.is at has.counted) c.index.ensures)
+returns-in-Some c = λ context wanted has. (
+  rw c.in-Some.is at has.many,
+  whole_there context c.in-Some.many.kept.items c.args.place wanted _
+      c.index.result.now (rw c.in-Some.is at has.counted) c.index.ensures,
+)
 
 pub returns-in-None : goal.returns-in-None
 returns-in-None c = λ context wanted has. has.few c.in-None.is

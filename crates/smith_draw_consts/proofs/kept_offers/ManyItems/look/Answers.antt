@@ -13,7 +13,8 @@ read c =
     let context = context_of c.args.scope.now in
     record {
       items = c.in_ok-read.ensures.read.read;
-      entries = entries_read context c.place_of.new.self.items c.read.new.self c.place_of.new.self.kept.items c.in_ok-read.ensures.globals c.in_ok-read.ensures.funcs (c.in_ok-place.ensures.kept context c.requires.upper c.requires.kept).entries;
+      entries = entries_read context c.place_of.new.self.items c.read.new.self c.place_of.new.self.kept.items c.in_ok-read.ensures.globals
+          c.in_ok-read.ensures.funcs (c.in_ok-place.ensures.kept context c.requires.upper c.requires.kept).entries;
     }
 
 pub read-requires-clause-read : goal.read-requires-clause-read
@@ -33,8 +34,10 @@ returns-then-is_current-clause-counted c =
     let same = c.index.ensures ∙ get_or_from_slice_get kept c.in_ok-place.place one _ there.1 in (
       one,
       there.1,
-      whole_for context c.args.wanted one (offer_there context c.read.new.self kept c.in_ok-place.place one one c.args.wanted context.visible there is (read (goal.at.returns-then-is_current-clause-counted c).In_ok-read).entries).kept there.2.0
-          (ap (λ (each : KeptOffer). each.globals.seen) (sym same) ∙ current.0) (ap (λ (each : KeptOffer). each.funcs.seen) (sym same) ∙ current.1),
+      whole_for context c.args.wanted one (offer_there context c.read.new.self kept c.in_ok-place.place one one c.args.wanted
+          context.visible there is (read (goal.at.returns-then-is_current-clause-counted c).In_ok-read).entries).kept there.2.0
+          (ap (λ (each : KeptOffer). each.globals.seen) (sym same) ∙ current.0) (ap (λ (each : KeptOffer). each.funcs.seen) (sym same)
+          ∙ current.1),
     )
 
 pub look_at-requires-clause-kept : goal.look_at-requires-clause-kept

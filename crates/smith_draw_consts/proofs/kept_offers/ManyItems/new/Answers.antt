@@ -8,5 +8,6 @@ use Rattle.smith_draw_consts.proofs.kept_offers.ManyItems.new.Goals as goal
 pub returns : goal.returns
 returns c = λ context. record {
   items = c.new-2.ensures context;
-  entries = subst (λ (kept : List KeptOffer). All (IsEntry context c.new-2.result) kept) (sym c.new.ensures.items) (All-nil (IsEntry context c.new-2.result));
+  entries = subst (λ (kept : List KeptOffer). All (IsEntry context c.new-2.result) kept) (sym c.new.ensures.items)
+      (All-nil (IsEntry context c.new-2.result));
 }

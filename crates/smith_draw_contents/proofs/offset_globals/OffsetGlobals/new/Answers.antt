@@ -8,7 +8,8 @@ returns-clause-exact c = c.read_globals-globals.ensures.exact c.args.wide
 
 pub returns-clause-tell : goal.returns-clause-tell
 returns-clause-tell c =
-    rw (c.read_globals-globals.ensures.exact c.args.wide) (offset_tell c.args.config.now (seen_by c.args.config.now c.args.spaces.now true) c.args.wide c.requires.types.orderly)
+    rw (c.read_globals-globals.ensures.exact c.args.wide) (offset_tell c.args.config.now (seen_by c.args.config.now c.args.spaces.now true)
+    c.args.wide c.requires.types.orderly)
 
 pub returns-clause-none : goal.returns-clause-none
 returns-clause-none c = λ on. c.read_globals-globals.ensures.exact c.args.wide ∙ rw on refl

@@ -13,7 +13,8 @@ pub returns-in-Struct : goal.returns-in-Struct
 returns-in-Struct c = rw c.in-Struct.is c.grounded_structs.ensures
 
 pub returns-in-Array : goal.returns-in-Array
-returns-in-Array c = rw c.in-Array.is (IfSome_then c.none_grounded.result c.none_grounded.ensures (λ indices none. none.1 ∙ ap (map Concrete) (sym none.0)))
+returns-in-Array c = rw c.in-Array.is (IfSome_then c.none_grounded.result c.none_grounded.ensures
+    (λ indices none. none.1 ∙ ap (map Concrete) (sym none.0)))
 
 pub returns-in-Func : goal.returns-in-Func
 returns-in-Func c = rw c.in-Func.is c.grounded_functions.ensures

@@ -13,7 +13,8 @@ pub returns-then-is_grounded_by_structs : goal.returns-then-is_grounded_by_struc
 returns-then-is_grounded_by_structs c =
     let same = ap (λ (context : Context). context.types) c.self.view_is in
     let flag = ap (λ (context : Context). context.features.custom_descriptors) c.self.view_is in
-    by_structs c.args.self.now c.args.ty (rw same at c.types.ensures.sound.orderly) (rw (same, flag) at (c.is_grounded_by_structs.ensures.0 c.if-is_grounded_by_structs.true))
+    by_structs c.args.self.now c.args.ty (rw same at c.types.ensures.sound.orderly)
+    (rw (same, flag) at (c.is_grounded_by_structs.ensures.0 c.if-is_grounded_by_structs.true))
 
 pub returns : goal.returns
 returns c =

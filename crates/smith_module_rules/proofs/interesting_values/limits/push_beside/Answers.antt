@@ -7,4 +7,5 @@ pub returns-clause-adds : goal.returns-clause-adds
 returns-clause-adds c =
     let limit = c.args.limit in
     let distance = c.args.distance in
-    on_ok_weaker c.push_difference.result (λ others. adds_either (λ n. n ≡ limit + distance) (λ n. n + distance ≡ limit) c.in_ok-push_sum.ensures.adds others) c.push_difference.ensures.adds
+    on_ok_weaker c.push_difference.result (λ others. adds_either (λ n. n ≡ limit + distance) (λ n. n + distance ≡ limit)
+    c.in_ok-push_sum.ensures.adds others) c.push_difference.ensures.adds

@@ -9,4 +9,6 @@ pub returns-clause-adds : goal.returns-clause-adds
 returns-clause-adds c =
     let bytes = c.args.bytes in
     let itself = adds_one {Holds = λ n. n ≡ bytes} bytes c.in_ok-push.ensures.ok c.ranges.bytes.fits refl (λ n same. same) in
-    on_ok_weaker c.push_distances.result (λ others. adds_either (λ n. n ≡ bytes) (λ n. Any (λ distance. IsBeside bytes distance n) distances) itself others) c.push_distances.ensures.adds
+    on_ok_weaker c.push_distances.result
+    (λ others. adds_either (λ n. n ≡ bytes) (λ n. Any (λ distance. IsBeside bytes distance n) distances) itself others)
+    c.push_distances.ensures.adds

@@ -7,7 +7,8 @@ pub returns-in-Some-clause-adds : goal.returns-in-Some-clause-adds
 returns-in-Some-clause-adds c =
     let table = c.args.table.now in
     on_ok_weaker c.push_near_elements-in-Some.result
-    (λ others. adds_limits IsNearElements table.minimum table.maximum c.in-Some.maximum c.in-Some.is c.in_ok-push_near_elements.ensures.adds others)
+    (λ others. adds_limits IsNearElements table.minimum table.maximum c.in-Some.maximum c.in-Some.is c.in_ok-push_near_elements.ensures.adds
+    others)
     c.push_near_elements-in-Some.ensures.adds
 
 pub returns-in-None-clause-adds : goal.returns-in-None-clause-adds

@@ -3,4 +3,5 @@ use Rattle.smith_request.proofs.request.Request.write.Goals as goal
 
 pub returns-clause-refused : goal.returns-clause-refused
 returns-clause-refused c =
-    IfErr-weaker c.output.result _ _ (λ refusal unmade. record { left = c.output.new.u; unmade = unmade }) (rw c.new-u.ensures at c.output.ensures.refused)
+    IfErr-weaker c.output.result _ _ (λ refusal unmade. record { left = c.output.new.u; unmade = unmade })
+    (rw c.new-u.ensures at c.output.ensures.refused)

@@ -8,12 +8,14 @@ use Rattle.smith_spell.proofs.earlier.Earlier.is_grounded.Goals as goal
 pub returns-then-self : goal.returns-then-self
 returns-then-self c =
     let known = subst (λ (types : List SubType). IsKnown types c.self.inside.known) c.self.view_is c.self.invariant in
-    abstract_known _ _ _ _ _ _ _ known c.in-Abstract.is (rw c.in-Abstract.is at c.requires).0 (and_on _ _ _ c.if-self.true c.is_above_structs.ensures)
+    abstract_known _ _ _ _ _ _ _ known c.in-Abstract.is (rw c.in-Abstract.is at c.requires).0
+    (and_on _ _ _ c.if-self.true c.is_above_structs.ensures)
 
 pub returns-else-self : goal.returns-else-self
 returns-else-self c =
     let known = subst (λ (types : List SubType). IsKnown types c.self.inside.known) c.self.view_is c.self.invariant in
-    abstract_known _ _ _ _ _ _ _ known c.in-Abstract.is (rw c.in-Abstract.is at c.requires).0 (and_off _ _ _ c.if-self.false c.if-self.false)
+    abstract_known _ _ _ _ _ _ _ known c.in-Abstract.is (rw c.in-Abstract.is at c.requires).0
+    (and_off _ _ _ c.if-self.false c.if-self.false)
 
 pub returns-in-Concrete : goal.returns-in-Concrete
 returns-in-Concrete c =

@@ -15,7 +15,8 @@ returns-in-Err c =
     let parts = split_at_commas c.args.s.now in
     let text = c.in-Some.part.now in
     let e = YieldsList-at c.into_iter-part-iterator.ensures.into_iter_gives
-    (YieldsList-from_str_split 44 c.args.s.now (lit< tt) c.split-part-items.ensures.text c.split-part-items.ensures.has_more c.split-part-items.ensures.pattern) in
+    (YieldsList-from_str_split 44 c.args.s.now (lit< tt) c.split-part-items.ensures.text c.split-part-items.ensures.has_more
+    c.split-part-items.ensures.pattern) in
     let turn = YieldsList-turn e c.loop-part.yielded _ c.loop-part.yielded_by _ _ c.in-Some.part c.in-Some.is c.next.ensures.steps in
     let at : (c.loop-part.place < length parts) × (text ≡ get_or parts c.loop-part.place text) =
     subst (λ n. (n < length parts) × (text ≡ get_or parts n text)) (sym c.loop-part.invariant.count) turn in
@@ -33,7 +34,8 @@ loop-part-preserved c =
     let parts = split_at_commas c.args.s.now in
     let text = c.in-Some.part.now in
     let e = YieldsList-at c.into_iter-part-iterator.ensures.into_iter_gives
-    (YieldsList-from_str_split 44 c.args.s.now (lit< tt) c.split-part-items.ensures.text c.split-part-items.ensures.has_more c.split-part-items.ensures.pattern) in
+    (YieldsList-from_str_split 44 c.args.s.now (lit< tt) c.split-part-items.ensures.text c.split-part-items.ensures.has_more
+    c.split-part-items.ensures.pattern) in
     let turn = YieldsList-turn e c.loop-part.yielded _ c.loop-part.yielded_by _ _ c.in-Some.part c.in-Some.is c.next.ensures.steps in
     let at : (c.loop-part.place < length parts) × (text ≡ get_or parts c.loop-part.place text) =
     subst (λ n. (n < length parts) × (text ≡ get_or parts n text)) (sym c.loop-part.invariant.count) turn in
@@ -51,8 +53,10 @@ pub returns : goal.returns
 returns c =
     let parts = split_at_commas c.args.s.now in
     let e = YieldsList-at c.into_iter-part-iterator.ensures.into_iter_gives
-    (YieldsList-from_str_split 44 c.args.s.now (lit< tt) c.split-part-items.ensures.text c.split-part-items.ensures.has_more c.split-part-items.ensures.pattern) in
+    (YieldsList-from_str_split 44 c.args.s.now (lit< tt) c.split-part-items.ensures.text c.split-part-items.ensures.has_more
+    c.split-part-items.ensures.pattern) in
     let end = YieldsList-end e c.loop-part.yielded _ c.loop-part.yielded_by _ _ c.in-None.is c.next.ensures.steps in
     let named = c.loop-part.invariant.named in
-    let all : take c.loop-part.place parts ≡ parts = take_all _ parts (let count = c.loop-part.invariant.count in let long = end.1 in omega arith) in
+    let all : take c.loop-part.place parts ≡ parts = take_all _ parts (let count = c.loop-part.invariant.count in let long = end.1 in
+    omega arith) in
     (named.0, subst (λ texts. AllZip IsNamed texts named.0) all named.1, named.2)

@@ -8,7 +8,8 @@ use Rattle.smith_types.proofs.func_grounds.FuncGrounds.are_grounding.Goals as go
 pub returns-in-Some : goal.returns-in-Some
 returns-in-Some c =
     let found = rw c.deref.ensures.value at c.in-Some.ensures.lookup in
-    let said = said_is (λ (ground : Ground). ground.below) c.args.self.now.marks.items c.in-Concrete.index c.in-Some.mark.now _ found.3.0 found.1 in
+    let said = said_is (λ (ground : Ground). ground.below) c.args.self.now.marks.items c.in-Concrete.index c.in-Some.mark.now _ found.3.0
+    found.1 in
     let is : c.in-Some.mark.now.below ≡ is_noted c.args.self.now c.args.ty = rw c.in-Concrete.is (sym said) in
     record {
       decided = decided c.args.self.now c.args.ty c.in-Some.mark.now.below is;
@@ -18,7 +19,8 @@ returns-in-Some c =
 pub returns-in-Some-get : goal.returns-in-Some-get
 returns-in-Some-get c =
     let found = rw c.deref-in-Exact.ensures.value at c.in-Some-get.ensures.lookup in
-    let said = said_is (λ (ground : Ground). ground.own) c.args.self.now.marks.items c.in-Exact.index c.in-Some-get.mark.now _ found.3.0 found.1 in
+    let said = said_is (λ (ground : Ground). ground.own) c.args.self.now.marks.items c.in-Exact.index c.in-Some-get.mark.now _ found.3.0
+    found.1 in
     let is : c.in-Some-get.mark.now.own ≡ is_noted c.args.self.now c.args.ty = rw c.in-Exact.is (sym said) in
     record {
       decided = decided c.args.self.now c.args.ty c.in-Some-get.mark.now.own is;

@@ -15,6 +15,9 @@ returns c = λ before after over added h.
     let types = c.args.types.now.types in
     let orderly = c.types-types.ensures.sound.orderly in
     let found = rw c.types-types.ensures.value at c.in-Some.ensures.lookup in
-    let closed = subst (λ xs. AreClosed xs c.args.self.now.marks.items) over (func_marks_closed before c.args.self.now (subst IsOrderly (sym over) orderly) h) in
-    func_noted types orderly c.args.index c.args.exact c.in-Some.ty.now (slice_get_read types _ c.args.index c.in-Some.ty.now refl found.3.0 found.1) c.args.self.now
-    (record { marks = c.note_type.new.marks; kinds = c.with-self.result }) ((rw c.types-types.ensures.value at c.note_type.ensures) closed) c.with-self.ensures before after over added h
+    let closed = subst (λ xs. AreClosed xs c.args.self.now.marks.items) over
+    (func_marks_closed before c.args.self.now (subst IsOrderly (sym over) orderly) h) in
+    func_noted types orderly c.args.index c.args.exact c.in-Some.ty.now (slice_get_read types _ c.args.index c.in-Some.ty.now refl found.3.0
+    found.1) c.args.self.now
+    (record { marks = c.note_type.new.marks; kinds = c.with-self.result }) ((rw c.types-types.ensures.value at c.note_type.ensures) closed)
+    c.with-self.ensures before after over added h

@@ -4,4 +4,5 @@ use Rattle.smith_types.proofs.marked_families.MarkedFamilies.make_room.Goals as 
 
 pub returns-in_ok-reserve-clause-room : goal.returns-in_ok-reserve-clause-room
 returns-in_ok-reserve-clause-room c =
-    room_at c.extend_lists.new.lists.items c.in-Some.index c.reserve.new.self c.args.supertype c.in_ok-extend_lists.ensures.long c.in-Some.is (omega (arith, c.in_ok-reserve.ensures.ok))
+    room_at c.extend_lists.new.lists.items c.in-Some.index c.reserve.new.self c.args.supertype c.in_ok-extend_lists.ensures.long
+    c.in-Some.is (omega (arith, c.in_ok-reserve.ensures.ok))

@@ -11,4 +11,7 @@ returns c =
 
 pub count-requires : goal.count-requires
 count-requires c =
-    record { few = rw (c.last_counts.ensures ∙ ap last_counts c.as_slice.ensures.value) (count_fits _ _ c.args.set c.self.invariant.1 c.self.invariant.0.few) }
+    record {
+      few = rw (c.last_counts.ensures ∙ ap last_counts c.as_slice.ensures.value)
+          (count_fits _ _ c.args.set c.self.invariant.1 c.self.invariant.0.few);
+    }

@@ -8,4 +8,5 @@ returns c =
     let kept = c.if-not-self.false in
     let types = c.self.inside.types.items in
     IfSome_then c.of.result (c.of.ensures types c.self.inside.grounds.items (c.self.invariant.8 kept))
-    (λ indices listed descriptors test decides. family_decided types c.args.self.now.types c.self.inside.grounds.items c.args.index indices.now (ap (λ s. s.types) c.self.view_is) c.self.invariant.0.orderly (c.self.invariant.4 kept) listed descriptors test decides)
+    (λ indices listed descriptors test decides. family_decided types c.args.self.now.types c.self.inside.grounds.items c.args.index
+    indices.now (ap (λ s. s.types) c.self.view_is) c.self.invariant.0.orderly (c.self.invariant.4 kept) listed descriptors test decides)

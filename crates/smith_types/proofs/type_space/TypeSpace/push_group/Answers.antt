@@ -3,7 +3,8 @@ use Rattle.smith_types.proofs.type_space.TypeSpace.push_group.Goals as goal
 
 pub invariant_of-self-2 : goal.invariant_of-self-2
 invariant_of-self-2 c = (
-  rw (c.in_ok-push.ensures.items, c.start_after-start.ensures, c.as_slice.ensures.value, c.len-end.ensures, c.self.inside.types.ok.0) (IsSound-group c.self.inside.types.items c.self.inside.groups.items c.self.invariant.0),
+  rw (c.in_ok-push.ensures.items, c.start_after-start.ensures, c.as_slice.ensures.value, c.len-end.ensures, c.self.inside.types.ok.0)
+      (IsSound-group c.self.inside.types.items c.self.inside.groups.items c.self.invariant.0),
   c.self.invariant.1,
   c.self.invariant.2,
   c.self.invariant.3,

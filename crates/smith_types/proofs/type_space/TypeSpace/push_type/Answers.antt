@@ -19,7 +19,8 @@ invariant_of-self-in_err-place c =
       λ kept. rw (room.types, c.make_ground_room.ensures.grounds) (c.self.invariant.4 kept),
       λ kept. rw room.types (c.self.invariant.5 kept),
       room.beside,
-      λ kept. marked_moved _ _ _ c.self.inside.marked _ c.make_index_room.ensures.plain c.make_index_room.ensures.shared (rw (room.types, c.make_ground_room.ensures.grounds) (c.self.invariant.7 kept)),
+      λ kept. marked_moved _ _ _ c.self.inside.marked _ c.make_index_room.ensures.plain c.make_index_room.ensures.shared
+          (rw (room.types, c.make_ground_room.ensures.grounds) (c.self.invariant.7 kept)),
       λ kept. c.make_family_room.ensures.kept _ _ (rw (room.types, c.make_ground_room.ensures.grounds) (c.self.invariant.8 kept)),
     )
 
@@ -30,8 +31,10 @@ invariant_of-self-2 c =
     let added = c.args.added in
     let seen : c.as_slice-types.result.now ≡ types = c.as_slice-types.ensures.value ∙ room.types in
     let follows : MayFollow types added = rw (ap (λ s. s.types) c.self.view_is) c.requires in
-    let all : c.push_reserved-2.new.self.items ≡ types ++ added ∷ [] = c.push_reserved-2.ensures.items ∙ ap (λ (xs : List SubType). xs ++ added ∷ []) room.types in
-    let placed : c.push_reserved.new.self.items ≡ c.self.inside.places.items ++ c.in_ok-place.place ∷ [] = c.push_reserved.ensures.items ∙ ap (λ (xs : List Place). xs ++ c.in_ok-place.place ∷ []) room.places in
+    let all : c.push_reserved-2.new.self.items ≡ types ++ added ∷ [] = c.push_reserved-2.ensures.items
+    ∙ ap (λ (xs : List SubType). xs ++ added ∷ []) room.types in
+    let placed : c.push_reserved.new.self.items ≡ c.self.inside.places.items ++ c.in_ok-place.place ∷ [] = c.push_reserved.ensures.items
+    ∙ ap (λ (xs : List Place). xs ++ c.in_ok-place.place ∷ []) room.places in
     let beside = room.beside in (
       rw all (IsSound-type _ _ _ c.self.invariant.0 follows),
       rw (all, placed) (ArePlaces-push types added _ _ c.self.invariant.1 (rw seen at c.in_ok-place.ensures.place)),
@@ -48,4 +51,5 @@ invariant_of-self-2 c =
     )
 
 pub returns-clause-stands : goal.returns-clause-stands
-returns-clause-stands c = rw (c.push_reserved-2.ensures.items, c.as_slice-types.ensures.value) (slice_get-last c.make_room.new.types.items c.args.added)
+returns-clause-stands c = rw (c.push_reserved-2.ensures.items, c.as_slice-types.ensures.value)
+    (slice_get-last c.make_room.new.types.items c.args.added)

@@ -17,18 +17,23 @@ returns-clause-parts c =
     let offered = imported_spaces (shape_imports shape) in
     let spaces = given.taken.counts.spaces in
     let fit = given.taken.fit in
-    let nothing : c.args.drawn.now.definitions ≡ nothing_defined = ap (λ (so_far : ModuleSoFar). so_far.defined) c.requires.nothing.so_far in
+    let nothing : c.args.drawn.now.definitions ≡ nothing_defined =
+    ap (λ (so_far : ModuleSoFar). so_far.defined) c.requires.nothing.so_far in
     record {
       types = given.types;
       kept = given.kept;
       count = given.taken.counts.count;
       type_size = given.taken.counts.type_size;
       valid = given.taken.groups;
-      stands = rw (given.types, spaces, nothing) (stands_alone config (space_of shape.groups) taken c.requires.valid.consistent.types fit.entities (taken_enabled config taken c.requires.sanitized fit.within.numbers fit.within.tags));
+      stands = rw (given.types, spaces, nothing) (stands_alone config (space_of shape.groups) taken c.requires.valid.consistent.types
+          fit.entities (taken_enabled config taken c.requires.sanitized fit.within.numbers fit.within.tags));
       within = fit.within;
-      tables = subst (λ (all : EntitySpaces). All (Contains (shape_spaces shape).tables) all.tables) (sym spaces) (offered_all offered.tables shape.tables taken.tables fit.tables);
-      memories = subst (λ (all : EntitySpaces). All (Contains (shape_spaces shape).memories) all.memories) (sym spaces) (offered_all offered.memories shape.memories taken.memories fit.memories);
-      globals = subst (λ (all : EntitySpaces). All (Contains (shape_spaces shape).globals) all.globals) (sym spaces) (offered_all offered.globals shape.globals taken.globals fit.globals);
+      tables = subst (λ (all : EntitySpaces). All (Contains (shape_spaces shape).tables) all.tables) (sym spaces)
+          (offered_all offered.tables shape.tables taken.tables fit.tables);
+      memories = subst (λ (all : EntitySpaces). All (Contains (shape_spaces shape).memories) all.memories) (sym spaces)
+          (offered_all offered.memories shape.memories taken.memories fit.memories);
+      globals = subst (λ (all : EntitySpaces). All (Contains (shape_spaces shape).globals) all.globals) (sym spaces)
+          (offered_all offered.globals shape.globals taken.globals fit.globals);
       spaces = spaces;
       exports = ap (λ (so_far : ModuleSoFar). so_far.exports) c.requires.nothing.so_far;
     }

@@ -13,53 +13,78 @@ use Rattle.smith_draw_definitions.specs.Defined.{nothing_defined}
 use Rattle.smith_module_rules.specs.Bounds.{items_of_exports}
 use Rattle.smith_draw_definitions.specs.declared.definitions.Definitions.{Definitions}
 use Rattle.smith_draw_definitions.specs.RequiredExports.{Required, standing_with, then_with}
-use Rattle.wasm_smith.proofs.FirstPartsLemmas.{stands_alone, may_begin, items_of_one_shape, tables_of_shape, memories_of_shape, globals_of_shape, refused_with}
+use Rattle.wasm_smith.proofs.FirstPartsLemmas.{stands_alone, may_begin, items_of_one_shape, tables_of_shape, memories_of_shape}
+use Rattle.wasm_smith.proofs.FirstPartsLemmas.{globals_of_shape, refused_with}
 use Rattle.wasm_smith.proofs.build.first_parts.begin_with_module.Goals as goal
 
 pub types_of_shape-requires-clause-following : goal.types_of_shape-requires-clause-following
-types_of_shape-requires-clause-following c = valid_following (features_of c.args.config.now) (space_of c.args.shape.now.groups) c.requires.valid.consistent.types
+types_of_shape-requires-clause-following c = valid_following (features_of c.args.config.now) (space_of c.args.shape.now.groups)
+    c.requires.valid.consistent.types
 
 pub make_shape_exports-requires-clause-may : goal.make_shape_exports-requires-clause-may
 make_shape_exports-requires-clause-may c =
     let kept = c.in_ok-drawn-2.ensures.kept in
-    let nothing : c.args.drawn.now.definitions ≡ nothing_defined = ap (λ (so_far : ModuleSoFar). so_far.defined) c.requires.nothing.so_far in
-    rw (c.in_ok-drawn.ensures.types, kept.spaces, nothing) (may_begin c.args.config.now c.args.shape.now c.requires.sanitized c.requires.valid kept.entities)
+    let nothing : c.args.drawn.now.definitions ≡ nothing_defined =
+    ap (λ (so_far : ModuleSoFar). so_far.defined) c.requires.nothing.so_far in
+    rw (c.in_ok-drawn.ensures.types, kept.spaces, nothing) (may_begin c.args.config.now c.args.shape.now c.requires.sanitized
+    c.requires.valid kept.entities)
 
 pub returns-in_err-drawn-3-clause-exact : goal.returns-in_err-drawn-3-clause-exact
 unfolding first_parts_by_module_at
 returns-in_err-drawn-3-clause-exact c =
     let kept = c.in_ok-drawn-2.ensures.kept in
-    let nothing : c.args.drawn.now.definitions ≡ nothing_defined = ap (λ (so_far : ModuleSoFar). so_far.defined) c.requires.nothing.so_far in
+    let nothing : c.args.drawn.now.definitions ≡ nothing_defined =
+    ap (λ (so_far : ModuleSoFar). so_far.defined) c.requires.nothing.so_far in
     let given = rw (c.in_ok-drawn.ensures.types, kept.spaces, nothing) at c.in_err-drawn-3.ensures.exact in
     refused_with
-    (λ (made : Required). record { types = made.types; groups = kept_groups c.args.config.now c.args.shape.now; spaces = made.spaces; defined = made.defined; exports = made.exports })
-    (λ (exports : List Export). (standing_with c.make_shape_exports.new.types (spaces_in c.make_shape_exports.new.spaces) c.make_shape_exports.new.definitions exports, c.make_shape_exports.new.u))
+    (λ (made : Required). record {
+      types = made.types;
+      groups = kept_groups c.args.config.now c.args.shape.now;
+      spaces = made.spaces;
+      defined = made.defined;
+      exports = made.exports;
+    })
+    (λ (exports : List Export). (
+      standing_with c.make_shape_exports.new.types (spaces_in c.make_shape_exports.new.spaces)
+          c.make_shape_exports.new.definitions exports,
+      c.make_shape_exports.new.u,
+    ))
     _ c.in_err-drawn-3.field-0.0 _ c.from_residual-in_err-drawn-3.result given c.from_residual-in_err-drawn-3.ensures.1
 
 pub returns-in_err-drawn-3-clause-refusal : goal.returns-in_err-drawn-3-clause-refusal
 returns-in_err-drawn-3-clause-refusal c =
     let kept = c.in_ok-drawn-2.ensures.kept in
-    let nothing : c.args.drawn.now.definitions ≡ nothing_defined = ap (λ (so_far : ModuleSoFar). so_far.defined) c.requires.nothing.so_far in
+    let nothing : c.args.drawn.now.definitions ≡ nothing_defined =
+    ap (λ (so_far : ModuleSoFar). so_far.defined) c.requires.nothing.so_far in
     let types = ap (λ (space : GroupedTypes). space.types) c.in_ok-drawn.ensures.types in
     let funcs = ap (λ (spaces : EntitySpaces). spaces.funcs) kept.spaces in
     let defined = ap (λ (made : Definitions). made.num_funcs) nothing in
-    passed_on _ c.from_residual-in_err-drawn-3.result c.in_err-drawn-3.field-0.0 c.from_residual-in_err-drawn-3.ensures.1 (rw (types, funcs, defined) at c.in_err-drawn-3.ensures.refusal)
+    passed_on _ c.from_residual-in_err-drawn-3.result c.in_err-drawn-3.field-0.0 c.from_residual-in_err-drawn-3.ensures.1
+    (rw (types, funcs, defined) at c.in_err-drawn-3.ensures.refusal)
 
 pub returns-clause-exact : goal.returns-clause-exact
 unfolding first_parts_by_module_at
 returns-clause-exact c =
     let kept = c.in_ok-drawn-2.ensures.kept in
-    let nothing : c.args.drawn.now.definitions ≡ nothing_defined = ap (λ (so_far : ModuleSoFar). so_far.defined) c.requires.nothing.so_far in
+    let nothing : c.args.drawn.now.definitions ≡ nothing_defined =
+    ap (λ (so_far : ModuleSoFar). so_far.defined) c.requires.nothing.so_far in
     let made = rw (c.in_ok-drawn.ensures.types, kept.spaces, nothing) at c.in_ok-drawn-3.ensures.exact in
     rw kept.groups
-    (ap (then_with (λ (made : Required). record { types = made.types; groups = kept_groups c.args.config.now c.args.shape.now; spaces = made.spaces; defined = made.defined; exports = made.exports })) made)
+    (ap (then_with (λ (made : Required). record {
+      types = made.types;
+      groups = kept_groups c.args.config.now c.args.shape.now;
+      spaces = made.spaces;
+      defined = made.defined;
+      exports = made.exports;
+    })) made)
 
 pub returns-clause-parts : goal.returns-clause-parts
 returns-clause-parts c =
     let shape = c.args.shape.now in
     let kept = c.in_ok-drawn-2.ensures.kept in
     let made = c.in_ok-drawn-3.ensures in
-    let nothing : c.args.drawn.now.definitions ≡ nothing_defined = ap (λ (so_far : ModuleSoFar). so_far.defined) c.requires.nothing.so_far in
+    let nothing : c.args.drawn.now.definitions ≡ nothing_defined =
+    ap (λ (so_far : ModuleSoFar). so_far.defined) c.requires.nothing.so_far in
     let imported = imported_spaces (shape_imports shape) in
     record {
       types = made.types ∙ c.in_ok-drawn.ensures.types;
@@ -68,8 +93,11 @@ returns-clause-parts c =
       count = kept.count;
       type_size = kept.type_size;
       valid = kept.valid;
-      stands = made.stands imported (rw (c.in_ok-drawn.ensures.types, kept.spaces, nothing) (stands_alone c.args.config.now (space_of shape.groups) imported c.requires.valid.consistent.types kept.entities kept.counts));
-      counted = λ count types imports. made.counted count types ∙ (ap (λ (spaces : EntitySpaces). count_in spaces count + items_of_exports count shape) kept.spaces ∙ items_of_one_shape count shape types imports);
+      stands = made.stands imported (rw (c.in_ok-drawn.ensures.types, kept.spaces, nothing)
+          (stands_alone c.args.config.now (space_of shape.groups) imported c.requires.valid.consistent.types kept.entities kept.counts));
+      counted = λ count types imports. made.counted count types
+          ∙ (ap (λ (spaces : EntitySpaces). count_in spaces count + items_of_exports count shape) kept.spaces ∙ items_of_one_shape count
+          shape types imports);
       tables = tables_of_shape shape (spaces_in c.make_shape_exports.new.spaces) (rw kept.spaces at made.limits);
       memories = memories_of_shape shape (spaces_in c.make_shape_exports.new.spaces) (rw kept.spaces at made.limits);
       globals = globals_of_shape shape (spaces_in c.make_shape_exports.new.spaces) (rw kept.spaces at made.limits);

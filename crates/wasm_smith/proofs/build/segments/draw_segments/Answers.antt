@@ -16,7 +16,8 @@ pub arbitrary_elements-requires-clause-may : goal.arbitrary_elements-requires-cl
 arbitrary_elements-requires-clause-may c = may_draw_elements c.requires.may c.segment_spaces-spaces.ensures (omega (arith, c.len-2.ensures))
 
 pub arbitrary_elements-requires-clause-kept : goal.arbitrary_elements-requires-clause-kept
-arbitrary_elements-requires-clause-kept c = let over = c.segment_spaces-spaces.ensures in rw (over.types, over.funcs, over.imported_funcs, c.len.ensures) c.requires.grounds
+arbitrary_elements-requires-clause-kept c = let over = c.segment_spaces-spaces.ensures in
+    rw (over.types, over.funcs, over.imported_funcs, c.len.ensures) c.requires.grounds
 
 pub arbitrary_data-requires-clause-standing : goal.arbitrary_data-requires-clause-standing
 arbitrary_data-requires-clause-standing c = spaces_valid c.requires.may c.segment_spaces-spaces.ensures (omega (arith, c.len-2.ensures))
@@ -30,15 +31,20 @@ returns-clause-fit c =
     let over = c.segment_spaces-spaces.ensures in
     let elems = c.in_ok-elems.ensures in
     let data_segments = c.in_ok-data_segments.ensures in
-    let scope = seen_over (imported_in c.args.imported.now) c.args.config.now over (omega (arith, c.requires.told.funcs, c.len.ensures)) (omega (arith, c.requires.told.globals, c.len-2.ensures, c.len-3.ensures)) in
+    let scope = seen_over (imported_in c.args.imported.now) c.args.config.now over (omega (arith, c.requires.told.funcs, c.len.ensures))
+    (omega (arith, c.requires.told.globals, c.len-2.ensures, c.len-3.ensures)) in
     record {
-      elems = rw over.tables at (subst (λ (context : Context). All (IsElementSegmentValid context spaces.entities.tables.now) c.in_ok-elems.elems) scope elems.valid);
+      elems = rw over.tables at
+          (subst (λ (context : Context). All (IsElementSegmentValid context spaces.entities.tables.now) c.in_ok-elems.elems) scope
+          elems.valid);
       most_elems = elems.most.0;
       least_elems = elems.least;
       most_items = elems.most.1;
       enough_items = rw (over.types, over.funcs) at elems.enough;
       elems_inside = λ on. rw over.tables at (elems.inside on);
-      data_segments = rw over.memories at (subst (λ (context : Context). All (IsDataValid context spaces.entities.memories.now) c.in_ok-data_segments.data_segments) scope data_segments.valid);
+      data_segments = rw over.memories at
+          (subst (λ (context : Context). All (IsDataValid context spaces.entities.memories.now) c.in_ok-data_segments.data_segments) scope
+          data_segments.valid);
       most_data = data_segments.most;
       least_data = data_segments.least;
       data_inside = λ on. rw over.memories at (data_segments.inside on);
@@ -48,7 +54,8 @@ pub returns-in_err-elems-clause-refusal : goal.returns-in_err-elems-clause-refus
 returns-in_err-elems-clause-refusal c =
     let over = c.segment_spaces-spaces.ensures in
     passed_on _ c.from_residual.result c.in_err-elems.field-0.0 c.from_residual.ensures.1
-    (elements_refuse c.args.config.now (drawn_beside c.args.config.now c.args.types.now.types (spaces_of c.args.imported.now) c.args.definitions.now) (spaces_of c.args.imported.now).tables c.in_err-elems.field-0.0
+    (elements_refuse c.args.config.now (drawn_beside c.args.config.now c.args.types.now.types (spaces_of c.args.imported.now)
+    c.args.definitions.now) (spaces_of c.args.imported.now).tables c.in_err-elems.field-0.0
     (rw (over.types, over.funcs, over.imported_funcs, over.tables, c.len.ensures) at c.in_err-elems.ensures.refusal))
 
 pub returns-clause-grounded : goal.returns-clause-grounded
@@ -64,8 +71,10 @@ returns-in_err-elems-clause-exact c =
     let imported = c.args.imported.now in
     let spaces = c.segment_spaces-spaces.result in
     let over = c.segment_spaces-spaces.ensures in
-    let scope = seen_over (imported_in imported) config over (omega (arith, c.requires.told.funcs, c.len.ensures)) (omega (arith, c.requires.told.globals, c.len-2.ensures, c.len-3.ensures)) in
-    elements_refused _ config c.args.types.now.types (imported_in imported) (spaces_of imported) (seen_by config spaces true) spaces.entities.tables.now c.args.u.now c.arbitrary_elements.new.u c.from_residual.result c.in_err-elems.field-0.0 scope over.tables
+    let scope = seen_over (imported_in imported) config over (omega (arith, c.requires.told.funcs, c.len.ensures))
+    (omega (arith, c.requires.told.globals, c.len-2.ensures, c.len-3.ensures)) in
+    elements_refused _ config c.args.types.now.types (imported_in imported) (spaces_of imported) (seen_by config spaces true)
+    spaces.entities.tables.now c.args.u.now c.arbitrary_elements.new.u c.from_residual.result c.in_err-elems.field-0.0 scope over.tables
     c.in_err-elems.ensures.exact c.from_residual.ensures.1
 
 pub returns-in_err-data_segments-clause-exact : goal.returns-in_err-data_segments-clause-exact
@@ -76,6 +85,10 @@ returns-in_err-data_segments-clause-exact c =
     let over = c.segment_spaces-spaces.ensures in
     let elems = c.in_ok-elems.ensures in
     let data_segments = c.in_err-data_segments.ensures in
-    let scope = seen_over (imported_in imported) config over (omega (arith, c.requires.told.funcs, c.len.ensures)) (omega (arith, c.requires.told.globals, c.len-2.ensures, c.len-3.ensures)) in
-    data_refused _ config c.args.types.now.types (imported_in imported) (spaces_of imported) (seen_by config spaces true) spaces.entities.tables.now spaces.entities.memories.now c.args.u.now c.arbitrary_elements.new.u c.arbitrary_data.new.u c.in_ok-elems.elems
-    c.from_residual-in_err-data_segments.result c.in_err-data_segments.field-0.0 scope over.tables over.memories elems.exact data_segments.exact data_segments.refusal c.from_residual-in_err-data_segments.ensures.1
+    let scope = seen_over (imported_in imported) config over (omega (arith, c.requires.told.funcs, c.len.ensures))
+    (omega (arith, c.requires.told.globals, c.len-2.ensures, c.len-3.ensures)) in
+    data_refused _ config c.args.types.now.types (imported_in imported) (spaces_of imported) (seen_by config spaces true)
+    spaces.entities.tables.now spaces.entities.memories.now c.args.u.now c.arbitrary_elements.new.u c.arbitrary_data.new.u
+    c.in_ok-elems.elems
+    c.from_residual-in_err-data_segments.result c.in_err-data_segments.field-0.0 scope over.tables over.memories elems.exact
+    data_segments.exact data_segments.refusal c.from_residual-in_err-data_segments.ensures.1

@@ -10,4 +10,5 @@ pub returns-clause-drawn : goal.returns-clause-drawn
 returns-clause-drawn c = entities_drawn _ _ c.args.drawn.now _ _ c.requires.imports c.define.ensures.defined c.define.ensures.floats
 
 pub returns-clause-refusal : goal.returns-clause-refusal
-returns-clause-refusal c = IfErr-weaker _ _ _ (λ e. defined_refuse c.args.config.now (drawn_next c.args.config.now c.args.drawn.now) e (λ none. (c.requires.imports.may.grounded none).fields)) c.define.ensures.refusal
+returns-clause-refusal c = IfErr-weaker _ _ _ (λ e. defined_refuse c.args.config.now (drawn_next c.args.config.now c.args.drawn.now) e
+    (λ none. (c.requires.imports.may.grounded none).fields)) c.define.ensures.refusal

@@ -1,6 +1,5 @@
 ghost use Rattle.std.specs.Prelude.{◌≡◌, ◌++◌, [], ◌∷◌, length, take, IfErr, OnOk, OnErr};
-ghost use Rattle.smith_body_nodes.specs.Offered.{is_among};
-ghost use Rattle.smith_body_nodes.specs.SetLocals.{IsNoted};
+ghost use Rattle.smith_instr.specs.SetLocals.{is_among, IsNoted};
 
 use smith_bytes::Error;
 use std::alloc::Global;
@@ -19,7 +18,7 @@ pub struct SetLocals {
 }
 
 impl Model for SetLocals {
-    ghost use Rattle.smith_body_nodes.specs.SetLocals.{Entries, AreFirst};
+    ghost use Rattle.smith_instr.specs.SetLocals.{Entries, AreFirst};
 
     ghost Value = { Entries };
 

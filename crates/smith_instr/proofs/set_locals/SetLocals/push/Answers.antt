@@ -1,8 +1,8 @@
 use Rattle.std.proofs.Common.{◌++◌, ◌∷◌, [], sym, ◌∙◌}
-use Rattle.smith_check.specs.SetLocals.{AreFirst}
-use Rattle.smith_check.proofs.SetLocalLemmas.{noted_new, noted_again, noted_less}
-use Rattle.smith_check.proofs.set_locals.SetLocals.push.Goals.{then-not-contains+in_ok-note_first, else-not-contains}
-use Rattle.smith_check.proofs.set_locals.SetLocals.push.Goals as goal
+use Rattle.smith_instr.specs.SetLocals.{AreFirst}
+use Rattle.smith_instr.proofs.SetLocalLemmas.{noted_new, noted_again, noted_less}
+use Rattle.smith_instr.proofs.set_locals.SetLocals.push.Goals.{then-not-contains+in_ok-note_first, else-not-contains}
+use Rattle.smith_instr.proofs.set_locals.SetLocals.push.Goals as goal
 
 pub invariant_of-self-2 : goal.invariant_of-self-2
 invariant_of-self-2 c =

@@ -4,7 +4,7 @@ use Rattle.std.specs.Prelude.{◌==◌, ◌||◌, not}
 use Rattle.std.specs.List.{Contains}
 use Rattle.std.proofs.lemmas.Bool.{false≢true}
 use Rattle.std.specs.Cmp.{unsigned_Decides}
-use Rattle.smith_check.specs.SetLocals.{is_among}
+use Rattle.smith_instr.specs.SetLocals.{is_among}
 
 pub false_from : (b : Bool) → (b ≡ true → ⊥) → b ≡ false
 false_from true differs = absurd (differs refl)

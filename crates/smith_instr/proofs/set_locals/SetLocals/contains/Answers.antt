@@ -1,6 +1,6 @@
 use Rattle.std.proofs.Common.{arith}
-use Rattle.smith_body_nodes.proofs.SetLocalLemmas.{absent, entry_is}
-use Rattle.smith_body_nodes.proofs.set_locals.SetLocals.contains.Goals as goal
+use Rattle.smith_instr.proofs.SetLocalLemmas.{absent, entry_is}
+use Rattle.smith_instr.proofs.set_locals.SetLocals.contains.Goals as goal
 
 pub returns-in_default : goal.returns-in_default
 returns-in_default c =

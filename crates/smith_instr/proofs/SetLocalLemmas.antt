@@ -6,8 +6,8 @@ use Rattle.std.specs.Cmp.{unsigned_Decides}
 use Rattle.std.proofs.lemmas.Bool.{false≢true}
 use Rattle.std.proofs.lemmas.Grind.{common_steps}
 use Rattle.std.proofs.lemmas.List.{get_or_default, get_or_at, get_or_append_left}
-use Rattle.smith_check.specs.SetLocals.{is_among, AreFirst, IsNoted}
-use Rattle.smith_check.proofs.AmongLemmas.{among_is, false_from, among}
+use Rattle.smith_instr.specs.SetLocals.{is_among, AreFirst, IsNoted}
+use Rattle.smith_instr.proofs.AmongLemmas.{among_is, false_from, among}
 
 -- the position of the first entry of a local is recorded
 pub record IsFound (log first : List ℕ) (local : ℕ) : Type 0 where
@@ -38,7 +38,8 @@ noted {log} {first} local kept there before same = record {
 }
 
 -- a position is written for a local without entries
-others : {log first next : List ℕ} (local number : ℕ) → AreFirst log first → is_among local log ≡ false → IsNoted local number first next → AreFirst log next
+others : {log first next : List ℕ} (local number : ℕ) → AreFirst log first → is_among local log ≡ false → IsNoted local number first next
+    → AreFirst log next
 others {log} {first} {next} local number kept new noted =
     let other : (k : ℕ) → k < length log → slice_index log k ≢ local =
     λ k inside same. false≢true (sym new ∙ among_is local log (k, inside, get_or_default log k local 0 inside ∙ same)) in
@@ -51,16 +52,19 @@ others {log} {first} {next} local number kept new noted =
     }
 
 -- the next entry, of a local without entries
-pub noted_new : {log first next : List ℕ} (local : ℕ) → AreFirst log first → is_among local log ≡ false → IsNoted local (length log) first next
+pub noted_new : {log first next : List ℕ} (local : ℕ) → AreFirst log first → is_among local log ≡ false
+    → IsNoted local (length log) first next
     → AreFirst (log ++ local ∷ []) next
 noted_new {log} {first} {next} local kept new written =
-    noted local (others local (length log) kept new written) written.there (omega (arith, written.written)) (rw written.written (get_or_at log local [] 0 (length log) refl))
+    noted local (others local (length log) kept new written) written.there (omega (arith, written.written))
+    (rw written.written (get_or_at log local [] 0 (length log) refl))
 
 -- the next entry, of a local with entries
 pub noted_again : {log first : List ℕ} (local : ℕ) → AreFirst log first → is_among local log ≡ true → AreFirst (log ++ local ∷ []) first
 noted_again {log} {first} local kept is =
     let there = found kept local (among local log is) in
-    noted local kept there.there (omega (arith, there.entry)) (get_or_append_left log (local ∷ []) 0 (slice_index first local) there.entry ∙ there.same)
+    noted local kept there.there (omega (arith, there.entry)) (get_or_append_left log (local ∷ []) 0 (slice_index first local) there.entry
+    ∙ there.same)
 
 -- all entries but the last one
 pub noted_less : {log first : List ℕ} (local : ℕ) → AreFirst (log ++ local ∷ []) first → AreFirst log first
@@ -76,7 +80,8 @@ entry_by : {log first : List ℕ} → AreFirst log first → (local position ent
 entry_by {log} {first} kept local position entry at there is true same =
     sym (among_is local log (position, there, get_or_default log position local 0 there ∙ (sym is ∙ (unsigned_Decides entry local).0 same)))
 entry_by {log} {first} kept local position entry at there is false differs =
-    absent kept local (λ found. false≢true (sym differs ∙ (unsigned_Decides entry local).1 (is ∙ (ap (λ (p : ℕ). slice_index log p) at ∙ found.same))))
+    absent kept local (λ found. false≢true
+    (sym differs ∙ (unsigned_Decides entry local).1 (is ∙ (ap (λ (p : ℕ). slice_index log p) at ∙ found.same))))
 
 pub entry_is : {log first : List ℕ} → AreFirst log first → (local position entry : ℕ) → position ≡ slice_index first local
     → position < length log → entry ≡ slice_index log position → nat_eq entry local ≡ is_among local log
