@@ -1,6 +1,0 @@
-use Rattle.std.proofs.Common.{◌↔◌, drop}
-use Rattle.smith_check.specs.Fits.{AreFit}
-use Rattle.smith_check.proofs.below.slots_fit.Given as goal
-
-abbrev pub invariant-loop-i : goal.invariant-loop-i
-invariant-loop-i l = AreFit l.types.types (drop l.i l.slots) (drop l.i l.expected) ↔ AreFit l.types.types l.slots l.expected

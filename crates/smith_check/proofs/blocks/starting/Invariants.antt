@@ -1,6 +1,0 @@
-use Rattle.std.proofs.Common.{◌≡◌, take}
-use Rattle.smith_check_rules.specs.Slots.{values}
-use Rattle.smith_check.proofs.blocks.starting.Given as goal
-
-abbrev pub invariant-loop-value : goal.invariant-loop-value
-invariant-loop-value l = l.known.items ≡ values (take l.value-index l.params)

@@ -1,8 +1,0 @@
-use Rattle.smith_check.specs.Scopes.{bare}
-use Rattle.smith_check.specs.Covers.{held}
-use Rattle.smith_check.proofs.StepLemmas.{tried_drop}
-use Rattle.smith_check.proofs.control.drop_one.Goals as goal
-
-pub returns : goal.returns
-returns c = λ labels set. tried_drop (bare c.args.scope.now) labels set c.pop.result _ (held c.args.operands.now) (held c.pop.new.self)
-    c.is_some.ensures c.pop.ensures

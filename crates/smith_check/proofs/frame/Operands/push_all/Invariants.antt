@@ -1,7 +1,0 @@
-use Rattle.std.proofs.Common.{◌≡◌, ◌++◌, take}
-use Rattle.smith_check_rules.specs.Slots.{values}
-use Rattle.smith_check.proofs.frame.Operands.push_all.Given as goal
-
-abbrev pub invariant-loop-value : goal.invariant-loop-value
-invariant-loop-value l = (l.self.known.items ≡ l.fn.self.known.items ++ values (take l.value-index l.results))
-    × (l.self.dead ≡ l.fn.self.dead)

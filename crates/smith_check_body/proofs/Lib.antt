@@ -1,0 +1,6 @@
+pub mod PlainLemmas
+pub mod ComposeLemmas
+pub mod BlockLemmas
+pub mod FrameLemmas
+pub mod CheckLemmas
+pub mod BodyLemmas

@@ -1,0 +1,4 @@
+pub mod Opens
+pub mod Checks
+pub mod Covered
+pub mod Verdicts

@@ -1,0 +1,3 @@
+pub mod VectorLemmas
+pub mod SelectLemmas
+pub mod MemoryLemmas

@@ -1,0 +1,32 @@
+use Rattle.std.proofs.Common.{◌∙◌, ap, sym, refl, [], ◌∷◌}
+use Rattle.smith_syntax.specs.declared.value_type.ValType.TheVariants.{V128}
+use Rattle.smith_instr.specs.declared.instr.Instr.TheVariants as instr
+use Rattle.smith_check_operands.specs.Scopes.{bare}
+use Rattle.smith_check_operands.specs.Covers.{held}
+use Rattle.smith_check_operands.proofs.RangeLemmas.{no_range}
+use Rattle.std.proofs.lemmas.Bool.{false≢true}
+use Rattle.smith_check_rules.specs.Slots.{values}
+use Rattle.smith_check_instr.proofs.VectorLemmas.{no_vector}
+use Rattle.smith_check_operands.proofs.StepLemmas.{tried_values, one_valid}
+use Rattle.smith_check_instr.proofs.constants.v128_const.Goals as goal
+
+pub apply-requires-clause-expected : goal.apply-requires-clause-expected
+apply-requires-clause-expected c = no_range c.args.scope.now.types.now.types
+
+pub apply-requires-clause-valid : goal.apply-requires-clause-valid
+apply-requires-clause-valid c = one_valid (bare c.args.scope.now) V128 (c.is_valid.ensures.0 c.if-not-is_valid.false)
+
+pub returns-clause-ok : goal.returns-clause-ok
+returns-clause-ok c = λ value labels set.
+    tried_values (bare c.args.scope.now) labels (instr.V128Const value) set [] (V128 ∷ []) [] (V128 ∷ []) (held c.args.operands.now) _
+    c.apply.result (λ os rs t. t) (λ os rs t. t)
+    (refl, refl)
+    (λ os rs t. t)
+    refl refl c.apply.ensures.ok
+
+pub returns-then-not-is_valid-clause-ok : goal.returns-then-not-is_valid-clause-ok
+returns-then-not-is_valid-clause-ok c = λ value labels set before after covered s.
+    let (these, those, has, is, also) = s.typed in
+    no_vector (bare c.args.scope.now) s.results s.framed.given (also ∙ ap (λ ts. values ts) has.1) s.framed.offered.below
+    s.framed.offered.valid
+    (λ h. false≢true (sym c.if-not-is_valid.true ∙ c.is_valid.ensures.1 h))

@@ -1,0 +1,17 @@
+use Rattle.std.proofs.Common.{[]}
+use Rattle.smith_instr.specs.declared.instr.Instr.TheVariants as instr
+use Rattle.smith_check_rules.specs.Slots.{values}
+use Rattle.smith_check_operands.specs.Scopes.{bare}
+use Rattle.smith_check_operands.specs.Covers.{held}
+use Rattle.smith_check_operands.proofs.RangeLemmas.{no_range}
+use Rattle.smith_check_instr.proofs.control.unreachable.Goals as goal
+use Rattle.smith_check_operands.proofs.StepLemmas.{tried_leaving}
+
+pub returns : goal.returns
+returns c = λ labels set.
+    tried_leaving (bare c.args.scope.now) labels instr.Unreachable set (values []) c.leave_with.result (held c.args.operands.now)
+    (held c.leave_with.new.self)
+    (record { typed = λ os rs t. t; only = λ os rs t. t }) c.leave_with.ensures
+
+pub leave_with-requires-clause-expected : goal.leave_with-requires-clause-expected
+leave_with-requires-clause-expected c = no_range c.args.scope.now.types.now.types

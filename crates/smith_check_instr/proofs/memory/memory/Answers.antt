@@ -1,0 +1,10 @@
+use Rattle.smith_check_instr.proofs.memory.memory.Goals as goal
+
+pub returns-in-Size-clause-ok : goal.returns-in-Size-clause-ok
+returns-in-Size-clause-ok c = λ labels set. rw c.in-Size.is (c.memory_size.ensures.ok labels set)
+
+pub returns-in-Grow-clause-ok : goal.returns-in-Grow-clause-ok
+returns-in-Grow-clause-ok c = λ labels set. rw c.in-Grow.is (c.memory_grow.ensures.ok labels set)
+
+pub returns-in-Fill-clause-ok : goal.returns-in-Fill-clause-ok
+returns-in-Fill-clause-ok c = λ labels set. rw c.in-Fill.is (c.memory_fill.ensures.ok labels set)

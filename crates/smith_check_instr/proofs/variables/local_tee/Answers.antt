@@ -1,0 +1,29 @@
+use Rattle.std.proofs.Common.{◌∙◌, sym, refl, subst, [], ◌∷◌}
+use Rattle.smith_instr.specs.Contexts.{To, IsValid}
+use Rattle.smith_instr.specs.declared.instr.Instr.TheVariants as instr
+use Rattle.smith_check_operands.specs.Scopes.{bare}
+use Rattle.smith_check_operands.specs.Covers.{held}
+use Rattle.smith_check_operands.proofs.LookupLemmas.{some_same}
+use Rattle.smith_check_operands.proofs.RangeLemmas.{one_in_range, in_range}
+use Rattle.smith_check_operands.proofs.StepLemmas.{tried_values, all_at, one_valid}
+use Rattle.smith_check_instr.proofs.variables.local_tee.Goals as goal
+
+pub apply-requires-clause-expected : goal.apply-requires-clause-expected
+apply-requires-clause-expected c = one_in_range c.args.scope.now.types.now.types c.in-Some.value
+    (in_range (bare c.args.scope.now) c.in-Some.value (all_at (IsValid (bare c.args.scope.now)) c.args.scope.now.locals.now c.args.index
+    c.in-Some.value c.requires.scope.locals (sym c.in-Some.ensures)))
+
+pub apply-requires-clause-valid : goal.apply-requires-clause-valid
+apply-requires-clause-valid c =
+    one_valid (bare c.args.scope.now) c.in-Some.value (all_at (IsValid (bare c.args.scope.now)) c.args.scope.now.locals.now c.args.index
+    c.in-Some.value c.requires.scope.locals (sym c.in-Some.ensures))
+
+pub returns-in-Some-clause-ok : goal.returns-in-Some-clause-ok
+returns-in-Some-clause-ok c = λ labels set.
+    let value = c.in-Some.value in
+    tried_values (bare c.args.scope.now) labels (instr.LocalTee c.args.index) set (value ∷ []) (value ∷ []) (value ∷ []) (value ∷ [])
+    (held c.args.operands.now) _ c.apply.result (λ os rs t. t) (λ os rs t. t)
+    (value, sym c.in-Some.ensures, (refl, refl))
+    (λ os rs t. let (other, at, fits) = t in
+    subst (λ v. To os rs (v ∷ []) (v ∷ [])) (some_same other value (sym at ∙ sym c.in-Some.ensures)) fits)
+    refl refl c.apply.ensures.ok

@@ -1,0 +1,2 @@
+pub mod Selects
+pub mod CoveredMemory

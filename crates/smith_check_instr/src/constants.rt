@@ -1,0 +1,82 @@
+ghost use Rattle.std.specs.Prelude.{◌≡◌, ℕ, ℤ, List, ◌∷◌, IfOk, IfErr, All, reverse};
+ghost use Rattle.smith_syntax.specs.declared.value_type.ValType.{ValType};
+ghost use Rattle.smith_instr.specs.declared.instr.Instr.TheVariants as instr;
+ghost use Rattle.smith_check_rules.specs.Slots.{AreSlotsValid};
+ghost use Rattle.smith_check_operands.specs.Scopes.{bare, IsScope};
+ghost use Rattle.smith_check_operands.specs.Covers.{held};
+ghost use Rattle.smith_check_operands.specs.Applies.{IsTried};
+
+use smith_bytes::Error;
+use smith_check_operands::lookups::is_valid;
+use smith_check_operands::{Operands, Scope};
+use smith_instr::NumericInstr;
+use smith_types::ValType;
+
+/// Tries a numeric instruction without immediates.
+pub fn numeric(operands: &mut Operands, scope: &Scope, op: NumericInstr) -> Result<bool, Error>
+    requires { AreSlotsValid (bare scope.now) operands.old.known.items }
+    ensures ok { (labels : List (List ValType)) (set : List ℕ) → IfOk result
+        (λ there. IsTried (bare scope.now) labels (instr.Numeric op) set there
+        (held operands.old) (held operands.new)) }
+    ensures memory { IfErr result (λ e. e ≡ Error.Memory) }
+{
+    operands.apply(scope, op.operands(), op.results())
+}
+
+/// Tries `i32.const`.
+pub fn i32_const(operands: &mut Operands, scope: &Scope) -> Result<bool, Error>
+    requires { AreSlotsValid (bare scope.now) operands.old.known.items }
+    ensures ok { (value : ℤ) (labels : List (List ValType)) (set : List ℕ) → IfOk result
+        (λ there. IsTried (bare scope.now) labels (instr.I32Const value) set there
+        (held operands.old) (held operands.new)) }
+    ensures memory { IfErr result (λ e. e ≡ Error.Memory) }
+{
+    operands.apply(scope, &[], &[ValType::I32])
+}
+
+/// Tries `i64.const`.
+pub fn i64_const(operands: &mut Operands, scope: &Scope) -> Result<bool, Error>
+    requires { AreSlotsValid (bare scope.now) operands.old.known.items }
+    ensures ok { (value : ℤ) (labels : List (List ValType)) (set : List ℕ) → IfOk result
+        (λ there. IsTried (bare scope.now) labels (instr.I64Const value) set there
+        (held operands.old) (held operands.new)) }
+    ensures memory { IfErr result (λ e. e ≡ Error.Memory) }
+{
+    operands.apply(scope, &[], &[ValType::I64])
+}
+
+/// Tries `f32.const`.
+pub fn f32_const(operands: &mut Operands, scope: &Scope) -> Result<bool, Error>
+    requires { AreSlotsValid (bare scope.now) operands.old.known.items }
+    ensures ok { (value : ℕ) (labels : List (List ValType)) (set : List ℕ) → IfOk result
+        (λ there. IsTried (bare scope.now) labels (instr.F32Const value) set there
+        (held operands.old) (held operands.new)) }
+    ensures memory { IfErr result (λ e. e ≡ Error.Memory) }
+{
+    operands.apply(scope, &[], &[ValType::F32])
+}
+
+/// Tries `f64.const`.
+pub fn f64_const(operands: &mut Operands, scope: &Scope) -> Result<bool, Error>
+    requires { AreSlotsValid (bare scope.now) operands.old.known.items }
+    ensures ok { (value : ℕ) (labels : List (List ValType)) (set : List ℕ) → IfOk result
+        (λ there. IsTried (bare scope.now) labels (instr.F64Const value) set there
+        (held operands.old) (held operands.new)) }
+    ensures memory { IfErr result (λ e. e ≡ Error.Memory) }
+{
+    operands.apply(scope, &[], &[ValType::F64])
+}
+
+/// Tries `v128.const`.
+pub fn v128_const(operands: &mut Operands, scope: &Scope) -> Result<bool, Error>
+    requires { AreSlotsValid (bare scope.now) operands.old.known.items }
+    ensures ok { (value : ℤ) (labels : List (List ValType)) (set : List ℕ) → IfOk result
+        (λ there. IsTried (bare scope.now) labels (instr.V128Const value) set there
+        (held operands.old) (held operands.new)) }
+    ensures memory { IfErr result (λ e. e ≡ Error.Memory) }
+{
+    if !is_valid(scope, ValType::V128) {
+        return Ok(false);
+    }
+    operands.apply(scope, &[], &[ValType::V128])
+}

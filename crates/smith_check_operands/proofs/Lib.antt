@@ -1,0 +1,11 @@
+pub mod ListLemmas
+pub mod LookupLemmas
+pub mod RangeLemmas
+pub mod BelowLemmas
+pub mod CoverLemmas
+pub mod FitLemmas
+pub mod PushLemmas
+pub mod ApplyLemmas
+pub mod StepLemmas
+pub mod LabelLemmas
+pub mod EndLemmas

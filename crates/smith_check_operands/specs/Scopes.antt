@@ -1,0 +1,36 @@
+-- The context of a body that is checked.
+use Rattle.std.specs.Prelude.{[], ℕ, All}
+use Rattle.smith_syntax.specs.FeatureBits.{features_in}
+use Rattle.smith_syntax.specs.declared.composite_type.FuncType.{FuncType}
+use Rattle.smith_syntax.specs.declared.entity_type.GlobalType.{GlobalType}
+use Rattle.smith_types.specs.Entities.{IsFuncAt}
+use Rattle.smith_instr.specs.Contexts.{BodyContext, IsValid, AreValid}
+use Rattle.smith_check_operands.specs.declared.scope.Scope.{Scope}
+
+-- the context of a scope without labels (Validation, Contexts)
+abbrev pub bare : Scope → BodyContext
+bare scope = record {
+  features = features_in scope.features;
+  types = scope.types.now.types;
+  funcs = scope.funcs.now;
+  imported_funcs = scope.imported_funcs;
+  tables = scope.tables.now;
+  memories = scope.memories.now;
+  globals = scope.globals.now;
+  tags = scope.tags.now;
+  elems = scope.elems.now;
+  datas = scope.datas;
+  references = scope.references.now;
+  locals = scope.locals.now;
+  params = scope.params;
+  labels = [];
+  results = scope.results.now;
+}
+
+-- the parts of a context are valid (Validation, Types)
+pub record IsScope (context : BodyContext) : Type 0 where
+  pub globals : All (λ (global : GlobalType). IsValid context global.val_type) context.globals
+  pub locals : AreValid context context.locals
+  pub results : AreValid context context.results
+  pub params_valid : (index : ℕ) (function : FuncType) → IsFuncAt context.types index function → AreValid context function.params
+  pub results_valid : (index : ℕ) (function : FuncType) → IsFuncAt context.types index function → AreValid context function.results

@@ -1,0 +1,59 @@
+ghost use Rattle.std.specs.Prelude.{IsTrue, ◌↔◌, All};
+ghost use Rattle.smith_types.specs.Subtyping.{IsValInRange};
+ghost use Rattle.smith_check_rules.specs.Slots.{IsBelow};
+ghost use Rattle.smith_check_rules.specs.declared.slot.Slot.TheVariants.{Value};
+ghost use Rattle.smith_check_operands.specs.Fits.{AreFit, AreMatched, IsSlotInRange};
+
+use smith_check_rules::Slot;
+use smith_types::{TypeSpace, ValType};
+
+/// Returns whether a value of the type `slot` may be used as one of the type `expected`
+/// (Validation, Matching, Value Types). Requires the types that both refer to to exist.
+pub fn slot_fits(types: &TypeSpace, slot: Slot, expected: ValType) -> bool
+    requires lower { IsSlotInRange types.now.types slot }
+    requires upper { IsValInRange types.now.types expected }
+    ensures { IsTrue result ↔ IsBelow types.now.types slot (Value expected) }
+{
+    match slot {
+        Slot::Bottom => true,
+        Slot::SomeRef => matches!(expected, ValType::Ref(_)),
+        Slot::Value(value) => types.val_type_is_sub_type(value, expected),
+    }
+}
+
+/// Returns whether there are as many slots as expected types, and each of `slots` may be used as a
+/// value of the type at its place in `expected` (Validation, Matching, Result Types). Requires the
+/// types that both refer to to exist.
+pub fn slots_fit(types: &TypeSpace, slots: &[Slot], expected: &[ValType]) -> bool
+    requires lower { All (IsSlotInRange types.now.types) slots.now }
+    requires upper { All (IsValInRange types.now.types) expected.now }
+    ensures { IsTrue result ↔ AreFit types.now.types slots.now expected.now }
+{
+    if slots.len() != expected.len() {
+        return false;
+    }
+    for i in 0..slots.len() {
+        if !slot_fits(types, slots[i], expected[i]) {
+            return false;
+        }
+    }
+    true
+}
+
+/// Returns whether there are as many types in `these` as in `others`, and each matches that at its
+/// place (Validation, Matching, Result Types). Requires the types that both refer to to exist.
+pub fn values_fit(types: &TypeSpace, these: &[ValType], others: &[ValType]) -> bool
+    requires lower { All (IsValInRange types.now.types) these.now }
+    requires upper { All (IsValInRange types.now.types) others.now }
+    ensures { IsTrue result ↔ AreMatched types.now.types these.now others.now }
+{
+    if these.len() != others.len() {
+        return false;
+    }
+    for i in 0..these.len() {
+        if !types.val_type_is_sub_type(these[i], others[i]) {
+            return false;
+        }
+    }
+    true
+}
