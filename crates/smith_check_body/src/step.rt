@@ -19,7 +19,7 @@ use smith_check_instr::control::{
     atomic_fence, br, br_if, call, drop_one, nop, return_all, throw_ref, unreachable,
 };
 use smith_check_instr::memory::{load, memory, store};
-use smith_check_instr::select;
+use smith_check_instr::select::select;
 use smith_check_instr::variables::{global_get, global_set, local_get, local_set, local_tee};
 use smith_check_operands::{Frame, Operands, Scope, Shape};
 use smith_instr::{Instr, SetLocals};

@@ -8,8 +8,7 @@ pub mod constants;
 pub mod control;
 /// Instructions on memories.
 pub mod memory;
-mod select;
+/// The instruction `select`.
+pub mod select;
 /// Instructions on locals and globals.
 pub mod variables;
-
-pub use select::select;
