@@ -22,11 +22,12 @@ use Rattle.smith_types.specs.Grounded.{is_defaultable, are_defaultable}
 use Rattle.smith_types.proofs.GroundedLemmas.{defaults_each}
 use Rattle.smith_types.specs.Matching.{IsStorageInRange, IsFieldInRange}
 use Rattle.smith_types.specs.ValidTypes.{values_of, values_of_storage}
-use Rattle.smith_instr.specs.AggregateTypes.{IsFieldAt, value_of}
+use Rattle.smith_instr.specs.AggregateTypes.{IsElemOf, IsFieldAt, value_of}
 use Rattle.smith_instr.specs.Contexts.{BodyContext, IsValid, AreValid, IsHeapValid}
 use Rattle.smith_check_operands.proofs.ListLemmas.{all_left, all_right}
 use Rattle.smith_check_operands.proofs.RangeLemmas.{in_range}
 use Rattle.smith_check_operands.proofs.StepLemmas.{all_at}
+use Rattle.smith_check_operands.specs.Closes.{with_labels}
 use Rattle.smith_check_operands.specs.Scopes.{IsScope}
 use Rattle.smith_check_references.specs.Lookups.{IsAggregateAt}
 
@@ -169,3 +170,32 @@ pub created_valid : (context : BodyContext) (index : ℕ) → IsScope context �
 created_valid context index scope aggregate =
     let (gc, inside) = aggregate_enabled context index scope aggregate in
     created_by context index context.features.custom_descriptors refl gc inside
+
+-- labels don't matter for fields and element segments
+pub field_without : (context : BodyContext) (labels : List (List ValType)) (ty index : ℕ) (field : FieldType)
+    → IsFieldAt (with_labels context labels) ty index field → IsFieldAt context ty index field
+field_without context labels ty index field at = record { fields = at.fields; structure = at.structure; there = at.there }
+
+pub field_within : (context : BodyContext) (labels : List (List ValType)) (ty index : ℕ) (field : FieldType)
+    → IsFieldAt context ty index field → IsFieldAt (with_labels context labels) ty index field
+field_within context labels ty index field at = record { fields = at.fields; structure = at.structure; there = at.there }
+
+pub elem_without : (context : BodyContext) (labels : List (List ValType)) (segment : ℕ) (element : FieldType)
+    → IsElemOf (with_labels context labels) segment element → IsElemOf context segment element
+elem_without context labels segment element of = record {
+  held = of.held;
+  there = of.there;
+  reference = of.reference;
+  of_references = of.of_references;
+  below = of.below;
+}
+
+pub elem_within : (context : BodyContext) (labels : List (List ValType)) (segment : ℕ) (element : FieldType)
+    → IsElemOf context segment element → IsElemOf (with_labels context labels) segment element
+elem_within context labels segment element of = record {
+  held = of.held;
+  there = of.there;
+  reference = of.reference;
+  of_references = of.of_references;
+  below = of.below;
+}

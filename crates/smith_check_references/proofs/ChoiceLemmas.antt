@@ -235,7 +235,7 @@ seen : (context : BodyContext) (labels : List (List ValType)) (set : List ℕ) (
     → Covers context old before → (s : IsStep (with_labels context labels) (instr.Reference reference.Eq) (stacked before set) after)
     → IsSeen context old s.framed.rest
 seen context labels set old before after c s =
-    let (these, those, (one, other, is, also), to, results) = s.typed in
+    let (these, those, (one, other, (is, also)), to, results) = s.typed in
     let (a, b, both, first, second) = two context s.framed.taken (Value (nullable_to (Abstract one abstract.Eq)))
     (Value (nullable_to (Abstract other abstract.Eq)))
     (subst (λ xs. AreBelow context.types s.framed.taken xs) (to ∙ ap (λ ts. values ts) is) s.framed.accepted) in
@@ -293,7 +293,7 @@ compared context labels set old middle rest new first second seconds firsts (one
             typed = (
               nullable_to (Abstract one abstract.Eq) ∷ nullable_to (Abstract other abstract.Eq) ∷ [],
               I32 ∷ [],
-              (one, other, refl, refl),
+              (one, other, (refl, refl)),
               refl,
               refl,
             );
@@ -311,7 +311,7 @@ compared context labels set old middle rest new first second seconds firsts (one
         };
     complete = λ before after c s.
         let x = seen context labels set old before after c s in
-        let (these, those, (p, q, is, results), to, gives) = s.typed in
+        let (these, those, (p, q, (is, results)), to, gives) = s.typed in
         let upper = seconds.complete (s.framed.rest ++ x.a ∷ []) x.b x.covered in
         let lower = firsts.complete s.framed.rest x.a upper.covered in
         pushes.complete after.stack s.framed.rest lower.covered (record {

@@ -1,8 +1,9 @@
 -- Operands that are the fields of a struct, or copies of one value.
 use Rattle.std.proofs.Common.{◌≡◌, ◌+◌, ◌≤◌, ◌-◌, ℕ, Bool, true, List, [], ◌∷◌, length, take, drop, refl, sym, ap, ◌∙◌, subst, arith}
-use Rattle.std.specs.Prelude.{All, map, replicate}
+use Rattle.std.specs.Prelude.{All, replicate}
+use Rattle.std.specs.List.{AllByRecursion as Each}
 use Rattle.std.proofs.lemmas.List.{take-map, drop-map, length-map, take-replicate, drop-replicate, length-replicate, length-take, length-drop}
-use Rattle.std.proofs.lemmas.List.Elements.{All-nil, All-cons, All-head, All-tail, All-take, All-drop}
+use Rattle.std.proofs.lemmas.List.Elements.{All-take, All-drop}
 use Rattle.smith_syntax.specs.declared.composite_type.FieldType.{FieldType}
 use Rattle.smith_syntax.specs.declared.composite_type.SubType.{SubType}
 use Rattle.smith_syntax.specs.declared.value_type.ValType.{ValType}
@@ -32,21 +33,18 @@ part_of P xs n m all = All-take P n (drop m xs) (All-drop P m xs all)
 
 -- values that fit copies of one type
 pub fit_copies : (types : List SubType) (slots : List Slot) (value : ValType) (count : ℕ) → length slots ≡ count
-    → All (λ slot. IsBelow types slot (Value value)) slots → AreFit types slots (replicate count value)
+    → Each (λ slot. IsBelow types slot (Value value)) slots → AreFit types slots (replicate count value)
 fit_copies types [] value count is all = subst (λ n. AreFit types [] (replicate n value)) is tt
-fit_copies types (s ∷ ss) value count is all =
-    subst (λ n. AreFit types (s ∷ ss) (replicate n value)) is (
-      All-head (λ slot. IsBelow types slot (Value value)) s ss all,
-      fit_copies types ss value (length ss) refl (All-tail (λ slot. IsBelow types slot (Value value)) s ss all),
-    )
+fit_copies types (s ∷ ss) value count is (first, all) =
+    subst (λ n. AreFit types (s ∷ ss) (replicate n value)) is (first, fit_copies types ss value (length ss) refl all)
 
 pub copies_fit : (types : List SubType) (slots : List Slot) (value : ValType) (count : ℕ) → length slots ≡ count
-    → AreFit types slots (replicate count value) → All (λ slot. IsBelow types slot (Value value)) slots
-copies_fit types [] value count is fit = All-nil (λ slot. IsBelow types slot (Value value))
+    → AreFit types slots (replicate count value) → Each (λ slot. IsBelow types slot (Value value)) slots
+copies_fit types [] value count is fit = tt
 copies_fit types (s ∷ ss) value count is fit =
-    let parts : AreFit types (s ∷ ss) (replicate (length (s ∷ ss)) value) = subst (λ n. AreFit types (s ∷ ss) (replicate n value)) (sym is) fit
-    in
-    All-cons (λ slot. IsBelow types slot (Value value)) s ss parts.0 (copies_fit types ss value (length ss) refl parts.1)
+    let parts : AreFit types (s ∷ ss) (replicate (length (s ∷ ss)) value) =
+    subst (λ n. AreFit types (s ∷ ss) (replicate n value)) (sym is) fit in
+    (parts.0, copies_fit types ss value (length ss) refl parts.1)
 
 -- the last of copies are fewer copies
 pub last_copies : (n k count : ℕ) (value : ValType) → n + k ≡ count
@@ -66,12 +64,12 @@ module _ (context : BodyContext) (known whole : List Slot) (value : ValType) (co
       omega (arith, length-take (length whole - n) (drop n whole), length-drop n whole)
 
   pub copied_enough : AreSlotsValid context known
-      → All (λ slot. IsBelow context.types slot (Value value)) (take (length whole - n) (drop n whole))
+      → Each (λ slot. IsBelow context.types slot (Value value)) (take (length whole - n) (drop n whole))
       → Pops context (values (replicate count value)) (holding known dead) (holding (take n known) dead)
   copied_enough valid all = taken_enough context known whole (replicate count value) n dead valid same
       (fit_copies context.types (take (length whole - n) (drop n whole)) value count last_length all)
 
-  pub uncopied_enough : (All (λ slot. IsBelow context.types slot (Value value)) (take (length whole - n) (drop n whole)) → ⊥)
+  pub uncopied_enough : (Each (λ slot. IsBelow context.types slot (Value value)) (take (length whole - n) (drop n whole)) → ⊥)
       → PopsNothing context (values (replicate count value)) (holding known dead)
   uncopied_enough never = refused_enough context known whole (replicate count value) n dead same
       (subst (λ k. k ≤ length known) (sym (length-replicate count value)) few)
@@ -88,13 +86,13 @@ module _ (context : BodyContext) (known whole : List Slot) (value : ValType) (co
       last_copies (count - length known) (length whole) count value (omega arith)
 
   pub copied_beyond : (after : List Slot) → AreSlotsValid context known → dead ≡ true → after ≡ []
-      → All (λ slot. IsBelow context.types slot (Value value)) whole
+      → Each (λ slot. IsBelow context.types slot (Value value)) whole
       → Pops context (values (replicate count value)) (holding known dead) (holding after dead)
   copied_beyond after valid is none all =
       taken_beyond context known whole (replicate count value) (count - length known) dead after valid same is none
       (subst (λ vs. AreFit context.types whole vs) (sym part) (fit_copies context.types whole value (length whole) refl all))
 
-  pub uncopied_beyond : (All (λ slot. IsBelow context.types slot (Value value)) whole → ⊥)
+  pub uncopied_beyond : (Each (λ slot. IsBelow context.types slot (Value value)) whole → ⊥)
       → PopsNothing context (values (replicate count value)) (holding known dead)
   uncopied_beyond never =
       refused_beyond context known whole (replicate count value) (count - length known) dead same

@@ -1,5 +1,5 @@
 -- What is above a heap type is below the top of its hierarchy.
-use Rattle.std.proofs.Common.{rules, ◌≡◌, ℕ, List, refl, sym, ap, ◌∙◌, subst, arith}
+use Rattle.std.proofs.Common.{rules, ◌≡◌, ℕ, List, get_or, refl, sym, ap, ◌∙◌, subst, arith}
 use Rattle.std.specs.Prelude.{◌<◌, length, Bool, true, IsTrue, All, Some, slice_get}
 use Rattle.std.proofs.lemmas.Option.{same_Some, slice_get_within, slice_get-get_or}
 use Rattle.smith_syntax.specs.Kinds.{kind, bottom, kind_of, bottom_of, shared}
@@ -20,7 +20,8 @@ use Rattle.smith_types.proofs.WalkLemmas.{below_from_by_cases, concrete_not_belo
 use Rattle.smith_instr.specs.Contexts.{BodyContext, IsHeapValid, IsRefValid}
 use Rattle.smith_check_operands.proofs.StepLemmas.{all_at}
 use Rattle.smith_check_operands.specs.Scopes.{IsScope}
-use Rattle.smith_check_references.specs.Hierarchies.{top_kind, IsTop}
+use Rattle.smith_check_references.proofs.OfferLemmas.{own_heap}
+use Rattle.smith_check_references.specs.Hierarchies.{top_kind, IsTop, IsFunctionHeap}
 use Rattle.smith_check_references.specs.Offers.{IsHeapOffer}
 
 -- the finite tables
@@ -57,22 +58,19 @@ top_along types o (Concrete i) (Concrete j) top (t, at, up) (u, there, is) =
     let one : u ≡ t = same_Some u t (sym there ∙ at) in
     let (before, alike) = o.under i j t at up in
     let inside : i < length types = slice_get_within types i t at in
-    let stands = slice_get-get_or types j t (omega arith) in
-    let like = alike _ stands in (
-      _,
-      stands,
-      is ∙ ap (λ (v : SubType). Abstract (shared v) (top_kind (kind v))) one ∙ ap (λ q. Abstract q (top_kind (kind t))) like.shared
-          ∙ ap (λ k. Abstract _ (top_kind k)) like.kind,
-    )
+    let w : SubType = get_or types j t in
+    let stands : slice_get types j ≡ Some w = slice_get-get_or types j t (omega arith) in
+    let like = alike w stands in
+    (w, stands, is ∙ ap (λ (v : SubType). Abstract (shared v) (top_kind (kind v))) one ∙ ap (λ q. Abstract q (top_kind (kind t))) like.shared
+    ∙ ap (λ k. Abstract (shared w) (top_kind k)) like.kind)
 top_along types o (Concrete i) (Exact j) top step is = absurd step
 top_along types o (Exact i) (Abstract r b) top step is = absurd step
 top_along types o (Exact i) (Concrete j) top same (u, there, is) = (u, subst (λ n. slice_get types n ≡ Some u) same there, is)
 top_along types o (Exact i) (Exact j) top step is = absurd step
 
-pub top_above : (types : List SubType) → IsOrderly types → {a b : HeapType} (top : HeapType) → IsBelow types a b → IsTop types a top
-    → IsTop types b top
-top_above types o top itself is = is
-top_above types o {a} {c} top (by_step {b = b} step below) is = top_above types o top below (top_along types o a b top step is)
+pub top_above : (types : List SubType) → IsOrderly types → (a b top : HeapType) → IsBelow types a b → IsTop types a top → IsTop types b top
+top_above types o a b top itself is = is
+top_above types o a c top (by_step {b = b} step below) is = top_above types o b c top below (top_along types o a b top step is)
 
 -- a heap type is below its top
 pub below_top : (types : List SubType) (a top : HeapType) → IsTop types a top → IsBelow types a top
@@ -87,7 +85,7 @@ below_top types (Exact i) top (t, at, is) = subst (λ h. IsBelow types (Exact i)
 pub below_nullable_top : (types : List SubType) → IsOrderly types → (to from : RefType) (top : HeapType) → IsTop types to.heap_type top
     → IsRefBelow types to from → IsRefBelow types from (record { nullable = true; heap_type = top })
 below_nullable_top types o to from top is below = record {
-  heap = below_top types from.heap_type top (top_above types o top below.heap is);
+  heap = below_top types from.heap_type top (top_above types o to.heap_type from.heap_type top below.heap is);
   nullable = λ n. refl;
 }
 
@@ -176,18 +174,19 @@ func_least : (context : BodyContext) → IsOrderly context.types → (i : ℕ) (
     → (IsTrue context.features.gc → ⊥) → IsTop context.types (Concrete i) (Abstract q abstract.Func) → IsHeapValid context other
     → IsBelow context.types (Concrete i) other → IsBelow context.types (Abstract q abstract.Func) other
 func_least context o i q (Abstract r b) none is valid below =
-    let there : Abstract q abstract.Func ≡ Abstract r (top_kind b) = top_above context.types o (Abstract q abstract.Func) below is in
+    let there : Abstract q abstract.Func ≡ Abstract r (top_kind b) = top_above context.types o (Concrete i) (Abstract r b) (Abstract q abstract.Func) below is
+    in
     let kinds : top_kind b ≡ abstract.Func = cc in
     let one : b ≡ abstract.Func = only_func context b none valid.0 kinds in
     let shares : q ≡ r = cc in
     subst (λ h. IsBelow context.types (Abstract q abstract.Func) h) (ap (λ k. Abstract q k) (sym one) ∙ ap (λ p. Abstract p b) shares) itself
 func_least context o i q (Concrete j) none is valid below = absurd (none valid.0)
-func_least context o i q (Exact j) none is valid below = absurd (concrete_not_below_exact context.types o i j below)
+func_least context o i q (Exact j) none is valid below = absurd (concrete_not_below_exact context.types i j below)
 
 pub function_offer : (context : BodyContext) (i : ℕ) (top : HeapType) → IsScope context → IsOrderly context.types
     → IsFuncTypeIndex context.types i → (IsTrue context.features.gc → ⊥) → IsTop context.types (Concrete i) top
     → IsHeapOffer context (Concrete i) top
-function_offer context i top scope o (function, u, there, of) none (t, at, is) =
+function_offer context i top scope o (function, (u, there, of)) none (t, at, is) =
     let same : u ≡ t = same_Some u t (sym there ∙ at) in
     let kinds : top_kind (kind t) ≡ abstract.Func = ap (λ (v : SubType). top_kind (kind v)) (sym same) ∙ ap (λ x. top_kind (kind_of x)) of in
     let whole : top ≡ Abstract (shared t) abstract.Func = is ∙ ap (λ k. Abstract (shared t) k) kinds in
@@ -199,3 +198,14 @@ function_offer context i top scope o (function, u, there, of) none (t, at, is) =
           subst (λ h. IsBelow context.types h other) (sym whole)
           (func_least context o i (shared t) other none (t, at, ap (λ k. Abstract (shared t) k) (sym kinds)) valid below);
     }
+
+pub function_heap_own : (context : BodyContext) (i : ℕ) → IsTrue context.features.gc → IsFuncTypeIndex context.types i
+    → IsHeapOffer context (Concrete i) (Concrete i)
+function_heap_own context i gc (function, (t, at, of)) = own_heap context (Concrete i) (gc, slice_get_within context.types i t at)
+
+pub exact_heap_own : (context : BodyContext) (h : HeapType) → IsFunctionHeap context h → ((i : ℕ) → h ≡ Concrete i → ⊥)
+    → IsHeapOffer context h h
+exact_heap_own context (Abstract s a) heap never = absurd heap
+exact_heap_own context (Concrete i) heap never = absurd (never i refl)
+exact_heap_own context (Exact i) (enabled, (function, (t, at, of))) never =
+    own_heap context (Exact i) (enabled, slice_get_within context.types i t at)

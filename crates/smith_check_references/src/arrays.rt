@@ -1,4 +1,5 @@
 ghost use Rattle.std.specs.Prelude.{◌≡◌, ◌↔◌, ◌∷◌, [], ℕ, List, IfOk, IfErr, IsTrue, MatchBool, All, replicate};
+ghost use Rattle.std.specs.List.{AllByRecursion as Each};
 ghost use Rattle.smith_syntax.specs.declared.value_type.ValType.{ValType};
 ghost use Rattle.smith_syntax.specs.declared.value_type.ValType.TheVariants.{I32};
 ghost use Rattle.smith_syntax.specs.declared.value_type.AbstractHeapType.TheVariants as abstract;
@@ -37,10 +38,10 @@ use smith_types::{
 fn all_fit(types: &TypeSpace, slots: &[Slot], value: ValType) -> bool
     requires lower { All (IsSlotInRange types.now.types) slots.now }
     requires upper { IsValInRange types.now.types value }
-    ensures { IsTrue result ↔ All (λ slot. IsBelow types.now.types slot (Value value)) slots.now }
+    ensures { IsTrue result ↔ Each (λ slot. IsBelow types.now.types slot (Value value)) slots.now }
 {
-    for slot in slots {
-        if !slot_fits(types, *slot, value) {
+    for i in 0..slots.len() {
+        if !slot_fits(types, slots[i], value) {
             return false;
         }
     }

@@ -130,9 +130,9 @@ fn tested(top: Slot) -> Option<Slot>
         (λ given. IsLeastOf context (ReadsAny context) top given) }
 {
     match top {
-        Slot::Bottom | Slot::SomeRef | Slot::Value(ValType::Ref(_)) => {
-            Some(Slot::Value(ValType::I32))
-        }
+        Slot::Bottom => Some(Slot::Value(ValType::I32)),
+        Slot::SomeRef => Some(Slot::Value(ValType::I32)),
+        Slot::Value(ValType::Ref(_reference)) => Some(Slot::Value(ValType::I32)),
         Slot::Value(_) => None,
     }
 }
