@@ -1,5 +1,5 @@
 -- Struct types and array types of a valid context.
-use Rattle.std.proofs.Common.{◌≡◌, ◌⊎◌, ◌<◌, ℕ, Bool, true, false, List, [], ◌∷◌, ◌++◌, length, refl, sym, ap, ◌∙◌, subst, inl, inr}
+use Rattle.std.proofs.Common.{◌≡◌, ◌<◌, ℕ, Bool, true, false, List, [], ◌∷◌, length, refl, sym, ap, ◌∙◌, subst, inl, inr}
 use Rattle.std.specs.Prelude.{◌&&◌, All, IsTrue, if◌then◌else◌, slice_get, Some}
 use Rattle.std.specs.List.{flat_map, AllByRecursion as Each}
 use Rattle.std.proofs.lemmas.List.Elements.{All-nil, All-cons, All-head, All-weaker, All-from_recursion, recursion_from_All}
@@ -12,7 +12,6 @@ use Rattle.smith_syntax.specs.declared.composite_type.StorageType.{StorageType}
 use Rattle.smith_syntax.specs.declared.composite_type.StorageType.TheVariants as storage
 use Rattle.smith_syntax.specs.declared.composite_type.StructType.{StructType}
 use Rattle.smith_syntax.specs.declared.composite_type.SubType.{SubType}
-use Rattle.smith_syntax.specs.declared.value_type.HeapType.{HeapType}
 use Rattle.smith_syntax.specs.declared.value_type.HeapType.TheVariants.{Concrete, Exact}
 use Rattle.smith_syntax.specs.declared.value_type.ValType.{ValType}
 use Rattle.smith_syntax.specs.declared.value_type.ValType.TheVariants.{I32, I64, F32, F64, V128, Ref}
@@ -106,7 +105,7 @@ stored_valid context (f ∷ fs) valid =
     (storage_valid context f.element_type (all_left (IsValid context) (values_of_storage f.element_type) rest valid))
     (stored_valid context fs (all_right (IsValid context) (values_of_storage f.element_type) rest valid))
 
-pub struct_valid : (context : BodyContext) (index : ℕ) (fields : List FieldType) → IsScope context → IsStructAt context.types index fields
+struct_valid : (context : BodyContext) (index : ℕ) (fields : List FieldType) → IsScope context → IsStructAt context.types index fields
     → All (λ (field : FieldType). IsValid context (value_of field)) fields
 struct_valid context index fields scope (t, at, is) =
     stored_valid context fields (inner_valid context index t (inner.Struct (record { fields = fields })) scope at is)
@@ -147,7 +146,7 @@ enabled_at context index t x scope at is =
     let enabled = all_at (IsSubTypeEnabled context.features) context.types index t scope.enabled at in
     subst (λ y. IsInnerEnabled context.features y) is enabled.inner
 
-pub aggregate_enabled : (context : BodyContext) (index : ℕ) → IsScope context → IsAggregateAt context.types index
+aggregate_enabled : (context : BodyContext) (index : ℕ) → IsScope context → IsAggregateAt context.types index
     → IsTrue context.features.gc × (index < length context.types)
 aggregate_enabled context index scope aggregate =
     elim aggregate [

@@ -7,7 +7,7 @@ use Rattle.smith_syntax.specs.declared.value_type.ValType.{ValType}
 use Rattle.smith_syntax.specs.declared.value_type.ValType.TheVariants.{I32, Ref}
 use Rattle.smith_types.specs.Subtyping.{IsRefBelow}
 use Rattle.smith_types.specs.Types.{IsOrderly}
-use Rattle.smith_instr.specs.Contexts.{BodyContext, IsRefValid, nullable_to}
+use Rattle.smith_instr.specs.Contexts.{BodyContext, IsRefValid}
 use Rattle.smith_instr.specs.declared.instr.Instr.TheVariants as instr
 use Rattle.smith_instr.specs.declared.reference.ReferenceInstr.TheVariants as reference
 use Rattle.smith_check_rules.specs.Slots.{AreBelow, values}

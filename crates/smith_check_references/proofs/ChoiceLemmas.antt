@@ -1,6 +1,6 @@
 -- Instructions whose operands have several types.
-use Rattle.std.proofs.Common.{◌≡◌, ℕ, Bool, true, false, List, [], ◌∷◌, ◌++◌, refl, sym, ap, ◌∙◌, subst, inl, inr, append_assoc}
-use Rattle.std.specs.Prelude.{IsTrue, not}
+use Rattle.std.proofs.Common.{◌≡◌, ℕ, Bool, false, List, [], ◌∷◌, ◌++◌, refl, sym, ap, ◌∙◌, subst, inl, inr, append_assoc}
+use Rattle.std.specs.Prelude.{not}
 use Rattle.std.proofs.lemmas.Bool.{false≢true}
 use Rattle.std.proofs.lemmas.List.Elements.{All-nil, All-cons, All-head}
 use Rattle.smith_syntax.specs.declared.value_type.AbstractHeapType.{AbstractHeapType}
@@ -9,7 +9,7 @@ use Rattle.smith_syntax.specs.declared.value_type.HeapType.{HeapType}
 use Rattle.smith_syntax.specs.declared.value_type.HeapType.TheVariants.{Abstract}
 use Rattle.smith_syntax.specs.declared.value_type.RefType.{RefType}
 use Rattle.smith_syntax.specs.declared.value_type.ValType.{ValType}
-use Rattle.smith_syntax.specs.declared.value_type.ValType.TheVariants.{I32, I64, F32, F64, V128, Ref}
+use Rattle.smith_syntax.specs.declared.value_type.ValType.TheVariants.{I32, Ref}
 use Rattle.smith_types.specs.Expressions.{reference_to}
 use Rattle.smith_types.specs.Subtyping.{itself}
 use Rattle.smith_types.proofs.GrowthLemmas.{IsBelow-trans}
@@ -19,7 +19,7 @@ use Rattle.smith_instr.specs.declared.instr.Instr.{Instr}
 use Rattle.smith_instr.proofs.AmongLemmas.{true_from_not}
 use Rattle.smith_instr.specs.declared.instr.Instr.TheVariants as instr
 use Rattle.smith_instr.specs.declared.reference.ReferenceInstr.TheVariants as reference
-use Rattle.smith_check_rules.specs.Sequences.{Stacked, stacked, IsFramed, IsStep}
+use Rattle.smith_check_rules.specs.Sequences.{Stacked, stacked, IsStep}
 use Rattle.smith_check_rules.specs.Slots.{IsBelow, AreBelow, IsSlotValid, values}
 use Rattle.smith_check_rules.specs.StackTypes.{HasNonNull, HasStackType, HasValueType}
 use Rattle.smith_check_rules.specs.declared.slot.Slot.{Slot}
@@ -30,15 +30,9 @@ use Rattle.smith_check_operands.specs.Applies.{IsTaken}
 use Rattle.smith_check_operands.specs.Closes.{with_labels, StepsNowhere}
 use Rattle.smith_check_operands.specs.Covers.{Held, Covers, Pushes, Tops, TopsNothing}
 use Rattle.smith_check_operands.specs.Fits.{IsSlotInRange}
-use Rattle.smith_check_references.proofs.OfferLemmas.{IsAboveRef, above_ref, must_be_nullable}
+use Rattle.smith_check_references.proofs.OfferLemmas.{above_ref, must_be_nullable}
 use Rattle.smith_check_references.specs.Choices.{FitsEither, ReadsEither, ReadsAny}
 use Rattle.smith_check_references.specs.Rows.{HasRow, IsLeastOf, HasNoneOf}
-
--- what is no reference is below no reference
-not_below_reference : (context : BodyContext) (value : ValType) → ((reference : RefType) → value ≡ Ref reference → ⊥)
-    → (reference : RefType) → IsBelow context.types (Value value) (Value (Ref reference)) → ⊥
-not_below_reference context (Ref other) never reference below = never other refl
-not_below_reference context value never reference below = below
 
 -- a number counts as one of each type above it
 number_of : (context : BodyContext) (Row : Slot → Slot → Type 0) (top from : Slot) → Row from (Value I32) → IsBelow context.types top from
@@ -69,12 +63,6 @@ pub ref_read : (context : BodyContext) (reference : RefType) → IsSlotValid con
     → IsLeastOf context (ReadsAny context) (Value (Ref reference)) (Value I32)
 ref_read context reference valid =
     any_read context (Value (Ref reference)) reference.heap_type valid.1.heap_type (record { heap = itself; nullable = λ n. refl })
-
-pub number_not_read : (context : BodyContext) (value : ValType) → ((reference : RefType) → value ≡ Ref reference → ⊥)
-    → HasNoneOf context (ReadsAny context) (Value value)
-number_not_read context value never from to other ((heap_type, valid, is), also) fits other_valid above =
-    not_below_reference context value never (record { nullable = true; heap_type = heap_type })
-    (subst (λ s. IsBelow context.types (Value value) s) is fits)
 
 least_non_null : (context : BodyContext) (from to other : Slot) → HasNonNull context from to → IsBelow context.types to other
     → IsBelow context.types SomeRef other
@@ -107,14 +95,6 @@ non_null_least context reference nullable is from to other row below valid above
     ]
 
 -- a reference that is not null
-pub some_non_null : (context : BodyContext) (top : Slot) → IsBelow context.types top SomeRef
-    → IsLeastOf context (HasNonNull context) top SomeRef
-some_non_null context top fits = record {
-  sound = λ other valid above. (SomeRef, SomeRef, inr (refl, refl), fits, above);
-  least = λ from to other row below valid above. least_non_null context from to other row above;
-  valid = tt;
-}
-
 pub ref_non_null : (context : BodyContext) (reference : RefType) (nullable : Bool) → nullable ≡ not context.features.function_references
     → IsSlotValid context (Value (Ref reference))
     → IsLeastOf context (HasNonNull context) (Value (Ref reference))
@@ -133,17 +113,6 @@ ref_non_null context reference nullable is valid = record {
       non_null_least context reference nullable is from to other row below other_valid above;
   valid = (valid.0, record { heap_type = valid.1.heap_type; nullable = λ n. true_from_not context.features.function_references (sym is ∙ n) });
 }
-
-pub number_not_non_null : (context : BodyContext) (value : ValType) → ((reference : RefType) → value ≡ Ref reference → ⊥)
-    → HasNoneOf context (HasNonNull context) (Value value)
-number_not_non_null context value never from to other row fits other_valid above =
-    elim row [
-      | inl named ↦
-          let (heap_type, valid, is, also) = named in
-          not_below_reference context value never (record { nullable = true; heap_type = heap_type })
-          (subst (λ s. IsBelow context.types (Value value) s) is fits)
-      | inr some ↦ absurd (subst (λ s. IsBelow context.types (Value value) s) some.0 fits)
-    ]
 
 -- references to a heap type, shared or not
 pub either_read : (context : BodyContext) (ty : AbstractHeapType) (top : Slot) → FitsEither context.types ty top

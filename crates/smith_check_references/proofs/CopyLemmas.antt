@@ -32,13 +32,13 @@ pub part_of : {A : Type 0} (P : A → Type 0) (xs : List A) (n m : ℕ) → All 
 part_of P xs n m all = All-take P n (drop m xs) (All-drop P m xs all)
 
 -- values that fit copies of one type
-pub fit_copies : (types : List SubType) (slots : List Slot) (value : ValType) (count : ℕ) → length slots ≡ count
+fit_copies : (types : List SubType) (slots : List Slot) (value : ValType) (count : ℕ) → length slots ≡ count
     → Each (λ slot. IsBelow types slot (Value value)) slots → AreFit types slots (replicate count value)
 fit_copies types [] value count is all = subst (λ n. AreFit types [] (replicate n value)) is tt
 fit_copies types (s ∷ ss) value count is (first, all) =
     subst (λ n. AreFit types (s ∷ ss) (replicate n value)) is (first, fit_copies types ss value (length ss) refl all)
 
-pub copies_fit : (types : List SubType) (slots : List Slot) (value : ValType) (count : ℕ) → length slots ≡ count
+copies_fit : (types : List SubType) (slots : List Slot) (value : ValType) (count : ℕ) → length slots ≡ count
     → AreFit types slots (replicate count value) → Each (λ slot. IsBelow types slot (Value value)) slots
 copies_fit types [] value count is fit = tt
 copies_fit types (s ∷ ss) value count is fit =
@@ -47,7 +47,7 @@ copies_fit types (s ∷ ss) value count is fit =
     (parts.0, copies_fit types ss value (length ss) refl parts.1)
 
 -- the last of copies are fewer copies
-pub last_copies : (n k count : ℕ) (value : ValType) → n + k ≡ count
+last_copies : (n k count : ℕ) (value : ValType) → n + k ≡ count
     → take (length (replicate count value) - n) (drop n (replicate count value)) ≡ replicate k value
 last_copies n k count value is =
     ap (λ vs. take (length (replicate count value) - n) vs) (drop-replicate n count value)

@@ -1,8 +1,8 @@
 -- What is above a heap type is below the top of its hierarchy.
 use Rattle.std.proofs.Common.{rules, ◌≡◌, ℕ, List, get_or, refl, sym, ap, ◌∙◌, subst, arith}
-use Rattle.std.specs.Prelude.{◌<◌, length, Bool, true, IsTrue, All, Some, slice_get}
+use Rattle.std.specs.Prelude.{◌<◌, length, Bool, true, IsTrue, Some, slice_get}
 use Rattle.std.proofs.lemmas.Option.{same_Some, slice_get_within, slice_get-get_or}
-use Rattle.smith_syntax.specs.Kinds.{kind, bottom, kind_of, bottom_of, shared}
+use Rattle.smith_syntax.specs.Kinds.{kind, kind_of, bottom_of, shared}
 use Rattle.smith_syntax.specs.declared.composite_type.CompositeInnerType.{CompositeInnerType}
 use Rattle.smith_syntax.specs.declared.composite_type.CompositeInnerType.TheVariants as inner
 use Rattle.smith_syntax.specs.declared.composite_type.SubType.{SubType}
@@ -13,11 +13,10 @@ use Rattle.smith_syntax.specs.declared.value_type.HeapType.TheVariants.{Abstract
 use Rattle.smith_syntax.specs.declared.value_type.RefType.{RefType}
 use Rattle.smith_types.specs.Entities.{IsFuncTypeIndex}
 use Rattle.smith_types.specs.Flags.{IsAbstractEnabled, IsInnerEnabled, IsSubTypeEnabled}
-use Rattle.smith_types.specs.Subtyping.{IsStep, is_abstract_step, is_abstract_below, IsBelow, IsRefBelow, itself, by_step, IsInRange}
+use Rattle.smith_types.specs.Subtyping.{IsStep, is_abstract_step, is_abstract_below, IsBelow, IsRefBelow, itself, by_step}
 use Rattle.smith_types.specs.Types.{IsOrderly}
-use Rattle.smith_types.proofs.GrowthLemmas.{IsBelow-trans}
 use Rattle.smith_types.proofs.WalkLemmas.{below_from_by_cases, concrete_not_below_exact}
-use Rattle.smith_instr.specs.Contexts.{BodyContext, IsHeapValid, IsRefValid}
+use Rattle.smith_instr.specs.Contexts.{BodyContext, IsHeapValid}
 use Rattle.smith_check_operands.proofs.StepLemmas.{all_at}
 use Rattle.smith_check_operands.specs.Scopes.{IsScope}
 use Rattle.smith_check_references.proofs.OfferLemmas.{own_heap}
@@ -60,15 +59,18 @@ top_along types o (Concrete i) (Concrete j) top (t, at, up) (u, there, is) =
     let inside : i < length types = slice_get_within types i t at in
     let w : SubType = get_or types j t in
     let stands : slice_get types j ≡ Some w = slice_get-get_or types j t (omega arith) in
-    let like = alike w stands in
-    (w, stands, is ∙ ap (λ (v : SubType). Abstract (shared v) (top_kind (kind v))) one ∙ ap (λ q. Abstract q (top_kind (kind t))) like.shared
-    ∙ ap (λ k. Abstract (shared w) (top_kind k)) like.kind)
+    let like = alike w stands in (
+      w,
+      stands,
+      is ∙ ap (λ (v : SubType). Abstract (shared v) (top_kind (kind v))) one ∙ ap (λ q. Abstract q (top_kind (kind t))) like.shared
+          ∙ ap (λ k. Abstract (shared w) (top_kind k)) like.kind,
+    )
 top_along types o (Concrete i) (Exact j) top step is = absurd step
 top_along types o (Exact i) (Abstract r b) top step is = absurd step
 top_along types o (Exact i) (Concrete j) top same (u, there, is) = (u, subst (λ n. slice_get types n ≡ Some u) same there, is)
 top_along types o (Exact i) (Exact j) top step is = absurd step
 
-pub top_above : (types : List SubType) → IsOrderly types → (a b top : HeapType) → IsBelow types a b → IsTop types a top → IsTop types b top
+top_above : (types : List SubType) → IsOrderly types → (a b top : HeapType) → IsBelow types a b → IsTop types a top → IsTop types b top
 top_above types o a b top itself is = is
 top_above types o a c top (by_step {b = b} step below) is = top_above types o b c top below (top_along types o a b top step is)
 

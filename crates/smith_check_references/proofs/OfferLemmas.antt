@@ -1,19 +1,13 @@
 -- What a value counts as where its own type may not be valid.
-use Rattle.std.proofs.Common.{◌≡◌, ℕ, Bool, true, false, List, [], ◌∷◌, refl, sym, ap, ◌∙◌, subst}
+use Rattle.std.proofs.Common.{◌≡◌, Bool, true, false, refl, sym, ◌∙◌, subst}
 use Rattle.std.specs.Prelude.{not, IsTrue, Result, Ok, Err, IfOk}
 use Rattle.smith_bytes.specs.declared.error.Error.{Error}
 use Rattle.std.proofs.lemmas.Bool.{false≢true}
-use Rattle.smith_syntax.specs.declared.composite_type.SubType.{SubType}
-use Rattle.smith_syntax.specs.declared.value_type.AbstractHeapType.{AbstractHeapType}
-use Rattle.smith_syntax.specs.declared.value_type.AbstractHeapType.TheVariants as abstract
 use Rattle.smith_syntax.specs.declared.value_type.HeapType.{HeapType}
-use Rattle.smith_syntax.specs.declared.value_type.HeapType.TheVariants.{Abstract, Concrete, Exact}
 use Rattle.smith_syntax.specs.declared.value_type.RefType.{RefType}
-use Rattle.smith_syntax.specs.declared.value_type.ValType.{ValType}
 use Rattle.smith_syntax.specs.declared.value_type.ValType.TheVariants.{Ref}
 use Rattle.smith_types.specs.Expressions.{reference_to}
-use Rattle.smith_types.specs.Subtyping.{IsBelow as IsHeapBelow, IsRefBelow, IsValBelow, itself}
-use Rattle.smith_types.proofs.GrowthLemmas.{IsBelow-trans}
+use Rattle.smith_types.specs.Subtyping.{IsRefBelow, itself}
 use Rattle.smith_instr.specs.Contexts.{BodyContext, IsValid, IsHeapValid, IsRefValid}
 use Rattle.smith_instr.proofs.AmongLemmas.{true_from_not}
 use Rattle.smith_check_rules.specs.Slots.{IsBelow, IsSlotValid}

@@ -10,12 +10,11 @@ use Rattle.smith_instr.specs.Contexts.{BodyContext, To}
 use Rattle.smith_instr.specs.InstrTypes.{HasInstrType}
 use Rattle.smith_instr.specs.declared.instr.Instr.{Instr}
 use Rattle.smith_check_rules.specs.Slots.{IsBelow, AreBelow, IsSlotValid, AreSlotsValid, values}
-use Rattle.smith_check_rules.specs.Sequences.{stacked, IsFramed}
 use Rattle.smith_check_rules.specs.StackTypes.{HasValueType, HasStackType}
 use Rattle.smith_check_rules.specs.declared.slot.Slot.{Slot}
 use Rattle.smith_check_rules.specs.declared.slot.Slot.TheVariants.{Value}
-use Rattle.smith_check_operands.specs.Applies.{Applies, HasOnly, IsTaken, IsTried}
-use Rattle.smith_check_operands.specs.Closes.{with_labels, StepsNowhere}
+use Rattle.smith_check_operands.specs.Applies.{Applies, HasOnly, IsTried}
+use Rattle.smith_check_operands.specs.Closes.{with_labels}
 use Rattle.smith_check_operands.specs.Covers.{Held, holding, Covers, Pops, PopsNothing, Pushes, Tops, TopsNothing}
 use Rattle.smith_check_operands.proofs.ApplyLemmas.{applied}
 use Rattle.smith_check_operands.proofs.BelowLemmas.{below_refl, below_trans, below_all, below_themselves}
@@ -90,7 +89,7 @@ popped_given context operands value old middle new (Ok false) pops never = ungiv
 popped_given context operands value old middle new (Err e) pops given = tt
 
 -- an instruction with widest operands steps as these apply
-pub steps_widest : (context : BodyContext) (labels : List (List ValType)) (x : Instr) (set : List ℕ) (operands results : List Slot)
+steps_widest : (context : BodyContext) (labels : List (List ValType)) (x : Instr) (set : List ℕ) (operands results : List Slot)
     (there : Bool) (old new : Held) → HasWidest (with_labels context labels) set x operands results
     → IsApplied context operands results there old new → IsTried context labels x set there old new
 steps_widest context labels x set operands results true old new has applies = record {
@@ -251,7 +250,7 @@ none_fits context Row top old middle tops never from to before after row c f =
     (All-head (IsSlotValid context) slot [] (subst (λ xs. AreSlotsValid context xs) also f.offered.valid)) counts
 
 -- an instruction of one operand and one result, tried
-pub steps_one : (context : BodyContext) (labels : List (List ValType)) (x : Instr) (set : List ℕ) (Row : Slot → Slot → Type 0)
+steps_one : (context : BodyContext) (labels : List (List ValType)) (x : Instr) (set : List ℕ) (Row : Slot → Slot → Type 0)
     (there : Bool) (old new : Held) → HasRow (with_labels context labels) set x Row → IsOneApplied context Row there old new
     → IsTried context labels x set there old new
 steps_one context labels x set Row true old new has applies = record {

@@ -1,5 +1,5 @@
 -- What a value counts as where its own type may not be valid.
-use Rattle.std.specs.Prelude.{Bool, MatchBool, List, [], ◌∷◌}
+use Rattle.std.specs.Prelude.{Bool, MatchBool, [], ◌∷◌}
 use Rattle.smith_syntax.specs.declared.value_type.HeapType.{HeapType}
 use Rattle.smith_syntax.specs.declared.value_type.ValType.{ValType}
 use Rattle.smith_types.specs.Subtyping.{IsBelow as IsHeapBelow}

@@ -1,4 +1,3 @@
-
 use Rattle.smith_check_references.proofs.arrays.aggregate.Goals as goal
 
 pub returns-in-StructNew-clause-ok : goal.returns-in-StructNew-clause-ok

@@ -16,8 +16,10 @@ use Rattle.smith_check_references.proofs.arrays.array_copy.Goals as goal
 
 pub apply-requires-clause-expected : goal.apply-requires-clause-expected
 apply-requires-clause-expected c = ranges_as c.args.scope.now.types.now.types (c.nullable_at-target.result ∷ I32 ∷ c.nullable_at-source.result ∷ I32 ∷ I32 ∷ []) (nullable_to (Concrete c.args.to) ∷ I32 ∷ nullable_to (Concrete c.args.from) ∷ I32 ∷ I32 ∷ [])
-    (cc (c.nullable_at-target.ensures, c.nullable_at-source.ensures)) (array_inside c.args.scope.now.types.now.types c.args.to c.in-Some.into c.in-Some.ensures.0,
-    (tt, (array_inside c.args.scope.now.types.now.types c.args.from c.in-Some-array_at.out c.in-Some-array_at.ensures, (tt, (tt, tt)))))
+    (cc (c.nullable_at-target.ensures, c.nullable_at-source.ensures)) (
+      array_inside c.args.scope.now.types.now.types c.args.to c.in-Some.into c.in-Some.ensures.0,
+      (tt, (array_inside c.args.scope.now.types.now.types c.args.from c.in-Some-array_at.out c.in-Some-array_at.ensures, (tt, (tt, tt)))),
+    )
 
 pub storage_matches-requires-clause-lower : goal.storage_matches-requires-clause-lower
 storage_matches-requires-clause-lower c = element_in_range (bare c.args.scope.now) c.args.from c.in-Some-array_at.out c.requires.scope c.in-Some-array_at.ensures
@@ -48,8 +50,14 @@ pub returns-clause-ok : goal.returns-clause-ok
 returns-clause-ok c = λ labels set.
     tried_values (bare c.args.scope.now) labels (instr.Aggregate (aggregate.ArrayCopy c.args.to c.args.from)) set (nullable_to (Concrete c.args.to) ∷ I32 ∷ nullable_to (Concrete c.args.from) ∷ I32 ∷ I32 ∷ [])
     [] (c.nullable_at-target.result ∷ I32 ∷ c.nullable_at-source.result ∷ I32 ∷ I32 ∷ []) [] (held c.args.operands.now) _ c.apply.result
-    (λ os rs t. t) (λ os rs t. t)
-    (c.in-Some.into, c.in-Some-array_at.out, c.in-Some.ensures.0, c.in-Some-array_at.ensures, c.in-Some.ensures.1,
-    c.storage_matches.ensures.0 c.if-not-storage_matches.false, (refl, refl))
+    (λ os rs t. t) (λ os rs t. t) (
+      c.in-Some.into,
+      c.in-Some-array_at.out,
+      c.in-Some.ensures.0,
+      c.in-Some-array_at.ensures,
+      c.in-Some.ensures.1,
+      c.storage_matches.ensures.0 c.if-not-storage_matches.false,
+      (refl, refl),
+    )
     (λ os rs t. t.6)
     (cc (c.nullable_at-target.ensures, c.nullable_at-source.ensures)) refl c.apply.ensures.ok

@@ -12,7 +12,8 @@ use Rattle.smith_check_operands.specs.Scopes.{bare}
 use Rattle.smith_check_references.proofs.RowLemmas.{tried_row}
 use Rattle.smith_check_references.proofs.TableLemmas.{ranges_as}
 use Rattle.smith_check_references.proofs.AggregateLemmas.{array_same}
-use Rattle.smith_check_references.proofs.AggregateLemmas.{default_is, is_default}
+use Rattle.smith_check_references.proofs.AggregateLemmas.{default_is}
+use Rattle.smith_types.proofs.GroundedLemmas.{default_for}
 use Rattle.smith_check_references.proofs.arrays.array_new_default.Goals as goal
 
 pub create-requires-clause-expected : goal.create-requires-clause-expected
@@ -39,9 +40,12 @@ pub returns-clause-ok : goal.returns-clause-ok
 returns-clause-ok c = λ labels set.
     tried_row (bare c.args.scope.now) labels (instr.Aggregate (aggregate.ArrayNewDefault c.args.ty)) set (I32 ∷ [])
     (created_reference (bare c.args.scope.now) c.args.ty ∷ []) (I32 ∷ []) (held c.args.operands.now) _ c.create.result
-    (λ os rs t. t) (λ os rs t. t)
-    (c.in-Some.element, c.in-Some.ensures,
-    subst IsDefaultable c.unpack-value.ensures (is_default c.unpack-value.result (sym c.is_defaultable.ensures ∙ c.if-not-is_defaultable.false)), (refl, refl))
+    (λ os rs t. t) (λ os rs t. t) (
+      c.in-Some.element,
+      c.in-Some.ensures,
+      subst IsDefaultable c.unpack-value.ensures (default_for c.unpack-value.result (sym c.is_defaultable.ensures ∙ c.if-not-is_defaultable.false)),
+      (refl, refl),
+    )
     (λ os rs t. let (other, at, default, fits) = t in subst (λ (e : FieldType). To os rs (I32 ∷ []) (created_reference (bare c.args.scope.now) c.args.ty ∷ []))
     (array_same c.args.scope.now.types.now.types c.args.ty other c.in-Some.element at c.in-Some.ensures) fits)
     refl c.create.ensures.ok

@@ -1,4 +1,3 @@
-
 use Rattle.smith_check_references.proofs.lookups.field_at.Goals as goal
 
 pub returns-in-None : goal.returns-in-None

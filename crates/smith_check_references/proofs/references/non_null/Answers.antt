@@ -13,7 +13,8 @@ use Rattle.smith_check_references.proofs.references.non_null.Goals as goal
 pub returns-in-Value-Ref : goal.returns-in-Value-Ref
 returns-in-Value-Ref c =
     let reference = c.in-Value-Ref.reference in
-    let same : c.args.top ≡ Value (Ref c.in-Value-Ref.reference) = c.in-Value-Ref.is ∙ ap (λ (v : ValType). Value v) c.in-Value-Ref.field-0-is in
+    let inside : c.in-Value-Ref.field-0 ≡ Ref c.in-Value-Ref.reference = rw c.in-Value-Ref.is at c.in-Value-Ref.field-0-is in
+    let same : c.args.top ≡ Value (Ref c.in-Value-Ref.reference) = c.in-Value-Ref.is ∙ ap (λ (v : ValType). Value v) inside in
     subst (λ s. IsLeastOf (bare c.args.scope.now) (HasNonNull (bare c.args.scope.now)) s
     (Value (Ref (record { nullable = not c.contains.result; heap_type = reference.heap_type })))) (sym same)
     (ref_non_null (bare c.args.scope.now) reference (not c.contains.result) (ap (λ b. not b) c.contains.ensures)

@@ -1,4 +1,3 @@
-
 use Rattle.smith_check_references.proofs.references.reference.Goals as goal
 
 pub returns-in-Null-clause-ok : goal.returns-in-Null-clause-ok

@@ -37,9 +37,12 @@ pub returns-clause-ok : goal.returns-clause-ok
 returns-clause-ok c = λ labels set.
     tried_row (bare c.args.scope.now) labels (instr.Aggregate (aggregate.StructNewDefault c.args.ty)) set ([])
     (created_reference (bare c.args.scope.now) c.args.ty ∷ []) ([]) (held c.args.operands.now) _ c.create.result
-    (λ os rs t. t) (λ os rs t. t)
-    (c.in-Some.fields.now, c.in-Some.ensures,
-    are_defaults c.in-Some.fields.now (sym c.are_defaultable.ensures ∙ c.if-not-are_defaultable.false), (refl, refl))
+    (λ os rs t. t) (λ os rs t. t) (
+      c.in-Some.fields.now,
+      c.in-Some.ensures,
+      are_defaults c.in-Some.fields.now (sym c.are_defaultable.ensures ∙ c.if-not-are_defaultable.false),
+      (refl, refl),
+    )
     (λ os rs t. let (other, at, default, fits) = t in subst (λ (fs : List FieldType). To os rs [] (created_reference (bare c.args.scope.now) c.args.ty ∷ []))
     (struct_same c.args.scope.now.types.now.types c.args.ty other c.in-Some.fields.now at c.in-Some.ensures) fits)
     refl c.create.ensures.ok

@@ -1,4 +1,3 @@
-
 use Rattle.smith_check_references.proofs.tables.table.Goals as goal
 
 pub returns-in-Get-clause-ok : goal.returns-in-Get-clause-ok

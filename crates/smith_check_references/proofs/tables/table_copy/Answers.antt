@@ -25,10 +25,13 @@ ref_type_is_sub_type-requires-clause-upper c = table_in_range (bare c.args.scope
 
 pub apply-requires-clause-expected : goal.apply-requires-clause-expected
 apply-requires-clause-expected c =
-    each_in_range c.args.scope.now.types.now.types (c.address_type-target.result ∷ c.address_type.result ∷ c.narrower_type-count.result ∷ [])
-    (subst (λ v. IsValInRange c.args.scope.now.types.now.types v) (sym c.address_type-target.ensures) (address_in_range c.args.scope.now.types.now.types c.in-Some.into.table64),
-    (subst (λ v. IsValInRange c.args.scope.now.types.now.types v) (sym c.address_type.ensures) (address_in_range c.args.scope.now.types.now.types c.in-Some-table_at.out.table64),
-    (subst (λ v. IsValInRange c.args.scope.now.types.now.types v) (sym c.narrower_type-count.ensures) (narrower_in_range c.args.scope.now.types.now.types c.in-Some.into.table64 c.in-Some-table_at.out.table64), tt)))
+    each_in_range c.args.scope.now.types.now.types (c.address_type-target.result ∷ c.address_type.result ∷ c.narrower_type-count.result ∷ []) (
+      subst (λ v. IsValInRange c.args.scope.now.types.now.types v) (sym c.address_type-target.ensures) (address_in_range c.args.scope.now.types.now.types c.in-Some.into.table64),
+      (
+        subst (λ v. IsValInRange c.args.scope.now.types.now.types v) (sym c.address_type.ensures) (address_in_range c.args.scope.now.types.now.types c.in-Some-table_at.out.table64),
+        (subst (λ v. IsValInRange c.args.scope.now.types.now.types v) (sym c.narrower_type-count.ensures) (narrower_in_range c.args.scope.now.types.now.types c.in-Some.into.table64 c.in-Some-table_at.out.table64), tt),
+      ),
+    )
 
 pub returns-then-not-ref_type_is_sub_type-clause-ok : goal.returns-then-not-ref_type_is_sub_type-clause-ok
 returns-then-not-ref_type_is_sub_type-clause-ok c = λ labels set before after covered s.
@@ -46,9 +49,14 @@ returns-clause-ok c = λ labels set.
     tried_values (bare c.args.scope.now) labels (instr.Table (table.Copy c.args.to c.args.from)) set
     (address into.table64 ∷ address out.table64 ∷ narrower into.table64 out.table64 ∷ []) []
     (c.address_type-target.result ∷ c.address_type.result ∷ c.narrower_type-count.result ∷ []) [] (held c.args.operands.now) _ c.apply.result
-    (λ os rs t. t) (λ os rs t. t)
-    (into, out, sym c.in-Some.ensures, sym c.in-Some-table_at.ensures, c.ref_type_is_sub_type.ensures.0 c.if-not-ref_type_is_sub_type.false,
-    (refl, refl))
+    (λ os rs t. t) (λ os rs t. t) (
+      into,
+      out,
+      sym c.in-Some.ensures,
+      sym c.in-Some-table_at.ensures,
+      c.ref_type_is_sub_type.ensures.0 c.if-not-ref_type_is_sub_type.false,
+      (refl, refl),
+    )
     (λ os rs t. let (target, source, at, there, below, fits) = t in
     subst (λ (m : TableType). To os rs (address into.table64 ∷ address m.table64 ∷ narrower into.table64 m.table64 ∷ []) [])
     (some_same source out (sym there ∙ sym c.in-Some-table_at.ensures))

@@ -43,9 +43,14 @@ pub returns-clause-ok : goal.returns-clause-ok
 returns-clause-ok c = λ labels set.
     let found = c.in-Some.table in
     tried_values (bare c.args.scope.now) labels (instr.Table (table.Init c.args.index c.args.segment)) set (address found.table64 ∷ I32 ∷ I32 ∷ []) []
-    (c.address_type-address.result ∷ I32 ∷ I32 ∷ []) [] (held c.args.operands.now) _ c.apply.result (λ os rs t. t) (λ os rs t. t)
-    (found, c.in-Some-elem_at.held, sym c.in-Some.ensures, sym c.in-Some-elem_at.ensures,
-    c.ref_type_is_sub_type.ensures.0 c.if-not-ref_type_is_sub_type.false, (refl, refl))
+    (c.address_type-address.result ∷ I32 ∷ I32 ∷ []) [] (held c.args.operands.now) _ c.apply.result (λ os rs t. t) (λ os rs t. t) (
+      found,
+      c.in-Some-elem_at.held,
+      sym c.in-Some.ensures,
+      sym c.in-Some-elem_at.ensures,
+      c.ref_type_is_sub_type.ensures.0 c.if-not-ref_type_is_sub_type.false,
+      (refl, refl),
+    )
     (λ os rs t. let (other, from, at, there, below, fits) = t in
     subst (λ (m : TableType). To os rs (address m.table64 ∷ I32 ∷ I32 ∷ []) [])
     (some_same other found (sym at ∙ sym c.in-Some.ensures)) fits)
