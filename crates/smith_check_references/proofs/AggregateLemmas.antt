@@ -49,7 +49,8 @@ struct_same types index es fs (t, at, is) (u, there, also) =
     let structures : one ≡ other = cc in
     ap (λ (s : StructType). s.fields) structures
 
-pub field_same : (context : BodyContext) (ty index : ℕ) (f g : FieldType) → IsFieldAt context ty index f → IsFieldAt context ty index g → f ≡ g
+pub field_same : (context : BodyContext) (ty index : ℕ) (f g : FieldType) → IsFieldAt context ty index f → IsFieldAt context ty index g
+    → f ≡ g
 field_same context ty index f g a b =
     let same : a.fields ≡ b.fields = struct_same context.types ty a.fields b.fields a.structure b.structure in
     same_Some f g (sym (subst (λ fs. slice_get fs index ≡ Some f) same a.there) ∙ b.there)
@@ -116,7 +117,8 @@ field_valid context ty index field scope at =
     all_at (λ (f : FieldType). IsValid context (value_of f)) at.fields index field (struct_valid context ty at.fields scope at.structure)
     at.there
 
-storage_in_range : (context : BodyContext) (stored : StorageType) → IsValid context (unpacked stored) → IsStorageInRange context.types stored
+storage_in_range : (context : BodyContext) (stored : StorageType) → IsValid context (unpacked stored)
+    → IsStorageInRange context.types stored
 storage_in_range context storage.I8 valid = tt
 storage_in_range context storage.I16 valid = tt
 storage_in_range context (storage.Val value) valid = in_range context value valid

@@ -64,17 +64,6 @@ pub ref_read : (context : BodyContext) (reference : RefType) → IsSlotValid con
 ref_read context reference valid =
     any_read context (Value (Ref reference)) reference.heap_type valid.1.heap_type (record { heap = itself; nullable = λ n. refl })
 
-least_non_null : (context : BodyContext) (from to other : Slot) → HasNonNull context from to → IsBelow context.types to other
-    → IsBelow context.types SomeRef other
-least_non_null context from to other row above =
-    elim row [
-      | inl named ↦
-          let (heap_type, valid, is, also) = named in
-          below_trans context.types SomeRef (Value (reference_to heap_type)) other tt
-          (subst (λ s. IsBelow context.types s other) also above)
-      | inr some ↦ subst (λ s. IsBelow context.types s other) some.1 above
-    ]
-
 non_null_least : (context : BodyContext) (reference : RefType) (nullable : Bool) → nullable ≡ not context.features.function_references
     → (from to other : Slot) → HasNonNull context from to → IsBelow context.types (Value (Ref reference)) from → IsSlotValid context other
     → IsBelow context.types to other
@@ -111,7 +100,14 @@ ref_non_null context reference nullable is valid = record {
   );
   least = λ from to other row below other_valid above.
       non_null_least context reference nullable is from to other row below other_valid above;
-  valid = (valid.0, record { heap_type = valid.1.heap_type; nullable = λ n. true_from_not context.features.function_references (sym is ∙ n) });
+  valid = (
+    valid.0,
+    record {
+      heap_type = valid.1.heap_type;
+      nullable = λ n. true_from_not context.features.function_references
+          (sym is ∙ n);
+    },
+  );
 }
 
 -- references to a heap type, shared or not
@@ -159,8 +155,13 @@ pub is_null_row : (context : BodyContext) (labels : List (List ValType)) (set : 
     → HasRow (with_labels context labels) set (instr.Reference reference.IsNull) (ReadsAny context)
 is_null_row context labels set = record {
   typed = λ from to row.
-      let ((heap_type, valid, is), also) = row in
-      (nullable_to heap_type ∷ [], I32 ∷ [], (heap_type, valid, (refl, refl)), ap (λ (v : Slot). v ∷ []) is, ap (λ (v : Slot). v ∷ []) also);
+      let ((heap_type, valid, is), also) = row in (
+        nullable_to heap_type ∷ [],
+        I32 ∷ [],
+        (heap_type, valid, (refl, refl)),
+        ap (λ (v : Slot). v ∷ []) is,
+        ap (λ (v : Slot). v ∷ []) also,
+      );
   only = λ os rs t.
       let (these, those, (heap_type, valid, (one, other)), is, also) = t in (
         Value (nullable_to heap_type),

@@ -2,7 +2,8 @@
 use Rattle.std.proofs.Common.{◌≡◌, ◌+◌, ◌≤◌, ◌-◌, ℕ, Bool, true, List, [], ◌∷◌, length, take, drop, refl, sym, ap, ◌∙◌, subst, arith}
 use Rattle.std.specs.Prelude.{All, replicate}
 use Rattle.std.specs.List.{AllByRecursion as Each}
-use Rattle.std.proofs.lemmas.List.{take-map, drop-map, length-map, take-replicate, drop-replicate, length-replicate, length-take, length-drop}
+use Rattle.std.proofs.lemmas.List.{take-map, drop-map, length-map, take-replicate, drop-replicate, length-replicate, length-take}
+use Rattle.std.proofs.lemmas.List.{length-drop}
 use Rattle.std.proofs.lemmas.List.Elements.{All-take, All-drop}
 use Rattle.smith_syntax.specs.declared.composite_type.FieldType.{FieldType}
 use Rattle.smith_syntax.specs.declared.composite_type.SubType.{SubType}

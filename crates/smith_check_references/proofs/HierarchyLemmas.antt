@@ -176,12 +176,14 @@ func_least : (context : BodyContext) → IsOrderly context.types → (i : ℕ) (
     → (IsTrue context.features.gc → ⊥) → IsTop context.types (Concrete i) (Abstract q abstract.Func) → IsHeapValid context other
     → IsBelow context.types (Concrete i) other → IsBelow context.types (Abstract q abstract.Func) other
 func_least context o i q (Abstract r b) none is valid below =
-    let there : Abstract q abstract.Func ≡ Abstract r (top_kind b) = top_above context.types o (Concrete i) (Abstract r b) (Abstract q abstract.Func) below is
+    let there : Abstract q abstract.Func ≡ Abstract r (top_kind b) = top_above context.types o (Concrete i) (Abstract r b)
+    (Abstract q abstract.Func) below is
     in
     let kinds : top_kind b ≡ abstract.Func = cc in
     let one : b ≡ abstract.Func = only_func context b none valid.0 kinds in
     let shares : q ≡ r = cc in
-    subst (λ h. IsBelow context.types (Abstract q abstract.Func) h) (ap (λ k. Abstract q k) (sym one) ∙ ap (λ p. Abstract p b) shares) itself
+    subst (λ h. IsBelow context.types (Abstract q abstract.Func) h) (ap (λ k. Abstract q k) (sym one) ∙ ap (λ p. Abstract p b) shares)
+    itself
 func_least context o i q (Concrete j) none is valid below = absurd (none valid.0)
 func_least context o i q (Exact j) none is valid below = absurd (concrete_not_below_exact context.types i j below)
 
@@ -190,7 +192,8 @@ pub function_offer : (context : BodyContext) (i : ℕ) (top : HeapType) → IsSc
     → IsHeapOffer context (Concrete i) top
 function_offer context i top scope o (function, (u, there, of)) none (t, at, is) =
     let same : u ≡ t = same_Some u t (sym there ∙ at) in
-    let kinds : top_kind (kind t) ≡ abstract.Func = ap (λ (v : SubType). top_kind (kind v)) (sym same) ∙ ap (λ x. top_kind (kind_of x)) of in
+    let kinds : top_kind (kind t) ≡ abstract.Func = ap (λ (v : SubType). top_kind (kind v)) (sym same) ∙ ap (λ x. top_kind (kind_of x))
+    of in
     let whole : top ≡ Abstract (shared t) abstract.Func = is ∙ ap (λ k. Abstract (shared t) k) kinds in
     let enabled = all_at (IsSubTypeEnabled context.features) context.types i t scope.enabled at in
     record {

@@ -22,7 +22,8 @@ use Rattle.smith_check_operands.proofs.CoverLemmas.{push_all}
 use Rattle.smith_check_operands.proofs.PushLemmas.{single}
 use Rattle.smith_check_operands.proofs.StepLemmas.{has_only, single_above}
 use Rattle.smith_check_references.specs.Offers.{HasNoOffer, IsGiven}
-use Rattle.smith_check_references.specs.Rows.{AppliesNowhere, IsApplied, HasWidest, HasRow, IsLeastOf, HasNoneOf, AppliesOne, AppliesOneNowhere}
+use Rattle.smith_check_references.specs.Rows.{AppliesNowhere, IsApplied, HasWidest, HasRow, IsLeastOf, HasNoneOf, AppliesOne}
+use Rattle.smith_check_references.specs.Rows.{AppliesOneNowhere}
 use Rattle.smith_check_references.specs.Rows.{IsOneApplied}
 
 -- operands that are not there

@@ -15,17 +15,21 @@ use Rattle.smith_types.specs.Matching.{IsStorageMatch}
 use Rattle.smith_check_references.proofs.arrays.array_copy.Goals as goal
 
 pub apply-requires-clause-expected : goal.apply-requires-clause-expected
-apply-requires-clause-expected c = ranges_as c.args.scope.now.types.now.types (c.nullable_at-target.result ∷ I32 ∷ c.nullable_at-source.result ∷ I32 ∷ I32 ∷ []) (nullable_to (Concrete c.args.to) ∷ I32 ∷ nullable_to (Concrete c.args.from) ∷ I32 ∷ I32 ∷ [])
+apply-requires-clause-expected c = ranges_as c.args.scope.now.types.now.types
+    (c.nullable_at-target.result ∷ I32 ∷ c.nullable_at-source.result ∷ I32 ∷ I32 ∷ []) (nullable_to (Concrete c.args.to) ∷ I32 ∷ nullable_to
+    (Concrete c.args.from) ∷ I32 ∷ I32 ∷ [])
     (cc (c.nullable_at-target.ensures, c.nullable_at-source.ensures)) (
       array_inside c.args.scope.now.types.now.types c.args.to c.in-Some.into c.in-Some.ensures.0,
       (tt, (array_inside c.args.scope.now.types.now.types c.args.from c.in-Some-array_at.out c.in-Some-array_at.ensures, (tt, (tt, tt)))),
     )
 
 pub storage_matches-requires-clause-lower : goal.storage_matches-requires-clause-lower
-storage_matches-requires-clause-lower c = element_in_range (bare c.args.scope.now) c.args.from c.in-Some-array_at.out c.requires.scope c.in-Some-array_at.ensures
+storage_matches-requires-clause-lower c = element_in_range (bare c.args.scope.now) c.args.from c.in-Some-array_at.out c.requires.scope
+    c.in-Some-array_at.ensures
 
 pub storage_matches-requires-clause-upper : goal.storage_matches-requires-clause-upper
-storage_matches-requires-clause-upper c = element_in_range (bare c.args.scope.now) c.args.to c.in-Some.into c.requires.scope c.in-Some.ensures.0
+storage_matches-requires-clause-upper c = element_in_range (bare c.args.scope.now) c.args.to c.in-Some.into c.requires.scope
+    c.in-Some.ensures.0
 
 pub returns-in_default-clause-ok : goal.returns-in_default-clause-ok
 returns-in_default-clause-ok c = λ labels set before after covered s.
@@ -48,7 +52,8 @@ returns-then-not-storage_matches-clause-ok c = λ labels set before after covere
 
 pub returns-clause-ok : goal.returns-clause-ok
 returns-clause-ok c = λ labels set.
-    tried_values (bare c.args.scope.now) labels (instr.Aggregate (aggregate.ArrayCopy c.args.to c.args.from)) set (nullable_to (Concrete c.args.to) ∷ I32 ∷ nullable_to (Concrete c.args.from) ∷ I32 ∷ I32 ∷ [])
+    tried_values (bare c.args.scope.now) labels (instr.Aggregate (aggregate.ArrayCopy c.args.to c.args.from)) set
+    (nullable_to (Concrete c.args.to) ∷ I32 ∷ nullable_to (Concrete c.args.from) ∷ I32 ∷ I32 ∷ [])
     [] (c.nullable_at-target.result ∷ I32 ∷ c.nullable_at-source.result ∷ I32 ∷ I32 ∷ []) [] (held c.args.operands.now) _ c.apply.result
     (λ os rs t. t) (λ os rs t. t) (
       c.in-Some.into,

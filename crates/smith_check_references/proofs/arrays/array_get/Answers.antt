@@ -16,12 +16,15 @@ use Rattle.smith_check_references.proofs.AggregateLemmas.{array_same, array_vali
 use Rattle.smith_check_references.proofs.arrays.array_get.Goals as goal
 
 pub apply-requires-clause-expected : goal.apply-requires-clause-expected
-apply-requires-clause-expected c = ranges_as c.args.scope.now.types.now.types (c.nullable_at.result ∷ I32 ∷ []) (nullable_to (Concrete c.args.ty) ∷ I32 ∷ [])
-    (ap (λ (v : ValType). v ∷ I32 ∷ []) c.nullable_at.ensures) ((array_inside c.args.scope.now.types.now.types c.args.ty c.in-Some.element c.in-Some.ensures), (tt, tt))
+apply-requires-clause-expected c = ranges_as c.args.scope.now.types.now.types (c.nullable_at.result ∷ I32 ∷ [])
+    (nullable_to (Concrete c.args.ty) ∷ I32 ∷ [])
+    (ap (λ (v : ValType). v ∷ I32 ∷ []) c.nullable_at.ensures)
+    ((array_inside c.args.scope.now.types.now.types c.args.ty c.in-Some.element c.in-Some.ensures), (tt, tt))
 
 pub apply-requires-clause-valid : goal.apply-requires-clause-valid
 apply-requires-clause-valid c = one_valid (bare c.args.scope.now) c.unpack-value.result
-    (subst (λ v. IsValid (bare c.args.scope.now) v) (sym c.unpack-value.ensures) (array_valid (bare c.args.scope.now) c.args.ty c.in-Some.element c.requires.scope c.in-Some.ensures))
+    (subst (λ v. IsValid (bare c.args.scope.now) v) (sym c.unpack-value.ensures)
+    (array_valid (bare c.args.scope.now) c.args.ty c.in-Some.element c.requires.scope c.in-Some.ensures))
 
 pub returns-in_default-clause-ok : goal.returns-in_default-clause-ok
 returns-in_default-clause-ok c = λ labels set before after covered s.
@@ -37,10 +40,13 @@ returns-then-not-is_read_by-clause-ok c = λ labels set before after covered s.
 
 pub returns-clause-ok : goal.returns-clause-ok
 returns-clause-ok c = λ labels set.
-    tried_values (bare c.args.scope.now) labels (instr.Aggregate (aggregate.ArrayGet c.args.ty c.args.extension)) set (nullable_to (Concrete c.args.ty) ∷ I32 ∷ [])
-    (value_of c.in-Some.element ∷ []) (c.nullable_at.result ∷ I32 ∷ []) (c.unpack-value.result ∷ []) (held c.args.operands.now) _ c.apply.result
+    tried_values (bare c.args.scope.now) labels (instr.Aggregate (aggregate.ArrayGet c.args.ty c.args.extension)) set
+    (nullable_to (Concrete c.args.ty) ∷ I32 ∷ [])
+    (value_of c.in-Some.element ∷ []) (c.nullable_at.result ∷ I32 ∷ []) (c.unpack-value.result ∷ []) (held c.args.operands.now) _
+    c.apply.result
     (λ os rs t. t) (λ os rs t. t)
     (c.in-Some.element, c.in-Some.ensures, c.is_read_by.ensures.0 c.if-not-is_read_by.false, (refl, refl))
-    (λ os rs t. let (other, at, read, fits) = t in subst (λ (e : FieldType). To os rs (nullable_to (Concrete c.args.ty) ∷ I32 ∷ []) (value_of e ∷ []))
+    (λ os rs t. let (other, at, read, fits) = t in
+    subst (λ (e : FieldType). To os rs (nullable_to (Concrete c.args.ty) ∷ I32 ∷ []) (value_of e ∷ []))
     (array_same c.args.scope.now.types.now.types c.args.ty other c.in-Some.element at c.in-Some.ensures) fits)
     (ap (λ (v : ValType). v ∷ I32 ∷ []) c.nullable_at.ensures) (ap (λ (v : ValType). v ∷ []) c.unpack-value.ensures) c.apply.ensures.ok

@@ -38,6 +38,7 @@ returns-clause-ok c = λ labels set.
     (created_reference (bare c.args.scope.now) c.args.ty ∷ []) (I32 ∷ I32 ∷ []) (held c.args.operands.now) _ c.create.result
     (λ os rs t. t) (λ os rs t. t)
     (c.in-Some.element, c.in-Some.ensures, c.is_of_bytes.ensures.0 c.if-not-is_of_bytes.false, omega arith, (refl, refl))
-    (λ os rs t. let (other, at, bytes, inside, fits) = t in subst (λ (e : FieldType). To os rs (I32 ∷ I32 ∷ []) (created_reference (bare c.args.scope.now) c.args.ty ∷ []))
+    (λ os rs t. let (other, at, bytes, inside, fits) = t in
+    subst (λ (e : FieldType). To os rs (I32 ∷ I32 ∷ []) (created_reference (bare c.args.scope.now) c.args.ty ∷ []))
     (array_same c.args.scope.now.types.now.types c.args.ty other c.in-Some.element at c.in-Some.ensures) fits)
     refl c.create.ensures.ok

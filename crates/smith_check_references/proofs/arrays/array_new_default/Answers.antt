@@ -43,9 +43,11 @@ returns-clause-ok c = λ labels set.
     (λ os rs t. t) (λ os rs t. t) (
       c.in-Some.element,
       c.in-Some.ensures,
-      subst IsDefaultable c.unpack-value.ensures (default_for c.unpack-value.result (sym c.is_defaultable.ensures ∙ c.if-not-is_defaultable.false)),
+      subst IsDefaultable c.unpack-value.ensures
+          (default_for c.unpack-value.result (sym c.is_defaultable.ensures ∙ c.if-not-is_defaultable.false)),
       (refl, refl),
     )
-    (λ os rs t. let (other, at, default, fits) = t in subst (λ (e : FieldType). To os rs (I32 ∷ []) (created_reference (bare c.args.scope.now) c.args.ty ∷ []))
+    (λ os rs t. let (other, at, default, fits) = t in
+    subst (λ (e : FieldType). To os rs (I32 ∷ []) (created_reference (bare c.args.scope.now) c.args.ty ∷ []))
     (array_same c.args.scope.now.types.now.types c.args.ty other c.in-Some.element at c.in-Some.ensures) fits)
     refl c.create.ensures.ok

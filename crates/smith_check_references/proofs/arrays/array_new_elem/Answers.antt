@@ -33,14 +33,21 @@ returns-then-not-is_elem_of-clause-ok c = λ labels set before after covered s.
     let (these, those, has, is, also) = s.typed in
     let same = array_same c.args.scope.now.types.now.types c.args.ty has.0 c.in-Some.element has.1 c.in-Some.ensures in
     false≢true (sym c.if-not-is_elem_of.true ∙ c.is_elem_of.ensures.1
-    (subst (λ (e : FieldType). IsElemOf (bare c.args.scope.now) c.args.segment e) same (elem_without (bare c.args.scope.now) labels c.args.segment has.0 has.2)))
+    (subst (λ (e : FieldType). IsElemOf (bare c.args.scope.now) c.args.segment e) same
+    (elem_without (bare c.args.scope.now) labels c.args.segment has.0 has.2)))
 
 pub returns-clause-ok : goal.returns-clause-ok
 returns-clause-ok c = λ labels set.
     tried_row (bare c.args.scope.now) labels (instr.Aggregate (aggregate.ArrayNewElem c.args.ty c.args.segment)) set (I32 ∷ I32 ∷ [])
     (created_reference (bare c.args.scope.now) c.args.ty ∷ []) (I32 ∷ I32 ∷ []) (held c.args.operands.now) _ c.create.result
-    (λ os rs t. t) (λ os rs t. t)
-    (c.in-Some.element, c.in-Some.ensures, elem_within (bare c.args.scope.now) labels c.args.segment c.in-Some.element (c.is_elem_of.ensures.0 c.if-not-is_elem_of.false), (refl, refl))
-    (λ os rs t. let (other, at, of, fits) = t in subst (λ (e : FieldType). To os rs (I32 ∷ I32 ∷ []) (created_reference (bare c.args.scope.now) c.args.ty ∷ []))
+    (λ os rs t. t) (λ os rs t. t) (
+      c.in-Some.element,
+      c.in-Some.ensures,
+      elem_within (bare c.args.scope.now) labels c.args.segment c.in-Some.element
+          (c.is_elem_of.ensures.0 c.if-not-is_elem_of.false),
+      (refl, refl),
+    )
+    (λ os rs t. let (other, at, of, fits) = t in
+    subst (λ (e : FieldType). To os rs (I32 ∷ I32 ∷ []) (created_reference (bare c.args.scope.now) c.args.ty ∷ []))
     (array_same c.args.scope.now.types.now.types c.args.ty other c.in-Some.element at c.in-Some.ensures) fits)
     refl c.create.ensures.ok

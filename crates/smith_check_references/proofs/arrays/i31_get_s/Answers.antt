@@ -10,6 +10,8 @@ use Rattle.smith_check_references.proofs.arrays.i31_get_s.Goals as goal
 
 pub returns-clause-ok : goal.returns-clause-ok
 returns-clause-ok c = λ labels set.
-    tried_one (bare c.args.scope.now) labels (instr.Aggregate aggregate.I31GetS) set (ReadsEither abstract.I31) (held c.args.operands.now) _ c.read_either.result
-    (either_row abstract.I31 (bare c.args.scope.now) labels (instr.Aggregate aggregate.I31GetS) set (λ os rs t. t) (λ os rs t. t) (λ os rs t. t) (λ os rs t. t))
+    tried_one (bare c.args.scope.now) labels (instr.Aggregate aggregate.I31GetS) set (ReadsEither abstract.I31) (held c.args.operands.now) _
+    c.read_either.result
+    (either_row abstract.I31 (bare c.args.scope.now) labels (instr.Aggregate aggregate.I31GetS) set (λ os rs t. t) (λ os rs t. t)
+    (λ os rs t. t) (λ os rs t. t))
     c.read_either.ensures.ok

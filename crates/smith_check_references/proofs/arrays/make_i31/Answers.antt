@@ -22,13 +22,18 @@ push_reference-requires-clause-valid c = (c.is_ref_valid.ensures.valid.0 c.if-no
 pub returns-then-not-is_ref_valid-clause-ok : goal.returns-then-not-is_ref_valid-clause-ok
 returns-then-not-is_ref_valid-clause-ok c =
     ungiven (bare c.args.scope.now) (values (I32 ∷ [])) (reference_to (Abstract c.args.shared abstract.I31)) (held c.args.operands.now)
-    (without_heap (bare c.args.scope.now) (Abstract c.args.shared abstract.I31) (λ other valid below. false≢true (sym c.if-not-is_ref_valid.true
+    (without_heap (bare c.args.scope.now) (Abstract c.args.shared abstract.I31)
+    (λ other valid below. false≢true (sym c.if-not-is_ref_valid.true
     ∙ c.is_ref_valid.ensures.valid.1
-    (record { heap_type = i31_from_above (bare c.args.scope.now) c.args.shared other valid below; nullable = λ n. absurd (false≢true (sym n)) }))))
+    (record {
+      heap_type = i31_from_above (bare c.args.scope.now) c.args.shared other valid below;
+      nullable = λ n. absurd (false≢true (sym n));
+    }))))
 
 pub returns-then-not-pop_all-clause-ok : goal.returns-then-not-pop_all-clause-ok
 returns-then-not-pop_all-clause-ok c =
-    unpopped (bare c.args.scope.now) (values (I32 ∷ [])) (values (reference_to (Abstract c.args.shared abstract.I31) ∷ [])) (held c.args.operands.now)
+    unpopped (bare c.args.scope.now) (values (I32 ∷ [])) (values (reference_to (Abstract c.args.shared abstract.I31) ∷ []))
+    (held c.args.operands.now)
     c.if-not-pop_all.ensures
 
 pub returns-clause-ok : goal.returns-clause-ok

@@ -18,13 +18,17 @@ returns-in_default-clause-ok c = none_topped (bare c.args.scope.now) (ReadsEithe
 
 pub returns-then-not-fits_either-clause-ok : goal.returns-then-not-fits_either-clause-ok
 returns-then-not-fits_either-clause-ok c =
-    none_fits (bare c.args.scope.now) (ReadsEither c.args.ty) c.in-Some.top (held c.args.operands.now) (held c.pop.new.self) c.in-Some.ensures
-    (either_not_read (bare c.args.scope.now) c.args.ty c.in-Some.top (λ fits. false≢true (sym c.if-not-fits_either.true ∙ c.fits_either.ensures.1 fits)))
+    none_fits (bare c.args.scope.now) (ReadsEither c.args.ty) c.in-Some.top (held c.args.operands.now) (held c.pop.new.self)
+    c.in-Some.ensures
+    (either_not_read (bare c.args.scope.now) c.args.ty c.in-Some.top
+    (λ fits. false≢true (sym c.if-not-fits_either.true ∙ c.fits_either.ensures.1 fits)))
 
 pub push_all-requires-clause-valid : goal.push_all-requires-clause-valid
 push_all-requires-clause-valid c = one_valid (bare c.args.scope.now) I32 tt
 
 pub returns-clause-ok : goal.returns-clause-ok
 returns-clause-ok c =
-    one_applied (bare c.args.scope.now) (ReadsEither c.args.ty) c.in-Some.top (Value I32) (held c.args.operands.now) (held c.pop.new.self) _ c.in-Some.ensures
-    (either_read (bare c.args.scope.now) c.args.ty c.in-Some.top (c.fits_either.ensures.0 c.if-not-fits_either.false)) c.in_ok-push_all.ensures.ok
+    one_applied (bare c.args.scope.now) (ReadsEither c.args.ty) c.in-Some.top (Value I32) (held c.args.operands.now) (held c.pop.new.self) _
+    c.in-Some.ensures
+    (either_read (bare c.args.scope.now) c.args.ty c.in-Some.top (c.fits_either.ensures.0 c.if-not-fits_either.false))
+    c.in_ok-push_all.ensures.ok

@@ -17,4 +17,5 @@ returns-then-not-is_valid-clause-ok c =
 
 pub returns-clause-ok : goal.returns-clause-ok
 returns-clause-ok c =
-    as_applied (bare c.args.scope.now) (values c.args.expected.now) (values (c.args.given ∷ [])) (held c.args.operands.now) _ c.apply.result c.apply.ensures.ok
+    as_applied (bare c.args.scope.now) (values c.args.expected.now) (values (c.args.given ∷ [])) (held c.args.operands.now) _ c.apply.result
+    c.apply.ensures.ok

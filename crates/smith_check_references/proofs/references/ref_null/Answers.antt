@@ -16,7 +16,8 @@ give-requires-clause-expected c = no_range c.args.scope.now.types.now.types
 
 pub give-requires-clause-itself : goal.give-requires-clause-itself
 give-requires-clause-itself c =
-    only_itself (bare c.args.scope.now) (record { nullable = true; heap_type = c.args.heap_type }) (c.is_ref_valid.ensures.valid.0 c.if-not-is_ref_valid.false)
+    only_itself (bare c.args.scope.now) (record { nullable = true; heap_type = c.args.heap_type })
+    (c.is_ref_valid.ensures.valid.0 c.if-not-is_ref_valid.false)
 
 pub returns-then-not-is_ref_valid-clause-ok : goal.returns-then-not-is_ref_valid-clause-ok
 returns-then-not-is_ref_valid-clause-ok c = λ labels set before after covered s.
@@ -26,6 +27,7 @@ returns-then-not-is_ref_valid-clause-ok c = λ labels set before after covered s
 
 pub returns-clause-ok : goal.returns-clause-ok
 returns-clause-ok c = λ labels set.
-    tried_row (bare c.args.scope.now) labels (instr.Reference (reference.Null c.args.heap_type)) set [] (nullable_to c.args.heap_type ∷ []) [] (held c.args.operands.now) _
+    tried_row (bare c.args.scope.now) labels (instr.Reference (reference.Null c.args.heap_type)) set [] (nullable_to c.args.heap_type ∷ [])
+    [] (held c.args.operands.now) _
     c.give.result (λ os rs t. t) (λ os rs t. t)
     ((c.is_ref_valid.ensures.valid.0 c.if-not-is_ref_valid.false).heap_type, (refl, refl)) (λ os rs t. t.1) refl c.give.ensures.ok

@@ -43,6 +43,7 @@ returns-clause-ok c = λ labels set.
       are_defaults c.in-Some.fields.now (sym c.are_defaultable.ensures ∙ c.if-not-are_defaultable.false),
       (refl, refl),
     )
-    (λ os rs t. let (other, at, default, fits) = t in subst (λ (fs : List FieldType). To os rs [] (created_reference (bare c.args.scope.now) c.args.ty ∷ []))
+    (λ os rs t. let (other, at, default, fits) = t in
+    subst (λ (fs : List FieldType). To os rs [] (created_reference (bare c.args.scope.now) c.args.ty ∷ []))
     (struct_same c.args.scope.now.types.now.types c.args.ty other c.in-Some.fields.now at c.in-Some.ensures) fits)
     refl c.create.ensures.ok

@@ -14,8 +14,17 @@ use Rattle.smith_check_references.proofs.AggregateLemmas.{field_same, field_vali
 use Rattle.smith_check_references.proofs.structs.struct_set.Goals as goal
 
 pub apply-requires-clause-expected : goal.apply-requires-clause-expected
-apply-requires-clause-expected c = ranges_as c.args.scope.now.types.now.types (c.nullable_at.result ∷ c.unpack-value.result ∷ []) (nullable_to (Concrete c.args.ty) ∷ value_of c.in-Some.field ∷ [])
-    (cc (c.nullable_at.ensures, c.unpack-value.ensures)) (field_inside (bare c.args.scope.now) c.args.ty c.args.index c.in-Some.field c.in-Some.ensures.0, (in_range (bare c.args.scope.now) (value_of c.in-Some.field) (field_valid (bare c.args.scope.now) c.args.ty c.args.index c.in-Some.field c.requires.scope c.in-Some.ensures.0), tt))
+apply-requires-clause-expected c = ranges_as c.args.scope.now.types.now.types (c.nullable_at.result ∷ c.unpack-value.result ∷ [])
+    (nullable_to (Concrete c.args.ty) ∷ value_of c.in-Some.field ∷ [])
+    (cc (c.nullable_at.ensures, c.unpack-value.ensures)) (
+      field_inside (bare c.args.scope.now) c.args.ty c.args.index c.in-Some.field
+          c.in-Some.ensures.0,
+      (
+        in_range (bare c.args.scope.now) (value_of c.in-Some.field)
+            (field_valid (bare c.args.scope.now) c.args.ty c.args.index c.in-Some.field c.requires.scope c.in-Some.ensures.0),
+        tt,
+      ),
+    )
 
 pub returns-in_default-clause-ok : goal.returns-in_default-clause-ok
 returns-in_default-clause-ok c = λ labels set before after covered s.
@@ -24,10 +33,17 @@ returns-in_default-clause-ok c = λ labels set before after covered s.
 
 pub returns-clause-ok : goal.returns-clause-ok
 returns-clause-ok c = λ labels set.
-    tried_values (bare c.args.scope.now) labels (instr.Aggregate (aggregate.StructSet c.args.ty c.args.index)) set (nullable_to (Concrete c.args.ty) ∷ value_of c.in-Some.field ∷ [])
+    tried_values (bare c.args.scope.now) labels (instr.Aggregate (aggregate.StructSet c.args.ty c.args.index)) set
+    (nullable_to (Concrete c.args.ty) ∷ value_of c.in-Some.field ∷ [])
     ([]) (c.nullable_at.result ∷ c.unpack-value.result ∷ []) ([]) (held c.args.operands.now) _ c.apply.result
-    (λ os rs t. t) (λ os rs t. t)
-    (c.in-Some.field, field_within (bare c.args.scope.now) labels c.args.ty c.args.index c.in-Some.field c.in-Some.ensures.0, c.in-Some.ensures.1, (refl, refl))
-    (λ os rs t. let (other, at, mutable, fits) = t in subst (λ (f : FieldType). To os rs (nullable_to (Concrete c.args.ty) ∷ value_of f ∷ []) [])
-    (field_same (bare c.args.scope.now) c.args.ty c.args.index other c.in-Some.field (field_without (bare c.args.scope.now) labels c.args.ty c.args.index other at) c.in-Some.ensures.0) fits)
+    (λ os rs t. t) (λ os rs t. t) (
+      c.in-Some.field,
+      field_within (bare c.args.scope.now) labels c.args.ty c.args.index c.in-Some.field c.in-Some.ensures.0,
+      c.in-Some.ensures.1,
+      (refl, refl),
+    )
+    (λ os rs t. let (other, at, mutable, fits) = t in
+    subst (λ (f : FieldType). To os rs (nullable_to (Concrete c.args.ty) ∷ value_of f ∷ []) [])
+    (field_same (bare c.args.scope.now) c.args.ty c.args.index other c.in-Some.field
+    (field_without (bare c.args.scope.now) labels c.args.ty c.args.index other at) c.in-Some.ensures.0) fits)
     (cc (c.nullable_at.ensures, c.unpack-value.ensures)) refl c.apply.ensures.ok

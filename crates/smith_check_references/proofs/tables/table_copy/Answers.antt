@@ -21,15 +21,23 @@ ref_type_is_sub_type-requires-clause-lower c =
     table_in_range (bare c.args.scope.now) c.args.from c.in-Some-table_at.out c.requires.scope.tables (sym c.in-Some-table_at.ensures)
 
 pub ref_type_is_sub_type-requires-clause-upper : goal.ref_type_is_sub_type-requires-clause-upper
-ref_type_is_sub_type-requires-clause-upper c = table_in_range (bare c.args.scope.now) c.args.to c.in-Some.into c.requires.scope.tables (sym c.in-Some.ensures)
+ref_type_is_sub_type-requires-clause-upper c = table_in_range (bare c.args.scope.now) c.args.to c.in-Some.into c.requires.scope.tables
+    (sym c.in-Some.ensures)
 
 pub apply-requires-clause-expected : goal.apply-requires-clause-expected
 apply-requires-clause-expected c =
-    each_in_range c.args.scope.now.types.now.types (c.address_type-target.result ∷ c.address_type.result ∷ c.narrower_type-count.result ∷ []) (
-      subst (λ v. IsValInRange c.args.scope.now.types.now.types v) (sym c.address_type-target.ensures) (address_in_range c.args.scope.now.types.now.types c.in-Some.into.table64),
+    each_in_range c.args.scope.now.types.now.types (c.address_type-target.result ∷ c.address_type.result ∷ c.narrower_type-count.result
+    ∷ []) (
+      subst (λ v. IsValInRange c.args.scope.now.types.now.types v) (sym c.address_type-target.ensures)
+          (address_in_range c.args.scope.now.types.now.types c.in-Some.into.table64),
       (
-        subst (λ v. IsValInRange c.args.scope.now.types.now.types v) (sym c.address_type.ensures) (address_in_range c.args.scope.now.types.now.types c.in-Some-table_at.out.table64),
-        (subst (λ v. IsValInRange c.args.scope.now.types.now.types v) (sym c.narrower_type-count.ensures) (narrower_in_range c.args.scope.now.types.now.types c.in-Some.into.table64 c.in-Some-table_at.out.table64), tt),
+        subst (λ v. IsValInRange c.args.scope.now.types.now.types v) (sym c.address_type.ensures)
+            (address_in_range c.args.scope.now.types.now.types c.in-Some-table_at.out.table64),
+        (
+          subst (λ v. IsValInRange c.args.scope.now.types.now.types v) (sym c.narrower_type-count.ensures)
+              (narrower_in_range c.args.scope.now.types.now.types c.in-Some.into.table64 c.in-Some-table_at.out.table64),
+          tt,
+        ),
       ),
     )
 
@@ -48,7 +56,8 @@ returns-clause-ok c = λ labels set.
     let out = c.in-Some-table_at.out in
     tried_values (bare c.args.scope.now) labels (instr.Table (table.Copy c.args.to c.args.from)) set
     (address into.table64 ∷ address out.table64 ∷ narrower into.table64 out.table64 ∷ []) []
-    (c.address_type-target.result ∷ c.address_type.result ∷ c.narrower_type-count.result ∷ []) [] (held c.args.operands.now) _ c.apply.result
+    (c.address_type-target.result ∷ c.address_type.result ∷ c.narrower_type-count.result ∷ []) [] (held c.args.operands.now) _
+    c.apply.result
     (λ os rs t. t) (λ os rs t. t) (
       into,
       out,

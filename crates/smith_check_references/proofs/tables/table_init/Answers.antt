@@ -23,12 +23,16 @@ ref_type_is_sub_type-requires-clause-lower c =
     held_in_range (bare c.args.scope.now) c.args.segment c.in-Some-elem_at.held c.requires.scope.elems (sym c.in-Some-elem_at.ensures)
 
 pub ref_type_is_sub_type-requires-clause-upper : goal.ref_type_is_sub_type-requires-clause-upper
-ref_type_is_sub_type-requires-clause-upper c = table_in_range (bare c.args.scope.now) c.args.index c.in-Some.table c.requires.scope.tables (sym c.in-Some.ensures)
+ref_type_is_sub_type-requires-clause-upper c = table_in_range (bare c.args.scope.now) c.args.index c.in-Some.table c.requires.scope.tables
+    (sym c.in-Some.ensures)
 
 pub apply-requires-clause-expected : goal.apply-requires-clause-expected
 apply-requires-clause-expected c =
-    each_in_range c.args.scope.now.types.now.types (c.address_type-address.result ∷ I32 ∷ I32 ∷ [])
-    (subst (λ v. IsValInRange c.args.scope.now.types.now.types v) (sym c.address_type-address.ensures) (address_in_range c.args.scope.now.types.now.types c.in-Some.table.table64), (tt, (tt, tt)))
+    each_in_range c.args.scope.now.types.now.types (c.address_type-address.result ∷ I32 ∷ I32 ∷ []) (
+      subst (λ v. IsValInRange c.args.scope.now.types.now.types v) (sym c.address_type-address.ensures)
+          (address_in_range c.args.scope.now.types.now.types c.in-Some.table.table64),
+      (tt, (tt, tt)),
+    )
 
 pub returns-then-not-ref_type_is_sub_type-clause-ok : goal.returns-then-not-ref_type_is_sub_type-clause-ok
 returns-then-not-ref_type_is_sub_type-clause-ok c = λ labels set before after covered s.
@@ -42,7 +46,8 @@ returns-then-not-ref_type_is_sub_type-clause-ok c = λ labels set before after c
 pub returns-clause-ok : goal.returns-clause-ok
 returns-clause-ok c = λ labels set.
     let found = c.in-Some.table in
-    tried_values (bare c.args.scope.now) labels (instr.Table (table.Init c.args.index c.args.segment)) set (address found.table64 ∷ I32 ∷ I32 ∷ []) []
+    tried_values (bare c.args.scope.now) labels (instr.Table (table.Init c.args.index c.args.segment)) set
+    (address found.table64 ∷ I32 ∷ I32 ∷ []) []
     (c.address_type-address.result ∷ I32 ∷ I32 ∷ []) [] (held c.args.operands.now) _ c.apply.result (λ os rs t. t) (λ os rs t. t) (
       found,
       c.in-Some-elem_at.held,

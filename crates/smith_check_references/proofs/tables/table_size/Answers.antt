@@ -16,7 +16,8 @@ apply-requires-clause-expected c = no_range c.args.scope.now.types.now.types
 
 pub apply-requires-clause-valid : goal.apply-requires-clause-valid
 apply-requires-clause-valid c = one_valid (bare c.args.scope.now) c.address_type.result
-    (subst (λ v. IsValid (bare c.args.scope.now) v) (sym c.address_type.ensures) (address_valid (bare c.args.scope.now) c.in-Some.table.table64))
+    (subst (λ v. IsValid (bare c.args.scope.now) v) (sym c.address_type.ensures)
+    (address_valid (bare c.args.scope.now) c.in-Some.table.table64))
 
 pub returns-clause-ok : goal.returns-clause-ok
 returns-clause-ok c = λ labels set.
