@@ -1,5 +1,5 @@
 -- The types that valid types refer to exist.
-use Rattle.std.proofs.Common.{◌≡◌, ℕ, List, [], ◌∷◌, take, drop, sym, subst}
+use Rattle.std.proofs.Common.{◌≡◌, ℕ, Bool, true, false, List, [], ◌∷◌, take, drop, sym, subst}
 use Rattle.std.specs.Prelude.{All}
 use Rattle.std.proofs.lemmas.List.Elements.{All-nil, All-cons, All-weaker, All-take, All-drop}
 use Rattle.smith_syntax.specs.declared.value_type.HeapType.{HeapType}
@@ -8,7 +8,7 @@ use Rattle.smith_syntax.specs.declared.value_type.ValType.{ValType}
 use Rattle.smith_syntax.specs.declared.value_type.ValType.TheVariants.{I32, I64, F32, F64, V128, Ref}
 use Rattle.smith_syntax.specs.declared.composite_type.SubType.{SubType}
 use Rattle.smith_types.specs.Subtyping.{IsInRange, IsValInRange}
-use Rattle.smith_instr.specs.Contexts.{BodyContext, IsValid, AreValid, IsHeapValid}
+use Rattle.smith_instr.specs.Contexts.{BodyContext, IsValid, AreValid, IsHeapValid, address}
 use Rattle.smith_instr.specs.NumericTypes.{conversion, saturating_conversion, sign_extension, wide_arithmetic, signature}
 use Rattle.smith_instr.specs.declared.numeric.Conversion.{Conversion}
 use Rattle.smith_instr.specs.declared.numeric.Conversion.TheVariants as convert
@@ -25,7 +25,7 @@ use Rattle.smith_check_rules.specs.declared.slot.Slot.{Slot}
 use Rattle.smith_check_rules.specs.declared.slot.Slot.TheVariants.{Bottom, SomeRef, Value}
 use Rattle.smith_check_operands.specs.Fits.{IsSlotInRange}
 
-heap_in_range : (context : BodyContext) (heap_type : HeapType) → IsHeapValid context heap_type → IsInRange context.types heap_type
+pub heap_in_range : (context : BodyContext) (heap_type : HeapType) → IsHeapValid context heap_type → IsInRange context.types heap_type
 heap_in_range context (Abstract shared ty) valid = tt
 heap_in_range context (Concrete index) valid = valid.1
 heap_in_range context (Exact index) valid = valid.1
@@ -191,3 +191,11 @@ signature_in_range types op = numbers_in_range types (signature op).operands (si
 
 pub signature_valid : (context : BodyContext) (op : NumericInstr) → AreValid context (signature op).results
 signature_valid context op = numbers_valid context (signature op).results (signature_numbers op).1
+
+pub address_in_range : (types : List SubType) (wide : Bool) → IsValInRange types (address wide)
+address_in_range types true = tt
+address_in_range types false = tt
+
+pub address_valid : (context : BodyContext) (wide : Bool) → IsValid context (address wide)
+address_valid context true = tt
+address_valid context false = tt

@@ -118,7 +118,7 @@ tried_result context labels x set operands results old new (Ok there) has applie
 tried_result context labels x set operands results old new (Err e) has applies = tt
 
 -- a list that one value matches
-single_above : (types : List SubType) (xs : List Slot) (y : Slot) → AreBelow types xs (y ∷ []) → (x : Slot) × (xs ≡ x ∷ [])
+pub single_above : (types : List SubType) (xs : List Slot) (y : Slot) → AreBelow types xs (y ∷ []) → (x : Slot) × (xs ≡ x ∷ [])
     × IsBelow types x y
 single_above types [] y below = absurd below
 single_above types (x ∷ []) y (first, below) = (x, refl, first)

@@ -3,8 +3,12 @@ use Rattle.std.specs.Prelude.{[], ℕ, All}
 use Rattle.smith_syntax.specs.FeatureBits.{features_in}
 use Rattle.smith_syntax.specs.declared.composite_type.FuncType.{FuncType}
 use Rattle.smith_syntax.specs.declared.entity_type.GlobalType.{GlobalType}
-use Rattle.smith_types.specs.Entities.{IsFuncAt}
-use Rattle.smith_instr.specs.Contexts.{BodyContext, IsValid, AreValid}
+use Rattle.smith_syntax.specs.declared.composite_type.SubType.{SubType}
+use Rattle.smith_syntax.specs.declared.entity_type.TableType.{TableType}
+use Rattle.smith_types.specs.Entities.{IsFuncAt, IsFuncTypeIndex}
+use Rattle.smith_types.specs.Flags.{IsSubTypeEnabled}
+use Rattle.smith_types.specs.ValidTypes.{values_of}
+use Rattle.smith_instr.specs.Contexts.{BodyContext, IsValid, AreValid, IsRefValid}
 use Rattle.smith_check_operands.specs.declared.scope.Scope.{Scope}
 
 -- the context of a scope without labels (Validation, Contexts)
@@ -27,8 +31,13 @@ bare scope = record {
   results = scope.results.now;
 }
 
--- the parts of a context are valid (Validation, Types)
+-- the parts of a context are valid (Validation, Types), and its types are enabled (own rule)
 pub record IsScope (context : BodyContext) : Type 0 where
+  pub enabled : All (IsSubTypeEnabled context.features) context.types
+  pub types : All (λ (ty : SubType). AreValid context (values_of ty.composite_type.inner)) context.types
+  pub funcs : All (IsFuncTypeIndex context.types) context.funcs
+  pub tables : All (λ (table : TableType). IsRefValid context table.element_type) context.tables
+  pub elems : All (IsRefValid context) context.elems
   pub globals : All (λ (global : GlobalType). IsValid context global.val_type) context.globals
   pub locals : AreValid context context.locals
   pub results : AreValid context context.results

@@ -1,5 +1,5 @@
 ghost use Rattle.std.specs.Prelude.{◌≡◌, ◌∷◌, ◌↔◌, IsTrue, MatchOption, None, Some, slice_get, reverse};
-ghost use Rattle.smith_instr.specs.Contexts.{IsValid};
+ghost use Rattle.smith_instr.specs.Contexts.{IsValid, address};
 ghost use Rattle.smith_check_operands.specs.Scopes.{bare};
 ghost use Rattle.smith_types.specs.Entities.{IsFuncAt};
 ghost use Rattle.smith_check_operands.specs.Closes.{label_of, labels_of};
@@ -65,6 +65,14 @@ pub fn func_at<'a>(types: &'a [SubType], index: u32) -> Option<&'a FuncType>
         },
         None => None,
     }
+}
+
+/// Returns the type of the addresses of a memory or a table, which are of 64 bits if `wide` is
+/// `true` (Validation, Address Types).
+pub fn address_type(wide: bool) -> ValType
+    ensures { result ≡ address wide }
+{
+    if wide { ValType::I64 } else { ValType::I32 }
 }
 
 /// Returns the types of the operands of a branch to a block.

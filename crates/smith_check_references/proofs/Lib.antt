@@ -1,0 +1,9 @@
+pub mod RowLemmas
+pub mod OfferLemmas
+pub mod HierarchyLemmas
+pub mod TableLemmas
+pub mod AggregateLemmas
+pub mod CopyLemmas
+pub mod ChoiceLemmas
+pub mod CastLemmas
+pub mod FunctionLemmas

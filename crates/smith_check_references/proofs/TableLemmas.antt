@@ -1,0 +1,48 @@
+-- Tables and element segments of a valid context.
+use Rattle.std.proofs.Common.{◌≡◌, ℕ, Bool, true, false, List, [], ◌∷◌, sym, subst}
+use Rattle.std.specs.Prelude.{All, Some, slice_get}
+use Rattle.std.proofs.lemmas.List.Elements.{All-nil, All-cons}
+use Rattle.smith_syntax.specs.declared.composite_type.SubType.{SubType}
+use Rattle.smith_syntax.specs.declared.entity_type.TableType.{TableType}
+use Rattle.smith_syntax.specs.declared.value_type.RefType.{RefType}
+use Rattle.smith_syntax.specs.declared.value_type.ValType.{ValType}
+use Rattle.smith_types.specs.Subtyping.{IsInRange, IsValInRange}
+use Rattle.smith_instr.specs.Contexts.{BodyContext, IsRefValid}
+use Rattle.smith_instr.specs.ReferenceTypes.{IsTable, narrower}
+use Rattle.smith_check_operands.proofs.RangeLemmas.{address_in_range, heap_in_range}
+use Rattle.smith_check_operands.proofs.StepLemmas.{all_at}
+
+-- each type of a list that is written out is in range
+abbrev pub AreEachInRange : List SubType → List ValType → Type 0
+AreEachInRange types [] = Unit {0}
+AreEachInRange types (x ∷ xs) = IsValInRange types x × AreEachInRange types xs
+
+pub each_in_range : (types : List SubType) (xs : List ValType) → AreEachInRange types xs → All (IsValInRange types) xs
+each_in_range types [] each = All-nil (IsValInRange types)
+each_in_range types (x ∷ xs) (first, each) = All-cons (IsValInRange types) x xs first (each_in_range types xs each)
+
+pub ranges_as : (types : List SubType) (xs ys : List ValType) → xs ≡ ys → AreEachInRange types ys → All (IsValInRange types) xs
+ranges_as types xs ys same each = subst (λ zs. All (IsValInRange types) zs) (sym same) (each_in_range types ys each)
+
+-- the references in a table are of a valid type
+pub element_valid : (context : BodyContext) (index : ℕ) (table : TableType)
+    → All (λ (t : TableType). IsRefValid context t.element_type) context.tables → IsTable context index table
+    → IsRefValid context table.element_type
+element_valid context index table valid at =
+    all_at (λ (t : TableType). IsRefValid context t.element_type) context.tables index table valid at
+
+pub element_in_range : (context : BodyContext) (index : ℕ) (table : TableType)
+    → All (λ (t : TableType). IsRefValid context t.element_type) context.tables → IsTable context index table
+    → IsInRange context.types table.element_type.heap_type
+element_in_range context index table valid at =
+    heap_in_range context table.element_type.heap_type (element_valid context index table valid at).heap_type
+
+-- the references in an element segment are of a valid type
+pub held_in_range : (context : BodyContext) (segment : ℕ) (reference : RefType) → All (IsRefValid context) context.elems
+    → slice_get context.elems segment ≡ Some reference → IsInRange context.types reference.heap_type
+held_in_range context segment reference valid at =
+    heap_in_range context reference.heap_type (all_at (IsRefValid context) context.elems segment reference valid at).heap_type
+
+pub narrower_in_range : (types : List SubType) (one other : Bool) → IsValInRange types (narrower one other)
+narrower_in_range types true other = address_in_range types other
+narrower_in_range types false other = tt

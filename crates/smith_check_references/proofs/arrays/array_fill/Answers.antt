@@ -1,0 +1,47 @@
+use Rattle.std.proofs.Common.{refl, subst, [], ◌∷◌}
+use Rattle.smith_syntax.specs.declared.value_type.ValType.TheVariants.{I32}
+use Rattle.smith_syntax.specs.declared.value_type.HeapType.TheVariants.{Concrete}
+use Rattle.smith_syntax.specs.declared.composite_type.FieldType.{FieldType}
+use Rattle.smith_instr.specs.AggregateTypes.{value_of}
+use Rattle.smith_instr.specs.Contexts.{To, nullable_to}
+use Rattle.smith_instr.specs.declared.instr.Instr.TheVariants as instr
+use Rattle.smith_instr.specs.declared.aggregate.AggregateInstr.TheVariants as aggregate
+use Rattle.smith_check_operands.proofs.RangeLemmas.{in_range}
+use Rattle.smith_check_operands.proofs.StepLemmas.{tried_values}
+use Rattle.smith_check_operands.specs.Covers.{held}
+use Rattle.smith_check_operands.specs.Scopes.{bare}
+use Rattle.smith_check_references.proofs.TableLemmas.{ranges_as}
+use Rattle.smith_check_references.proofs.AggregateLemmas.{array_same, array_valid, array_inside}
+use Rattle.smith_check_references.proofs.arrays.array_fill.Goals as goal
+
+pub apply-requires-clause-expected : goal.apply-requires-clause-expected
+apply-requires-clause-expected c = ranges_as c.args.scope.now.types.now.types (c.nullable_at.result ∷ I32 ∷ c.unpack-value.result ∷ I32
+    ∷ []) (nullable_to (Concrete c.args.ty) ∷ I32 ∷ value_of c.in-Some.element ∷ I32 ∷ [])
+    (cc (c.nullable_at.ensures, c.unpack-value.ensures)) (
+      (array_inside c.args.scope.now.types.now.types c.args.ty c.in-Some.element c.in-Some.ensures.0),
+      (
+        tt,
+        (
+          (in_range (bare c.args.scope.now) (value_of c.in-Some.element)
+              (array_valid (bare c.args.scope.now) c.args.ty c.in-Some.element c.requires.scope c.in-Some.ensures.0)),
+          (tt, tt),
+        ),
+      ),
+    )
+
+pub returns-in_default-clause-ok : goal.returns-in_default-clause-ok
+returns-in_default-clause-ok c = λ labels set before after covered s.
+    let (these, those, has, is, also) = s.typed in
+    c.in_default.ensures has.0 has.1 has.2
+
+pub returns-clause-ok : goal.returns-clause-ok
+returns-clause-ok c = λ labels set.
+    tried_values (bare c.args.scope.now) labels (instr.Aggregate (aggregate.ArrayFill c.args.ty)) set
+    (nullable_to (Concrete c.args.ty) ∷ I32 ∷ value_of c.in-Some.element ∷ I32 ∷ [])
+    ([]) (c.nullable_at.result ∷ I32 ∷ c.unpack-value.result ∷ I32 ∷ []) ([]) (held c.args.operands.now) _ c.apply.result
+    (λ os rs t. t) (λ os rs t. t)
+    (c.in-Some.element, c.in-Some.ensures.0, c.in-Some.ensures.1, (refl, refl))
+    (λ os rs t. let (other, at, mutable, fits) = t in
+    subst (λ (e : FieldType). To os rs (nullable_to (Concrete c.args.ty) ∷ I32 ∷ value_of e ∷ I32 ∷ []) ([]))
+    (array_same c.args.scope.now.types.now.types c.args.ty other c.in-Some.element at c.in-Some.ensures.0) fits)
+    (cc (c.nullable_at.ensures, c.unpack-value.ensures)) refl c.apply.ensures.ok

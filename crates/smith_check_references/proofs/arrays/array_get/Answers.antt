@@ -1,0 +1,52 @@
+use Rattle.std.proofs.Common.{◌∙◌, ap, sym, refl, subst, [], ◌∷◌}
+use Rattle.std.proofs.lemmas.Bool.{false≢true}
+use Rattle.smith_syntax.specs.declared.value_type.ValType.{ValType}
+use Rattle.smith_syntax.specs.declared.value_type.ValType.TheVariants.{I32}
+use Rattle.smith_syntax.specs.declared.value_type.HeapType.TheVariants.{Concrete}
+use Rattle.smith_syntax.specs.declared.composite_type.FieldType.{FieldType}
+use Rattle.smith_instr.specs.AggregateTypes.{value_of, IsReadBy}
+use Rattle.smith_instr.specs.Contexts.{To, IsValid, nullable_to}
+use Rattle.smith_instr.specs.declared.instr.Instr.TheVariants as instr
+use Rattle.smith_instr.specs.declared.aggregate.AggregateInstr.TheVariants as aggregate
+use Rattle.smith_check_operands.proofs.StepLemmas.{tried_values, one_valid}
+use Rattle.smith_check_operands.specs.Covers.{held}
+use Rattle.smith_check_operands.specs.Scopes.{bare}
+use Rattle.smith_check_references.proofs.TableLemmas.{ranges_as}
+use Rattle.smith_check_references.proofs.AggregateLemmas.{array_same, array_valid, array_inside}
+use Rattle.smith_check_references.proofs.arrays.array_get.Goals as goal
+
+pub apply-requires-clause-expected : goal.apply-requires-clause-expected
+apply-requires-clause-expected c = ranges_as c.args.scope.now.types.now.types (c.nullable_at.result ∷ I32 ∷ [])
+    (nullable_to (Concrete c.args.ty) ∷ I32 ∷ [])
+    (ap (λ (v : ValType). v ∷ I32 ∷ []) c.nullable_at.ensures)
+    ((array_inside c.args.scope.now.types.now.types c.args.ty c.in-Some.element c.in-Some.ensures), (tt, tt))
+
+pub apply-requires-clause-valid : goal.apply-requires-clause-valid
+apply-requires-clause-valid c = one_valid (bare c.args.scope.now) c.unpack-value.result
+    (subst (λ v. IsValid (bare c.args.scope.now) v) (sym c.unpack-value.ensures)
+    (array_valid (bare c.args.scope.now) c.args.ty c.in-Some.element c.requires.scope c.in-Some.ensures))
+
+pub returns-in_default-clause-ok : goal.returns-in_default-clause-ok
+returns-in_default-clause-ok c = λ labels set before after covered s.
+    let (these, those, has, is, also) = s.typed in
+    c.in_default.ensures has.0 has.1
+
+pub returns-then-not-is_read_by-clause-ok : goal.returns-then-not-is_read_by-clause-ok
+returns-then-not-is_read_by-clause-ok c = λ labels set before after covered s.
+    let (these, those, has, is, also) = s.typed in
+    let same = array_same c.args.scope.now.types.now.types c.args.ty has.0 c.in-Some.element has.1 c.in-Some.ensures in
+    false≢true (sym c.if-not-is_read_by.true ∙ c.is_read_by.ensures.1
+    (subst (λ (f : FieldType). IsReadBy c.args.extension f.element_type) same has.2))
+
+pub returns-clause-ok : goal.returns-clause-ok
+returns-clause-ok c = λ labels set.
+    tried_values (bare c.args.scope.now) labels (instr.Aggregate (aggregate.ArrayGet c.args.ty c.args.extension)) set
+    (nullable_to (Concrete c.args.ty) ∷ I32 ∷ [])
+    (value_of c.in-Some.element ∷ []) (c.nullable_at.result ∷ I32 ∷ []) (c.unpack-value.result ∷ []) (held c.args.operands.now) _
+    c.apply.result
+    (λ os rs t. t) (λ os rs t. t)
+    (c.in-Some.element, c.in-Some.ensures, c.is_read_by.ensures.0 c.if-not-is_read_by.false, (refl, refl))
+    (λ os rs t. let (other, at, read, fits) = t in
+    subst (λ (e : FieldType). To os rs (nullable_to (Concrete c.args.ty) ∷ I32 ∷ []) (value_of e ∷ []))
+    (array_same c.args.scope.now.types.now.types c.args.ty other c.in-Some.element at c.in-Some.ensures) fits)
+    (ap (λ (v : ValType). v ∷ I32 ∷ []) c.nullable_at.ensures) (ap (λ (v : ValType). v ∷ []) c.unpack-value.ensures) c.apply.ensures.ok

@@ -1,0 +1,56 @@
+use Rattle.std.proofs.Common.{◌∙◌, ap, sym, refl, subst, [], ◌∷◌}
+use Rattle.std.proofs.lemmas.Bool.{false≢true}
+use Rattle.smith_syntax.specs.declared.value_type.ValType.{ValType}
+use Rattle.smith_syntax.specs.declared.value_type.ValType.TheVariants.{I32}
+use Rattle.smith_syntax.specs.declared.value_type.HeapType.TheVariants.{Concrete}
+use Rattle.smith_syntax.specs.declared.composite_type.FieldType.{FieldType}
+use Rattle.smith_instr.specs.Contexts.{To, nullable_to}
+use Rattle.smith_instr.specs.declared.instr.Instr.TheVariants as instr
+use Rattle.smith_instr.specs.declared.aggregate.AggregateInstr.TheVariants as aggregate
+use Rattle.smith_check_operands.proofs.StepLemmas.{tried_values}
+use Rattle.smith_check_operands.specs.Covers.{held}
+use Rattle.smith_check_operands.specs.Scopes.{bare}
+use Rattle.smith_check_references.proofs.TableLemmas.{ranges_as}
+use Rattle.smith_check_references.proofs.AggregateLemmas.{array_same, array_valid, array_inside, elem_without, elem_within}
+use Rattle.smith_instr.specs.AggregateTypes.{IsElemOf}
+use Rattle.smith_check_references.proofs.arrays.array_init_elem.Goals as goal
+
+pub apply-requires-clause-expected : goal.apply-requires-clause-expected
+apply-requires-clause-expected c = ranges_as c.args.scope.now.types.now.types (c.nullable_at.result ∷ I32 ∷ I32 ∷ I32 ∷ [])
+    (nullable_to (Concrete c.args.ty) ∷ I32 ∷ I32 ∷ I32 ∷ [])
+    (ap (λ (v : ValType). v ∷ I32 ∷ I32 ∷ I32 ∷ []) c.nullable_at.ensures)
+    ((array_inside c.args.scope.now.types.now.types c.args.ty c.in-Some.element c.in-Some.ensures.0), (tt, (tt, (tt, tt))))
+
+pub returns-in_default-clause-ok : goal.returns-in_default-clause-ok
+returns-in_default-clause-ok c = λ labels set before after covered s.
+    let (these, those, has, is, also) = s.typed in
+    c.in_default.ensures has.0 has.1 has.2
+
+pub is_elem_of-requires-clause-element : goal.is_elem_of-requires-clause-element
+is_elem_of-requires-clause-element c = array_valid (bare c.args.scope.now) c.args.ty c.in-Some.element c.requires.scope c.in-Some.ensures.0
+
+pub returns-then-not-is_elem_of-clause-ok : goal.returns-then-not-is_elem_of-clause-ok
+returns-then-not-is_elem_of-clause-ok c = λ labels set before after covered s.
+    let (these, those, has, is, also) = s.typed in
+    let same = array_same c.args.scope.now.types.now.types c.args.ty has.0 c.in-Some.element has.1 c.in-Some.ensures.0 in
+    false≢true (sym c.if-not-is_elem_of.true ∙ c.is_elem_of.ensures.1
+    (subst (λ (e : FieldType). IsElemOf (bare c.args.scope.now) c.args.segment e) same
+    (elem_without (bare c.args.scope.now) labels c.args.segment has.0 has.3)))
+
+pub returns-clause-ok : goal.returns-clause-ok
+returns-clause-ok c = λ labels set.
+    tried_values (bare c.args.scope.now) labels (instr.Aggregate (aggregate.ArrayInitElem c.args.ty c.args.segment)) set
+    (nullable_to (Concrete c.args.ty) ∷ I32 ∷ I32 ∷ I32 ∷ [])
+    ([]) (c.nullable_at.result ∷ I32 ∷ I32 ∷ I32 ∷ []) ([]) (held c.args.operands.now) _ c.apply.result
+    (λ os rs t. t) (λ os rs t. t) (
+      c.in-Some.element,
+      c.in-Some.ensures.0,
+      c.in-Some.ensures.1,
+      elem_within (bare c.args.scope.now) labels c.args.segment
+          c.in-Some.element (c.is_elem_of.ensures.0 c.if-not-is_elem_of.false),
+      (refl, refl),
+    )
+    (λ os rs t. let (other, at, mutable, of, fits) = t in
+    subst (λ (e : FieldType). To os rs (nullable_to (Concrete c.args.ty) ∷ I32 ∷ I32 ∷ I32 ∷ []) ([]))
+    (array_same c.args.scope.now.types.now.types c.args.ty other c.in-Some.element at c.in-Some.ensures.0) fits)
+    (ap (λ (v : ValType). v ∷ I32 ∷ I32 ∷ I32 ∷ []) c.nullable_at.ensures) refl c.apply.ensures.ok

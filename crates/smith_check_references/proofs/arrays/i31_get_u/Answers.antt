@@ -1,0 +1,17 @@
+use Rattle.smith_syntax.specs.declared.value_type.AbstractHeapType.TheVariants as abstract
+use Rattle.smith_instr.specs.declared.instr.Instr.TheVariants as instr
+use Rattle.smith_instr.specs.declared.aggregate.AggregateInstr.TheVariants as aggregate
+use Rattle.smith_check_operands.specs.Covers.{held}
+use Rattle.smith_check_operands.specs.Scopes.{bare}
+use Rattle.smith_check_references.proofs.RowLemmas.{tried_one}
+use Rattle.smith_check_references.proofs.ChoiceLemmas.{either_row}
+use Rattle.smith_check_references.specs.Choices.{ReadsEither}
+use Rattle.smith_check_references.proofs.arrays.i31_get_u.Goals as goal
+
+pub returns-clause-ok : goal.returns-clause-ok
+returns-clause-ok c = λ labels set.
+    tried_one (bare c.args.scope.now) labels (instr.Aggregate aggregate.I31GetU) set (ReadsEither abstract.I31) (held c.args.operands.now) _
+    c.read_either.result
+    (either_row abstract.I31 (bare c.args.scope.now) labels (instr.Aggregate aggregate.I31GetU) set (λ os rs t. t) (λ os rs t. t)
+    (λ os rs t. t) (λ os rs t. t))
+    c.read_either.ensures.ok

@@ -1,0 +1,48 @@
+use Rattle.std.proofs.Common.{◌∙◌, ap, sym, [], ◌∷◌}
+use Rattle.std.proofs.lemmas.Bool.{false≢true}
+use Rattle.smith_syntax.specs.declared.value_type.ValType.{ValType}
+use Rattle.smith_syntax.specs.declared.value_type.ValType.TheVariants.{Ref}
+use Rattle.smith_instr.specs.Contexts.{nullable_to}
+use Rattle.smith_instr.specs.declared.instr.Instr.TheVariants as instr
+use Rattle.smith_check_rules.specs.Slots.{values}
+use Rattle.smith_check_operands.specs.Covers.{held}
+use Rattle.smith_check_operands.specs.Scopes.{bare}
+use Rattle.smith_check_references.proofs.TableLemmas.{ranges_as}
+use Rattle.smith_instr.specs.declared.reference.ReferenceInstr.TheVariants as reference
+use Rattle.smith_check_operands.proofs.RangeLemmas.{heap_in_range}
+use Rattle.smith_check_references.proofs.HierarchyLemmas.{top_valid}
+use Rattle.smith_check_references.proofs.CastLemmas.{cast_widest}
+use Rattle.smith_check_references.proofs.RowLemmas.{tried_widest}
+use Rattle.smith_check_references.proofs.OfferLemmas.{only_itself}
+use Rattle.smith_check_references.proofs.casts.ref_cast.Goals as goal
+
+pub widest-requires : goal.widest-requires
+widest-requires c = heap_in_range (bare c.args.scope.now) c.args.to.heap_type
+    (c.is_ref_valid.ensures.valid.0 c.if-not-is_ref_valid.false).heap_type
+
+pub give-requires-clause-expected : goal.give-requires-clause-expected
+give-requires-clause-expected c =
+    let valid = c.is_ref_valid.ensures.valid.0 c.if-not-is_ref_valid.false in
+    let (top, of, is) = c.widest.ensures in
+    ranges_as c.args.scope.now.types.now.types (c.widest.result ∷ []) (nullable_to top ∷ []) (ap (λ (v : ValType). v ∷ []) is) (
+      heap_in_range (bare c.args.scope.now) top (top_valid (bare c.args.scope.now) c.args.to.heap_type top c.requires.scope of
+          valid.heap_type),
+      tt,
+    )
+
+pub returns-then-not-is_ref_valid-clause-ok : goal.returns-then-not-is_ref_valid-clause-ok
+returns-then-not-is_ref_valid-clause-ok c = λ labels set before after covered s.
+    let (these, those, has, is, also) = s.typed in
+    false≢true (sym c.if-not-is_ref_valid.true ∙ c.is_ref_valid.ensures.valid.1 has.1)
+
+pub give-requires-clause-itself : goal.give-requires-clause-itself
+give-requires-clause-itself c = only_itself (bare c.args.scope.now) c.args.to (c.is_ref_valid.ensures.valid.0 c.if-not-is_ref_valid.false)
+
+pub returns-clause-ok : goal.returns-clause-ok
+returns-clause-ok c = λ labels set.
+    tried_widest (bare c.args.scope.now) labels (instr.Reference (reference.Cast c.args.to)) set (values (c.widest.result ∷ []))
+    (values (Ref c.args.to ∷ []))
+    (held c.args.operands.now) _ c.give.result
+    (cast_widest (bare c.args.scope.now) labels set c.args.to c.widest.result c.requires.scope c.is_ref_valid.ensures.orderly
+    (c.is_ref_valid.ensures.valid.0 c.if-not-is_ref_valid.false) c.widest.ensures)
+    c.give.ensures.ok

@@ -1,0 +1,21 @@
+use Rattle.std.proofs.Common.{◌≡◌, ◌∙◌, ap, sym, subst}
+use Rattle.smith_syntax.specs.declared.value_type.ValType.{ValType}
+use Rattle.smith_syntax.specs.declared.value_type.ValType.TheVariants.{Ref}
+use Rattle.smith_check_operands.specs.Scopes.{bare}
+use Rattle.std.specs.Prelude.{not}
+use Rattle.smith_check_rules.specs.declared.slot.Slot.TheVariants.{Value}
+use Rattle.smith_check_rules.specs.Slots.{IsSlotValid}
+use Rattle.smith_check_rules.specs.StackTypes.{HasNonNull}
+use Rattle.smith_check_references.specs.Rows.{IsLeastOf}
+use Rattle.smith_check_references.proofs.ChoiceLemmas.{ref_non_null}
+use Rattle.smith_check_references.proofs.references.non_null.Goals as goal
+
+pub returns-in-Value-Ref : goal.returns-in-Value-Ref
+returns-in-Value-Ref c =
+    let reference = c.in-Value-Ref.reference in
+    let inside : c.in-Value-Ref.field-0 ≡ Ref c.in-Value-Ref.reference = rw c.in-Value-Ref.is at c.in-Value-Ref.field-0-is in
+    let same : c.args.top ≡ Value (Ref c.in-Value-Ref.reference) = c.in-Value-Ref.is ∙ ap (λ (v : ValType). Value v) inside in
+    subst (λ s. IsLeastOf (bare c.args.scope.now) (HasNonNull (bare c.args.scope.now)) s
+    (Value (Ref (record { nullable = not c.contains.result; heap_type = reference.heap_type })))) (sym same)
+    (ref_non_null (bare c.args.scope.now) reference (not c.contains.result) (ap (λ b. not b) c.contains.ensures)
+    (subst (λ s. IsSlotValid (bare c.args.scope.now) s) same c.requires))

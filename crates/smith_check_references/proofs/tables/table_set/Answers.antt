@@ -1,0 +1,35 @@
+use Rattle.std.proofs.Common.{◌∙◌, ap, sym, refl, subst, [], ◌∷◌}
+use Rattle.smith_syntax.specs.declared.value_type.ValType.{ValType}
+use Rattle.smith_syntax.specs.declared.value_type.ValType.TheVariants.{Ref}
+use Rattle.smith_syntax.specs.declared.entity_type.TableType.{TableType}
+use Rattle.smith_types.specs.Subtyping.{IsValInRange}
+use Rattle.smith_instr.specs.Contexts.{To, address}
+use Rattle.smith_instr.specs.declared.instr.Instr.TheVariants as instr
+use Rattle.smith_instr.specs.declared.table.TableInstr.TheVariants as table
+use Rattle.smith_check_operands.proofs.LookupLemmas.{some_same}
+use Rattle.smith_check_operands.proofs.RangeLemmas.{address_in_range}
+use Rattle.smith_check_operands.proofs.StepLemmas.{tried_values}
+use Rattle.smith_check_operands.specs.Covers.{held}
+use Rattle.smith_check_operands.specs.Scopes.{bare}
+use Rattle.smith_check_references.proofs.TableLemmas.{element_in_range, each_in_range}
+use Rattle.smith_check_references.proofs.tables.table_set.Goals as goal
+
+pub apply-requires-clause-expected : goal.apply-requires-clause-expected
+apply-requires-clause-expected c = each_in_range c.args.scope.now.types.now.types (c.address_type.result ∷ Ref c.in-Some.table.element_type
+    ∷ []) (
+      (subst (λ v. IsValInRange c.args.scope.now.types.now.types v) (sym c.address_type.ensures)
+          (address_in_range c.args.scope.now.types.now.types c.in-Some.table.table64)),
+      ((element_in_range (bare c.args.scope.now) c.args.index c.in-Some.table c.requires.scope.tables (sym c.in-Some.ensures)), tt),
+    )
+
+pub returns-clause-ok : goal.returns-clause-ok
+returns-clause-ok c = λ labels set.
+    let found = c.in-Some.table in
+    tried_values (bare c.args.scope.now) labels (instr.Table (table.Set c.args.index)) set
+    (address found.table64 ∷ Ref found.element_type ∷ []) ([])
+    (c.address_type.result ∷ Ref c.in-Some.table.element_type ∷ []) ([]) (held c.args.operands.now) _ c.apply.result (λ os rs t. t)
+    (λ os rs t. t)
+    (found, sym c.in-Some.ensures, (refl, refl))
+    (λ os rs t. let (other, at, fits) = t in subst (λ (m : TableType). To os rs (address m.table64 ∷ Ref m.element_type ∷ []) ([]))
+    (some_same other found (sym at ∙ sym c.in-Some.ensures)) fits)
+    (ap (λ (v : ValType). v ∷ Ref c.in-Some.table.element_type ∷ []) c.address_type.ensures) refl c.apply.ensures.ok

@@ -1,0 +1,30 @@
+use Rattle.std.proofs.Common.{◌∙◌, ap, sym, refl, subst, [], ◌∷◌}
+use Rattle.smith_syntax.specs.declared.value_type.ValType.{ValType}
+use Rattle.smith_syntax.specs.declared.entity_type.TableType.{TableType}
+use Rattle.smith_instr.specs.Contexts.{To, IsValid, address}
+use Rattle.smith_instr.specs.declared.instr.Instr.TheVariants as instr
+use Rattle.smith_instr.specs.declared.table.TableInstr.TheVariants as table
+use Rattle.smith_check_operands.proofs.LookupLemmas.{some_same}
+use Rattle.smith_check_operands.proofs.RangeLemmas.{address_valid, no_range}
+use Rattle.smith_check_operands.proofs.StepLemmas.{tried_values, one_valid}
+use Rattle.smith_check_operands.specs.Covers.{held}
+use Rattle.smith_check_operands.specs.Scopes.{bare}
+use Rattle.smith_check_references.proofs.tables.table_size.Goals as goal
+
+pub apply-requires-clause-expected : goal.apply-requires-clause-expected
+apply-requires-clause-expected c = no_range c.args.scope.now.types.now.types
+
+pub apply-requires-clause-valid : goal.apply-requires-clause-valid
+apply-requires-clause-valid c = one_valid (bare c.args.scope.now) c.address_type.result
+    (subst (λ v. IsValid (bare c.args.scope.now) v) (sym c.address_type.ensures)
+    (address_valid (bare c.args.scope.now) c.in-Some.table.table64))
+
+pub returns-clause-ok : goal.returns-clause-ok
+returns-clause-ok c = λ labels set.
+    let found = c.in-Some.table in
+    tried_values (bare c.args.scope.now) labels (instr.Table (table.Size c.args.index)) set ([]) (address found.table64 ∷ [])
+    ([]) (c.address_type.result ∷ []) (held c.args.operands.now) _ c.apply.result (λ os rs t. t) (λ os rs t. t)
+    (found, sym c.in-Some.ensures, (refl, refl))
+    (λ os rs t. let (other, at, fits) = t in subst (λ (m : TableType). To os rs ([]) (address m.table64 ∷ []))
+    (some_same other found (sym at ∙ sym c.in-Some.ensures)) fits)
+    refl (ap (λ (v : ValType). v ∷ []) c.address_type.ensures) c.apply.ensures.ok

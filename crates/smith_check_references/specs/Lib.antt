@@ -1,0 +1,6 @@
+pub mod Offers
+pub mod Rows
+pub mod Hierarchies
+pub mod Lookups
+pub mod Choices
+pub mod Covered
