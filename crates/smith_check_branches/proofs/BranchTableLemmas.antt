@@ -1,5 +1,5 @@
 -- Branches to one of several labels.
-use Rattle.std.proofs.Common.{◌≡◌, ℕ, Bool, true, List, [], ◌∷◌, ◌++◌, length, refl, sym, ap, ◌∙◌, subst, append_assoc, arith}
+use Rattle.std.proofs.Common.{◌≡◌, ℕ, true, List, [], ◌∷◌, ◌++◌, length, refl, sym, ap, ◌∙◌, subst, append_assoc}
 use Rattle.std.specs.Prelude.{Some, None, slice_get, All}
 use Rattle.std.proofs.lemmas.List.Elements.{length_all_zip}
 use Rattle.smith_syntax.specs.declared.value_type.ValType.{ValType}
@@ -100,7 +100,8 @@ other_values context labels index types given rest taken middle there never cove
     never rest (rest ++ taken) covered (record {
       taken = taken;
       is = refl;
-      accepted = below_all context.types taken given (values types) below (subst (λ ts. AreBelow context.types given (values ts)) same fits);
+      accepted = below_all context.types taken given (values types) below
+          (subst (λ ts. AreBelow context.types given (values ts)) same fits);
     })
 
 taken_length : (context : BodyContext) (labels : List (List ValType)) (index : ℕ) (types : List ValType) (given : List Slot)

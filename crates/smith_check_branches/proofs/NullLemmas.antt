@@ -5,8 +5,6 @@ use Rattle.std.proofs.lemmas.Bool.{false≢true}
 use Rattle.std.proofs.lemmas.List.Elements.{All-head}
 use Rattle.smith_types.specs.Expressions.{reference_to}
 use Rattle.smith_types.specs.Subtyping.{itself, IsRefBelow}
-use Rattle.smith_types.proofs.GrowthLemmas.{IsBelow-trans}
-use Rattle.smith_syntax.specs.declared.value_type.HeapType.{HeapType}
 use Rattle.smith_syntax.specs.declared.value_type.RefType.{RefType}
 use Rattle.smith_syntax.specs.declared.value_type.ValType.{ValType}
 use Rattle.smith_syntax.specs.declared.value_type.ValType.TheVariants.{I32, I64, F32, F64, V128, Ref}
@@ -63,8 +61,8 @@ above_least context reference F32 below valid = absurd below
 above_least context reference F64 below valid = absurd below
 above_least context reference V128 below valid = absurd below
 
-pub slot_above_least : (context : BodyContext) (reference : RefType) (given : Slot) → IsBelow context.types (slot.Value (Ref reference)) given
-    → IsSlotValid context given → IsBelow context.types (slot.Value (Ref (least_valid context reference))) given
+pub slot_above_least : (context : BodyContext) (reference : RefType) (given : Slot)
+    → IsBelow context.types (slot.Value (Ref reference)) given → IsSlotValid context given → IsBelow context.types (slot.Value (Ref (least_valid context reference))) given
 slot_above_least context reference (slot.Value given) below valid = above_least context reference given below valid
 slot_above_least context reference slot.Bottom below valid = absurd below
 slot_above_least context reference slot.SomeRef below valid = absurd below

@@ -1,7 +1,6 @@
 use Rattle.std.proofs.Common.{◌≡◌, ◌↔◌, ◌∙◌, [], ◌∷◌, ◌++◌, reverse, refl, sym, ap, subst}
 use Rattle.std.proofs.lemmas.Bool.{false≢true}
 use Rattle.smith_syntax.specs.declared.value_type.ValType.TheVariants.{Ref}
-use Rattle.smith_types.specs.Subtyping.{IsInRange}
 use Rattle.smith_instr.specs.Contexts.{IsValid, To}
 use Rattle.smith_instr.specs.InstrTypes.{difference}
 use Rattle.smith_instr.specs.declared.instr.Instr.TheVariants as instr
@@ -75,6 +74,7 @@ returns-clause-ok c = λ set.
     refl refl
     (applied_as context (values (others ++ Ref cast.from ∷ [])) (values (others ++ Ref c.least_valid-rest.result ∷ []))
     (values (others ++ Ref rest ∷ [])) (held c.args.operands.now) _ c.replace_top.result
-    (λ given. subst (λ r. CountsAs context (values (others ++ Ref r ∷ [])) given ↔ CountsAs context (values (others ++ Ref rest ∷ [])) given)
+    (λ given. subst (λ r. CountsAs context (values (others ++ Ref r ∷ [])) given
+    ↔ CountsAs context (values (others ++ Ref rest ∷ [])) given)
     (sym made) (least_counts context others rest given))
     c.replace_top.ensures.ok)

@@ -1,20 +1,17 @@
-use Rattle.std.proofs.Common.{◌≡◌, ◌∙◌, [], ◌∷◌, ◌++◌, reverse, refl, sym, ap, subst}
+use Rattle.std.proofs.Common.{◌∙◌, [], ◌∷◌, ◌++◌, reverse, refl, sym, subst}
 use Rattle.std.proofs.lemmas.Bool.{false≢true}
 use Rattle.smith_syntax.specs.declared.value_type.RefType.{RefType}
 use Rattle.smith_syntax.specs.declared.value_type.ValType.TheVariants.{Ref}
 use Rattle.smith_types.specs.Subtyping.{IsInRange}
-use Rattle.smith_instr.specs.Contexts.{IsValid, To}
+use Rattle.smith_instr.specs.Contexts.{To}
 use Rattle.smith_instr.specs.InstrTypes.{difference}
 use Rattle.smith_instr.specs.declared.instr.Instr.TheVariants as instr
-use Rattle.smith_check_rules.specs.Slots.{values}
 use Rattle.smith_check_operands.specs.Scopes.{bare}
 use Rattle.smith_check_operands.specs.Covers.{held}
 use Rattle.smith_check_operands.specs.Closes.{label_of, labels_of}
 use Rattle.smith_check_operands.proofs.StepLemmas.{tried_values}
 use Rattle.smith_check_branches.specs.References.{TakesReference}
-use Rattle.smith_check_branches.proofs.CastLemmas.{cast_at, cast_valid, cast_takes, others_same, others_valid, least_counts, ref_in_range}
-use Rattle.smith_check_branches.proofs.NullLemmas.{least_is_valid}
-use Rattle.smith_check_branches.proofs.ResultLemmas.{applied_as}
+use Rattle.smith_check_branches.proofs.CastLemmas.{cast_at, cast_valid, cast_takes, others_same, others_valid, ref_in_range}
 use Rattle.smith_check_branches.proofs.cast_branches.br_on_cast_fail.Goals as goal
 
 pub returns-then-not-is_cast_valid-clause-ok : goal.returns-then-not-is_cast_valid-clause-ok
@@ -23,7 +20,8 @@ returns-then-not-is_cast_valid-clause-ok c = λ set before after covered s.
     let (these, those, has, is, also) = s.typed in
     let (others, branches, fits) = has in
     false≢true (sym c.if-not-is_cast_valid.true
-    ∙ c.is_cast_valid.ensures.1 (cast_valid (bare c.args.scope.now) labels c.args.cast (difference c.args.cast.from c.args.cast.to) others branches))
+    ∙ c.is_cast_valid.ensures.1 (cast_valid (bare c.args.scope.now) labels c.args.cast (difference c.args.cast.from c.args.cast.to)
+    others branches))
 
 pub taken_below-requires-clause-reference : goal.taken_below-requires-clause-reference
 taken_below-requires-clause-reference c =

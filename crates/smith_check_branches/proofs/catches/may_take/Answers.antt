@@ -1,4 +1,4 @@
-use Rattle.std.proofs.Common.{◌≡◌, ◌∙◌, ◌++◌, ◌∷◌, reverse, sym, subst, length, take, drop}
+use Rattle.std.proofs.Common.{◌∙◌, ◌∷◌, reverse, sym, subst, length}
 use Rattle.std.specs.Prelude.{All}
 use Rattle.std.proofs.lemmas.Bool.{false≢true}
 use Rattle.std.proofs.lemmas.List.Elements.{All-take, All-drop}

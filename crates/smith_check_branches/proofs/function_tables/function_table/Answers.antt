@@ -7,7 +7,8 @@ use Rattle.smith_check_branches.specs.Tables.{AreFunctions}
 use Rattle.smith_check_branches.proofs.function_tables.function_table.Goals as goal
 
 pub returns-in_default : goal.returns-in_default
-returns-in_default c = λ wide t. none_not_some t.table (slice_get c.args.scope.now.tables.now c.args.index) (sym c.in_default.ensures) t.there
+returns-in_default c = λ wide t.
+    none_not_some t.table (slice_get c.args.scope.now.tables.now c.args.index) (sym c.in_default.ensures) t.there
 
 pub returns-then-are_functions : goal.returns-then-are_functions
 returns-then-are_functions c =

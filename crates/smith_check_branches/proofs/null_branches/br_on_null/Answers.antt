@@ -1,4 +1,4 @@
-use Rattle.std.proofs.Common.{◌∷◌, [], ◌++◌, reverse, sym, subst, MatchBool}
+use Rattle.std.proofs.Common.{◌∷◌, [], reverse, sym, subst, MatchBool}
 use Rattle.std.specs.Prelude.{MatchOption}
 use Rattle.smith_instr.specs.Contexts.{AreValid}
 use Rattle.smith_check_rules.specs.Slots.{values}

@@ -10,7 +10,7 @@ use Rattle.smith_check_operands.specs.Closes.{with_labels}
 use Rattle.smith_check_operands.specs.Applies.{HasLeaving}
 use Rattle.smith_check_operands.proofs.LookupLemmas.{some_same, func_same}
 use Rattle.smith_check_operands.proofs.StepLemmas.{tried_leaving}
-use Rattle.smith_check_branches.proofs.CallLemmas.{params_in_range, results_are_valid, returns_as, never_returns}
+use Rattle.smith_check_branches.proofs.CallLemmas.{params_in_range, returns_as, never_returns}
 use Rattle.smith_check_branches.proofs.tail_calls.return_call.Goals as goal
 
 pub returns_from-requires-clause-results : goal.returns_from-requires-clause-results

@@ -1,5 +1,5 @@
-use Rattle.std.proofs.Common.{◌∙◌, sym, subst, ◌↔◌}
-use Rattle.std.specs.Prelude.{All, IsTrue}
+use Rattle.std.proofs.Common.{sym, subst}
+use Rattle.std.specs.Prelude.{All}
 use Rattle.smith_types.specs.Subtyping.{IsValInRange}
 use Rattle.smith_check_operands.specs.Scopes.{bare}
 use Rattle.smith_check_operands.proofs.RangeLemmas.{all_in_range}
