@@ -14,3 +14,6 @@ returns-in-Else-clause-ok c = rw c.in-Else.is c.second.ensures.ok
 
 pub returns-in-End-clause-ok : goal.returns-in-End-clause-ok
 returns-in-End-clause-ok c = rw c.in-End.is c.close.ensures.ok
+
+pub returns-in-TryTable-clause-ok : goal.returns-in-TryTable-clause-ok
+returns-in-TryTable-clause-ok c = rw c.in-TryTable.is c.open_try.ensures.ok
