@@ -25,7 +25,8 @@ use Rattle.smith_check_operands.specs.Applies.{IsTaken, IsTried}
 use Rattle.smith_check_body.specs.Checks.{IsShapeValid, AreWell, IsWell, Goes, Stops, HasNoType, IsShapeOf}
 use Rattle.smith_check_operands.proofs.PushLemmas.{values_valid}
 use Rattle.smith_check_body.proofs.PlainLemmas.{steps_finish, steps_begin, nowhere_finish}
-use Rattle.smith_check_body.proofs.FrameLemmas.{opens_finish, opens_begin, opens_by, block_type_same, end_finish, end_begin, ends_by, may_end_at}
+use Rattle.smith_check_body.proofs.FrameLemmas.{opens_finish, opens_begin, opens_by, block_type_same, end_finish, end_begin, ends_by}
+use Rattle.smith_check_body.proofs.FrameLemmas.{may_end_at}
 use Rattle.smith_check_body.proofs.FrameLemmas.{no_else_outside, else_by, else_goes_on, else_begin}
 
 -- the same, written otherwise

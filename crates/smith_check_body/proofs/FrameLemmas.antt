@@ -21,7 +21,8 @@ use Rattle.smith_check_rules.specs.StackTypes.{HasStackType}
 use Rattle.smith_check_rules.specs.Sequences.{Stacked, stacked, CountsAs, IsFramed, IsStep, AreTyped, nothing, step, block, loop, if_alone}
 use Rattle.smith_check_rules.specs.Sequences.{if_else, try_table, IsBodyTyped}
 use Rattle.smith_check_operands.specs.Covers.{Held, holding, held, Covers, CoversGiven, Takes, Pops, Pushes}
-use Rattle.smith_check_operands.specs.Closes.{label_by, label_of, labels_of, with_labels, MayEnd, IsFirst, ClosesWith, Ends, Resumes, IsTail}
+use Rattle.smith_check_operands.specs.Closes.{label_by, label_of, labels_of, with_labels, MayEnd, IsFirst, ClosesWith, Ends, Resumes}
+use Rattle.smith_check_operands.specs.Closes.{IsTail}
 use Rattle.smith_check_operands.specs.Closes.{Finishes, EndsHere}
 use Rattle.smith_check_body.specs.Opens.{opening, taken_by}
 use Rattle.smith_check_operands.proofs.BelowLemmas.{below_themselves}

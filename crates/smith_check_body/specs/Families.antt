@@ -41,3 +41,17 @@ IsConstant (instr.F32Const bits) = Unit {0}
 IsConstant (instr.F64Const bits) = Unit {0}
 IsConstant (instr.V128Const bits) = Unit {0}
 IsConstant _ = ⊥
+
+-- memory instructions, with those on vectors and the atomic ones (Structure, Memory Instructions;
+-- atomic ones are an own rule)
+abbrev pub IsMemoryInstr : Instr → Type 0
+IsMemoryInstr (instr.Load op at) = Unit {0}
+IsMemoryInstr (instr.Store op at) = Unit {0}
+IsMemoryInstr (instr.Memory op) = Unit {0}
+IsMemoryInstr (instr.VectorLoad op at) = Unit {0}
+IsMemoryInstr (instr.VectorStore at) = Unit {0}
+IsMemoryInstr (instr.VectorLoadLane log2_bytes at lane) = Unit {0}
+IsMemoryInstr (instr.VectorStoreLane log2_bytes at lane) = Unit {0}
+IsMemoryInstr (instr.Atomic op at) = Unit {0}
+IsMemoryInstr instr.AtomicFence = Unit {0}
+IsMemoryInstr _ = ⊥

@@ -6,7 +6,7 @@ ghost use Rattle.smith_check_operands.specs.Covers.{held};
 ghost use Rattle.smith_check_operands.specs.Applies.{IsTried};
 ghost use Rattle.smith_instr.specs.Contexts.{AreValid};
 ghost use Rattle.smith_check_operands.specs.Closes.{label_of, labels_of};
-ghost use Rattle.smith_check_body.specs.Families.{IsBranch, IsCall, IsConstant, IsVariable};
+ghost use Rattle.smith_check_body.specs.Families.{IsBranch, IsCall, IsConstant, IsMemoryInstr, IsVariable};
 
 use smith_bytes::Error;
 use smith_check_branches::branch_tables::br_table;
@@ -14,9 +14,12 @@ use smith_check_branches::calls::{call_indirect, call_ref};
 use smith_check_branches::cast_branches::{br_on_cast, br_on_cast_fail};
 use smith_check_branches::null_branches::{br_on_non_null, br_on_null};
 use smith_check_branches::tail_calls::{return_call, return_call_indirect, return_call_ref};
+use smith_check_instr::atomics::atomic;
 use smith_check_instr::constants::{f32_const, f64_const, i32_const, i64_const, v128_const};
-use smith_check_instr::control::{br, br_if, call, return_all};
+use smith_check_instr::control::{atomic_fence, br, br_if, call, return_all};
+use smith_check_instr::memory::{load, memory, store};
 use smith_check_instr::variables::{global_get, global_set, local_get, local_set, local_tee};
+use smith_check_instr::vectors::{vector_load, vector_load_lane, vector_store, vector_store_lane};
 use smith_check_operands::{Frame, Operands, Scope, Shape};
 use smith_instr::{Instr, SetLocals};
 
@@ -120,6 +123,37 @@ pub fn step_constant(operands: &mut Operands, scope: &Scope, instr: &Instr) -> R
         Instr::F32Const(_) => f32_const(operands, scope),
         Instr::F64Const(_) => f64_const(operands, scope),
         Instr::V128Const(_) => v128_const(operands, scope),
+        _ => Ok(false),
+    }
+}
+
+/// Tries an access to a memory, or an instruction on a whole memory.
+pub fn step_access(operands: &mut Operands, scope: &Scope, instr: &Instr) -> Result<bool, Error>
+    requires known { AreSlotsValid (bare scope.now) operands.old.known.items }
+    requires access { IsMemoryInstr instr.now }
+    ensures ok { (labels : List (List ValType)) (set : List ℕ) → IfOk result
+        (λ there. IsTried (bare scope.now) labels instr.now set there
+        (held operands.old) (held operands.new)) }
+    ensures memory { IfErr result (λ e. e ≡ Error.Memory) }
+{
+    match instr {
+        Instr::Load(op, at) => load(operands, scope, *op, *at),
+        Instr::Store(op, at) => store(operands, scope, *op, *at),
+        Instr::Memory(op) => memory(operands, scope, *op),
+        Instr::VectorLoad(op, at) => vector_load(operands, scope, *op, *at),
+        Instr::VectorStore(at) => vector_store(operands, scope, *at),
+        Instr::VectorLoadLane {
+            log2_bytes,
+            at,
+            lane,
+        } => vector_load_lane(operands, scope, *log2_bytes, *at, *lane),
+        Instr::VectorStoreLane {
+            log2_bytes,
+            at,
+            lane,
+        } => vector_store_lane(operands, scope, *log2_bytes, *at, *lane),
+        Instr::Atomic(op, at) => atomic(operands, scope, *op, *at),
+        Instr::AtomicFence => atomic_fence(operands, scope),
         _ => Ok(false),
     }
 }

@@ -11,12 +11,12 @@ ghost use Rattle.smith_instr.specs.InstrTypes.{sets};
 ghost use Rattle.smith_check_operands.specs.Closes.{label_of, labels_of, IsPlain};
 ghost use Rattle.smith_check_body.specs.Covered.{is_covered};
 
-use crate::families::{step_branch, step_call, step_constant, step_variable};
+use crate::families::{step_access, step_branch, step_call, step_constant, step_variable};
 use smith_bytes::Error;
 use smith_check_instr::constants::numeric;
-use smith_check_instr::control::{atomic_fence, drop_one, nop, throw_ref, unreachable};
-use smith_check_instr::memory::{load, memory, store};
-use smith_check_instr::select::select;
+use smith_check_instr::control::{drop_one, nop, throw, throw_ref, unreachable};
+use smith_check_instr::select::{select, select_typed};
+use smith_check_instr::vectors::vector;
 use smith_check_operands::{Frame, Operands, Scope, Shape};
 use smith_instr::{Instr, SetLocals};
 
@@ -43,14 +43,13 @@ pub fn step(
     match instr {
         Instr::Unreachable => Ok(unreachable(operands, scope)),
         Instr::Nop => nop(operands, scope),
+        Instr::Throw(tag) => Ok(throw(operands, scope, *tag)),
         Instr::ThrowRef => Ok(throw_ref(operands, scope)),
         Instr::Drop => Ok(drop_one(operands, scope)),
         Instr::Select => select(operands, scope),
+        Instr::SelectTyped(types) => select_typed(operands, scope, types),
         Instr::Numeric(op) => numeric(operands, scope, *op),
-        Instr::Load(op, at) => load(operands, scope, *op, *at),
-        Instr::Store(op, at) => store(operands, scope, *op, *at),
-        Instr::Memory(op) => memory(operands, scope, *op),
-        Instr::AtomicFence => atomic_fence(operands, scope),
+        Instr::Vector(op) => vector(operands, scope, *op),
         Instr::Br(_)
         | Instr::BrIf(_)
         | Instr::BrTable(_, _)
@@ -75,12 +74,18 @@ pub fn step(
         | Instr::F32Const(_)
         | Instr::F64Const(_)
         | Instr::V128Const(_) => step_constant(operands, scope, instr),
-        Instr::Block(_) | Instr::Loop(_) | Instr::If(_) | Instr::Else | Instr::End => Ok(false),
-        Instr::TryTable(_, _) | Instr::Throw(_) => Ok(false),
-        Instr::SelectTyped(_) | Instr::Reference(_) | Instr::Table(_) => Ok(false),
-        Instr::Aggregate(_) | Instr::Vector(_) | Instr::Atomic(_, _) => Ok(false),
-        Instr::VectorLoad(_, _) | Instr::VectorStore(_) => Ok(false),
-        Instr::VectorLoadLane { .. } | Instr::VectorStoreLane { .. } => Ok(false),
+        Instr::Load(_, _)
+        | Instr::Store(_, _)
+        | Instr::Memory(_)
+        | Instr::VectorLoad(_, _)
+        | Instr::VectorStore(_)
+        | Instr::VectorLoadLane { .. }
+        | Instr::VectorStoreLane { .. }
+        | Instr::Atomic(_, _)
+        | Instr::AtomicFence => step_access(operands, scope, instr),
+        Instr::Reference(_) | Instr::Table(_) | Instr::Aggregate(_) => Ok(false),
+        Instr::Block(_) | Instr::Loop(_) | Instr::If(_) | Instr::TryTable(_, _) => Ok(false),
+        Instr::Else | Instr::End => Ok(false),
     }
 }
 

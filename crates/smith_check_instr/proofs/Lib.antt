@@ -1,3 +1,5 @@
+pub mod PlainLemmas
 pub mod VectorLemmas
+pub mod AtomicLemmas
 pub mod SelectLemmas
 pub mod MemoryLemmas

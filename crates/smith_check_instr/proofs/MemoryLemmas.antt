@@ -26,22 +26,6 @@ pub address_valid : (context : BodyContext) (wide : Bool) → IsValid context (a
 address_valid context true = tt
 address_valid context false = tt
 
-pub loaded_in_range : (types : List SubType) (op : Load) → IsValInRange types (loaded op).0
-loaded_in_range types load.I32 = tt
-loaded_in_range types load.I64 = tt
-loaded_in_range types load.F32 = tt
-loaded_in_range types load.F64 = tt
-loaded_in_range types load.I32From8S = tt
-loaded_in_range types load.I32From8U = tt
-loaded_in_range types load.I32From16S = tt
-loaded_in_range types load.I32From16U = tt
-loaded_in_range types load.I64From8S = tt
-loaded_in_range types load.I64From8U = tt
-loaded_in_range types load.I64From16S = tt
-loaded_in_range types load.I64From16U = tt
-loaded_in_range types load.I64From32S = tt
-loaded_in_range types load.I64From32U = tt
-
 pub loaded_valid : (context : BodyContext) (op : Load) → IsValid context (loaded op).0
 loaded_valid context load.I32 = tt
 loaded_valid context load.I64 = tt
@@ -68,14 +52,3 @@ stored_in_range types store.I32To16 = tt
 stored_in_range types store.I64To8 = tt
 stored_in_range types store.I64To16 = tt
 stored_in_range types store.I64To32 = tt
-
-pub stored_valid : (context : BodyContext) (op : Store) → IsValid context (stored op).0
-stored_valid context store.I32 = tt
-stored_valid context store.I64 = tt
-stored_valid context store.F32 = tt
-stored_valid context store.F64 = tt
-stored_valid context store.I32To8 = tt
-stored_valid context store.I32To16 = tt
-stored_valid context store.I64To8 = tt
-stored_valid context store.I64To16 = tt
-stored_valid context store.I64To32 = tt

@@ -1,6 +1,6 @@
 -- `select` without a type, with the types of dead code.
-use Rattle.std.proofs.Common.{◌≡◌, ℕ, List, [], ◌∷◌, ◌++◌, rules, refl, sym, ap, ◌∙◌, subst, append_assoc}
-use Rattle.std.specs.Prelude.{None, MatchOption, Bool}
+use Rattle.std.proofs.Common.{◌≡◌, ℕ, List, [], ◌∷◌, ◌++◌, arith, length, rules, refl, sym, ap, ◌∙◌, subst, append_assoc}
+use Rattle.std.specs.Prelude.{None, MatchOption, Bool, slice_index_or}
 use Rattle.smith_syntax.specs.declared.composite_type.SubType.{SubType}
 use Rattle.smith_syntax.specs.declared.value_type.ValType.TheVariants.{I32, I64, F32, F64, V128, Ref}
 use Rattle.smith_syntax.specs.declared.value_type.ValType.{ValType}
@@ -320,3 +320,12 @@ pub pushed_one : (context : BodyContext) (known after : List Slot) (slot : Slot)
 pushed_one context known after slot dead known_valid valid is =
     subst (λ xs. Pushes context (slot ∷ []) (holding known dead) (holding xs dead)) (sym is)
     (push_all context known (slot ∷ []) dead known_valid (All-cons (IsSlotValid context) slot [] valid (All-nil (IsSlotValid context))))
+
+-- a list of one item
+pub one_item : {A : Type 0} (xs : List A) (x : A) → length xs ≡ 1 → x ≡ slice_index_or xs 0 x → xs ≡ x ∷ []
+one_item [] x one is = absurd (omega (arith, one))
+one_item (y ∷ []) x one is = ap (λ z. z ∷ []) (sym is)
+one_item (y ∷ z ∷ xs) x one is = absurd (omega (arith, one))
+
+pub item_same : {A : Type 0} (x y : A) → x ∷ [] ≡ y ∷ [] → x ≡ y
+item_same x y same = ap (λ xs. slice_index_or xs 0 x) same

@@ -1,2 +1,3 @@
 pub mod Selects
-pub mod CoveredMemory
+pub mod VectorSignatures
+pub mod AtomicSignatures

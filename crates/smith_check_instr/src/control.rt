@@ -116,6 +116,26 @@ pub fn call(operands: &mut Operands, scope: &Scope, index: u32) -> Result<bool, 
     operands.apply(scope, &function.params, &function.results)
 }
 
+/// Tries `throw`.
+pub fn throw(operands: &mut Operands, scope: &Scope, tag: u32) -> bool
+    requires known { AreSlotsValid (bare scope.now) operands.old.known.items }
+    requires scope { IsScope (bare scope.now) }
+    ensures { (labels : List (List ValType)) (set : List ℕ)
+        → IsTried (bare scope.now) labels (instr.Throw tag) set result
+        (held operands.old) (held operands.new) }
+{
+    let Some(ty) = type_index_at(scope.tags, tag) else {
+        return false;
+    };
+    let Some(function) = func_at(scope.types.types(), ty) else {
+        return false;
+    };
+    if !function.results.is_empty() {
+        return false;
+    }
+    operands.leave_with(scope, &function.params)
+}
+
 /// Tries `throw_ref`.
 pub fn throw_ref(operands: &mut Operands, scope: &Scope) -> bool
     requires { AreSlotsValid (bare scope.now) operands.old.known.items }

@@ -1,14 +1,14 @@
-ghost use Rattle.std.specs.Prelude.{IsTrue, ◌≡◌, ◌≤◌, ℕ, List, IfOk, IfErr, MatchOption, slice_get};
+ghost use Rattle.std.specs.Prelude.{IsTrue, ◌↔◌, ◌≡◌, ◌<◌, ◌≤◌, ℕ, List, IfOk, IfErr, MatchOption, slice_get};
 ghost use Rattle.smith_instr.specs.declared.memory.MemoryInstr.TheVariants as memory;
 ghost use Rattle.smith_syntax.specs.declared.value_type.ValType.{ValType};
 ghost use Rattle.smith_instr.specs.Contexts.{address};
 ghost use Rattle.smith_instr.specs.MemoryTypes.{IsAccess};
+ghost use Rattle.smith_instr.specs.ReferenceTypes.{narrower};
 ghost use Rattle.smith_instr.specs.declared.instr.Instr.TheVariants as instr;
 ghost use Rattle.smith_check_rules.specs.Slots.{AreSlotsValid};
 ghost use Rattle.smith_check_operands.specs.Scopes.{bare};
 ghost use Rattle.smith_check_operands.specs.Covers.{held};
 ghost use Rattle.smith_check_operands.specs.Applies.{IsTried};
-ghost use Rattle.smith_check_instr.specs.CoveredMemory.{is_memory_covered};
 ghost use Rattle.smith_check_operands.specs.Lookups.{HasNoAccess};
 
 use smith_bytes::Error;
@@ -127,10 +127,90 @@ pub fn memory_fill(operands: &mut Operands, scope: &Scope, index: u32) -> Result
     operands.apply(scope, &[address, ValType::I32, address], &[])
 }
 
-/// Tries a covered instruction on a whole memory.
+/// Returns the type of the number of bytes that are copied between two memories, or of elements
+/// between two tables: the narrower of their address types (Validation, Memory Instructions).
+pub fn narrower_type(one: bool, other: bool) -> ValType
+    ensures { result ≡ narrower one other }
+{
+    if one {
+        address_type(other)
+    } else {
+        ValType::I32
+    }
+}
+
+/// Tries `memory.copy`.
+pub fn memory_copy(
+    operands: &mut Operands,
+    scope: &Scope,
+    to: u32,
+    from: u32,
+) -> Result<bool, Error>
+    requires { AreSlotsValid (bare scope.now) operands.old.known.items }
+    ensures ok { (labels : List (List ValType)) (set : List ℕ) → IfOk result
+        (λ there. IsTried (bare scope.now) labels (instr.Memory (memory.Copy to from)) set there
+        (held operands.old) (held operands.new)) }
+    ensures memory { IfErr result (λ e. e ≡ Error.Memory) }
+{
+    let Some(into) = memory_at(scope.memories, to) else {
+        return Ok(false);
+    };
+    let Some(out) = memory_at(scope.memories, from) else {
+        return Ok(false);
+    };
+    let first = address_type(into.memory64);
+    let second = address_type(out.memory64);
+    let length = narrower_type(into.memory64, out.memory64);
+    operands.apply(scope, &[first, second, length], &[])
+}
+
+/// Tries `memory.init`.
+pub fn memory_init(
+    operands: &mut Operands,
+    scope: &Scope,
+    index: u32,
+    segment: u32,
+) -> Result<bool, Error>
+    requires { AreSlotsValid (bare scope.now) operands.old.known.items }
+    ensures ok { (labels : List (List ValType)) (set : List ℕ) → IfOk result
+        (λ there. IsTried (bare scope.now) labels (instr.Memory (memory.Init index segment)) set there
+        (held operands.old) (held operands.new)) }
+    ensures memory { IfErr result (λ e. e ≡ Error.Memory) }
+{
+    let Some(memory) = memory_at(scope.memories, index) else {
+        return Ok(false);
+    };
+    if !has_segment(scope, segment) {
+        return Ok(false);
+    }
+    let address = address_type(memory.memory64);
+    operands.apply(scope, &[address, ValType::I32, ValType::I32], &[])
+}
+
+/// Returns whether there is a data segment at an index (Validation, Contexts).
+pub fn has_segment(scope: &Scope, segment: u32) -> bool
+    ensures { IsTrue result ↔ (segment < scope.now.datas) }
+{
+    (segment as usize) < scope.datas
+}
+
+/// Tries `data.drop`.
+pub fn data_drop(operands: &mut Operands, scope: &Scope, segment: u32) -> Result<bool, Error>
+    requires { AreSlotsValid (bare scope.now) operands.old.known.items }
+    ensures ok { (labels : List (List ValType)) (set : List ℕ) → IfOk result
+        (λ there. IsTried (bare scope.now) labels (instr.Memory (memory.DataDrop segment)) set there
+        (held operands.old) (held operands.new)) }
+    ensures memory { IfErr result (λ e. e ≡ Error.Memory) }
+{
+    if !has_segment(scope, segment) {
+        return Ok(false);
+    }
+    operands.apply(scope, &[], &[])
+}
+
+/// Tries an instruction on a whole memory or a data segment.
 pub fn memory(operands: &mut Operands, scope: &Scope, op: MemoryInstr) -> Result<bool, Error>
-    requires known { AreSlotsValid (bare scope.now) operands.old.known.items }
-    requires covered { IsTrue (is_memory_covered op) }
+    requires { AreSlotsValid (bare scope.now) operands.old.known.items }
     ensures ok { (labels : List (List ValType)) (set : List ℕ) → IfOk result
         (λ there. IsTried (bare scope.now) labels (instr.Memory op) set there
         (held operands.old) (held operands.new)) }
@@ -140,6 +220,8 @@ pub fn memory(operands: &mut Operands, scope: &Scope, op: MemoryInstr) -> Result
         MemoryInstr::Size(index) => memory_size(operands, scope, index),
         MemoryInstr::Grow(index) => memory_grow(operands, scope, index),
         MemoryInstr::Fill(index) => memory_fill(operands, scope, index),
-        _ => Ok(false),
+        MemoryInstr::Copy { to, from } => memory_copy(operands, scope, to, from),
+        MemoryInstr::Init { memory, segment } => memory_init(operands, scope, memory, segment),
+        MemoryInstr::DataDrop(segment) => data_drop(operands, scope, segment),
     }
 }

@@ -8,9 +8,10 @@ ghost use Rattle.smith_check_operands.specs.Applies.{IsTried};
 ghost use Rattle.smith_check_instr.specs.Selects.{both, join, number};
 
 use smith_bytes::Error;
+use smith_check_operands::lookups::is_valid;
 use smith_check_operands::{Operands, Scope};
 use smith_check_rules::Slot;
-use smith_types::ValType;
+use smith_types::{Items, ValType};
 
 /// Returns a number type or a vector type itself.
 pub fn number(value: ValType) -> Option<Slot>
@@ -78,4 +79,26 @@ pub fn select(operands: &mut Operands, scope: &Scope) -> Result<bool, Error>
     };
     operands.known.push(given)?;
     Ok(true)
+}
+
+/// Tries `select` with a list of types.
+pub fn select_typed(
+    operands: &mut Operands,
+    scope: &Scope,
+    types: &Items<ValType>,
+) -> Result<bool, Error>
+    requires { AreSlotsValid (bare scope.now) operands.old.known.items }
+    ensures ok { (labels : List (List ValType)) (set : List ℕ) → IfOk result
+        (λ there. IsTried (bare scope.now) labels (instr.SelectTyped types.now) set there
+        (held operands.old) (held operands.new)) }
+    ensures memory { IfErr result (λ e. e ≡ Error.Memory) }
+{
+    if types.len() != 1 {
+        return Ok(false);
+    }
+    let value = types[0];
+    if !is_valid(scope, value) {
+        return Ok(false);
+    }
+    operands.apply(scope, &[value, value, ValType::I32], &[value])
 }

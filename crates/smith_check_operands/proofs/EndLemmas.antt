@@ -15,7 +15,8 @@ use Rattle.smith_check_rules.specs.Sequences.{CountsAs}
 use Rattle.smith_check_operands.specs.Covers.{Held, holding, Pops, PopsNothing}
 use Rattle.smith_check_operands.specs.Closes.{EndsHere}
 use Rattle.smith_check_operands.proofs.CoverLemmas.{pop_enough, pop_apart}
-use Rattle.smith_check_operands.proofs.FitLemmas.{below_from_fit, fit_from_below, values_length, taken_beyond, refused_beyond, refused_short}
+use Rattle.smith_check_operands.proofs.FitLemmas.{below_from_fit, fit_from_below, values_length, taken_beyond, refused_beyond}
+use Rattle.smith_check_operands.proofs.FitLemmas.{refused_short}
 use Rattle.smith_check_operands.proofs.PushLemmas.{values_valid}
 use Rattle.smith_check_operands.proofs.StepLemmas.{covers_itself}
 

@@ -32,10 +32,10 @@ abbrev pub HasNone : BodyContext → List ℕ → Instr → Type 0
 HasNone context set instruction = (these those : List Slot) → HasStackType context set instruction these those → ⊥
 
 -- whether an instruction steps, and where to
-pub record IsTaken (context : BodyContext) (labels : List (List ValType)) (instruction : Instr) (set : List ℕ) (old new : Held) : Type 0
-  where
-    pub steps : Steps context labels instruction set old new
-    pub valid : AreSlotsValid context new.known
+pub record IsTaken (context : BodyContext) (labels : List (List ValType)) (instruction : Instr) (set : List ℕ) (old new : Held)
+    : Type 0 where
+  pub steps : Steps context labels instruction set old new
+  pub valid : AreSlotsValid context new.known
 
 abbrev pub IsTried : BodyContext → List (List ValType) → Instr → List ℕ → Bool → Held → Held → Type 0
 IsTried context labels instruction set taken old new = MatchBool taken (IsTaken context labels instruction set old new)

@@ -59,6 +59,6 @@ Reads (Err errors.EmptyChoose) new read = read ≡ None
 Reads (Err _) new read = ⊥
 
 -- a value, by its definition at any depth above the fuel
-pub record ReadsValue (context : Context) (config : Config) (wanted : ValType) (old new : State) (result : Result (Unit {0}) Error) : Type 0
-  where
-    pub exact : (depth : ℕ) → old.fuel < depth → Reads result new (expression_at context config depth wanted old)
+pub record ReadsValue (context : Context) (config : Config) (wanted : ValType) (old new : State) (result : Result (Unit {0}) Error)
+    : Type 0 where
+  pub exact : (depth : ℕ) → old.fuel < depth → Reads result new (expression_at context config depth wanted old)

@@ -58,13 +58,13 @@ is_offered types wanted (Some value) = is_val_below types value wanted
 
 -- the classes of the first items of a list: each of these is of its class, and the types of the
 -- classes exist
-pub record AreClasses {A : Type 0} (types : List SubType) (type_of : ℕ → A → Option ValType) (xs : List A) (classes : Classes) : Type 0
-  where
-    pub seen : length classes.of ≤ length xs
-    pub few : length classes.kinds ≤ length classes.of
-    pub in_range : All (λ kind. IfSome kind (IsValInRange types)) classes.kinds
-    pub same : (i : ℕ) (x : A) → i < length classes.of → slice_get xs i ≡ Some x → slice_get classes.kinds (slice_index classes.of i)
-        ≡ Some (type_of i x)
+pub record AreClasses {A : Type 0} (types : List SubType) (type_of : ℕ → A → Option ValType) (xs : List A) (classes : Classes)
+    : Type 0 where
+  pub seen : length classes.of ≤ length xs
+  pub few : length classes.kinds ≤ length classes.of
+  pub in_range : All (λ kind. IfSome kind (IsValInRange types)) classes.kinds
+  pub same : (i : ℕ) (x : A) → i < length classes.of → slice_get xs i ≡ Some x → slice_get classes.kinds (slice_index classes.of i)
+      ≡ Some (type_of i x)
 
 -- one more item is in a class of its type
 pub record IsNoted (kind : Option ValType) (old new : Classes) : Type 0 where

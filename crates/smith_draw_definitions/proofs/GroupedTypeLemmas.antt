@@ -26,19 +26,19 @@ cut : (groups : List (List SubType)) (i : ℕ) (group : List SubType) → i < le
 cut groups i group inside is = ap joined (drop_more groups i group inside)
     ∙ ap (λ (one : List SubType). one ++ joined (drop (i + 1) groups)) (sym is)
 
-module _ (groups : List (List SubType)) (i left index : ℕ) (now : slice_get (joined (drop i groups)) left ≡ slice_get (joined groups) index)
-  where
-    -- it is in the next group
-    pub found_in : (group : List SubType) (t : SubType) → i < length groups → group ≡ get_or groups i group → left < length group
-        → t ≡ get_or group left t → slice_get (joined groups) index ≡ Some t
-    found_in group t inside is short at =
-        sym now ∙ (ap (λ (types : List SubType). slice_get types left) (cut groups i group inside is)
-        ∙ (in_front group (joined (drop (i + 1) groups)) left short
-        ∙ (slice_get-get_or group left t short ∙ ap (λ (one : SubType). Some one) (sym at))))
+module _ (groups : List (List SubType)) (i left index : ℕ)
+    (now : slice_get (joined (drop i groups)) left ≡ slice_get (joined groups) index) where
+  -- it is in the next group
+  pub found_in : (group : List SubType) (t : SubType) → i < length groups → group ≡ get_or groups i group → left < length group
+      → t ≡ get_or group left t → slice_get (joined groups) index ≡ Some t
+  found_in group t inside is short at =
+      sym now ∙ (ap (λ (types : List SubType). slice_get types left) (cut groups i group inside is)
+      ∙ (in_front group (joined (drop (i + 1) groups)) left short
+      ∙ (slice_get-get_or group left t short ∙ ap (λ (one : SubType). Some one) (sym at))))
 
-    -- it is after that group
-    pub found_further : (group : List SubType) (less : ℕ) → i < length groups → group ≡ get_or groups i group → length group ≤ left
-        → less ≡ left - length group → slice_get (joined (drop (i + 1) groups)) less ≡ slice_get (joined groups) index
-    found_further group less inside is past fewer =
-        rw fewer (sym (past_first group (joined (drop (i + 1) groups)) left past)
-        ∙ (ap (λ (types : List SubType). slice_get types left) (sym (cut groups i group inside is)) ∙ now))
+  -- it is after that group
+  pub found_further : (group : List SubType) (less : ℕ) → i < length groups → group ≡ get_or groups i group → length group ≤ left
+      → less ≡ left - length group → slice_get (joined (drop (i + 1) groups)) less ≡ slice_get (joined groups) index
+  found_further group less inside is past fewer =
+      rw fewer (sym (past_first group (joined (drop (i + 1) groups)) left past)
+      ∙ (ap (λ (types : List SubType). slice_get types left) (sym (cut groups i group inside is)) ∙ now))

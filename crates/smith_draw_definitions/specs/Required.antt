@@ -140,23 +140,23 @@ pub record IsRequiredMore (own_types : Bool) (config : Config) (shape : Shape) (
 
 -- the exports of a shape are made: the same in order, valid, of entities defined after those before
 pub record AreRequired (own_types : Bool) (config : Config) (shape : Shape) (old_types : GroupedTypes) (old : EntitySpaces)
-    (old_defined : Definitions) (types : GroupedTypes) (spaces : EntitySpaces) (defined : Definitions) (exports : List Export) : Type 0
-  where
-    pub same : AllZip (IsSameExport (IsKeptType own_types types.types (shape_types shape)) spaces (shape_spaces shape)) exports
-        shape.exports
-    pub types_grown : Extends old_types.types types.types
-    pub groups_grown : Extends old_types.groups types.groups
-    pub spaces_grown : AreSpacesGrown old spaces
-    pub counted : (count : Count) → (count ≡ counts.Types → ⊥) → count_in spaces count ≡ count_in old count + items_of_exports count shape
-    pub types_counted : length types.types ≤ length old_types.types + items_of_exports counts.Types shape
-    pub limits : AddsLimitsOf shape old spaces
-    pub unchanged : own_types ≡ false → types ≡ old_types
-    pub lacking : HoldsUngroundedField config (drawn_beside config types.types spaces defined)
-        → HoldsUngroundedField config (drawn_beside config old_types.types old old_defined)
-    pub types_of : AddsTypesOf shape old_types.types types.types
-    pub few_values : All (HasFewValues most_listed) old_types.types → All (HasFewValues most_listed) types.types
-    pub stands : (imported : EntitySpaces) → StandsAfter config imported old_types old old_defined
-        → StandsAfter config imported types spaces defined
+    (old_defined : Definitions) (types : GroupedTypes) (spaces : EntitySpaces) (defined : Definitions) (exports : List Export)
+    : Type 0 where
+  pub same : AllZip (IsSameExport (IsKeptType own_types types.types (shape_types shape)) spaces (shape_spaces shape)) exports
+      shape.exports
+  pub types_grown : Extends old_types.types types.types
+  pub groups_grown : Extends old_types.groups types.groups
+  pub spaces_grown : AreSpacesGrown old spaces
+  pub counted : (count : Count) → (count ≡ counts.Types → ⊥) → count_in spaces count ≡ count_in old count + items_of_exports count shape
+  pub types_counted : length types.types ≤ length old_types.types + items_of_exports counts.Types shape
+  pub limits : AddsLimitsOf shape old spaces
+  pub unchanged : own_types ≡ false → types ≡ old_types
+  pub lacking : HoldsUngroundedField config (drawn_beside config types.types spaces defined)
+      → HoldsUngroundedField config (drawn_beside config old_types.types old old_defined)
+  pub types_of : AddsTypesOf shape old_types.types types.types
+  pub few_values : All (HasFewValues most_listed) old_types.types → All (HasFewValues most_listed) types.types
+  pub stands : (imported : EntitySpaces) → StandsAfter config imported old_types old old_defined
+      → StandsAfter config imported types spaces defined
 
 -- a shape holds a reference that is not nullable, or a type holds one that is neither nullable nor,
 -- with `non_nullable_enabled`, grounded

@@ -82,21 +82,21 @@ drawn_is_taken config types bytes after imports made drawn = sym (ap (λ (d : Li
 
 -- a property of imports that one more fitting import preserves holds for the taken imports
 module _ (config : Config) (types : List SubType) (bytes : List ℕ) (P : List Import → Type 0) (Q : Import → Type 0)
-    (grows : (taken : List Import) (one : Import) → P taken → Q one → is_fitting config types taken one ≡ true → P (taken ++ one ∷ []))
-  where
-    picked_or_not : (picked fit : Bool) (taken : List Import) (one : Import) → P taken → (fit ≡ true → P (taken ++ one ∷ []))
-        → P (if picked && fit then taken ++ one ∷ [] else taken)
-    picked_or_not true true taken one old new = new refl
-    picked_or_not true false taken one old new = old
-    picked_or_not false fit taken one old new = old
+    (grows : (taken : List Import) (one : Import) → P taken → Q one → is_fitting config types taken one ≡ true
+    → P (taken ++ one ∷ [])) where
+  picked_or_not : (picked fit : Bool) (taken : List Import) (one : Import) → P taken → (fit ≡ true → P (taken ++ one ∷ []))
+      → P (if picked && fit then taken ++ one ∷ [] else taken)
+  picked_or_not true true taken one old new = new refl
+  picked_or_not true false taken one old new = old
+  picked_or_not false fit taken one old new = old
 
-    pub taken_keeps : (place : ℕ) (taken imports : List Import) → P taken → All Q imports
-        → P (taken_from config types bytes place taken imports)
-    taken_keeps place taken [] old each = old
-    taken_keeps place taken (one ∷ more) old each =
-        taken_keeps (suc place) (if is_picked bytes place && is_fitting config types taken one then taken ++ one ∷ [] else taken) more
-        (picked_or_not (is_picked bytes place) (is_fitting config types taken one) taken one old
-        (λ fit. grows taken one old (All-head Q one more each) fit)) (All-tail Q one more each)
+  pub taken_keeps : (place : ℕ) (taken imports : List Import) → P taken → All Q imports
+      → P (taken_from config types bytes place taken imports)
+  taken_keeps place taken [] old each = old
+  taken_keeps place taken (one ∷ more) old each =
+      taken_keeps (suc place) (if is_picked bytes place && is_fitting config types taken one then taken ++ one ∷ [] else taken) more
+      (picked_or_not (is_picked bytes place) (is_fitting config types taken one) taken one old
+      (λ fit. grows taken one old (All-head Q one more each) fit)) (All-tail Q one more each)
 
 -- a property of each offered entity of a kind holds for each taken one
 kept_of_kind : (config : Config) (types : List SubType) (bytes : List ℕ) (imports : List Import) {A : Type 0} (of_kind : EntityType

@@ -77,10 +77,10 @@ func_type_valid config types must_share limit function h = record {
 }
 
 -- the properties of a drawn struct type
-pub record IsStructTypeDrawn (config : Config) (types : List SubType) (must_share : Bool) (limit : ℕ) (structure : StructType) : Type 0
-  where
-    pub few : length structure.fields ≤ 20
-    pub fields : All (IsFieldDrawn config types must_share limit) structure.fields
+pub record IsStructTypeDrawn (config : Config) (types : List SubType) (must_share : Bool) (limit : ℕ) (structure : StructType)
+    : Type 0 where
+  pub few : length structure.fields ≤ 20
+  pub fields : All (IsFieldDrawn config types must_share limit) structure.fields
 
 pub struct_type_drawn : (config : Config) (context : Context) (must_share : Bool) (limit : ℕ) (bytes : List ℕ) → IsSanitized config
     → MayShare config must_share

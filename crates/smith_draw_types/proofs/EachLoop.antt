@@ -9,10 +9,10 @@ abbrev pub following : {A : Type 0} → List A → List A × List ℕ → List A
 following made drawn = (made ++ drawn.0, drawn.1)
 
 -- an item is drawn for each of the first `n`, and the items drawn for the others complete the whole
-pub record IsDrawing {A : Type 0} (draw : A → List ℕ → A × List ℕ) (xs : List A) (n : ℕ) (made : List A) (start bytes : List ℕ) : Type 0
-  where
-    pub so_far : each_at draw xs start ≡ following made (each_at draw (drop n xs) bytes)
-    pub left : KeepsPieces start bytes
+pub record IsDrawing {A : Type 0} (draw : A → List ℕ → A × List ℕ) (xs : List A) (n : ℕ) (made : List A) (start bytes : List ℕ)
+    : Type 0 where
+  pub so_far : each_at draw xs start ≡ following made (each_at draw (drop n xs) bytes)
+  pub left : KeepsPieces start bytes
 
 -- one more item is drawn
 pub each_more : {A : Type 0} {draw : A → List ℕ → A × List ℕ} {xs : List A} {n : ℕ} {made more : List A} {start bytes : List ℕ} {x y : A}

@@ -113,64 +113,64 @@ module _ (g : HeapType → Bool) (direct : List HeapType) (indices : List ℕ) (
       (place - length indices) x (omega (arith, long, least)) at
 
 -- those after the direct subtypes, without custom descriptors
-module _ (g : HeapType → Bool) (config : Config) (types : List SubType) (i : ℕ) (bottom : HeapType) (is : bottom_at types i ≡ bottom ∷ [])
-  where
-    without : config.custom_descriptors_enabled ≡ false → exact_subtypes config types i ++ bottom_at types i ≡ bottom ∷ []
-    without off = rw (off, is) refl
+module _ (g : HeapType → Bool) (config : Config) (types : List SubType) (i : ℕ) (bottom : HeapType)
+    (is : bottom_at types i ≡ bottom ∷ []) where
+  without : config.custom_descriptors_enabled ≡ false → exact_subtypes config types i ++ bottom_at types i ≡ bottom ∷ []
+  without off = rw (off, is) refl
 
-    pub bottom_counted : (last : ℕ) → config.custom_descriptors_enabled ≡ false → last ≡ (if g bottom then 1 else 0)
-        → last ≡ length (filter g (exact_subtypes config types i ++ bottom_at types i))
-    bottom_counted last off count = count ∙ sym (alone_long g bottom) ∙ ap (λ (l : List HeapType). length (filter g l)) (sym (without off))
+  pub bottom_counted : (last : ℕ) → config.custom_descriptors_enabled ≡ false → last ≡ (if g bottom then 1 else 0)
+      → last ≡ length (filter g (exact_subtypes config types i ++ bottom_at types i))
+  bottom_counted last off count = count ∙ sym (alone_long g bottom) ∙ ap (λ (l : List HeapType). length (filter g l)) (sym (without off))
 
-    pub bottom_found : (place : ℕ) → config.custom_descriptors_enabled ≡ false
+  pub bottom_found : (place : ℕ) → config.custom_descriptors_enabled ≡ false
+      → place < length (filter g (exact_subtypes config types i ++ bottom_at types i))
+      → slice_get (filter g (exact_subtypes config types i ++ bottom_at types i)) place ≡ Some bottom
+  bottom_found place off inside =
+      let long = ap (λ (l : List HeapType). length (filter g l)) (without off) in
+      ap (λ (l : List HeapType). slice_get (filter g l) place) (without off) ∙ alone_at g bottom place (omega (arith, long, inside))
+
+  -- the same with custom descriptors
+  module _ (indices : List ℕ) (known : filter g (offered_direct_subtypes types i) ≡ map Concrete indices)
+      (on : config.custom_descriptors_enabled ≡ true) (first : ℕ) (counted : first ≡ (if g (Exact i) then 1 else 0)) where
+    with_exact : exact_subtypes config types i ++ bottom_at types i ≡ Exact i ∷ (offered_direct_subtypes types i ++ bottom ∷ [])
+    with_exact = rw (on, is) refl
+
+    all_long : length (filter g (exact_subtypes config types i ++ bottom_at types i))
+        ≡ first + (length indices + (if g bottom then 1 else 0))
+    all_long =
+        let a = ap (λ (l : List HeapType). length (filter g l)) with_exact in
+        let b = first_long g (Exact i) (offered_direct_subtypes types i ++ bottom ∷ []) (g (Exact i)) refl in
+        let c = joined_long g (offered_direct_subtypes types i) indices known (bottom ∷ []) in
+        let d = alone_long g bottom in
+        omega (arith, a, b, c, d, counted)
+
+    pub all_counted : (last count : ℕ) → last ≡ (if g bottom then 1 else 0) → count ≡ first + (length indices + last)
+        → count ≡ length (filter g (exact_subtypes config types i ++ bottom_at types i))
+    all_counted last count one sum = omega (arith, all_long, one, sum)
+
+    pub exact_found : (place : ℕ) → place < first → slice_get (filter g (exact_subtypes config types i ++ bottom_at types i)) place
+        ≡ Some (Exact i)
+    exact_found place inside =
+        ap (λ (l : List HeapType). slice_get (filter g l) place) with_exact ∙ first_at g (Exact i)
+        (offered_direct_subtypes types i ++ bottom ∷ []) place (g (Exact i)) refl (omega (arith, counted, inside))
+
+    later : (place : ℕ) (x : HeapType) → first ≤ place → slice_get (filter g (offered_direct_subtypes types i ++ bottom ∷ []))
+        (place - first) ≡ Some x → slice_get (filter g (exact_subtypes config types i ++ bottom_at types i)) place ≡ Some x
+    later place x least at =
+        ap (λ (l : List HeapType). slice_get (filter g l) place) with_exact
+        ∙ first_past g (Exact i) x (offered_direct_subtypes types i ++ bottom ∷ []) place (g (Exact i)) refl
+        (omega (arith, counted, least))
+        (rw counted at at)
+
+    pub again_found : (place found : ℕ) → first ≤ place → slice_get indices (place - first) ≡ Some found
+        → slice_get (filter g (exact_subtypes config types i ++ bottom_at types i)) place ≡ Some (Concrete found)
+    again_found place found least at = later place (Concrete found) least (joined_at g (offered_direct_subtypes types i) indices known
+        (bottom ∷ []) (place - first) found at)
+
+    pub last_found : (place : ℕ) → first ≤ place → length indices ≤ place - first
         → place < length (filter g (exact_subtypes config types i ++ bottom_at types i))
         → slice_get (filter g (exact_subtypes config types i ++ bottom_at types i)) place ≡ Some bottom
-    bottom_found place off inside =
-        let long = ap (λ (l : List HeapType). length (filter g l)) (without off) in
-        ap (λ (l : List HeapType). slice_get (filter g l) place) (without off) ∙ alone_at g bottom place (omega (arith, long, inside))
-
-    -- the same with custom descriptors
-    module _ (indices : List ℕ) (known : filter g (offered_direct_subtypes types i) ≡ map Concrete indices)
-        (on : config.custom_descriptors_enabled ≡ true) (first : ℕ) (counted : first ≡ (if g (Exact i) then 1 else 0)) where
-      with_exact : exact_subtypes config types i ++ bottom_at types i ≡ Exact i ∷ (offered_direct_subtypes types i ++ bottom ∷ [])
-      with_exact = rw (on, is) refl
-
-      all_long : length (filter g (exact_subtypes config types i ++ bottom_at types i))
-          ≡ first + (length indices + (if g bottom then 1 else 0))
-      all_long =
-          let a = ap (λ (l : List HeapType). length (filter g l)) with_exact in
-          let b = first_long g (Exact i) (offered_direct_subtypes types i ++ bottom ∷ []) (g (Exact i)) refl in
-          let c = joined_long g (offered_direct_subtypes types i) indices known (bottom ∷ []) in
-          let d = alone_long g bottom in
-          omega (arith, a, b, c, d, counted)
-
-      pub all_counted : (last count : ℕ) → last ≡ (if g bottom then 1 else 0) → count ≡ first + (length indices + last)
-          → count ≡ length (filter g (exact_subtypes config types i ++ bottom_at types i))
-      all_counted last count one sum = omega (arith, all_long, one, sum)
-
-      pub exact_found : (place : ℕ) → place < first → slice_get (filter g (exact_subtypes config types i ++ bottom_at types i)) place
-          ≡ Some (Exact i)
-      exact_found place inside =
-          ap (λ (l : List HeapType). slice_get (filter g l) place) with_exact ∙ first_at g (Exact i)
-          (offered_direct_subtypes types i ++ bottom ∷ []) place (g (Exact i)) refl (omega (arith, counted, inside))
-
-      later : (place : ℕ) (x : HeapType) → first ≤ place → slice_get (filter g (offered_direct_subtypes types i ++ bottom ∷ []))
-          (place - first) ≡ Some x → slice_get (filter g (exact_subtypes config types i ++ bottom_at types i)) place ≡ Some x
-      later place x least at =
-          ap (λ (l : List HeapType). slice_get (filter g l) place) with_exact
-          ∙ first_past g (Exact i) x (offered_direct_subtypes types i ++ bottom ∷ []) place (g (Exact i)) refl
-          (omega (arith, counted, least))
-          (rw counted at at)
-
-      pub again_found : (place found : ℕ) → first ≤ place → slice_get indices (place - first) ≡ Some found
-          → slice_get (filter g (exact_subtypes config types i ++ bottom_at types i)) place ≡ Some (Concrete found)
-      again_found place found least at = later place (Concrete found) least (joined_at g (offered_direct_subtypes types i) indices known
-          (bottom ∷ []) (place - first) found at)
-
-      pub last_found : (place : ℕ) → first ≤ place → length indices ≤ place - first
-          → place < length (filter g (exact_subtypes config types i ++ bottom_at types i))
-          → slice_get (filter g (exact_subtypes config types i ++ bottom_at types i)) place ≡ Some bottom
-      last_found place least past inside =
-          let d = alone_long g bottom in
-          later place bottom least (joined_past g (offered_direct_subtypes types i) indices known (bottom ∷ []) (place - first) bottom past
-          (alone_at g bottom (place - first - length indices) (omega (arith, all_long, inside, least, past, d))))
+    last_found place least past inside =
+        let d = alone_long g bottom in
+        later place bottom least (joined_past g (offered_direct_subtypes types i) indices known (bottom ∷ []) (place - first) bottom past
+        (alone_at g bottom (place - first - length indices) (omega (arith, all_long, inside, least, past, d))))

@@ -84,12 +84,12 @@ fields_of_values P (field ∷ fields) h =
     (All-from_recursion P (values_of_storage field.element_type) apart.0, fields_of_values P fields apart.1)
 
 -- the properties that a matching composite type keeps, without its sharedness
-pub record IsInnerMatching (config : Config) (types : List SubType) (must_share : Bool) (limit : ℕ) (old new : CompositeInnerType) : Type 0
-  where
-    pub enabled : IsInnerEnabled (features_of config) new
-    pub values : All (IsValTypeValid (features_of config) limit) (values_of new)
-    pub matched : IsInnerMatch types new old
-    pub shareable : IsTrue must_share → All (IsShareable types) (values_of old) → All (IsShareable types) (values_of new)
+pub record IsInnerMatching (config : Config) (types : List SubType) (must_share : Bool) (limit : ℕ) (old new : CompositeInnerType)
+    : Type 0 where
+  pub enabled : IsInnerEnabled (features_of config) new
+  pub values : All (IsValTypeValid (features_of config) limit) (values_of new)
+  pub matched : IsInnerMatch types new old
+  pub shareable : IsTrue must_share → All (IsShareable types) (values_of old) → All (IsShareable types) (values_of new)
 
 -- the conditions on the existing types and on the matched type
 pub record MayBeMatched (config : Config) (types : List SubType) (must_share : Bool) (limit : ℕ) (old : CompositeInnerType) : Type 0 where

@@ -1,6 +1,6 @@
 -- A request has no shapes.
 use Rattle.std.proofs.Common.{◌≡◌, ℕ, List, [], ◌∷◌, Bool, true, false, Option, Some, None, Result, Ok, Err, refl, subst, ap, ◌∙◌}
-use Rattle.std.specs.Prelude.{cond, ⊤}
+use Rattle.std.specs.Prelude.{cond, drop, ⊤}
 use Rattle.std.specs.Str.{bytes_eq}
 use Rattle.json.specs.Lex.{tokens}
 use Rattle.json.specs.Token.{Token, begin_object, end_object, begin_array, end_array, key, string, number, boolean, null, bad}
@@ -59,225 +59,65 @@ named_keeps name [] keep = tt
 named_keeps name (entry ∷ entries) keep = picked (bytes_eq name entry.0) entry.1 (named name entries) keep.0
     (named_keeps name entries keep.1)
 
+keep_from_70 : AllKeep (drop 70 fields)
+unfolding fields
+keep_from_70 = (tt, (tt, ((λ config x. refl), ((λ config x. refl), tt))))
+
+keep_from_65 : AllKeep (drop 65 fields)
+unfolding fields
+keep_from_65 = ((λ config x. refl), ((λ config x. refl), ((λ config x. refl), (tt, (tt, keep_from_70)))))
+
+keep_from_60 : AllKeep (drop 60 fields)
+unfolding fields
+keep_from_60 = ((λ config x. refl), ((λ config x. refl), ((λ config x. refl), ((λ config x. refl), ((λ config x. refl), keep_from_65)))))
+
+keep_from_55 : AllKeep (drop 55 fields)
+unfolding fields
+keep_from_55 = ((λ config x. refl), ((λ config x. refl), ((λ config x. refl), ((λ config x. refl), ((λ config x. refl), keep_from_60)))))
+
+keep_from_50 : AllKeep (drop 50 fields)
+unfolding fields
+keep_from_50 = ((λ config x. refl), ((λ config x. refl), ((λ config x. refl), ((λ config x. refl), ((λ config x. refl), keep_from_55)))))
+
+keep_from_45 : AllKeep (drop 45 fields)
+unfolding fields
+keep_from_45 = ((λ config x. refl), ((λ config x. refl), ((λ config x. refl), ((λ config x. refl), ((λ config x. refl), keep_from_50)))))
+
+keep_from_40 : AllKeep (drop 40 fields)
+unfolding fields
+keep_from_40 = ((λ config x. refl), ((λ config x. refl), ((λ config x. refl), ((λ config x. refl), ((λ config x. refl), keep_from_45)))))
+
+keep_from_35 : AllKeep (drop 35 fields)
+unfolding fields
+keep_from_35 = ((λ config x. refl), ((λ config x. refl), ((λ config x. refl), ((λ config x. refl), ((λ config x. refl), keep_from_40)))))
+
+keep_from_30 : AllKeep (drop 30 fields)
+unfolding fields
+keep_from_30 = ((λ config x. refl), ((λ config x. refl), ((λ config x. refl), ((λ config x. refl), ((λ config x. refl), keep_from_35)))))
+
+keep_from_25 : AllKeep (drop 25 fields)
+unfolding fields
+keep_from_25 = ((λ config x. refl), ((λ config x. refl), ((λ config x. refl), ((λ config x. refl), ((λ config x. refl), keep_from_30)))))
+
+keep_from_20 : AllKeep (drop 20 fields)
+unfolding fields
+keep_from_20 = ((λ config x. refl), ((λ config x. refl), ((λ config x. refl), ((λ config x. refl), ((λ config x. refl), keep_from_25)))))
+
+keep_from_15 : AllKeep (drop 15 fields)
+unfolding fields
+keep_from_15 = ((λ config x. refl), ((λ config x. refl), ((λ config x. refl), ((λ config x. refl), ((λ config x. refl), keep_from_20)))))
+
+keep_from_10 : AllKeep (drop 10 fields)
+unfolding fields
+keep_from_10 = ((λ config x. refl), ((λ config x. refl), ((λ config x. refl), ((λ config x. refl), ((λ config x. refl), keep_from_15)))))
+
+keep_from_5 : AllKeep (drop 5 fields)
+unfolding fields
+keep_from_5 = ((λ config x. refl), ((λ config x. refl), ((λ config x. refl), ((λ config x. refl), ((λ config x. refl), keep_from_10)))))
+
 fields_keep : AllKeep fields
 unfolding fields
-fields_keep = (
-  (λ config x. refl),
-  (
-    (λ config x. refl),
-    (
-      (λ config x. refl),
-      (
-        (λ config x. refl),
-        (
-          (λ config x. refl),
-          (
-            (λ config x. refl),
-            (
-              (λ config x. refl),
-              (
-                (λ config x. refl),
-                (
-                  (λ config x. refl),
-                  (
-                    (λ config x. refl),
-                    (
-                      (λ config x. refl),
-                      (
-                        (λ config x. refl),
-                        (
-                          (λ config x. refl),
-                          (
-                            (λ config x. refl),
-                            (
-                              (λ config x. refl),
-                              (
-                                (λ config x. refl),
-                                (
-                                  (λ config x. refl),
-                                  (
-                                    (λ config x. refl),
-                                    (
-                                      (λ config x. refl),
-                                      (
-                                        (λ config x. refl),
-                                        (
-                                          (λ config x. refl),
-                                          (
-                                            (λ config x. refl),
-                                            (
-                                              (λ config x. refl),
-                                              (
-                                                (λ config x. refl),
-                                                (
-                                                  (λ config x. refl),
-                                                  (
-                                                    (λ config x. refl),
-                                                    (
-                                                      (λ config x. refl),
-                                                      (
-                                                        (λ config x. refl),
-                                                        (
-                                                          (λ config x. refl),
-                                                          (
-                                                            (λ config x. refl),
-                                                            (
-                                                              (λ config x. refl),
-                                                              (
-                                                                (λ config x. refl),
-                                                                (
-                                                                  (λ config x. refl),
-                                                                  (
-                                                                    (λ config x. refl),
-                                                                    (
-                                                                      (λ config x. refl),
-                                                                      (
-                                                                        (λ config x. refl),
-                                                                        (
-                                                                          (λ config x. refl),
-                                                                          (
-                                                                            (λ config x. refl),
-                                                                            (
-                                                                              (λ config x. refl),
-                                                                              (
-                                                                                (λ config x. refl),
-                                                                                (
-                                                                                  (λ config x. refl),
-                                                                                  (
-                                                                                    (λ config x. refl),
-                                                                                    (
-                                                                                      (λ config x. refl),
-                                                                                      (
-                                                                                        (λ config x. refl),
-                                                                                        (
-                                                                                          (λ config x. refl),
-                                                                                          (
-                                                                                            (λ config x. refl),
-                                                                                            (
-                                                                                              (λ config x. refl),
-                                                                                              (
-                                                                                                (λ config x. refl),
-                                                                                                (
-                                                                                                  (λ config x. refl),
-                                                                                                  (
-                                                                                                    (λ config x. refl),
-                                                                                                    (
-                                                                                                      (λ config x. refl),
-                                                                                                      (
-                                                                                                        (λ config x. refl),
-                                                                                                        (
-                                                                                                          (λ config x. refl),
-                                                                                                          (
-                                                                                                            (λ config x. refl),
-                                                                                                            (
-                                                                                                              (λ config x. refl),
-                                                                                                              (
-                                                                                                                (λ config x. refl),
-                                                                                                                (
-                                                                                                                  (λ config x. refl),
-                                                                                                                  (
-                                                                                                                    (λ config x. refl),
-                                                                                                                    (
-                                                                                                                      (λ config x. refl),
-                                                                                                                      (
-                                                                                                                        (λ config x. refl),
-                                                                                                                        (
-                                                                                                                          (λ config x. refl),
-                                                                                                                          (
-                                                                                                                            (λ config x. refl),
-                                                                                                                            (
-                                                                                                                              (λ config x. refl),
-                                                                                                                              (
-                                                                                                                                (λ config x. refl),
-                                                                                                                                (
-                                                                                                                                  (λ config x. refl),
-                                                                                                                                  (
-                                                                                                                                    (λ config x. refl),
-                                                                                                                                    (
-                                                                                                                                      (λ config x. refl),
-                                                                                                                                      (
-                                                                                                                                        (λ config x. refl),
-                                                                                                                                        (
-                                                                                                                                          tt,
-                                                                                                                                          (
-                                                                                                                                            tt,
-                                                                                                                                            (
-                                                                                                                                              tt,
-                                                                                                                                              (
-                                                                                                                                                tt,
-                                                                                                                                                ((λ config x. refl), ((λ config x. refl), tt)),
-                                                                                                                                              ),
-                                                                                                                                            ),
-                                                                                                                                          ),
-                                                                                                                                        ),
-                                                                                                                                      ),
-                                                                                                                                    ),
-                                                                                                                                  ),
-                                                                                                                                ),
-                                                                                                                              ),
-                                                                                                                            ),
-                                                                                                                          ),
-                                                                                                                        ),
-                                                                                                                      ),
-                                                                                                                    ),
-                                                                                                                  ),
-                                                                                                                ),
-                                                                                                              ),
-                                                                                                            ),
-                                                                                                          ),
-                                                                                                        ),
-                                                                                                      ),
-                                                                                                    ),
-                                                                                                  ),
-                                                                                                ),
-                                                                                              ),
-                                                                                            ),
-                                                                                          ),
-                                                                                        ),
-                                                                                      ),
-                                                                                    ),
-                                                                                  ),
-                                                                                ),
-                                                                              ),
-                                                                            ),
-                                                                          ),
-                                                                        ),
-                                                                      ),
-                                                                    ),
-                                                                  ),
-                                                                ),
-                                                              ),
-                                                            ),
-                                                          ),
-                                                        ),
-                                                      ),
-                                                    ),
-                                                  ),
-                                                ),
-                                              ),
-                                            ),
-                                          ),
-                                        ),
-                                      ),
-                                    ),
-                                  ),
-                                ),
-                              ),
-                            ),
-                          ),
-                        ),
-                      ),
-                    ),
-                  ),
-                ),
-              ),
-            ),
-          ),
-        ),
-      ),
-    ),
-  ),
-)
+fields_keep = ((λ config x. refl), ((λ config x. refl), ((λ config x. refl), ((λ config x. refl), ((λ config x. refl), keep_from_5)))))
 
 set_to_keeps : {A : Type 0} (set : Setter A) → Keeps set → (config : Config) (rest : List Token) (r : Result (Option A) Fault)
     → shapes_after (shapes config) (set_to set config rest r) ≡ shapes config

@@ -83,15 +83,15 @@ after_exports_at config types imported spaces made bytes = do
 
 -- exports are valid, and within the type size together with the imports; unless a shape fixes them,
 -- they are as the configuration requires; exports that a shape fixes add nothing
-pub record AreExportsMade (config : Config) (types : List SubType) (spaces : EntitySpaces) (imports_size : ℕ) (made : Exports) : Type 0
-  where
-    pub valid : AreExportsValid spaces made.exports
-    pub most : (FixesExports config → ⊥) → config.export_everything ≡ false → length made.exports ≤ config.max_exports
-    pub least : (FixesExports config → ⊥) → config.export_everything ≡ false → config.min_exports ≤ length made.exports
-    pub everything : (FixesExports config → ⊥) → IsTrue config.export_everything → AreAllExported spaces made.exports
-    pub type_size : (FixesExports config → ⊥) → made.type_size ≡ imports_size + exported_size types spaces made.exports
-    pub fixed_size : FixesExports config → made.type_size ≡ imports_size
-    pub within : made.type_size ≤ config.max_type_size
+pub record AreExportsMade (config : Config) (types : List SubType) (spaces : EntitySpaces) (imports_size : ℕ) (made : Exports)
+    : Type 0 where
+  pub valid : AreExportsValid spaces made.exports
+  pub most : (FixesExports config → ⊥) → config.export_everything ≡ false → length made.exports ≤ config.max_exports
+  pub least : (FixesExports config → ⊥) → config.export_everything ≡ false → config.min_exports ≤ length made.exports
+  pub everything : (FixesExports config → ⊥) → IsTrue config.export_everything → AreAllExported spaces made.exports
+  pub type_size : (FixesExports config → ⊥) → made.type_size ≡ imports_size + exported_size types spaces made.exports
+  pub fixed_size : FixesExports config → made.type_size ≡ imports_size
+  pub within : made.type_size ≤ config.max_type_size
 
 -- segments are valid, within the minimums and maximums, and with `disallow_traps` the items and
 -- bytes that they copy fit

@@ -29,27 +29,27 @@ IsFaulted config (errors.Config fault) = IsFirstFault config fault
 IsFaulted config _ = ⊥
 
 -- the result for a configuration of the caller and the bytes of the source, with the bytes left
-pub record IsGenerated (distinct : Bool) (given : Config) (bytes : List ℕ) (answer : Result ModuleParts Error) (left : List ℕ) : Type 0
-  where
-    -- the module: the one that the configuration and the bytes produce
-    pub exact : IsGiven distinct (sanitized given) bytes answer left
-    pub config : IfOk answer (λ m. m.config ≡ shown_config given)
-    -- properties of every module
-    pub valid : IfOk answer IsValid
-    pub bounds : IfOk answer (KeepsBounds (sanitized given))
-    pub minimums : IfOk answer (MeetsMinimums (sanitized given))
-    pub shapes : IfOk answer (KeepsShapes (sanitized given) bytes)
-    pub promises : IfOk answer (KeepsPromises distinct (sanitized given))
-    pub interesting : IfOk answer HasInterestingValues
-    -- conditions for a module, and for its absence
-    pub may_give : OnOk answer (MayGive (sanitized given))
-    pub fault : (Passes (sanitized given) → ⊥) → IsErrAnd answer (IsFaulted (sanitized given))
-    pub shape_fault : Passes (sanitized given) → (AreShapesValid (sanitized given) → ⊥) → IsErrAnd answer (IsFirstFaulty (sanitized given))
-    pub refusals : IfErr answer (MayRefuse (sanitized given))
-    pub needless : AsksNothingImpossible (sanitized given) → IfErr answer (λ e. e ≡ errors.Memory)
-    -- reachable lists, from any bytes that spell them
-    pub reach : ReachesMembers (sanitized given) bytes answer
-    pub rest : ReachesRests (sanitized given) bytes answer
-    -- the rest of the source
-    pub undrawn : (MayGive (sanitized given) → ⊥) → left ≡ bytes
-    pub source : IsPiece bytes left
+pub record IsGenerated (distinct : Bool) (given : Config) (bytes : List ℕ) (answer : Result ModuleParts Error) (left : List ℕ)
+    : Type 0 where
+  -- the module: the one that the configuration and the bytes produce
+  pub exact : IsGiven distinct (sanitized given) bytes answer left
+  pub config : IfOk answer (λ m. m.config ≡ shown_config given)
+  -- properties of every module
+  pub valid : IfOk answer IsValid
+  pub bounds : IfOk answer (KeepsBounds (sanitized given))
+  pub minimums : IfOk answer (MeetsMinimums (sanitized given))
+  pub shapes : IfOk answer (KeepsShapes (sanitized given) bytes)
+  pub promises : IfOk answer (KeepsPromises distinct (sanitized given))
+  pub interesting : IfOk answer HasInterestingValues
+  -- conditions for a module, and for its absence
+  pub may_give : OnOk answer (MayGive (sanitized given))
+  pub fault : (Passes (sanitized given) → ⊥) → IsErrAnd answer (IsFaulted (sanitized given))
+  pub shape_fault : Passes (sanitized given) → (AreShapesValid (sanitized given) → ⊥) → IsErrAnd answer (IsFirstFaulty (sanitized given))
+  pub refusals : IfErr answer (MayRefuse (sanitized given))
+  pub needless : AsksNothingImpossible (sanitized given) → IfErr answer (λ e. e ≡ errors.Memory)
+  -- reachable lists, from any bytes that spell them
+  pub reach : ReachesMembers (sanitized given) bytes answer
+  pub rest : ReachesRests (sanitized given) bytes answer
+  -- the rest of the source
+  pub undrawn : (MayGive (sanitized given) → ⊥) → left ≡ bytes
+  pub source : IsPiece bytes left

@@ -26,21 +26,6 @@ returns-in-Numeric-clause-ok c =
     let set = c.args.log.now.items in
     rw c.in-Numeric.is (c.numeric.ensures.ok labels set)
 
-pub returns-in-Load-clause-ok : goal.returns-in-Load-clause-ok
-returns-in-Load-clause-ok c =
-    let labels = label_of c.args.shape.now ∷ labels_of (reverse c.args.outers.now) in
-    rw c.in-Load.is (c.load.ensures.ok labels c.args.log.now.items)
-
-pub returns-in-Store-clause-ok : goal.returns-in-Store-clause-ok
-returns-in-Store-clause-ok c =
-    let labels = label_of c.args.shape.now ∷ labels_of (reverse c.args.outers.now) in
-    rw c.in-Store.is (c.store.ensures.ok labels c.args.log.now.items)
-
-pub returns-in-Memory-clause-ok : goal.returns-in-Memory-clause-ok
-returns-in-Memory-clause-ok c =
-    let labels = label_of c.args.shape.now ∷ labels_of (reverse c.args.outers.now) in
-    rw c.in-Memory.is (c.memory.ensures.ok labels c.args.log.now.items)
-
 pub returns-in-Select-clause-ok : goal.returns-in-Select-clause-ok
 returns-in-Select-clause-ok c =
     let labels = label_of c.args.shape.now ∷ labels_of (reverse c.args.outers.now) in
@@ -51,7 +36,17 @@ returns-in-ThrowRef-clause-ok c =
     let labels = label_of c.args.shape.now ∷ labels_of (reverse c.args.outers.now) in
     rw c.in-ThrowRef.is (c.throw_ref.ensures labels c.args.log.now.items)
 
-pub returns-in-AtomicFence-clause-ok : goal.returns-in-AtomicFence-clause-ok
-returns-in-AtomicFence-clause-ok c =
+pub returns-in-Throw-clause-ok : goal.returns-in-Throw-clause-ok
+returns-in-Throw-clause-ok c =
     let labels = label_of c.args.shape.now ∷ labels_of (reverse c.args.outers.now) in
-    rw c.in-AtomicFence.is (c.atomic_fence.ensures.ok labels c.args.log.now.items)
+    rw c.in-Throw.is (c.throw.ensures labels c.args.log.now.items)
+
+pub returns-in-SelectTyped-clause-ok : goal.returns-in-SelectTyped-clause-ok
+returns-in-SelectTyped-clause-ok c =
+    let labels = label_of c.args.shape.now ∷ labels_of (reverse c.args.outers.now) in
+    rw c.in-SelectTyped.is (c.select_typed.ensures.ok labels c.args.log.now.items)
+
+pub returns-in-Vector-clause-ok : goal.returns-in-Vector-clause-ok
+returns-in-Vector-clause-ok c =
+    let labels = label_of c.args.shape.now ∷ labels_of (reverse c.args.outers.now) in
+    rw c.in-Vector.is (c.vector.ensures.ok labels c.args.log.now.items)

@@ -6,7 +6,7 @@ use Rattle.smith_check_operands.specs.Covers.{held}
 use Rattle.smith_check_operands.proofs.RangeLemmas.{no_range}
 use Rattle.std.proofs.lemmas.Bool.{false≢true}
 use Rattle.smith_check_rules.specs.Slots.{values}
-use Rattle.smith_check_instr.proofs.VectorLemmas.{no_vector}
+use Rattle.smith_check_instr.proofs.PlainLemmas.{no_plain}
 use Rattle.smith_check_operands.proofs.StepLemmas.{tried_values, one_valid}
 use Rattle.smith_check_instr.proofs.constants.v128_const.Goals as goal
 
@@ -27,6 +27,6 @@ returns-clause-ok c = λ value labels set.
 pub returns-then-not-is_valid-clause-ok : goal.returns-then-not-is_valid-clause-ok
 returns-then-not-is_valid-clause-ok c = λ value labels set before after covered s.
     let (these, those, has, is, also) = s.typed in
-    no_vector (bare c.args.scope.now) s.results s.framed.given (also ∙ ap (λ ts. values ts) has.1) s.framed.offered.below
+    no_plain (bare c.args.scope.now) V128 s.results s.framed.given tt (also ∙ ap (λ ts. values ts) has.1) s.framed.offered.below
     s.framed.offered.valid
     (λ h. false≢true (sym c.if-not-is_valid.true ∙ c.is_valid.ensures.1 h))

@@ -6,7 +6,8 @@ use Rattle.smith_check_operands.specs.Scopes.{bare}
 use Rattle.smith_check_operands.specs.Covers.{held}
 use Rattle.smith_check_instr.specs.Selects.{IsJoin, HaveNoJoin}
 use Rattle.smith_check_operands.proofs.RangeLemmas.{one_in_range}
-use Rattle.smith_check_instr.proofs.SelectLemmas.{joined, join_keeps, pushed_one, selects, selects_as, select_unindexed, select_without_second}
+use Rattle.smith_check_instr.proofs.SelectLemmas.{joined, join_keeps, pushed_one, selects, selects_as, select_unindexed}
+use Rattle.smith_check_instr.proofs.SelectLemmas.{select_without_second}
 use Rattle.smith_check_instr.proofs.SelectLemmas.{select_without_first, select_unjoined}
 use Rattle.smith_check_instr.proofs.select.select.Goals as goal
 

@@ -1,0 +1,45 @@
+use Rattle.std.proofs.Common.{◌∙◌, ap, sym, refl, subst, [], ◌∷◌, ℕ, ◌≤◌}
+use Rattle.std.proofs.lemmas.Bool.{false≢true}
+use Rattle.smith_syntax.specs.declared.value_type.ValType.{ValType}
+use Rattle.smith_syntax.specs.declared.value_type.ValType.TheVariants.{V128}
+use Rattle.smith_instr.specs.Contexts.{To, address}
+use Rattle.smith_instr.specs.declared.instr.Instr.TheVariants as instr
+use Rattle.smith_check_rules.specs.Slots.{values}
+use Rattle.smith_check_operands.proofs.StepLemmas.{tried_values, one_valid}
+use Rattle.smith_check_operands.specs.Scopes.{bare}
+use Rattle.smith_check_operands.specs.Covers.{held}
+use Rattle.smith_check_instr.proofs.MemoryLemmas.{access_same}
+use Rattle.smith_check_instr.proofs.PlainLemmas.{all_plain_in_range, is_address_plain, no_plain}
+use Rattle.smith_check_instr.proofs.vectors.vector_load.Goals as goal
+
+pub apply-requires-clause-expected : goal.apply-requires-clause-expected
+apply-requires-clause-expected c =
+    all_plain_in_range c.args.scope.now.types.now.types (c.address_type.result ∷ [])
+    (is_address_plain c.in-Some.wide c.address_type.result c.address_type.ensures, tt)
+
+pub apply-requires-clause-valid : goal.apply-requires-clause-valid
+apply-requires-clause-valid c = one_valid (bare c.args.scope.now) V128 (c.is_valid.ensures.0 c.if-not-is_valid.false)
+
+pub returns-clause-ok : goal.returns-clause-ok
+returns-clause-ok c = λ labels set.
+    let wide = c.in-Some.wide in
+    tried_values (bare c.args.scope.now) labels (instr.VectorLoad c.args.op c.args.at) set (address wide ∷ []) (V128 ∷ [])
+    (c.address_type.result ∷ []) (V128 ∷ []) (held c.args.operands.now) _ c.apply.result (λ os rs t. t) (λ os rs t. t)
+    (wide, (c.in-Some.ensures.0, subst (λ (n : ℕ). c.args.at.align ≤ n) c.log2_bytes.ensures c.in-Some.ensures.1), (refl, refl))
+    (λ os rs t. let (other, there, fits) = t in subst (λ w. To os rs (address w ∷ []) (V128 ∷ []))
+    (access_same c.args.scope.now.memories.now c.args.at other wide there.0 c.in-Some.ensures.0) fits)
+    (ap (λ (v : ValType). v ∷ []) c.address_type.ensures) refl c.apply.ensures.ok
+
+pub returns-in_default-clause-ok : goal.returns-in_default-clause-ok
+returns-in_default-clause-ok c = λ labels set before after covered s.
+    let (these, those, has, is, also) = s.typed in
+    let (wide, there, fits) = has in
+    c.in_default.ensures wide there.0 (subst (λ (n : ℕ). c.args.at.align ≤ n) (sym c.log2_bytes.ensures) there.1)
+
+pub returns-then-not-is_valid-clause-ok : goal.returns-then-not-is_valid-clause-ok
+returns-then-not-is_valid-clause-ok c = λ labels set before after covered s.
+    let (these, those, has, is, also) = s.typed in
+    let (wide, there, fits) = has in
+    no_plain (bare c.args.scope.now) V128 s.results s.framed.given tt (also ∙ ap (λ ts. values ts) fits.1) s.framed.offered.below
+    s.framed.offered.valid
+    (λ h. false≢true (sym c.if-not-is_valid.true ∙ c.is_valid.ensures.1 h))
