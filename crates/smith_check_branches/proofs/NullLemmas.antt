@@ -62,7 +62,8 @@ above_least context reference F64 below valid = absurd below
 above_least context reference V128 below valid = absurd below
 
 pub slot_above_least : (context : BodyContext) (reference : RefType) (given : Slot)
-    → IsBelow context.types (slot.Value (Ref reference)) given → IsSlotValid context given → IsBelow context.types (slot.Value (Ref (least_valid context reference))) given
+    → IsBelow context.types (slot.Value (Ref reference)) given → IsSlotValid context given
+    → IsBelow context.types (slot.Value (Ref (least_valid context reference))) given
 slot_above_least context reference (slot.Value given) below valid = above_least context reference given below valid
 slot_above_least context reference slot.Bottom below valid = absurd below
 slot_above_least context reference slot.SomeRef below valid = absurd below

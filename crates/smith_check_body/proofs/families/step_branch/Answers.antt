@@ -1,3 +1,9 @@
+use Rattle.std.proofs.Common.{◌∷◌, reverse, subst}
+use Rattle.smith_instr.specs.declared.instr.Instr.TheVariants as instr
+use Rattle.smith_check_operands.specs.Applies.{IsTried}
+use Rattle.smith_check_operands.specs.Closes.{label_of, labels_of}
+use Rattle.smith_check_operands.specs.Covers.{held}
+use Rattle.smith_check_operands.specs.Scopes.{bare}
 use Rattle.smith_check_body.proofs.families.step_branch.Goals as goal
 
 pub returns-in-Br-clause-ok : goal.returns-in-Br-clause-ok
@@ -19,4 +25,7 @@ pub returns-in-BrOnCastFail-clause-ok : goal.returns-in-BrOnCastFail-clause-ok
 returns-in-BrOnCastFail-clause-ok c = λ set. rw c.in-BrOnCastFail.is (c.br_on_cast_fail.ensures.ok set)
 
 pub returns-in-BrTable-clause-ok : goal.returns-in-BrTable-clause-ok
-returns-in-BrTable-clause-ok c = λ set. rw c.in-BrTable.is (c.br_table.ensures set)
+returns-in-BrTable-clause-ok c = λ set.
+    rw c.in-BrTable.is (subst (λ indices. IsTried (bare c.args.scope.now)
+    (label_of c.args.shape.now ∷ labels_of (reverse c.args.outers.now)) (instr.BrTable indices c.in-BrTable.other) set c.br_table.result
+    (held c.args.operands.now) (held c.br_table.new.operands)) c.as_slice.ensures (c.br_table.ensures set))

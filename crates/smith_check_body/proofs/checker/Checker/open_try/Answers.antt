@@ -1,5 +1,5 @@
-use Rattle.std.proofs.Common.{◌≡◌, ◌↔◌, ◌∙◌, ◌∷◌, reverse, sym, subst}
-use Rattle.std.specs.Prelude.{All, IsTrue}
+use Rattle.std.proofs.Common.{◌∷◌, reverse, sym, subst}
+use Rattle.std.specs.Prelude.{All}
 use Rattle.smith_instr.specs.Contexts.{AreValid}
 use Rattle.smith_check_operands.specs.Scopes.{bare}
 use Rattle.smith_check_operands.specs.Closes.{label_of, labels_of}
