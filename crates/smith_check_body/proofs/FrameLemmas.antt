@@ -86,7 +86,7 @@ opening_closes_nothing kind.Block ty x e c = subst (λ z. IsClosing z) e c
 opening_closes_nothing kind.Loop ty x e c = subst (λ z. IsClosing z) e c
 opening_closes_nothing kind.If ty x e c = subst (λ z. IsClosing z) e c
 
-no_opening_tail : (context : BodyContext) (shape : Shape) (base : List ℕ) (outers : List Frame) (opens : Kind) (ty : BlockType)
+pub no_opening_tail : (context : BodyContext) (shape : Shape) (base : List ℕ) (outers : List Frame) (opens : Kind) (ty : BlockType)
     (xs tail : List Instr) → IsTail context shape base outers tail
     → tail ≡ opening opens ty ∷ xs → ⊥
 no_opening_tail context shape base [] opens ty xs tail is e = not_empty (opening opens ty) xs (sym is ∙ e)

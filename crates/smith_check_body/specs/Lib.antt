@@ -1,4 +1,5 @@
 pub mod Opens
 pub mod Checks
 pub mod Covered
+pub mod Families
 pub mod Verdicts

@@ -9,8 +9,9 @@ ghost use Rattle.smith_check_body.specs.Checks.{IsWell, Goes, Stops, CanFinish};
 use crate::blocks::{is_first, may_end, pop_for, shape_of, starting};
 use crate::step::{set_by, step};
 use smith_bytes::Error;
+use smith_check_branches::catches::are_catches;
 use smith_check_operands::{Frame, Kind, Operands, Scope, Shape};
-use smith_instr::{BlockType, Instr, SetLocals};
+use smith_instr::{BlockType, Catch, Instr, SetLocals};
 use std::alloc::Global;
 use std::mem::replace;
 
@@ -110,6 +111,28 @@ impl Checker {
         self.enter(shape, operands)?;
         Ok(true)
     }
+
+    /// Checks an instruction that opens a block with clauses for exceptions, and returns whether it
+    /// applies.
+    pub fn open_try(
+        &mut self,
+        alloc: Global,
+        scope: &Scope,
+        ty: BlockType,
+        clauses: &[Catch],
+    ) -> Result<bool, Error>
+        requires well { IsWell (bare scope.now) self.old }
+        requires scope { IsScope (bare scope.now) }
+        ensures ok { IfOk result (λ goes. MatchBool goes
+            (Goes (bare scope.now) (instr.TryTable ty clauses.now) self.old self.new)
+            (Stops (bare scope.now) (instr.TryTable ty clauses.now) self.old)) }
+        ensures memory { IfErr result (λ e. e ≡ Error.Memory) }
+    {
+        if !are_catches(scope, &self.shape, &self.outers, clauses) {
+            return Ok(false);
+        }
+        self.open(alloc, scope, Kind::Block, ty)
+    }
 }
 
 impl Checker {
@@ -183,7 +206,7 @@ impl Checker {
             Instr::If(ty) => self.open(alloc, scope, Kind::If, *ty),
             Instr::Else => self.second(alloc, scope),
             Instr::End => self.close(scope),
-            Instr::TryTable(_, _) => Ok(false),
+            Instr::TryTable(ty, clauses) => self.open_try(alloc, scope, *ty, clauses.as_slice()),
             _ => self.plain(scope, instr),
         }
     }

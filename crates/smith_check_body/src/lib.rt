@@ -9,6 +9,7 @@ mod blocks;
 mod check;
 mod checker;
 mod covered;
+mod families;
 mod step;
 mod verdict;
 

@@ -11,17 +11,14 @@ ghost use Rattle.smith_instr.specs.InstrTypes.{sets};
 ghost use Rattle.smith_check_operands.specs.Closes.{label_of, labels_of, IsPlain};
 ghost use Rattle.smith_check_body.specs.Covered.{is_covered};
 
+use crate::families::{step_access, step_branch, step_call, step_constant, step_variable};
 use smith_bytes::Error;
-use smith_check_instr::constants::{
-    f32_const, f64_const, i32_const, i64_const, numeric, v128_const,
-};
-use smith_check_instr::control::{
-    atomic_fence, br, br_if, call, drop_one, nop, return_all, throw_ref, unreachable,
-};
-use smith_check_instr::memory::{load, memory, store};
-use smith_check_instr::select::select;
-use smith_check_instr::variables::{global_get, global_set, local_get, local_set, local_tee};
+use smith_check_instr::constants::numeric;
+use smith_check_instr::control::{drop_one, nop, throw, throw_ref, unreachable};
+use smith_check_instr::select::{select, select_typed};
+use smith_check_instr::vectors::vector;
 use smith_check_operands::{Frame, Operands, Scope, Shape};
+use smith_check_references::{aggregate, reference, table};
 use smith_instr::{Instr, SetLocals};
 
 /// Tries a covered instruction that opens and closes no block.
@@ -47,38 +44,51 @@ pub fn step(
     match instr {
         Instr::Unreachable => Ok(unreachable(operands, scope)),
         Instr::Nop => nop(operands, scope),
-        Instr::Br(index) => Ok(br(operands, scope, shape, outers, *index)),
-        Instr::BrIf(index) => br_if(operands, scope, shape, outers, *index),
-        Instr::Return => Ok(return_all(operands, scope)),
-        Instr::Call(index) => call(operands, scope, *index),
-        Instr::Drop => Ok(drop_one(operands, scope)),
+        Instr::Throw(tag) => Ok(throw(operands, scope, *tag)),
         Instr::ThrowRef => Ok(throw_ref(operands, scope)),
-        Instr::AtomicFence => atomic_fence(operands, scope),
+        Instr::Drop => Ok(drop_one(operands, scope)),
         Instr::Select => select(operands, scope),
-        Instr::LocalGet(index) => local_get(operands, scope, log, *index),
-        Instr::LocalSet(index) => local_set(operands, scope, *index),
-        Instr::LocalTee(index) => local_tee(operands, scope, *index),
-        Instr::GlobalGet(index) => global_get(operands, scope, *index),
-        Instr::GlobalSet(index) => global_set(operands, scope, *index),
-        Instr::I32Const(_) => i32_const(operands, scope),
-        Instr::I64Const(_) => i64_const(operands, scope),
-        Instr::F32Const(_) => f32_const(operands, scope),
-        Instr::F64Const(_) => f64_const(operands, scope),
-        Instr::V128Const(_) => v128_const(operands, scope),
+        Instr::SelectTyped(types) => select_typed(operands, scope, types),
         Instr::Numeric(op) => numeric(operands, scope, *op),
-        Instr::Load(op, at) => load(operands, scope, *op, *at),
-        Instr::Store(op, at) => store(operands, scope, *op, *at),
-        Instr::Memory(op) => memory(operands, scope, *op),
-        Instr::Block(_) | Instr::Loop(_) | Instr::If(_) | Instr::Else | Instr::End => Ok(false),
-        Instr::TryTable(_, _) | Instr::Throw(_) | Instr::BrTable(_, _) => Ok(false),
-        Instr::BrOnNull(_) | Instr::BrOnNonNull(_) => Ok(false),
-        Instr::BrOnCast(_) | Instr::BrOnCastFail(_) => Ok(false),
-        Instr::CallIndirect { .. } | Instr::CallRef(_) | Instr::ReturnCall(_) => Ok(false),
-        Instr::ReturnCallIndirect { .. } | Instr::ReturnCallRef(_) => Ok(false),
-        Instr::SelectTyped(_) | Instr::Reference(_) | Instr::Table(_) => Ok(false),
-        Instr::Aggregate(_) | Instr::Vector(_) | Instr::Atomic(_, _) => Ok(false),
-        Instr::VectorLoad(_, _) | Instr::VectorStore(_) => Ok(false),
-        Instr::VectorLoadLane { .. } | Instr::VectorStoreLane { .. } => Ok(false),
+        Instr::Vector(op) => vector(operands, scope, *op),
+        Instr::Reference(op) => reference(operands, scope, *op),
+        Instr::Table(op) => table(operands, scope, *op),
+        Instr::Aggregate(op) => aggregate(operands, scope, *op),
+        Instr::Br(_)
+        | Instr::BrIf(_)
+        | Instr::BrTable(_, _)
+        | Instr::BrOnNull(_)
+        | Instr::BrOnNonNull(_)
+        | Instr::BrOnCast(_)
+        | Instr::BrOnCastFail(_) => { step_branch(operands, scope, shape, outers, instr) }
+        Instr::Return
+        | Instr::Call(_)
+        | Instr::CallIndirect { .. }
+        | Instr::CallRef(_)
+        | Instr::ReturnCall(_)
+        | Instr::ReturnCallIndirect { .. }
+        | Instr::ReturnCallRef(_) => { step_call(operands, scope, instr) }
+        Instr::LocalGet(_)
+        | Instr::LocalSet(_)
+        | Instr::LocalTee(_)
+        | Instr::GlobalGet(_)
+        | Instr::GlobalSet(_) => step_variable(operands, scope, log, instr),
+        Instr::I32Const(_)
+        | Instr::I64Const(_)
+        | Instr::F32Const(_)
+        | Instr::F64Const(_)
+        | Instr::V128Const(_) => step_constant(operands, scope, instr),
+        Instr::Load(_, _)
+        | Instr::Store(_, _)
+        | Instr::Memory(_)
+        | Instr::VectorLoad(_, _)
+        | Instr::VectorStore(_)
+        | Instr::VectorLoadLane { .. }
+        | Instr::VectorStoreLane { .. }
+        | Instr::Atomic(_, _)
+        | Instr::AtomicFence => step_access(operands, scope, instr),
+        Instr::Block(_) | Instr::Loop(_) | Instr::If(_) | Instr::TryTable(_, _) => Ok(false),
+        Instr::Else | Instr::End => Ok(false),
     }
 }
 

@@ -14,116 +14,17 @@ returns-in-Nop-clause-ok c =
     let set = c.args.log.now.items in
     rw c.in-Nop.is (c.nop.ensures.ok labels set)
 
-pub returns-in-Br-clause-ok : goal.returns-in-Br-clause-ok
-returns-in-Br-clause-ok c =
-    let labels = label_of c.args.shape.now ∷ labels_of (reverse c.args.outers.now) in
-    let set = c.args.log.now.items in
-    rw c.in-Br.is (c.br.ensures set)
-
-pub returns-in-BrIf-clause-ok : goal.returns-in-BrIf-clause-ok
-returns-in-BrIf-clause-ok c =
-    let labels = label_of c.args.shape.now ∷ labels_of (reverse c.args.outers.now) in
-    let set = c.args.log.now.items in
-    rw c.in-BrIf.is (c.br_if.ensures.ok set)
-
-pub returns-in-Return-clause-ok : goal.returns-in-Return-clause-ok
-returns-in-Return-clause-ok c =
-    let labels = label_of c.args.shape.now ∷ labels_of (reverse c.args.outers.now) in
-    let set = c.args.log.now.items in
-    rw c.in-Return.is (c.return_all.ensures labels set)
-
-pub returns-in-Call-clause-ok : goal.returns-in-Call-clause-ok
-returns-in-Call-clause-ok c =
-    let labels = label_of c.args.shape.now ∷ labels_of (reverse c.args.outers.now) in
-    let set = c.args.log.now.items in
-    rw c.in-Call.is (c.call.ensures.ok labels set)
-
 pub returns-in-Drop-clause-ok : goal.returns-in-Drop-clause-ok
 returns-in-Drop-clause-ok c =
     let labels = label_of c.args.shape.now ∷ labels_of (reverse c.args.outers.now) in
     let set = c.args.log.now.items in
     rw c.in-Drop.is (c.drop_one.ensures labels set)
 
-pub returns-in-LocalGet-clause-ok : goal.returns-in-LocalGet-clause-ok
-returns-in-LocalGet-clause-ok c =
-    let labels = label_of c.args.shape.now ∷ labels_of (reverse c.args.outers.now) in
-    let set = c.args.log.now.items in
-    rw c.in-LocalGet.is (c.local_get.ensures.ok labels)
-
-pub returns-in-LocalSet-clause-ok : goal.returns-in-LocalSet-clause-ok
-returns-in-LocalSet-clause-ok c =
-    let labels = label_of c.args.shape.now ∷ labels_of (reverse c.args.outers.now) in
-    let set = c.args.log.now.items in
-    rw c.in-LocalSet.is (c.local_set.ensures.ok labels set)
-
-pub returns-in-LocalTee-clause-ok : goal.returns-in-LocalTee-clause-ok
-returns-in-LocalTee-clause-ok c =
-    let labels = label_of c.args.shape.now ∷ labels_of (reverse c.args.outers.now) in
-    let set = c.args.log.now.items in
-    rw c.in-LocalTee.is (c.local_tee.ensures.ok labels set)
-
-pub returns-in-GlobalGet-clause-ok : goal.returns-in-GlobalGet-clause-ok
-returns-in-GlobalGet-clause-ok c =
-    let labels = label_of c.args.shape.now ∷ labels_of (reverse c.args.outers.now) in
-    let set = c.args.log.now.items in
-    rw c.in-GlobalGet.is (c.global_get.ensures.ok labels set)
-
-pub returns-in-GlobalSet-clause-ok : goal.returns-in-GlobalSet-clause-ok
-returns-in-GlobalSet-clause-ok c =
-    let labels = label_of c.args.shape.now ∷ labels_of (reverse c.args.outers.now) in
-    let set = c.args.log.now.items in
-    rw c.in-GlobalSet.is (c.global_set.ensures.ok labels set)
-
-pub returns-in-I32Const-clause-ok : goal.returns-in-I32Const-clause-ok
-returns-in-I32Const-clause-ok c =
-    let labels = label_of c.args.shape.now ∷ labels_of (reverse c.args.outers.now) in
-    let set = c.args.log.now.items in
-    rw c.in-I32Const.is (c.i32_const.ensures.ok _ labels set)
-
 pub returns-in-Numeric-clause-ok : goal.returns-in-Numeric-clause-ok
 returns-in-Numeric-clause-ok c =
     let labels = label_of c.args.shape.now ∷ labels_of (reverse c.args.outers.now) in
     let set = c.args.log.now.items in
     rw c.in-Numeric.is (c.numeric.ensures.ok labels set)
-
-pub returns-in-I64Const-clause-ok : goal.returns-in-I64Const-clause-ok
-returns-in-I64Const-clause-ok c =
-    let labels = label_of c.args.shape.now ∷ labels_of (reverse c.args.outers.now) in
-    let set = c.args.log.now.items in
-    rw c.in-I64Const.is (c.i64_const.ensures.ok _ labels set)
-
-pub returns-in-F32Const-clause-ok : goal.returns-in-F32Const-clause-ok
-returns-in-F32Const-clause-ok c =
-    let labels = label_of c.args.shape.now ∷ labels_of (reverse c.args.outers.now) in
-    let set = c.args.log.now.items in
-    rw c.in-F32Const.is (c.f32_const.ensures.ok _ labels set)
-
-pub returns-in-F64Const-clause-ok : goal.returns-in-F64Const-clause-ok
-returns-in-F64Const-clause-ok c =
-    let labels = label_of c.args.shape.now ∷ labels_of (reverse c.args.outers.now) in
-    let set = c.args.log.now.items in
-    rw c.in-F64Const.is (c.f64_const.ensures.ok _ labels set)
-
-pub returns-in-V128Const-clause-ok : goal.returns-in-V128Const-clause-ok
-returns-in-V128Const-clause-ok c =
-    let labels = label_of c.args.shape.now ∷ labels_of (reverse c.args.outers.now) in
-    let set = c.args.log.now.items in
-    rw c.in-V128Const.is (c.v128_const.ensures.ok _ labels set)
-
-pub returns-in-Load-clause-ok : goal.returns-in-Load-clause-ok
-returns-in-Load-clause-ok c =
-    let labels = label_of c.args.shape.now ∷ labels_of (reverse c.args.outers.now) in
-    rw c.in-Load.is (c.load.ensures.ok labels c.args.log.now.items)
-
-pub returns-in-Store-clause-ok : goal.returns-in-Store-clause-ok
-returns-in-Store-clause-ok c =
-    let labels = label_of c.args.shape.now ∷ labels_of (reverse c.args.outers.now) in
-    rw c.in-Store.is (c.store.ensures.ok labels c.args.log.now.items)
-
-pub returns-in-Memory-clause-ok : goal.returns-in-Memory-clause-ok
-returns-in-Memory-clause-ok c =
-    let labels = label_of c.args.shape.now ∷ labels_of (reverse c.args.outers.now) in
-    rw c.in-Memory.is (c.memory.ensures.ok labels c.args.log.now.items)
 
 pub returns-in-Select-clause-ok : goal.returns-in-Select-clause-ok
 returns-in-Select-clause-ok c =
@@ -135,7 +36,32 @@ returns-in-ThrowRef-clause-ok c =
     let labels = label_of c.args.shape.now ∷ labels_of (reverse c.args.outers.now) in
     rw c.in-ThrowRef.is (c.throw_ref.ensures labels c.args.log.now.items)
 
-pub returns-in-AtomicFence-clause-ok : goal.returns-in-AtomicFence-clause-ok
-returns-in-AtomicFence-clause-ok c =
+pub returns-in-Throw-clause-ok : goal.returns-in-Throw-clause-ok
+returns-in-Throw-clause-ok c =
     let labels = label_of c.args.shape.now ∷ labels_of (reverse c.args.outers.now) in
-    rw c.in-AtomicFence.is (c.atomic_fence.ensures.ok labels c.args.log.now.items)
+    rw c.in-Throw.is (c.throw.ensures labels c.args.log.now.items)
+
+pub returns-in-SelectTyped-clause-ok : goal.returns-in-SelectTyped-clause-ok
+returns-in-SelectTyped-clause-ok c =
+    let labels = label_of c.args.shape.now ∷ labels_of (reverse c.args.outers.now) in
+    rw c.in-SelectTyped.is (c.select_typed.ensures.ok labels c.args.log.now.items)
+
+pub returns-in-Vector-clause-ok : goal.returns-in-Vector-clause-ok
+returns-in-Vector-clause-ok c =
+    let labels = label_of c.args.shape.now ∷ labels_of (reverse c.args.outers.now) in
+    rw c.in-Vector.is (c.vector.ensures.ok labels c.args.log.now.items)
+
+pub returns-in-Reference-clause-ok : goal.returns-in-Reference-clause-ok
+returns-in-Reference-clause-ok c =
+    let labels = label_of c.args.shape.now ∷ labels_of (reverse c.args.outers.now) in
+    rw c.in-Reference.is (c.reference.ensures.ok labels c.args.log.now.items)
+
+pub returns-in-Table-clause-ok : goal.returns-in-Table-clause-ok
+returns-in-Table-clause-ok c =
+    let labels = label_of c.args.shape.now ∷ labels_of (reverse c.args.outers.now) in
+    rw c.in-Table.is (c.table.ensures.ok labels c.args.log.now.items)
+
+pub returns-in-Aggregate-clause-ok : goal.returns-in-Aggregate-clause-ok
+returns-in-Aggregate-clause-ok c =
+    let labels = label_of c.args.shape.now ∷ labels_of (reverse c.args.outers.now) in
+    rw c.in-Aggregate.is (c.aggregate.ensures.ok labels c.args.log.now.items)

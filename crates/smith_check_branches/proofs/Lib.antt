@@ -1,0 +1,9 @@
+pub mod OperandLemmas
+pub mod TopLemmas
+pub mod BranchTableLemmas
+pub mod CallLemmas
+pub mod ResultLemmas
+pub mod NullLemmas
+pub mod CastLemmas
+pub mod CatchLemmas
+pub mod NonNullLemmas

@@ -1,0 +1,86 @@
+-- Operands of instructions after which control does not continue, and the range of references.
+use Rattle.std.proofs.Common.{◌≡◌, ℕ, ◌-◌, true, List, [], ◌∷◌, ◌++◌, length, take, drop, refl, sym, subst, inl, arith}
+use Rattle.std.proofs.lemmas.List.{append-nil, length-drop, take_all}
+use Rattle.std.proofs.lemmas.List.Elements.{All-nil, All-append}
+use Rattle.smith_types.specs.Subtyping.{IsInRange}
+use Rattle.smith_syntax.specs.declared.composite_type.SubType.{SubType}
+use Rattle.smith_syntax.specs.declared.value_type.HeapType.{HeapType}
+use Rattle.smith_syntax.specs.declared.value_type.HeapType.TheVariants.{Abstract, Concrete, Exact}
+use Rattle.smith_syntax.specs.declared.value_type.ValType.{ValType}
+use Rattle.smith_instr.specs.Contexts.{BodyContext, IsHeapValid}
+use Rattle.smith_instr.specs.declared.instr.Instr.{Instr}
+use Rattle.smith_check_rules.specs.Slots.{IsBelow, AreBelow, IsSlotValid, AreSlotsValid}
+use Rattle.smith_check_rules.specs.StackTypes.{HasStackType, Leaves}
+use Rattle.smith_check_rules.specs.declared.slot.Slot.{Slot}
+use Rattle.smith_check_operands.specs.Applies.{IsTaken, LeavesBy}
+use Rattle.smith_check_operands.specs.Closes.{with_labels}
+use Rattle.smith_check_operands.specs.Covers.{Held, Covers}
+use Rattle.smith_check_operands.proofs.BelowLemmas.{below_themselves}
+use Rattle.smith_check_operands.proofs.ListLemmas.{all_left, zip_join}
+
+-- the rest of a list, as a slice is read
+pub as_rest : {A : Type 0} (n : ℕ) (xs : List A) → take (length xs - n) (drop n xs) ≡ drop n xs
+as_rest n xs = take_all (length xs - n) (drop n xs) (omega (arith, length-drop n xs))
+
+pub heap_in_range : (context : BodyContext) (heap_type : HeapType) → IsHeapValid context heap_type → IsInRange context.types heap_type
+heap_in_range context (Abstract shared ty) valid = tt
+heap_in_range context (Concrete index) valid = valid.1
+heap_in_range context (Exact index) valid = valid.1
+
+-- values of which the last matches one type
+pub single_above : (types : List SubType) (xs : List Slot) (y : Slot) → AreBelow types xs (y ∷ [])
+    → (x : Slot) × (xs ≡ x ∷ []) × IsBelow types x y
+single_above types [] y below = absurd below
+single_above types (x ∷ []) y (first, below) = (x, refl, first)
+single_above types (x ∷ z ∷ xs) y (first, below) = absurd below
+
+-- everything valid is covered in dead code
+covers_all : (context : BodyContext) (new : Held) (stack : List Slot) → new.known ≡ [] → new.dead ≡ true → AreSlotsValid context stack
+    → Covers context new stack
+covers_all context new stack known dead valid = record {
+  under = stack;
+  top = [];
+  is = sym (append-nil stack);
+  below = subst (λ xs. AreBelow context.types xs []) (sym known) tt;
+  reached = inl dead;
+  valid = valid;
+}
+
+-- an instruction that may take these operands, and then goes on in dead code
+pub leaves_as : (context : BodyContext) (labels : List (List ValType)) (x : Instr) (set : List ℕ) (taken : List Slot) (old new : Held)
+    → ((these those : List Slot) → Leaves (with_labels context labels) these those taken
+    → HasStackType (with_labels context labels) set x these those)
+    → LeavesBy context taken old new → IsTaken context labels x set old new
+leaves_as context labels x set taken old new typed by =
+    let (rest, before, covered, takes) = by.some in
+    record {
+      steps = record {
+        sound = λ after c. record {
+          before = before;
+          covered = covered;
+          step = record {
+            operands = rest ++ taken;
+            results = after;
+            typed = typed (rest ++ taken) after (rest, refl, c.valid);
+            framed = record {
+              rest = [];
+              taken = before;
+              given = after;
+              under = refl;
+              accepted = subst (λ xs. AreBelow context.types xs (rest ++ taken)) (sym takes.is)
+                  (zip_join (IsBelow context.types) rest takes.taken rest taken (below_themselves context.types rest) takes.accepted);
+              offered = record { below = below_themselves context.types after; valid = c.valid };
+              over = refl;
+              set_then = refl;
+            };
+          };
+        };
+        complete = λ start after c s.
+            covers_all context new after.stack by.known by.dead
+            (subst (λ xs. AreSlotsValid context xs) (sym s.framed.over)
+            (All-append (IsSlotValid context) s.framed.rest s.framed.given
+            (all_left (IsSlotValid context) s.framed.rest s.framed.taken (subst (λ xs. AreSlotsValid context xs) s.framed.under c.valid))
+            s.framed.offered.valid));
+      };
+      valid = subst (λ xs. AreSlotsValid context xs) (sym by.known) (All-nil (IsSlotValid context));
+    }

@@ -1,0 +1,11 @@
+use Rattle.std.proofs.Common.{◌∷◌, length, take, reverse}
+use Rattle.std.specs.Prelude.{All}
+use Rattle.smith_check_rules.specs.StackTypes.{IsTaken}
+use Rattle.smith_check_operands.specs.Scopes.{bare}
+use Rattle.smith_check_operands.specs.Closes.{label_of, labels_of, with_labels}
+use Rattle.smith_check_branches.specs.Tops.{top_of}
+use Rattle.smith_check_branches.proofs.branch_tables.br_table.Given as goal
+
+abbrev pub invariant-loop-index : goal.invariant-loop-index
+invariant-loop-index l = All (IsTaken (with_labels (bare l.scope) (label_of l.shape ∷ labels_of (reverse l.outers)))
+    (top_of l.operands.known.items (length l.given))) (take l.index-index l.labels)

@@ -1,0 +1,23 @@
+use Rattle.std.proofs.Common.{◌≡◌, ◌<◌, ◌∷◌, length, take, reverse, refl, subst, arith}
+use Rattle.std.specs.Prelude.{All}
+use Rattle.std.proofs.lemmas.List.{take_all}
+use Rattle.std.proofs.lemmas.List.Elements.{All-more}
+use Rattle.smith_instr.specs.InstrTypes.{IsCatch}
+use Rattle.smith_check_operands.specs.Scopes.{bare}
+use Rattle.smith_check_operands.specs.Closes.{label_of, labels_of, with_labels}
+use Rattle.smith_check_branches.proofs.catches.are_catches.Goals as goal
+
+pub loop-clause-preserved : goal.loop-clause-preserved
+loop-clause-preserved c =
+    let within : c.loop-clause.clause-index < length c.args.clauses.now = omega arith in
+    All-more (IsCatch (with_labels (bare c.args.scope.now) (label_of c.args.shape.now ∷ labels_of (reverse c.args.outers.now))))
+    c.args.clauses.now c.loop-clause.clause-index _ within c.loop-clause.invariant (c.is_catch.ensures.0 c.if-not-is_catch.false)
+
+pub returns : goal.returns
+returns c =
+    let whole : take c.loop-clause.clause-index c.args.clauses.now ≡ c.args.clauses.now =
+    take_all c.loop-clause.clause-index c.args.clauses.now (omega arith) in (
+      λ h. subst (λ cs. All (IsCatch (with_labels (bare c.args.scope.now)
+          (label_of c.args.shape.now ∷ labels_of (reverse c.args.outers.now)))) cs) whole c.loop-clause.invariant,
+      λ all. refl,
+    )

@@ -1,0 +1,4 @@
+pub mod Tops
+pub mod References
+pub mod Tables
+pub mod Catches
