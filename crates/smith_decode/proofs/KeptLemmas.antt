@@ -31,7 +31,7 @@ custom_after_decodes after = record {
 }
 
 -- a section after its identifier
-content_is : (content piece : List ℕ) → IsSized (Is content) piece → IsContent content piece
+pub content_is : (content piece : List ℕ) → IsSized (Is content) piece → IsContent content piece
 content_is content piece h = subst (λ (c : List ℕ). IsContent c piece) h.is_content h.form
 
 section_front : (bytes content rest : List ℕ) (id : ℕ × List ℕ) → byte_at bytes ≡ Ok id → content_at id.1 ≡ Ok (content, rest)

@@ -10,5 +10,8 @@ pub mod KeptLemmas
 pub mod ModuleLemmas
 pub mod ViewLemmas
 pub mod ContentsLemmas
+pub mod SizeLemmas
+pub mod SegmentSizeLemmas
+pub mod ModuleSizeLemmas
 pub mod ConstantLemmas
 pub mod EncoderLemmas

@@ -14,4 +14,5 @@ pub mod Locations
 pub mod TypeForms
 pub mod Forms
 pub mod Results
+pub mod Sizes
 pub mod ExampleModules

@@ -1,4 +1,4 @@
-ghost use Rattle.std.specs.Prelude.{◌≡◌, [], ◌∷◌, IfOk, List, Ok};
+ghost use Rattle.std.specs.Prelude.{◌≡◌, ◌≤◌, [], ◌∷◌, IfOk, List, length, Ok};
 ghost use Rattle.smith_binary_read.specs.declared.error.ReadError.TheVariants as error;
 ghost use Rattle.smith_binary_read.specs.Readings.{GivesWhole};
 ghost use Rattle.smith_decode.specs.CustomReadings.{GivesRest, end_at};
@@ -10,6 +10,7 @@ ghost use Rattle.smith_decode.specs.Modules.{Syntax, IsModuleBinary, syntax_of};
 ghost use Rattle.smith_decode.specs.Forms.{AreFormsEnabled};
 ghost use Rattle.smith_decode.specs.Locations.{located};
 ghost use Rattle.smith_decode.specs.Results.{Locates, Returns, offset_in};
+ghost use Rattle.smith_decode.specs.Sizes.{items_in};
 ghost use Rattle.smith_syntax.specs.FeatureBits.{features_in};
 
 use crate::bodies::{Body, name_data};
@@ -326,6 +327,8 @@ pub fn decode(alloc: Global, bytes: &[u8], features: WasmFeatures) -> Result<Mod
     // If the bytes are a module of these features, it is returned, unless memory was refused.
     ensures complete { (m : Syntax) → IsModuleBinary m bytes.now
         → Returns (features_in features) m result }
+    // It has no more items than the bytes are, so memory for it is at most a multiple of their number.
+    ensures small { IfOk result (λ m. items_in m ≤ length bytes.now) }
     // Which fault it is, and where.
     ensures exact { Locates (features_in features) result bytes.now (module_at bytes.now) }
 {
