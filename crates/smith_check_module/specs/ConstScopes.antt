@@ -25,9 +25,9 @@ context_of scope = record {
 -- (Validation, Modules)
 pub record AreStanding (types : List SubType) (funcs : List ℕ) (globals : List GlobalType) : Type 0 where
   pub orderly : IsOrderly types
-  pub types : All (λ (t : SubType). All (IsValInRange types) (values_of t.composite_type.inner)) types
-  pub funcs : All (λ index. index < length types) funcs
-  pub globals : All (λ (global : GlobalType). IsValInRange types global.val_type) globals
+  pub values_stand : All (λ (t : SubType). All (IsValInRange types) (values_of t.composite_type.inner)) types
+  pub funcs_stand : All (λ index. index < length types) funcs
+  pub globals_stand : All (λ (global : GlobalType). IsValInRange types global.val_type) globals
 
 abbrev pub IsScope : Context → Type 0
 IsScope context = AreStanding context.types context.funcs context.globals

@@ -1,5 +1,5 @@
 -- What the items of a module are judged by.
-use Rattle.std.specs.Prelude.{◌≡◌, ℕ, ◌<◌, List, ◌∷◌, ◌++◌, Some, length, slice_get, All}
+use Rattle.std.specs.Prelude.{◌≡◌, ℕ, ◌<◌, List, Some, length, slice_get}
 use Rattle.smith_syntax.specs.FeatureBits.{features_in}
 use Rattle.smith_syntax.specs.declared.entity_type.ExportKind.{ExportKind}
 use Rattle.smith_types.specs.EntitySpaces.{spaces_in}
@@ -11,11 +11,10 @@ use Rattle.smith_decode.specs.declared.definitions.GlobalDefinition.{GlobalDefin
 use Rattle.smith_decode.specs.declared.definitions.TableDefinition.{TableDefinition}
 use Rattle.smith_decode.specs.Modules.{syntax_of}
 use Rattle.smith_check_module.specs.ConstScopes.{context_of}
-use Rattle.smith_check_module.specs.SectionFaults.{IsItemRight, parts}
+use Rattle.smith_check_module.specs.SectionFaults.{IsItemRight}
 use Rattle.smith_check_module.specs.ValidModules.{AreEntitiesValid}
 use Rattle.smith_check_module.specs.declared.faults.Part.{Part}
 use Rattle.smith_check_module.specs.declared.faults.Part.TheVariants as part
-use Rattle.smith_check_module.specs.declared.faults.SectionFault.{SectionFault}
 use Rattle.smith_check_module.specs.declared.judge.Judge.{Judge}
 
 -- no earlier export has the name of the export at an index (Validation, Modules)
@@ -70,19 +69,6 @@ pub record IsJudge (judge : Judge) : Type 0 where
   pub globals : judge.scope.globals.now ≡ judge.spaces.now.globals
   pub imported_globals : judge.scope.imported_globals ≡ length (imported_spaces (syntax_of judge.module.now).imports).globals
   pub repeated : IsFirstRepeated (syntax_of judge.module.now).exports judge.repeated
-
--- an item is the first of a part that is wrong
-pub record IsWrongFirst (judge : Judge) (kind : Part) (index : ℕ) : Type 0 where
-  pub wrong : IsRight judge kind index → ⊥
-  pub before : (other : ℕ) → other < index → IsRight judge kind other
-
--- a fault is the first item that is wrong: all parts before its part are right
-pub record IsFaultOf (judge : Judge) (fault : SectionFault) : Type 0 where
-  pub before : List Part
-  pub after : List Part
-  pub order : parts ≡ before ++ fault.part ∷ after
-  pub earlier : All (AreRight judge) before
-  pub first : IsWrongFirst judge fault.part fault.index
 
 -- the types of tables and globals that are defined
 abbrev pub table_type : TableDefinition → TableType

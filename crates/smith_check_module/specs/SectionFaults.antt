@@ -6,16 +6,12 @@ use Rattle.smith_syntax.specs.Features.{Features}
 use Rattle.smith_syntax.specs.declared.entity_type.EntityType.{EntityType}
 use Rattle.smith_syntax.specs.declared.entity_type.ExportKind.{ExportKind}
 use Rattle.smith_syntax.specs.declared.entity_type.GlobalType.{GlobalType}
-use Rattle.smith_syntax.specs.declared.entity_type.MemoryType.{MemoryType}
-use Rattle.smith_syntax.specs.declared.entity_type.TableType.{TableType}
-use Rattle.smith_syntax.specs.declared.value_type.ValType.{ValType}
 use Rattle.smith_instr.specs.declared.instr.Instr.{Instr}
 use Rattle.smith_types.specs.Entities.{IsMemoryValid, IsTableValid, IsGlobalValid, IsFuncTypeIndex}
 use Rattle.smith_types.specs.Exports.{IsEntityAt, IsStartValid}
 use Rattle.smith_types.specs.Expressions.{Context, seeing, seen_by_tables, seen_by_global, seen_by_segments}
 use Rattle.smith_types.specs.Imports.{EntitySpaces, imported_spaces}
 use Rattle.smith_decode.specs.Data.{Data}
-use Rattle.smith_decode.specs.Elements.{Elem}
 use Rattle.smith_decode.specs.Modules.{Syntax}
 use Rattle.smith_check_types.specs.Renamed.{renamed_val}
 use Rattle.smith_check_types.specs.TypeSections.{canonical_index}
@@ -73,15 +69,19 @@ parts =
     part.Tags ∷ part.Functions ∷ part.Tables ∷ part.Memories ∷ part.Globals ∷ part.TableInitials ∷ part.GlobalInitials ∷ part.Exports
     ∷ part.Start ∷ part.Elements ∷ part.Datas ∷ []
 
--- an item of a part is wrong, and all items before it are right
-pub record IsFirstWrong (context : Context) (indices : List ℕ) (spaces : EntitySpaces) (m : Syntax) (kind : Part) (index : ℕ) : Type 0 where
-  pub wrong : IsItemRight context indices spaces m kind index → ⊥
-  pub before : (other : ℕ) → other < index → IsItemRight context indices spaces m kind other
+-- an item is wrong, and all items before it are right
+pub record IsFirstWrong (IsRight : ℕ → Type 0) (index : ℕ) : Type 0 where
+  pub wrong : IsRight index → ⊥
+  pub before : (other : ℕ) → other < index → IsRight other
 
--- the first item of a module that is wrong: all parts before its part are right (own rule)
-pub record IsFirstFault (features : Features) (indices : List ℕ) (m : Syntax) (fault : SectionFault) : Type 0 where
+-- a fault is the first item that is wrong: all parts before its part are right
+pub record IsFirstBy (IsRight : Part → ℕ → Type 0) (fault : SectionFault) : Type 0 where
   pub before : List Part
   pub after : List Part
   pub order : parts ≡ before ++ fault.part ∷ after
-  pub earlier : All (IsPartRight (context_in features indices m) indices (spaces_in indices m) m) before
-  pub first : IsFirstWrong (context_in features indices m) indices (spaces_in indices m) m fault.part fault.index
+  pub earlier : All (λ kind. (index : ℕ) → IsRight kind index) before
+  pub first : IsFirstWrong (IsRight fault.part) fault.index
+
+-- the first item of a module that is wrong (own rule)
+abbrev pub IsFirstFault : Features → List ℕ → Syntax → SectionFault → Type 0
+IsFirstFault features indices m fault = IsFirstBy (IsItemRight (context_in features indices m) indices (spaces_in indices m) m) fault

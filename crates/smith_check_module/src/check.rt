@@ -2,8 +2,8 @@ ghost use Rattle.std.specs.Prelude.{◌≡◌, All, IfOk, IfErr, IfSome, MatchOp
 ghost use Rattle.smith_syntax.specs.FeatureBits.{features_in};
 ghost use Rattle.smith_decode.specs.Modules.{syntax_of};
 ghost use Rattle.smith_check_types.specs.CheckedTypes.{AreChecked};
-ghost use Rattle.smith_check_module.specs.Judges.{AreRight, IsFaultOf, IsJudge};
-ghost use Rattle.smith_check_module.specs.SectionFaults.{IsFirstFault, parts};
+ghost use Rattle.smith_check_module.specs.Judges.{AreRight, IsJudge, IsRight};
+ghost use Rattle.smith_check_module.specs.SectionFaults.{IsFirstBy, IsFirstFault, parts};
 ghost use Rattle.smith_check_module.specs.ValidModules.{AreSectionsValid};
 
 use crate::exports::first_repeated;
@@ -78,7 +78,7 @@ fn first_fault(alloc: Global, judge: &Judge<'_>) -> Result<Option<SectionFault>,
     requires { IsJudge judge.now }
     ensures ok { IfOk result (λ found. MatchOption found
         (All (AreRight judge.now) parts)
-        (λ fault. IsFaultOf judge.now fault)) }
+        (λ fault. IsFirstBy (IsRight judge.now) fault)) }
     ensures memory { IfErr result (λ e. e ≡ Error.Memory) }
 {
     for part in PARTS {

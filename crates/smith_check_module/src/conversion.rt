@@ -26,8 +26,12 @@ pub(crate) fn conversion_signature(
         (λ s. IsBestConversion (context_of scope.now) from into before.now s.operands s.result)) }
     ensures memory { IfErr result (λ e. e ≡ Error.Memory) }
 {
-    let reference = match before {
-        [.., ValType::Ref(reference)] => *reference,
+    if before.is_empty() {
+        return Ok(None);
+    }
+    let top = before[before.len() - 1];
+    let reference = match top {
+        ValType::Ref(reference) => reference,
         _ => return Ok(None),
     };
     match sharedness_below(scope, reference.heap_type, from) {

@@ -6,10 +6,10 @@ ghost use Rattle.smith_check_module.specs.Judges.{
   AreRight,
   IsJudge,
   IsRight,
-  IsWrongFirst,
   RefersToEntities,
   count_in,
 };
+ghost use Rattle.smith_check_module.specs.SectionFaults.{IsFirstWrong};
 ghost use Rattle.smith_check_module.specs.declared.faults.Part.TheVariants as part;
 
 use crate::entities::{
@@ -181,7 +181,7 @@ impl<'a> Judge<'a> {
         requires judge { IsJudge self.now }
         requires valid { RefersToEntities part → AreJudgedValid self.now }
         ensures ok { IfOk result (λ found. MatchOption found (AreRight self.now part)
-            (λ index. IsWrongFirst self.now part index)) }
+            (λ index. IsFirstWrong (IsRight self.now part) index)) }
         ensures memory { IfErr result (λ e. e ≡ Error.Memory) }
     {
         for index in 0..self.count(part) {
