@@ -1,9 +1,10 @@
 -- Constant expressions, instruction by instruction, by the stacks of the least types.
-use Rattle.std.proofs.Common.{◌≡◌, ◌↔◌, ℕ, ◌+◌, ◌<◌, ◌≤◌, List, [], ◌∷◌, ◌++◌, Some, length, get_or, map, take, drop, refl, sym, ap, ◌∙◌, subst, arith}
-use Rattle.std.specs.Prelude.{All}
+use Rattle.std.proofs.Common.{◌≡◌, ◌↔◌, ℕ, ◌+◌, ◌<◌, ◌≤◌, List, [], ◌∷◌, ◌++◌, Some, None, length, get_or, map, take, drop, refl, sym, ap, ◌∙◌, subst, arith}
+use Rattle.std.specs.Prelude.{All, Bool, true, false, IfOk, MatchBool, Result, Ok, Err}
 use Rattle.std.specs.List.{AllZip}
 use Rattle.std.proofs.lemmas.List.{drop_more, drop_all}
 use Rattle.std.proofs.lemmas.List.Elements.{All-nil, All-cons, All-head, All-tail, AllZip-push}
+use Rattle.smith_bytes.specs.declared.error.Error.{Error}
 use Rattle.smith_syntax.specs.declared.const_instr.ConstInstr.{ConstInstr}
 use Rattle.smith_syntax.specs.declared.value_type.ValType.{ValType}
 use Rattle.smith_instr.specs.declared.instr.Instr.{Instr}
@@ -14,9 +15,10 @@ use Rattle.smith_types.proofs.GrowthLemmas.{IsValBelow-refl, IsValBelow-trans}
 use Rattle.smith_decode.specs.Constants.{as_expr, as_instr}
 use Rattle.smith_check_types.specs.TypeSections.{canonical_index}
 use Rattle.smith_check_module.specs.CanonicalModules.{renamed_const}
-use Rattle.smith_check_module.specs.ConstInstrs.{Goes, Stops}
+use Rattle.smith_check_module.specs.ConstInstrs.{Goes, IsConstInstr, Stops, const_of}
+use Rattle.smith_check_module.specs.Typings.{HasNoStep, IsBestStep}
 use Rattle.smith_check_module.specs.ValidModules.{IsConstant}
-use Rattle.smith_check_module.proofs.ConstantLemmas.{one_constant}
+use Rattle.smith_check_module.proofs.ConstantLemmas.{not_spelled, one_constant, spelled}
 use Rattle.smith_check_module.proofs.StackLemmas.{zip_parts, zip_through}
 
 module _ (context : Context) where
@@ -199,3 +201,31 @@ module _ (context : Context) (indices : List ℕ) (wanted : ValType) where
         λ v. known.0 (subst (λ (xs : List Instr). IsRest context indices wanted stack xs) (sym none) (both.1 v)),
         λ e. both.0 (subst (λ (xs : List Instr). IsRest context indices wanted stack xs) none (known.1 e)),
       )
+
+module _ (context : Context) (indices : List ℕ) (instruction : Instr) where
+  same_constant : (c found : ConstInstr) → Some found ≡ const_of instruction → IsConstInstr context indices instruction c → c ≡ found
+  same_constant c found at is = one_constant c found (sym is.spelled ∙ spelled instruction found (sym at))
+
+  -- an instruction that is no constant one, or is not enabled, stops
+  pub stops_other : (before : List ValType) → None ≡ const_of instruction → Stops context indices instruction before
+  stops_other before none = λ c is. absurd (not_spelled instruction c (sym none) is.spelled)
+
+  pub stops_off : (before : List ValType) (found : ConstInstr) → Some found ≡ const_of instruction
+      → (IsInstrEnabled context.features context.imported_globals (renamed_const (canonical_index indices) found) → ⊥)
+      → Stops context indices instruction before
+  stops_off before found at off = λ c is. absurd (off (subst (λ (d : ConstInstr).
+      IsInstrEnabled context.features context.imported_globals (renamed_const (canonical_index indices) d))
+      (same_constant c found at is) is.enabled))
+
+  -- what is returned after a step
+  pub gone : (before after : List ValType) (found : ConstInstr) (done : Result Bool Error) → Some found ≡ const_of instruction
+      → IsInstrEnabled context.features context.imported_globals (renamed_const (canonical_index indices) found)
+      → IfOk done (λ d. MatchBool d (IsBestStep context (renamed_const (canonical_index indices) found) before after)
+      (HasNoStep context (renamed_const (canonical_index indices) found) before))
+      → IfOk done (λ d. MatchBool d (Goes context indices instruction before after) (Stops context indices instruction before))
+  gone before after found (Ok true) at enabled step =
+      record { constant = found; is = record { spelled = spelled instruction found (sym at); enabled = enabled }; step = step }
+  gone before after found (Ok false) at enabled none = λ c is.
+      subst (λ (d : ConstInstr). HasNoStep context (renamed_const (canonical_index indices) d) before)
+      (sym (same_constant c found at is)) none
+  gone before after found (Err e) at enabled answer = tt

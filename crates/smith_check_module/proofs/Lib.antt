@@ -11,3 +11,4 @@ pub mod SectionLemmas
 pub mod ItemLemmas
 pub mod RepeatedLemmas
 pub mod JudgeLemmas
+pub mod SpaceLemmas

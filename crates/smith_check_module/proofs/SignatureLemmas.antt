@@ -69,6 +69,12 @@ module _ (context : Context) where
   fixed_only constant.RefI31Shared s is = fixed constant.RefI31Shared _ _ (λ o r h. h) (refl, refl) (one_range I32 tt) tt s is
   fixed_only _ s is = cc
 
+  pub same_only : (instruction : ConstInstr) (operands o : List ValType) (result r : ValType) → o ≡ operands → r ≡ result
+      → IsOnly context instruction operands result → IsOnly context instruction o r
+  same_only instruction operands o result r same is only =
+      subst (λ (vs : List ValType). IsOnly context instruction vs r) (sym same)
+      (subst (λ (v : ValType). IsOnly context instruction operands v) (sym is) only)
+
   -- an instruction with one type takes any values that its operands accept
   pub best_from_only : (instruction : ConstInstr) (before operands : List ValType) (result : ValType)
       → IsOnly context instruction operands result → IsBest context instruction before operands result
@@ -112,6 +118,15 @@ module _ (context : Context) where
       let same = same_Some found global (sym there ∙ at) in
       let both : true ≡ false = sym changes ∙ sym (ap (λ (g : GlobalType). g.mutable) same) ∙ kept in
       absurd cc
+
+  pub global_unseen : (index : ℕ) → context.visible ≤ index → HasNoType context (constant.GlobalGet index)
+  global_unseen index unseen = λ others other (none, (found, there, below, kept, is)). omega arith
+
+  pub global_missing : (index : ℕ) → slice_get context.globals index ≡ None → HasNoType context (constant.GlobalGet index)
+  global_missing index missing = λ others other (none, (found, there, below, kept, is)). cc
+
+  pub func_none : (function : ℕ) → slice_get context.funcs function ≡ None → HasNoType context (constant.RefFunc function)
+  func_none function missing = λ others other (found, there, none, is). cc
 
   heap_in_range : (heap_type : HeapType) → IsHeapTypeValid context.features (length context.types) heap_type
       → IsInRange context.types heap_type

@@ -1,4 +1,4 @@
-ghost use Rattle.std.specs.Prelude.{◌↔◌, ◌<◌, IsTrue, length};
+ghost use Rattle.std.specs.Prelude.{◌↔◌, ◌<◌, IsTrue};
 ghost use Rattle.smith_syntax.specs.FeatureBits.{features_in};
 ghost use Rattle.smith_types.specs.Entities.{
   IsFuncTypeIndex,
@@ -6,74 +6,65 @@ ghost use Rattle.smith_types.specs.Entities.{
   IsMemoryValid,
   IsTableValid,
 };
-ghost use Rattle.smith_check_module.specs.SectionFaults.{IsRightAt};
 
 use smith_types::{GlobalType, MemoryType, SubType, TableType, WasmFeatures};
 use smith_validity::{are_funcs_valid, are_globals_valid, are_memories_valid, are_tables_valid};
 
-/// Returns whether the tag at an index is valid (Validation, Tag Types).
-pub(crate) fn is_tag_right(
-    features: WasmFeatures,
-    types: &[SubType],
-    tags: &[u32],
-    index: usize,
-) -> bool
-    requires { index < length tags.now }
-    ensures { IsTrue result ↔ IsRightAt tags.now index
-        (λ tag. IsFuncTypeIndex types.now tag × IsTrue (features_in features).exceptions) }
+/// Returns whether a function of the type `index` is valid (Validation, Functions).
+pub(crate) fn is_func(types: &[SubType], index: u32) -> bool
+    ensures { IsTrue result ↔ IsFuncTypeIndex types.now index }
 {
-    are_funcs_valid(types, &[tags[index]]) && features.contains(WasmFeatures::EXCEPTIONS)
+    are_funcs_valid(types, &[index])
 }
 
-/// Returns whether the function at an index is valid (Validation, Functions).
-pub(crate) fn is_func_right(types: &[SubType], funcs: &[u32], index: usize) -> bool
-    requires { index < length funcs.now }
-    ensures { IsTrue result ↔ IsRightAt funcs.now index (IsFuncTypeIndex types.now) }
+/// Returns whether a tag of the type `index` is valid (Validation, Tag Types). Tags require exceptions.
+pub(crate) fn is_tag(features: WasmFeatures, types: &[SubType], index: u32) -> bool
+    ensures { IsTrue result
+        ↔ (IsFuncTypeIndex types.now index × IsTrue (features_in features).exceptions) }
 {
-    are_funcs_valid(types, &[funcs[index]])
+    is_func(types, index) && features.contains(WasmFeatures::EXCEPTIONS)
 }
 
-/// Returns whether the table at an index is valid (Validation, Table Types).
-pub(crate) fn is_table_right(
+fn is_table_valid(features: WasmFeatures, types: &[SubType], table: TableType) -> bool
+    ensures { IsTrue result ↔ IsTableValid (features_in features) types.now table }
+{
+    are_tables_valid(features, types, &[table])
+}
+
+/// Returns whether the table with this index is valid (Validation, Table Types). All but the first
+/// require reference types.
+pub(crate) fn is_table(
     features: WasmFeatures,
     types: &[SubType],
-    tables: &[TableType],
+    table: TableType,
     index: usize,
 ) -> bool
-    requires { index < length tables.now }
-    ensures { IsTrue result ↔ IsRightAt tables.now index
-        (λ table. IsTableValid (features_in features) types.now table
+    ensures { IsTrue result ↔ (IsTableValid (features_in features) types.now table
         × (0 < index → IsTrue (features_in features).reference_types)) }
 {
-    are_tables_valid(features, types, &[tables[index]])
+    is_table_valid(features, types, table)
         && (index == 0 || features.contains(WasmFeatures::REFERENCE_TYPES))
 }
 
-/// Returns whether the memory at an index is valid (Validation, Memory Types).
-pub(crate) fn is_memory_right(
-    features: WasmFeatures,
-    memories: &[MemoryType],
-    index: usize,
-) -> bool
-    requires { index < length memories.now }
-    ensures { IsTrue result ↔ IsRightAt memories.now index
-        (λ memory. IsMemoryValid (features_in features) memory
+fn is_memory_valid(features: WasmFeatures, memory: MemoryType) -> bool
+    ensures { IsTrue result ↔ IsMemoryValid (features_in features) memory }
+{
+    are_memories_valid(features, &[memory])
+}
+
+/// Returns whether the memory with this index is valid (Validation, Memory Types). All but the first
+/// require several memories.
+pub(crate) fn is_memory(features: WasmFeatures, memory: MemoryType, index: usize) -> bool
+    ensures { IsTrue result ↔ (IsMemoryValid (features_in features) memory
         × (0 < index → IsTrue (features_in features).multi_memory)) }
 {
-    are_memories_valid(features, &[memories[index]])
+    is_memory_valid(features, memory)
         && (index == 0 || features.contains(WasmFeatures::MULTI_MEMORY))
 }
 
-/// Returns whether the global at an index is valid (Validation, Global Types).
-pub(crate) fn is_global_right(
-    features: WasmFeatures,
-    types: &[SubType],
-    globals: &[GlobalType],
-    index: usize,
-) -> bool
-    requires { index < length globals.now }
-    ensures { IsTrue result
-        ↔ IsRightAt globals.now index (IsGlobalValid (features_in features) types.now) }
+/// Returns whether a global is valid (Validation, Global Types).
+pub(crate) fn is_global(features: WasmFeatures, types: &[SubType], global: GlobalType) -> bool
+    ensures { IsTrue result ↔ IsGlobalValid (features_in features) types.now global }
 {
-    are_globals_valid(features, types, &[globals[index]])
+    are_globals_valid(features, types, &[global])
 }

@@ -12,9 +12,7 @@ ghost use Rattle.smith_check_module.specs.Judges.{
 ghost use Rattle.smith_check_module.specs.SectionFaults.{IsFirstWrong};
 ghost use Rattle.smith_check_module.specs.declared.faults.Part.TheVariants as part;
 
-use crate::entities::{
-    is_func_right, is_global_right, is_memory_right, is_table_right, is_tag_right,
-};
+use crate::entities::{is_func, is_global, is_memory, is_table, is_tag};
 use crate::exports::is_entity_at;
 use crate::faults::Part;
 use crate::initials::{is_global_initialised, is_table_initialised};
@@ -161,11 +159,11 @@ impl<'a> Judge<'a> {
         let features = self.scope.features;
         let types = self.scope.types.types();
         match part {
-            Part::Tags => Ok(is_tag_right(features, types, &self.spaces.tags, index)),
-            Part::Functions => Ok(is_func_right(types, &self.spaces.funcs, index)),
-            Part::Tables => Ok(is_table_right(features, types, &self.spaces.tables, index)),
-            Part::Memories => Ok(is_memory_right(features, &self.spaces.memories, index)),
-            Part::Globals => Ok(is_global_right(features, types, &self.spaces.globals, index)),
+            Part::Tags => Ok(is_tag(features, types, self.spaces.tags.as_slice()[index])),
+            Part::Functions => Ok(is_func(types, self.spaces.funcs.as_slice()[index])),
+            Part::Tables => Ok(is_table(features, types, self.spaces.tables.as_slice()[index], index)),
+            Part::Memories => Ok(is_memory(features, self.spaces.memories.as_slice()[index], index)),
+            Part::Globals => Ok(is_global(features, types, self.spaces.globals.as_slice()[index])),
             Part::TableInitials => self.is_table_initial_right(alloc, index),
             Part::GlobalInitials => self.is_global_initial_right(alloc, index),
             Part::Exports => Ok(self.is_export_right(index)),

@@ -19,6 +19,7 @@ use crate::expression::{is_below, is_constant};
 use crate::scope::Scope;
 use crate::signature::function_reference;
 use smith_bytes::Error;
+use smith_check_operands::lookups::type_index_at;
 use smith_check_types::canonical_ref_type;
 use smith_decode::{DataMode, ElementItems, ElementMode, ElementSegment};
 use smith_instr::{Instr, ReferenceInstr};
@@ -69,10 +70,10 @@ fn is_item(scope: &Scope<'_>, ty: RefType, function: u32) -> bool
     requires { IsScope (context_of scope.now) }
     ensures { IsTrue result ↔ IsItem (context_of scope.now) ty function }
 {
-    match scope.funcs.get(function as usize) {
+    match type_index_at(scope.funcs, function) {
         Some(index) => is_below(
             scope,
-            function_reference(scope, function, *index),
+            function_reference(scope, function, index),
             ValType::Ref(ty),
         ),
         None => false,

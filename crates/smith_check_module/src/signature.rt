@@ -8,6 +8,7 @@ ghost use Rattle.smith_check_module.specs.Typings.{HasNoType, IsOnly, fixed_sign
 
 use crate::scope::Scope;
 use smith_bytes::Error;
+use smith_check_operands::lookups::{global_at, type_index_at};
 use smith_types::{
     AbstractHeapType, ConstInstr, HeapType, Items, RefType, ValType, WasmFeatures,
 };
@@ -110,18 +111,21 @@ pub(crate) fn global_signature(alloc: Global, scope: &Scope<'_>, index: u32) -> 
         (HasNoType (context_of scope.now) (constant.GlobalGet index))
         (λ s. IsOnly (context_of scope.now) (constant.GlobalGet index) s.operands s.result) }
 {
-    let index = index as usize;
-    if index >= scope.visible || index >= scope.globals.len() {
+    if index as usize >= scope.visible {
         return None;
     }
-    let global = scope.globals[index];
-    if global.mutable {
-        return None;
+    match global_at(scope.globals, index) {
+        Some(global) => {
+            if global.mutable {
+                return None;
+            }
+            Some(Signature {
+                operands: Items::new(alloc),
+                result: global.val_type,
+            })
+        }
+        None => None,
     }
-    Some(Signature {
-        operands: Items::new(alloc),
-        result: global.val_type,
-    })
 }
 
 /// Returns the signature of `ref.null`.
@@ -150,10 +154,10 @@ pub(crate) fn function_signature(alloc: Global, scope: &Scope<'_>, function: u32
         (HasNoType (context_of scope.now) (constant.RefFunc function))
         (λ s. IsOnly (context_of scope.now) (constant.RefFunc function) s.operands s.result) }
 {
-    match scope.funcs.get(function as usize) {
+    match type_index_at(scope.funcs, function) {
         Some(index) => Some(Signature {
             operands: Items::new(alloc),
-            result: function_reference(scope, function, *index),
+            result: function_reference(scope, function, index),
         }),
         None => None,
     }

@@ -1,6 +1,5 @@
-ghost use Rattle.std.specs.Prelude.{◌≡◌, ◌↔◌, None, All, IsTrue, IfOk, IfErr, MatchBool, MatchOption};
-ghost use Rattle.std.specs.List.{AllZip};
-ghost use Rattle.smith_types.specs.Subtyping.{IsValBelow, IsValInRange};
+ghost use Rattle.std.specs.Prelude.{◌≡◌, None, All, IfOk, IfErr, MatchBool, MatchOption};
+ghost use Rattle.smith_types.specs.Subtyping.{IsValInRange};
 ghost use Rattle.smith_check_module.specs.ConstScopes.{IsScope, context_of};
 ghost use Rattle.smith_check_module.specs.Typings.{HasNoStep, IsBest, IsBestStep, TakesNothing};
 ghost use Rattle.smith_check_module.specs.Typings.{IsApart, IsApplied, fixed_signature};
@@ -15,7 +14,8 @@ use crate::signature::{
     Signature, fixed_signature, function_signature, global_signature, null_signature,
 };
 use smith_bytes::Error;
-use smith_types::{AbstractHeapType, ConstInstr, TypeSpace, ValType};
+use smith_check_operands::below::values_fit;
+use smith_types::{AbstractHeapType, ConstInstr, ValType};
 use std::alloc::Global;
 
 // Returns the signature of an instruction that depends on the context or the stack `before`, by which
@@ -87,24 +87,6 @@ fn signature_of(
     }
 }
 
-// Returns whether there are as many values as are wanted, and each is of the type at its place in
-// `wanted`, or of a subtype.
-fn are_below(types: &TypeSpace, values: &[ValType], wanted: &[ValType]) -> bool
-    requires lower { All (IsValInRange types.now.types) values.now }
-    requires upper { All (IsValInRange types.now.types) wanted.now }
-    ensures { IsTrue result ↔ AllZip (IsValBelow types.now.types) values.now wanted.now }
-{
-    if values.len() != wanted.len() {
-        return false;
-    }
-    for i in 0..values.len() {
-        if !types.val_type_is_sub_type(values[i], wanted[i]) {
-            return false;
-        }
-    }
-    true
-}
-
 // Takes the operands of `signature` from the stack and puts its result on it, and returns whether the
 // operands are there.
 fn apply(scope: &Scope<'_>, stack: &mut Vec<ValType>, signature: &Signature) -> Result<bool, Error>
@@ -121,7 +103,7 @@ fn apply(scope: &Scope<'_>, stack: &mut Vec<ValType>, signature: &Signature) -> 
         return Ok(false);
     }
     let base = height - wanted;
-    if !are_below(scope.types, &stack[base..], signature.operands.as_slice()) {
+    if !values_fit(scope.types, &stack[base..], signature.operands.as_slice()) {
         return Ok(false);
     }
     stack.truncate(base);
