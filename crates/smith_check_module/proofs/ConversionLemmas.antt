@@ -1,5 +1,5 @@
 -- Conversions between internal and external references.
-use Rattle.std.proofs.Common.{◌≡◌, ℕ, ◌+◌, Bool, true, false, List, [], ◌∷◌, ◌++◌, Some, length, refl, sym, ap, subst, ◌∙◌, arith}
+use Rattle.std.proofs.Common.{◌≡◌, ℕ, ◌+◌, ◌-◌, ◌<◌, get_or, take, Bool, true, false, List, [], ◌∷◌, ◌++◌, Some, length, refl, sym, ap, subst, ◌∙◌, arith}
 use Rattle.std.specs.Prelude.{All, slice_get}
 use Rattle.std.specs.List.{AllZip}
 use Rattle.std.proofs.lemmas.List.{length-append}
@@ -18,7 +18,7 @@ use Rattle.smith_types.specs.Subtyping.{IsBelow, IsRefBelow, IsValBelow, IsValIn
 use Rattle.smith_types.specs.Types.{IsOrderly}
 use Rattle.smith_types.proofs.WalkLemmas.{by_cases_from_below}
 use Rattle.smith_check_module.specs.ConstScopes.{IsScope}
-use Rattle.smith_check_module.proofs.StackLemmas.{right_part}
+use Rattle.smith_check_module.proofs.StackLemmas.{ends_in, right_part}
 use Rattle.smith_check_module.specs.Typings.{Converts, IsBestConversion, TakesNoConversion, converted}
 
 -- a heap type is below abstract types of one sharedness
@@ -53,11 +53,10 @@ module _ (context : Context) (from into : AbstractHeapType) (before : List ValTy
       (taken_is front rest taken others top other is at accepted converts)
       (subst (λ (vs : List ValType). AllZip (IsValBelow context.types) taken vs) converts.taken accepted) in both.0
 
-  pub best_conversion : (front : List ValType) (reference : RefType) (s : Bool) → IsScope context
-      → IsValInRange context.types (Ref reference) → before ≡ front ++ Ref reference ∷ []
+  best_conversion : (front : List ValType) (reference : RefType) (s : Bool) → IsScope context → before ≡ front ++ Ref reference ∷ []
       → IsBelow context.types reference.heap_type (Abstract s from)
       → IsBestConversion context from into before (converted reference.nullable s from ∷ []) (converted reference.nullable s into)
-  best_conversion front reference s scope stands is below = record {
+  best_conversion front reference s scope is below = record {
     typed = record { shared = s; nullable = reference.nullable; taken = refl; given = refl };
     least = λ rest taken others other at accepted converts.
         let fit : IsRefBelow context.types reference
@@ -79,7 +78,7 @@ module _ (context : Context) (from into : AbstractHeapType) (before : List ValTy
     result_stands = tt;
   }
 
-  pub no_conversion : (front : List ValType) (reference : RefType) → before ≡ front ++ Ref reference ∷ []
+  no_conversion : (front : List ValType) (reference : RefType) → before ≡ front ++ Ref reference ∷ []
       → ((s : Bool) → IsBelow context.types reference.heap_type (Abstract s from) → ⊥)
       → TakesNoConversion context from into before
   no_conversion front reference is apart = λ rest taken others other at accepted converts.
@@ -96,7 +95,7 @@ module _ (context : Context) (from into : AbstractHeapType) (before : List ValTy
   no_number F64 reference none below = below
   no_number V128 reference none below = below
 
-  pub no_reference : (front : List ValType) (top : ValType) → before ≡ front ++ top ∷ [] → ((r : RefType) → top ≡ Ref r → ⊥)
+  no_reference : (front : List ValType) (top : ValType) → before ≡ front ++ top ∷ [] → ((r : RefType) → top ≡ Ref r → ⊥)
       → TakesNoConversion context from into before
   no_reference front top is none = λ rest taken others other at accepted converts.
       no_number top (record { nullable = converts.nullable; heap_type = Abstract converts.shared from }) none
@@ -108,3 +107,27 @@ module _ (context : Context) (from into : AbstractHeapType) (before : List ValTy
       let one : length others ≡ 1 = ap (λ (vs : List ValType). length vs) converts.taken in
       let whole : length before ≡ length (rest ++ taken) = ap (λ (vs : List ValType). length vs) at in
       absurd (omega (arith, length-append rest taken))
+
+  pub best_last : (d : ValType) (reference : RefType) (s : Bool) → IsScope context → 0 < length before
+      → get_or before (length before - 1) d ≡ Ref reference → IsBelow context.types reference.heap_type (Abstract s from)
+      → IsBestConversion context from into before (converted reference.nullable s from ∷ []) (converted reference.nullable s into)
+  best_last d reference s scope some is below =
+      best_conversion (take (length before - 1) before) reference s scope (ends_in before (Ref reference) d some is) below
+
+  pub same_conversion : (operands o : List ValType) (result r : ValType) → o ≡ operands → r ≡ result
+      → IsBestConversion context from into before operands result → IsBestConversion context from into before o r
+  same_conversion operands o result r same is best =
+      subst (λ (vs : List ValType). IsBestConversion context from into before vs r) (sym same)
+      (subst (λ (v : ValType). IsBestConversion context from into before operands v) (sym is) best)
+
+  pub apart_last : (d : ValType) (reference : RefType) → 0 < length before → get_or before (length before - 1) d ≡ Ref reference
+      → ((s : Bool) → IsBelow context.types reference.heap_type (Abstract s from) → ⊥)
+      → TakesNoConversion context from into before
+  apart_last d reference some is apart =
+      no_conversion (take (length before - 1) before) reference (ends_in before (Ref reference) d some is) apart
+
+  pub number_last : (d : ValType) → 0 < length before → ((r : RefType) → get_or before (length before - 1) d ≡ Ref r → ⊥)
+      → TakesNoConversion context from into before
+  number_last d some none =
+      no_reference (take (length before - 1) before) (get_or before (length before - 1) d)
+      (ends_in before (get_or before (length before - 1) d) d some refl) none

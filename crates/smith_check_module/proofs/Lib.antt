@@ -12,3 +12,4 @@ pub mod ItemLemmas
 pub mod RepeatedLemmas
 pub mod JudgeLemmas
 pub mod SpaceLemmas
+pub mod CheckLemmas

@@ -1,6 +1,8 @@
 -- Stacks in two parts.
-use Rattle.std.proofs.Common.{◌≡◌, ℕ, ◌+◌, ◌-◌, ◌<◌, List, [], ◌∷◌, ◌++◌, length, get_or, take, drop, refl, sym, ap, ◌∙◌, subst, arith, suc}
-use Rattle.std.specs.Prelude.{All}
+use Rattle.std.proofs.Common.{◌≡◌, ℕ, Bool, true, false, ◌+◌, ◌-◌, ◌<◌, List, [], ◌∷◌, ◌++◌, length, get_or, take, drop, refl, sym, ap, ◌∙◌, subst, arith, suc}
+use Rattle.std.specs.Prelude.{◌==◌}
+use Rattle.std.proofs.lemmas.Bool.{false≢true}
+use Rattle.std.proofs.lemmas.Bool.Decides.{Decides-eqb}
 use Rattle.std.specs.List.{AllZip}
 use Rattle.std.proofs.lemmas.List.{length-append, take_all}
 use Rattle.std.proofs.lemmas.List.Elements.{AllZip-push, length_all_zip}
@@ -21,14 +23,22 @@ right_part a c b d e n =
     sym (drop-append_seam a b) ∙ ap (λ xs. drop (length a) xs) e ∙ ap (λ k. drop k (c ++ d)) (same_length a c b d e n)
     ∙ drop-append_seam c d
 
+-- whether a length is tested to be zero
+pub is_none : (n : ℕ) (b : Bool) → b ≡ (n == 0) → b ≡ true → n ≡ 0
+is_none n b tested yes = (Decides-eqb n 0).0 (sym tested ∙ yes)
+
+pub is_some : (n : ℕ) (b : Bool) → b ≡ (n == 0) → b ≡ false → 0 < n
+is_some n b tested no =
+    let other : n ≡ 0 → ⊥ = λ none. false≢true (sym no ∙ tested ∙ (Decides-eqb n 0).1 none) in omega arith
+
 -- a list that is not empty ends in its last item
-pub ends_in : {A : Type 0} (xs : List A) (x : A) → 0 < length xs → x ≡ get_or xs (length xs - 1) x
+pub ends_in : {A : Type 0} (xs : List A) (x d : A) → 0 < length xs → get_or xs (length xs - 1) d ≡ x
     → xs ≡ take (length xs - 1) xs ++ x ∷ []
-ends_in xs x some read =
+ends_in xs x d some read =
     let n = length xs - 1 in
     let count : length xs ≡ suc n = omega (arith, some) in
-    sym (take_all (length xs) xs (omega arith)) ∙ ap (λ k. take k xs) count ∙ take-suc xs n x (omega (arith, some))
-    ∙ ap (λ y. take n xs ++ y ∷ []) (sym read)
+    sym (take_all (length xs) xs (omega arith)) ∙ ap (λ k. take k xs) count ∙ take-suc xs n d (omega (arith, some))
+    ∙ ap (λ y. take n xs ++ y ∷ []) read
 
 -- values that others match, split as the others are
 pub zip_parts : {A : Type 0} (R : A → A → Type 0) (xs base top : List A) → AllZip R xs (base ++ top)

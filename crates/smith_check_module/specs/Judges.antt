@@ -1,5 +1,5 @@
 -- What the items of a module are judged by.
-use Rattle.std.specs.Prelude.{◌≡◌, ℕ, ◌<◌, List, Some, length, slice_get}
+use Rattle.std.specs.Prelude.{◌≡◌, ℕ, ◌+◌, ◌<◌, List, Some, length, slice_get}
 use Rattle.smith_syntax.specs.FeatureBits.{features_in}
 use Rattle.smith_syntax.specs.declared.entity_type.ExportKind.{ExportKind}
 use Rattle.smith_types.specs.EntitySpaces.{spaces_in}
@@ -68,6 +68,7 @@ pub record IsJudge (judge : Judge) : Type 0 where
   pub funcs : judge.scope.funcs.now ≡ judge.spaces.now.funcs
   pub globals : judge.scope.globals.now ≡ judge.spaces.now.globals
   pub imported_globals : judge.scope.imported_globals ≡ length (imported_spaces (syntax_of judge.module.now).imports).globals
+  pub counted : length judge.scope.globals.now ≡ judge.scope.imported_globals + length judge.module.now.globals
   pub repeated : IsFirstRepeated (syntax_of judge.module.now).exports judge.repeated
 
 -- the types of tables and globals that are defined

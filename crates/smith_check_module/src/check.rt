@@ -37,11 +37,11 @@ const PARTS: [Part; 11] = [
 /// and sharedness are rules of this project.
 ///
 /// The time is linear in the size of the module.
-pub fn check_sections(
+pub fn check_sections<'a>(
     alloc: Global,
     features: WasmFeatures,
-    module: &Module,
-    types: &CheckedTypes,
+    module: &'a Module,
+    types: &'a CheckedTypes,
 ) -> Result<Option<SectionFault>, Error>
     requires checked { AreChecked (features_in features) module.now.types types.now }
     ensures decided { IfOk result (λ found. MatchOption found

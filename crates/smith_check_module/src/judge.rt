@@ -107,7 +107,7 @@ impl<'a> Judge<'a> {
             ↔ IsRight self.now part.GlobalInitials index) }
         ensures memory { IfErr result (λ e. e ≡ Error.Memory) }
     {
-        let end = self.scope.imported_globals + index;
+        let end = self.scope.globals.len() - self.module.globals.len() + index;
         let scope = self.seeing(self.visible_to(end));
         is_global_initialised(alloc, &scope, &self.module.globals.as_slice()[index])
     }

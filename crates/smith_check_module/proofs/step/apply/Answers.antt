@@ -15,11 +15,11 @@ pub returns-then-not-values_fit-clause-ok : goal.returns-then-not-values_fit-cla
 returns-then-not-values_fit-clause-ok c =
     apart (context_of c.args.scope.now) c.args.signature.now c.args.stack.now.items c.deref.result.now
     (c.len-height.result - c.len-wanted.result) c.deref.ensures.value (omega arith)
-    (λ fit. false≢true (sym c.if-not-values_fit.true ∙ c.values_fit.ensures.1 fit))
+    (λ fit. false≢true (sym c.if-not-values_fit.true ∙ c.values_fit.ensures.1 (rw c.as_slice.ensures fit)))
 
 pub returns-clause-ok : goal.returns-clause-ok
 returns-clause-ok c =
     applied (context_of c.args.scope.now) c.args.signature.now c.args.stack.now.items c.deref.result.now c.push.new.self.items
     (c.len-height.result - c.len-wanted.result) c.deref.ensures.value
-    (c.values_fit.ensures.0 c.if-not-values_fit.false)
+    (rw c.as_slice.ensures at (c.values_fit.ensures.0 c.if-not-values_fit.false))
     (c.in_ok-push.ensures.items ∙ ap (λ vs. vs ++ c.args.signature.now.result ∷ []) c.truncate.ensures.items)

@@ -1,3 +1,4 @@
+use Rattle.std.proofs.Common.{length, refl}
 use Rattle.smith_syntax.specs.declared.const_instr.ConstInstr.TheVariants as constant
 use Rattle.smith_check_module.specs.ConstScopes.{context_of}
 use Rattle.smith_check_module.proofs.StepLemmas.{answered, answered_more, answered_result, converts_any, converts_extern, nothing_else}
@@ -35,14 +36,14 @@ returns-in-ArrayNewDefault-clause-ok c =
 
 pub returns-in-StructNew-clause-ok : goal.returns-in-StructNew-clause-ok
 returns-in-StructNew-clause-ok c =
-    answered_more (context_of c.args.scope.now) c.args.instruction (constant.StructNew c.in-StructNew.index) c.args.before.now c.len-most.result
-    c.struct_signature.result c.in-StructNew.is c.len-most.ensures c.struct_signature.ensures.ok
+    answered_more (context_of c.args.scope.now) c.args.instruction (constant.StructNew c.in-StructNew.index) c.args.before.now
+    (length c.args.before.now) c.struct_signature.result c.in-StructNew.is refl c.struct_signature.ensures.ok
 
 pub returns-in-ArrayNewFixed-clause-ok : goal.returns-in-ArrayNewFixed-clause-ok
 returns-in-ArrayNewFixed-clause-ok c =
     answered_more (context_of c.args.scope.now) c.args.instruction
-    (constant.ArrayNewFixed c.in-ArrayNewFixed.array_type_index c.in-ArrayNewFixed.array_size) c.args.before.now c.len-most.result
-    c.fixed_array_signature.result c.in-ArrayNewFixed.is c.len-most.ensures c.fixed_array_signature.ensures.ok
+    (constant.ArrayNewFixed c.in-ArrayNewFixed.array_type_index c.in-ArrayNewFixed.array_size) c.args.before.now
+    (length c.args.before.now) c.fixed_array_signature.result c.in-ArrayNewFixed.is refl c.fixed_array_signature.ensures.ok
 
 pub returns-in-AnyConvertExtern-clause-ok : goal.returns-in-AnyConvertExtern-clause-ok
 returns-in-AnyConvertExtern-clause-ok c =
