@@ -60,7 +60,7 @@ module _ (context : Context) (from into : AbstractHeapType) (before : List ValTy
     typed = record { shared = s; nullable = reference.nullable; taken = refl; given = refl };
     least = λ rest taken others other at accepted converts.
         let fit : IsRefBelow context.types reference
-            (record { nullable = converts.nullable; heap_type = Abstract converts.shared from }) =
+        (record { nullable = converts.nullable; heap_type = Abstract converts.shared from }) =
         fits front rest taken others (Ref reference) other is at accepted converts in
         let same : s ≡ converts.shared =
         one_sharedness context.types scope.orderly reference.heap_type s converts.shared from below fit.heap in (
@@ -83,7 +83,7 @@ module _ (context : Context) (from into : AbstractHeapType) (before : List ValTy
       → TakesNoConversion context from into before
   no_conversion front reference is apart = λ rest taken others other at accepted converts.
       let fit : IsRefBelow context.types reference
-          (record { nullable = converts.nullable; heap_type = Abstract converts.shared from }) =
+      (record { nullable = converts.nullable; heap_type = Abstract converts.shared from }) =
       fits front rest taken others (Ref reference) other is at accepted converts in
       apart converts.shared fit.heap
 

@@ -50,7 +50,7 @@ standing features space funcs globals spaces valid same equal entities = record 
 -- a decision on an item that is seen in the abstract syntax
 pub mapped_decided : {A B : Type 0} (P : B → Type 0) (f : A → B) (xs : List A) (i : ℕ) (x : A) → i < length xs → x ≡ get_or xs i x
     → (found : Result Bool Error) → IfOk found (λ yes. IsTrue yes ↔ P (f x)) → IfOk found (λ yes. IsTrue yes ↔ IsRightAt (map f xs) i P)
-mapped_decided P f xs i x inside read (Ok yes) decides = right_at P (map f xs) i (f x) yes (mapped_at f xs i x inside read) decides
+mapped_decided P f xs i x inside read (Ok b) decides = right_at P (map f xs) i (f x) b (mapped_at f xs i x inside read) decides
 mapped_decided P f xs i x inside read (Err e) decides = tt
 
 past : {A : Type 0} (P : A → Type 0) (xs : List A) (index : ℕ) → length xs ≤ index → IsRightAt xs index P

@@ -50,8 +50,13 @@ module _ (exports : List (List ℕ × ExportKind × ℕ)) where
       | inl before ↦ new k two before there
       | inr here ↦ λ earlier other before place named.
           let which : one ≡ two = same_Some one two (sym at ∙ ap (slice_get exports) (sym here) ∙ there) in
-          let used : IsTrue old = known.1 (earlier, other, omega arith, place,
-              named ∙ sym (ap (λ (e : List ℕ × ExportKind × ℕ). e.0) which)) in
+          let used : IsTrue old = known.1 (
+            earlier,
+            other,
+            omega arith,
+            place,
+            named ∙ sym (ap (λ (e : List ℕ × ExportKind × ℕ). e.0) which),
+          ) in
           absurd cc
     ]
 

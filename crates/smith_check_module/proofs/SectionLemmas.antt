@@ -1,6 +1,6 @@
 -- A module whose items are right is valid.
 use Rattle.std.proofs.Common.{◌≡◌, ◌↔◌, ℕ, zero, suc, ◌+◌, ◌<◌, ◌⊎◌, List, [], ◌∷◌, ◌++◌, Option, Some, None, length, get_or, map, refl, sym, ap}
-use Rattle.std.proofs.Common.{◌∙◌, subst, arith, add-zero, inl, inr}
+use Rattle.std.proofs.Common.{◌∙◌, subst, arith, inl, inr}
 use Rattle.std.specs.Prelude.{All, IfOk, IfSome, IsTrue, MatchOption, Result, Ok, Err, slice_get}
 use Rattle.std.specs.Option.{option_map}
 use Rattle.std.proofs.lemmas.Option.{same_Some, slice_get-get_or, slice_get-map, slice_get_within}
@@ -79,7 +79,7 @@ module _ (context : Context) (indices : List ℕ) (spaces : EntitySpaces) (m : S
   unfolding IsGlobalAt
   globals_right [] first right = tt
   globals_right (global ∷ globals) first right = (
-    subst (λ (n : ℕ). IsGlobalAt n global) add-zero (right 0 global refl),
+    (let same : first + 0 ≡ first = omega arith in subst (λ (n : ℕ). IsGlobalAt n global) same (right 0 global refl)),
     globals_right globals (first + 1)
         (λ index item at. let same : first + suc index ≡ first + 1 + index = omega arith in
         subst (λ (n : ℕ). IsGlobalAt n item) same (right (suc index) item at)),
@@ -120,7 +120,7 @@ module _ (context : Context) (indices : List ℕ) (spaces : EntitySpaces) (m : S
         valid.stand at;
     unused = λ earlier other before there same.
         let named : (k : ℕ) (e : List ℕ × ExportKind × ℕ) → slice_get m.exports k ≡ Some e
-            → slice_get (map (λ (one : List ℕ × ExportKind × ℕ). one.0) m.exports) k ≡ Some e.0 =
+        → slice_get (map (λ (one : List ℕ × ExportKind × ℕ). one.0) m.exports) k ≡ Some e.0 =
         λ k e is. slice_get-map (λ (one : List ℕ × ExportKind × ℕ). one.0) m.exports k
         ∙ ap (option_map (λ (one : List ℕ × ExportKind × ℕ). one.0)) is in
         let once : earlier ≡ index = valid.distinct.once earlier index one.0

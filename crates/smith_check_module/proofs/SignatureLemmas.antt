@@ -17,19 +17,32 @@ use Rattle.smith_syntax.specs.declared.entity_type.GlobalType.{GlobalType}
 use Rattle.smith_syntax.specs.declared.value_type.HeapType.{HeapType}
 use Rattle.smith_syntax.specs.declared.value_type.HeapType.TheVariants.{Abstract, Concrete, Exact}
 use Rattle.smith_syntax.specs.declared.value_type.ValType.{ValType}
-use Rattle.smith_syntax.specs.declared.value_type.ValType.TheVariants.{I32, I64, Ref}
+use Rattle.smith_syntax.specs.declared.value_type.ValType.TheVariants.{I32, I64, F32, F64, V128, Ref}
 use Rattle.smith_types.specs.Expressions.{Context, HasType, IsArrayAt, IsStructAt, IsDefaultable, created, field_values}
 use Rattle.smith_types.specs.Expressions.{function_reference, unpacked}
 use Rattle.smith_types.specs.Grounded.{are_defaultable, is_defaultable}
 use Rattle.smith_types.specs.Subtyping.{IsInRange, IsValBelow, IsValInRange}
 use Rattle.smith_types.specs.ValidTypes.{IsHeapTypeValid, values_of, values_of_storage}
+use Rattle.smith_types.specs.Types.{IsOrderly}
 use Rattle.smith_types.proofs.GrowthLemmas.{IsValBelow-refl}
+use Rattle.smith_types.proofs.RangeLemmas.{above_stands}
 use Rattle.smith_check_module.specs.ConstScopes.{IsScope}
 use Rattle.smith_check_module.specs.Typings.{HasMore, HasNoType, IsBest, IsOnly, TakesNothing, fixed_signature}
 use Rattle.smith_check_module.specs.declared.signature.Signature.{Signature}
 
 pub all_at : {A : Type 0} (P : A → Type 0) (xs : List A) (i : ℕ) (x : A) → All P xs → slice_get xs i ≡ Some x → P x
 all_at P xs i x all at = subst P (get_or_from_slice_get xs i x x at) (all i x (slice_get_within xs i x at))
+
+-- a supertype of a value type that stands does so
+pub above_value : (types : List SubType) → IsOrderly types → (a b : ValType) → IsValBelow types a b → IsValInRange types a
+    → IsValInRange types b
+above_value types orderly (Ref a) (Ref b) below stands = above_stands types orderly a.heap_type b.heap_type below.heap stands
+above_value types orderly I32 (Ref b) below stands = absurd below
+above_value types orderly I64 (Ref b) below stands = absurd below
+above_value types orderly F32 (Ref b) below stands = absurd below
+above_value types orderly F64 (Ref b) below stands = absurd below
+above_value types orderly V128 (Ref b) below stands = absurd below
+above_value types orderly _ _ below stands = tt
 
 module _ (context : Context) where
   no_range : All (IsValInRange context.types) []

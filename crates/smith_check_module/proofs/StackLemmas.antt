@@ -25,11 +25,11 @@ right_part a c b d e n =
 
 -- whether a length is tested to be zero
 pub is_none : (n : ℕ) (b : Bool) → b ≡ (n == 0) → b ≡ true → n ≡ 0
-is_none n b tested yes = (Decides-eqb n 0).0 (sym tested ∙ yes)
+is_none n b tested holds = (Decides-eqb n 0).0 (sym tested ∙ holds)
 
 pub is_some : (n : ℕ) (b : Bool) → b ≡ (n == 0) → b ≡ false → 0 < n
-is_some n b tested no =
-    let other : n ≡ 0 → ⊥ = λ none. false≢true (sym no ∙ tested ∙ (Decides-eqb n 0).1 none) in omega arith
+is_some n b tested fails =
+    let other : n ≡ 0 → ⊥ = λ none. false≢true (sym fails ∙ tested ∙ (Decides-eqb n 0).1 none) in omega arith
 
 -- a list that is not empty ends in its last item
 pub ends_in : {A : Type 0} (xs : List A) (x d : A) → 0 < length xs → get_or xs (length xs - 1) d ≡ x

@@ -132,7 +132,12 @@ impl<'a> Judge<'a> {
         ensures memory { IfErr result (λ e. e ≡ Error.Memory) }
     {
         let scope = self.seeing(self.visible_to(self.scope.globals.len()));
-        is_element_valid(alloc, &scope, self.spaces, &self.module.elements.as_slice()[index])
+        is_element_valid(
+            alloc,
+            &scope,
+            self.spaces,
+            &self.module.elements.as_slice()[index],
+        )
     }
 
     // Returns whether a data segment is right.
@@ -144,7 +149,12 @@ impl<'a> Judge<'a> {
         ensures memory { IfErr result (λ e. e ≡ Error.Memory) }
     {
         let scope = self.seeing(self.visible_to(self.scope.globals.len()));
-        is_data_mode_valid(alloc, &scope, self.spaces, &self.module.datas.as_slice()[index].mode)
+        is_data_mode_valid(
+            alloc,
+            &scope,
+            self.spaces,
+            &self.module.datas.as_slice()[index].mode,
+        )
     }
 
     // Returns whether an item is right, if all before it are.
@@ -161,8 +171,17 @@ impl<'a> Judge<'a> {
         match part {
             Part::Tags => Ok(is_tag(features, types, self.spaces.tags.as_slice()[index])),
             Part::Functions => Ok(is_func(types, self.spaces.funcs.as_slice()[index])),
-            Part::Tables => Ok(is_table(features, types, self.spaces.tables.as_slice()[index], index)),
-            Part::Memories => Ok(is_memory(features, self.spaces.memories.as_slice()[index], index)),
+            Part::Tables => Ok(is_table(
+                features,
+                types,
+                self.spaces.tables.as_slice()[index],
+                index,
+            )),
+            Part::Memories => Ok(is_memory(
+                features,
+                self.spaces.memories.as_slice()[index],
+                index,
+            )),
             Part::Globals => Ok(is_global(features, types, self.spaces.globals.as_slice()[index])),
             Part::TableInitials => self.is_table_initial_right(alloc, index),
             Part::GlobalInitials => self.is_global_initial_right(alloc, index),

@@ -206,12 +206,7 @@ fn is_element_mode_valid(
                     if !is_below(scope, ValType::Ref(ty), ValType::Ref(table.element_type)) {
                         return Ok(false);
                     }
-                    is_constant(
-                        alloc,
-                        scope,
-                        address_type(table.table64),
-                        offset.as_slice(),
-                    )
+                    is_constant(alloc, scope, address_type(table.table64), offset.as_slice())
                 }
                 None => Ok(false),
             }

@@ -9,9 +9,7 @@ ghost use Rattle.smith_check_module.specs.Typings.{HasNoType, IsOnly, fixed_sign
 use crate::scope::Scope;
 use smith_bytes::Error;
 use smith_check_operands::lookups::{global_at, type_index_at};
-use smith_types::{
-    AbstractHeapType, ConstInstr, HeapType, Items, RefType, ValType, WasmFeatures,
-};
+use smith_types::{AbstractHeapType, ConstInstr, HeapType, Items, RefType, ValType, WasmFeatures};
 use smith_validity::is_ref_type_valid;
 use std::alloc::Global;
 
@@ -25,7 +23,10 @@ pub struct Signature {
 }
 
 /// Returns the signature of `instruction`, if it depends on nothing.
-pub(crate) fn fixed_signature(alloc: Global, instruction: ConstInstr) -> Result<Option<Signature>, Error>
+pub(crate) fn fixed_signature(
+    alloc: Global,
+    instruction: ConstInstr,
+) -> Result<Option<Signature>, Error>
     ensures ok { IfOk result (λ found. found ≡ fixed_signature instruction) }
     ensures memory { IfErr result (λ e. e ≡ Error.Memory) }
 {
@@ -47,11 +48,7 @@ pub(crate) fn fixed_signature(alloc: Global, instruction: ConstInstr) -> Result<
     }
 }
 
-fn given(
-    alloc: Global,
-    operands: &[ValType],
-    pushed: ValType,
-) -> Result<Option<Signature>, Error>
+fn given(alloc: Global, operands: &[ValType], pushed: ValType) -> Result<Option<Signature>, Error>
     ensures ok { IfOk result (λ found.
         found ≡ Some (record { operands = operands.now; result = pushed })) }
     ensures memory { IfErr result (λ e. e ≡ Error.Memory) }
@@ -129,7 +126,11 @@ pub(crate) fn global_signature(alloc: Global, scope: &Scope<'_>, index: u32) -> 
 }
 
 /// Returns the signature of `ref.null`.
-pub(crate) fn null_signature(alloc: Global, scope: &Scope<'_>, heap_type: HeapType) -> Option<Signature>
+pub(crate) fn null_signature(
+    alloc: Global,
+    scope: &Scope<'_>,
+    heap_type: HeapType,
+) -> Option<Signature>
     ensures { MatchOption result
         (HasNoType (context_of scope.now) (constant.RefNull heap_type))
         (λ s. IsOnly (context_of scope.now) (constant.RefNull heap_type) s.operands s.result) }
@@ -148,7 +149,11 @@ pub(crate) fn null_signature(alloc: Global, scope: &Scope<'_>, heap_type: HeapTy
 }
 
 /// Returns the signature of `ref.func`.
-pub(crate) fn function_signature(alloc: Global, scope: &Scope<'_>, function: u32) -> Option<Signature>
+pub(crate) fn function_signature(
+    alloc: Global,
+    scope: &Scope<'_>,
+    function: u32,
+) -> Option<Signature>
     requires { IsScope (context_of scope.now) }
     ensures { MatchOption result
         (HasNoType (context_of scope.now) (constant.RefFunc function))

@@ -27,12 +27,35 @@ pub(crate) fn canonical_spaces(
         spaces_in made ≡ spaces_of_module indices.now (syntax_of module.now)) }
     ensures memory { IfErr result (λ e. e ≡ Error.Memory) }
 {
-    let tags = tags_of(alloc, indices, imported.tags.as_slice(), module.tags.as_slice())?;
-    let funcs = funcs_of(alloc, indices, imported.funcs.as_slice(), module.functions.as_slice())?;
-    let tables = tables_of(alloc, indices, imported.tables.as_slice(), module.tables.as_slice())?;
-    let memories = memories_of(alloc, imported.memories.as_slice(), module.memories.as_slice())?;
-    let globals =
-        globals_of(alloc, indices, imported.globals.as_slice(), module.globals.as_slice())?;
+    let tags = tags_of(
+        alloc,
+        indices,
+        imported.tags.as_slice(),
+        module.tags.as_slice(),
+    )?;
+    let funcs = funcs_of(
+        alloc,
+        indices,
+        imported.funcs.as_slice(),
+        module.functions.as_slice(),
+    )?;
+    let tables = tables_of(
+        alloc,
+        indices,
+        imported.tables.as_slice(),
+        module.tables.as_slice(),
+    )?;
+    let memories = memories_of(
+        alloc,
+        imported.memories.as_slice(),
+        module.memories.as_slice(),
+    )?;
+    let globals = globals_of(
+        alloc,
+        indices,
+        imported.globals.as_slice(),
+        module.globals.as_slice(),
+    )?;
     Ok(EntitySpaces {
         tags,
         funcs,

@@ -19,7 +19,7 @@ loop-instruction-init c = record {
 pub loop-instruction-preserved : goal.loop-instruction-preserved
 loop-instruction-preserved c =
     let goes : Goes (context_of c.args.scope.now) c.args.scope.now.indices.now c.instruction-item.result c.loop-instruction.stack.items
-        c.go.new.stack.items =
+    c.go.new.stack.items =
     subst (λ b. MatchBool b (Goes (context_of c.args.scope.now) c.args.scope.now.indices.now c.instruction-item.result
     c.loop-instruction.stack.items c.go.new.stack.items)
     (Stops (context_of c.args.scope.now) c.args.scope.now.indices.now c.instruction-item.result c.loop-instruction.stack.items))
