@@ -1,5 +1,6 @@
 -- Conversions between internal and external references.
-use Rattle.std.proofs.Common.{◌≡◌, ℕ, ◌+◌, ◌-◌, ◌<◌, get_or, take, Bool, true, false, List, [], ◌∷◌, ◌++◌, Some, length, refl, sym, ap, subst, ◌∙◌, arith}
+use Rattle.std.proofs.Common.{◌≡◌, ℕ, ◌+◌, ◌-◌, ◌<◌, get_or, take, Bool, true, false, List, [], ◌∷◌, ◌++◌, Some, length, refl, sym, ap}
+use Rattle.std.proofs.Common.{subst, ◌∙◌, arith}
 use Rattle.std.specs.Prelude.{All, slice_get}
 use Rattle.std.specs.List.{AllZip}
 use Rattle.std.proofs.lemmas.List.{length-append}
@@ -25,7 +26,8 @@ use Rattle.smith_check_module.specs.Typings.{Converts, IsBestConversion, TakesNo
 one_sharedness : (types : List SubType) → IsOrderly types → (a : HeapType) (s r : Bool) (x : AbstractHeapType)
     → IsBelow types a (Abstract s x) → IsBelow types a (Abstract r x) → s ≡ r
 one_sharedness types o (Abstract q y) s r x first second =
-    sym (by_cases_from_below types o (Abstract q y) (Abstract s x) first).0 ∙ (by_cases_from_below types o (Abstract q y) (Abstract r x) second).0
+    sym (by_cases_from_below types o (Abstract q y) (Abstract s x) first).0
+        ∙ (by_cases_from_below types o (Abstract q y) (Abstract r x) second).0
 one_sharedness types o (Concrete i) s r x first second =
     let (t, at, is, below) = by_cases_from_below types o (Concrete i) (Abstract s x) first in
     let (u, there, are, under) = by_cases_from_below types o (Concrete i) (Abstract r x) second in

@@ -1,5 +1,6 @@
 -- A module whose items are right is valid.
-use Rattle.std.proofs.Common.{◌≡◌, ◌↔◌, ℕ, zero, suc, ◌+◌, ◌<◌, ◌⊎◌, List, [], ◌∷◌, ◌++◌, Option, Some, None, length, get_or, map, refl, sym, ap}
+use Rattle.std.proofs.Common.{◌≡◌, ◌↔◌, ℕ, zero, suc, ◌+◌, ◌<◌, ◌⊎◌, List, [], ◌∷◌, ◌++◌, Option, Some, None, length, get_or, map, refl}
+use Rattle.std.proofs.Common.{sym, ap}
 use Rattle.std.proofs.Common.{◌∙◌, subst, arith, inl, inr}
 use Rattle.std.specs.Prelude.{All, IfOk, IfSome, IsTrue, MatchOption, Result, Ok, Err, slice_get}
 use Rattle.std.specs.Option.{option_map}
@@ -91,7 +92,8 @@ module _ (context : Context) (indices : List ℕ) (spaces : EntitySpaces) (m : S
   globals_from [] first valid index item at = absurd cc
   globals_from (global ∷ globals) first valid zero item at =
       let same : first ≡ first + 0 = omega arith in
-      subst (λ (n : ℕ). IsGlobalAt n item) same (subst (λ (g : GlobalType × List Instr). IsGlobalAt first g) (same_Some global item at) valid.0)
+      subst (λ (n : ℕ). IsGlobalAt n item) same (subst (λ (g : GlobalType × List Instr). IsGlobalAt first g) (same_Some global item at)
+          valid.0)
   globals_from (global ∷ globals) first valid (suc index) item at =
       let same : first + 1 + index ≡ first + suc index = omega arith in
       subst (λ (n : ℕ). IsGlobalAt n item) same (globals_from globals (first + 1) valid.1 index item at)

@@ -15,7 +15,8 @@ use Rattle.smith_types.specs.Expressions.{Context, HasType, IsStackStep}
 use Rattle.smith_types.specs.Subtyping.{IsValBelow, IsValInRange}
 use Rattle.smith_types.proofs.GrowthLemmas.{IsValBelow-refl}
 use Rattle.smith_check_operands.specs.Fits.{AreMatched}
-use Rattle.smith_check_module.specs.Typings.{HasMore, HasNoStep, HasNoType, IsApart, IsApplied, IsBest, IsBestConversion, IsBestStep, IsOnly}
+use Rattle.smith_check_module.specs.Typings.{HasMore, HasNoStep, HasNoType, IsApart, IsApplied, IsBest, IsBestConversion, IsBestStep}
+use Rattle.smith_check_module.specs.Typings.{IsOnly}
 use Rattle.smith_check_module.specs.Typings.{TakesNoConversion, TakesNothing, fixed_signature}
 use Rattle.smith_check_module.proofs.SignatureLemmas.{best_from_only, nothing_from_more, nothing_from_none}
 use Rattle.smith_check_module.specs.declared.signature.Signature.{Signature}
@@ -106,7 +107,8 @@ module _ (context : Context) where
       let place : length rest ≡ n = omega (arith, length-append rest taken) in
       let top : drop n whole ≡ taken = ap (λ (vs : List ValType). drop n vs) (same ∙ at) ∙ ap (λ k. drop k (rest ++ taken)) (sym place)
       ∙ drop-append_seam rest taken in
-      none (matched_from (take (length whole - n) (drop n whole)) signature.operands (subst (λ (vs : List ValType). AllZip (IsValBelow context.types) vs signature.operands) (sym (take_rest whole n ∙ top)) fit))
+      none (matched_from (take (length whole - n) (drop n whole)) signature.operands
+          (subst (λ (vs : List ValType). AllZip (IsValBelow context.types) vs signature.operands) (sym (take_rest whole n ∙ top)) fit))
 
   pub short : (signature : Signature) (before : List ValType) → length before < length signature.operands
       → IsApart context signature before

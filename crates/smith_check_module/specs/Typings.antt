@@ -80,7 +80,8 @@ converted nullable shared ty = Ref (record { nullable = nullable; heap_type = Ab
 abbrev pub Converts : AbstractHeapType → AbstractHeapType → List ValType → ValType → Type 0
 Converts from into operands result = IsConversion operands result (λ shared. Abstract shared from) (λ shared. Abstract shared into)
 
-pub record IsBestConversion (context : Context) (from into : AbstractHeapType) (before operands : List ValType) (result : ValType) : Type 0 where
+pub record IsBestConversion (context : Context) (from into : AbstractHeapType) (before operands : List ValType) (result : ValType) : Type 0
+    where
   pub typed : Converts from into operands result
   pub least : (rest taken others : List ValType) (other : ValType) → before ≡ rest ++ taken
       → AllZip (IsValBelow context.types) taken others → Converts from into others other

@@ -5,4 +5,5 @@ use Rattle.smith_check_types.specs.TypeSections.{canonical_index}
 use Rattle.smith_check_module.proofs.spaces.push_global_definitions.Given as goal
 
 abbrev pub invariant-loop-item : goal.invariant-loop-item
-invariant-loop-item l = l.made ≡ l.initial.made ++ map (renamed_global (canonical_index l.indices)) (map global_type (take l.item-index l.list))
+invariant-loop-item l = l.made ≡ l.initial.made ++ map (renamed_global (canonical_index l.indices))
+    (map global_type (take l.item-index l.list))
