@@ -146,7 +146,7 @@ module _ (context : Context) (indices : List ℕ) (ty : RefType) where
   expressions_valid items = (valid_items items context.features.reference_types refl, items_from items)
 
   -- an item where references to functions are no constant expressions
-  pub only_function : (item : List Instr) → context.features.reference_types ≡ false → IsItemValid context indices ty item
+  only_function : (item : List Instr) → context.features.reference_types ≡ false → IsItemValid context indices ty item
       → (function : ℕ) × (item ≡ Reference (Func function) ∷ []) × IsItem context ty function
   only_function item off (inl found) = found
   only_function item off (inr valid) = let on = valid.0 in absurd cc
@@ -154,3 +154,15 @@ module _ (context : Context) (indices : List ℕ) (ty : RefType) where
   pub item_decided : (item : List Instr) → IsTrue context.features.reference_types → IsConstant context indices (Ref ty) item
       ↔ IsItemValid context indices ty item
   item_decided item on = (λ e. inr (on, e), constant_from item on)
+
+  pub function_decided : (item : List Instr) (function : ℕ) → item ≡ Reference (Func function) ∷ []
+      → context.features.reference_types ≡ false → (b : Bool) → IsTrue b ↔ IsItem context ty function
+      → IsTrue b ↔ IsItemValid context indices ty item
+  function_decided item function is off b decides = (
+    λ yes. inl (function, is, decides.0 yes),
+    λ valid.
+        let (other, same, typed) = only_function item off valid in
+        let both : Reference (Func other) ∷ [] ≡ Reference (Func function) ∷ [] = sym same ∙ is in
+        let one : other ≡ function = cc in
+        decides.1 (subst (λ (f : ℕ). IsItem context ty f) one typed),
+  )

@@ -8,6 +8,7 @@ pub mod ConstantLemmas
 pub mod ExpressionLemmas
 pub mod RightLemmas
 pub mod SectionLemmas
+pub mod SegmentLemmas
 pub mod ItemLemmas
 pub mod RepeatedLemmas
 pub mod JudgeLemmas

@@ -1,6 +1,6 @@
 -- Index spaces by canonical indices.
-use Rattle.std.proofs.Common.{◌≡◌, ℕ, List, [], ◌∷◌, ◌++◌, map, length, refl, sym, ap, ◌∙◌}
-use Rattle.std.proofs.lemmas.List.{map-append}
+use Rattle.std.proofs.Common.{◌≡◌, ℕ, ◌+◌, List, [], ◌∷◌, ◌++◌, map, length, refl, sym, ap, ◌∙◌}
+use Rattle.std.proofs.lemmas.List.{length-append, length-map, map-append}
 use Rattle.smith_syntax.specs.Features.{Features}
 use Rattle.smith_syntax.specs.declared.composite_type.SubType.{SubType}
 use Rattle.smith_syntax.specs.declared.entity_type.GlobalType.{GlobalType}
@@ -91,3 +91,13 @@ module _ (indices : List ℕ) (m : Module) (imported made : EntitySpaces)
         imported_globals = count_globals i;
         visible = 0;
       }
+
+pub globals_counted : (indices : List ℕ) (m : Module) (globals : List GlobalType) → globals ≡ (spaces_in indices (syntax_of m)).globals
+    → length globals ≡ length (imported_spaces (syntax_of m).imports).globals + length m.globals
+globals_counted indices m globals same =
+    let renamed : length globals ≡ length ((imported_spaces (syntax_of m).imports).globals
+        ++ map (λ (global : GlobalType × List Instr). global.0) (map global_pair m.globals)) =
+    ap (λ (gs : List GlobalType). length gs) same ∙ length-map _ (renamed_global (canonical_index indices)) in
+    renamed ∙ length-append (imported_spaces (syntax_of m).imports).globals _
+    ∙ ap (λ (n : ℕ). length (imported_spaces (syntax_of m).imports).globals + n)
+    (length-map (map global_pair m.globals) (λ (global : GlobalType × List Instr). global.0) ∙ length-map m.globals global_pair)

@@ -36,7 +36,8 @@ const PARTS: [Part; 11] = [
 /// first item that is wrong (Validation, Modules), in the order of [`Part`]. The conditions on features
 /// and sharedness are rules of this project.
 ///
-/// The time is linear in the size of the module.
+/// The time is linear in the size of the module, except for `struct.new_default`: each use in a constant
+/// expression reads all fields of its type, so n uses of a type with m fields cost n times m.
 pub fn check_sections<'a>(
     alloc: Global,
     features: WasmFeatures,
