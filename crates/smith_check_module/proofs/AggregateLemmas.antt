@@ -73,7 +73,7 @@ module _ (context : Context) where
       → All (IsValInRange context.types) (values_of t.composite_type.inner)
   values_stand index t scope at =
       all_at (λ (t : SubType). All (IsValInRange context.types) (values_of t.composite_type.inner)) context.types index t scope.values_stand
-          at
+      at
 
   struct_stands : (index : ℕ) (fields : List FieldType) → IsScope context → IsStructAt context.types index fields
       → All (IsValInRange context.types) (field_values fields)

@@ -27,7 +27,7 @@ one_sharedness : (types : List SubType) → IsOrderly types → (a : HeapType) (
     → IsBelow types a (Abstract s x) → IsBelow types a (Abstract r x) → s ≡ r
 one_sharedness types o (Abstract q y) s r x first second =
     sym (by_cases_from_below types o (Abstract q y) (Abstract s x) first).0
-        ∙ (by_cases_from_below types o (Abstract q y) (Abstract r x) second).0
+    ∙ (by_cases_from_below types o (Abstract q y) (Abstract r x) second).0
 one_sharedness types o (Concrete i) s r x first second =
     let (t, at, is, below) = by_cases_from_below types o (Concrete i) (Abstract s x) first in
     let (u, there, are, under) = by_cases_from_below types o (Concrete i) (Abstract r x) second in

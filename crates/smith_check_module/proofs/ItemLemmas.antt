@@ -1,5 +1,6 @@
 -- Items of element segments.
-use Rattle.std.proofs.Common.{◌≡◌, ◌↔◌, ℕ, ◌⊎◌, Bool, true, false, List, [], ◌∷◌, ◌++◌, map, refl, sym, ap, ◌∙◌, subst, inl, inr}
+use Rattle.std.proofs.Common.{◌≡◌, ◌↔◌, ℕ, ◌<◌, ◌≤◌, ◌⊎◌, Bool, true, false, List, [], ◌∷◌, ◌++◌, length, get_or, map, refl, sym}
+use Rattle.std.proofs.Common.{ap, arith, ◌∙◌, subst, inl, inr}
 use Rattle.std.specs.Prelude.{All, IsTrue}
 use Rattle.std.proofs.lemmas.List.Elements.{All-nil, All-cons, All-head, All-tail, All-map, All-weaker}
 use Rattle.smith_syntax.specs.declared.const_instr.ConstInstr.{ConstInstr}
@@ -34,6 +35,12 @@ same_functions (f ∷ fs) (g ∷ gs) is =
     let first : f ≡ g = cc in
     let others : func_items fs ≡ func_items gs = cc in
     let rest = same_functions fs gs others in cc
+
+-- an expression of one instruction
+pub only_item : (item : List Instr) (x : Instr) → 1 ≤ length item → length item < 2 → x ≡ get_or item 0 x → item ≡ x ∷ []
+only_item [] x some few read = absurd (omega arith)
+only_item (y ∷ []) x some few read = ap (λ (z : Instr). z ∷ []) (sym read)
+only_item (y ∷ z ∷ ys) x some few read = absurd (omega arith)
 
 module _ (context : Context) (indices : List ℕ) (ty : RefType) where
   pub item_constant : (function : ℕ) → IsTrue context.features.reference_types → IsItem context ty function

@@ -5,7 +5,7 @@ use Rattle.std.proofs.Common.{◌∙◌, subst, arith, inl, inr}
 use Rattle.std.specs.Prelude.{All, IfOk, IsTrue, Result, Ok, Err, slice_get}
 use Rattle.std.proofs.lemmas.List.{length-map}
 use Rattle.std.proofs.lemmas.List.Elements.{All-weaker}
-use Rattle.std.proofs.lemmas.Option.{slice_get_past, slice_get_read, slice_get_within}
+use Rattle.std.proofs.lemmas.Option.{slice_get-get_or, slice_get_past, slice_get_within}
 use Rattle.smith_bytes.specs.declared.error.Error.{Error}
 use Rattle.smith_syntax.specs.Features.{Features}
 use Rattle.smith_syntax.specs.declared.composite_type.SubType.{SubType}
@@ -66,10 +66,11 @@ mapped_decided P f xs i x inside read (Ok b) decides = right_at P (map f xs) i (
 mapped_decided P f xs i x inside read (Err e) decides = tt
 
 -- a decision on an entity
-pub entity_decided : {A : Type 0} (P : A → Type 0) (xs list : List A) (i : ℕ) (x : A) → list ≡ xs → i < length xs → x ≡ get_or list i x
-    → (b : Bool) → IsTrue b ↔ P x → IsTrue b ↔ IsRightAt xs i P
-entity_decided P xs list i x same inside read b decides =
-    right_at P xs i x b (slice_get_read xs (length xs) i x refl inside (read ∙ ap (λ (ys : List _). get_or ys i x) same)) decides
+pub entity_decided : {A : Type 0} (P : A → Type 0) (xs list : List A) (i : ℕ) (d : A) → list ≡ xs → i < length xs → (b : Bool)
+    → IsTrue b ↔ P (get_or list i d) → IsTrue b ↔ IsRightAt xs i P
+entity_decided P xs list i d same inside b decides =
+    right_at P xs i (get_or xs i d) b (slice_get-get_or xs i d inside)
+    (subst (λ (ys : List _). IsTrue b ↔ P (get_or ys i d)) same decides)
 
 past : {A : Type 0} (P : A → Type 0) (xs : List A) (index : ℕ) → length xs ≤ index → IsRightAt xs index P
 past P xs index beyond = λ item at. let none = slice_get_past xs index beyond in absurd cc

@@ -93,7 +93,7 @@ module _ (context : Context) (indices : List ℕ) (spaces : EntitySpaces) (m : S
   globals_from (global ∷ globals) first valid zero item at =
       let same : first ≡ first + 0 = omega arith in
       subst (λ (n : ℕ). IsGlobalAt n item) same (subst (λ (g : GlobalType × List Instr). IsGlobalAt first g) (same_Some global item at)
-          valid.0)
+      valid.0)
   globals_from (global ∷ globals) first valid (suc index) item at =
       let same : first + 1 + index ≡ first + suc index = omega arith in
       subst (λ (n : ℕ). IsGlobalAt n item) same (globals_from globals (first + 1) valid.1 index item at)

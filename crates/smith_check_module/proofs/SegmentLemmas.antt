@@ -30,13 +30,12 @@ module _ (context : Context) (indices : List ℕ) (spaces : EntitySpaces) where
     data_decided list memory same inside read wanted expression typed spelled (Ok b) decides =
         let at : slice_get spaces.memories index ≡ Some memory = subst (λ (ms : List MemoryType). slice_get ms index ≡ Some memory) same
         (slice_get_read list (length list) index memory refl inside read) in (
-          λ yes. subst (λ (m : DataMode). IsDataModeValid context indices spaces (data_mode_view m)) (sym is)
-              (
-                memory,
-                at,
-                subst (λ (e : List Instr). IsConstant context indices (address_type memory.memory64) e) spelled
+          λ yes. subst (λ (m : DataMode). IsDataModeValid context indices spaces (data_mode_view m)) (sym is) (
+            memory,
+            at,
+            subst (λ (e : List Instr). IsConstant context indices (address_type memory.memory64) e) spelled
                 (subst (λ (w : ValType). IsConstant context indices w expression) typed (decides.0 yes)),
-              ),
+          ),
           λ valid.
               let (other, there, constant) = subst (λ (m : DataMode). IsDataModeValid context indices spaces (data_mode_view m)) is valid in
               let one : other ≡ memory = same_Some other memory (sym there ∙ at) in

@@ -96,7 +96,7 @@ pub globals_counted : (indices : List ℕ) (m : Module) (globals : List GlobalTy
     → length globals ≡ length (imported_spaces (syntax_of m).imports).globals + length m.globals
 globals_counted indices m globals same =
     let renamed : length globals ≡ length ((imported_spaces (syntax_of m).imports).globals
-        ++ map (λ (global : GlobalType × List Instr). global.0) (map global_pair m.globals)) =
+    ++ map (λ (global : GlobalType × List Instr). global.0) (map global_pair m.globals)) =
     ap (λ (gs : List GlobalType). length gs) same ∙ length-map _ (renamed_global (canonical_index indices)) in
     renamed ∙ length-append (imported_spaces (syntax_of m).imports).globals _
     ∙ ap (λ (n : ℕ). length (imported_spaces (syntax_of m).imports).globals + n)

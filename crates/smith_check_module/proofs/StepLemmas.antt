@@ -108,7 +108,7 @@ module _ (context : Context) where
       let top : drop n whole ≡ taken = ap (λ (vs : List ValType). drop n vs) (same ∙ at) ∙ ap (λ k. drop k (rest ++ taken)) (sym place)
       ∙ drop-append_seam rest taken in
       none (matched_from (take (length whole - n) (drop n whole)) signature.operands
-          (subst (λ (vs : List ValType). AllZip (IsValBelow context.types) vs signature.operands) (sym (take_rest whole n ∙ top)) fit))
+      (subst (λ (vs : List ValType). AllZip (IsValBelow context.types) vs signature.operands) (sym (take_rest whole n ∙ top)) fit))
 
   pub short : (signature : Signature) (before : List ValType) → length before < length signature.operands
       → IsApart context signature before

@@ -81,13 +81,13 @@ abbrev pub Converts : AbstractHeapType → AbstractHeapType → List ValType →
 Converts from into operands result = IsConversion operands result (λ shared. Abstract shared from) (λ shared. Abstract shared into)
 
 pub record IsBestConversion (context : Context) (from into : AbstractHeapType) (before operands : List ValType) (result : ValType) : Type 0
-    where
-  pub typed : Converts from into operands result
-  pub least : (rest taken others : List ValType) (other : ValType) → before ≡ rest ++ taken
-      → AllZip (IsValBelow context.types) taken others → Converts from into others other
-      → AllZip (IsValBelow context.types) taken operands × IsValBelow context.types result other
-  pub operands_stand : All (IsValInRange context.types) operands
-  pub result_stands : IsValInRange context.types result
+  where
+    pub typed : Converts from into operands result
+    pub least : (rest taken others : List ValType) (other : ValType) → before ≡ rest ++ taken
+        → AllZip (IsValBelow context.types) taken others → Converts from into others other
+        → AllZip (IsValBelow context.types) taken operands × IsValBelow context.types result other
+    pub operands_stand : All (IsValInRange context.types) operands
+    pub result_stands : IsValInRange context.types result
 
 abbrev pub TakesNoConversion : Context → AbstractHeapType → AbstractHeapType → List ValType → Type 0
 TakesNoConversion context from into before = (rest taken operands : List ValType) (result : ValType) → before ≡ rest ++ taken

@@ -1,23 +1,26 @@
-use Rattle.std.proofs.Common.{refl, subst, take_all}
+use Rattle.std.proofs.Common.{get_or, refl, subst, take_all}
 use Rattle.std.specs.List.{All}
 use Rattle.std.proofs.lemmas.List.Elements.{All-more}
 use Rattle.smith_check_module.specs.Judges.{AreRight}
 use Rattle.smith_check_module.specs.SectionFaults.{parts}
+use Rattle.smith_check_module.specs.declared.faults.Part.TheVariants as part
 use Rattle.smith_check_module.proofs.CheckLemmas.{first_by}
 use Rattle.smith_check_module.proofs.JudgeLemmas.{entities_first}
 use Rattle.smith_check_module.proofs.check.first_fault.Goals as goal
 
 pub first_wrong-requires-clause-valid : goal.first_wrong-requires-clause-valid
-first_wrong-requires-clause-valid c = entities_first c.args.judge.now c.loop-part.part-index _ c.loop-part-test.true c.loop-part.invariant
+first_wrong-requires-clause-valid c =
+    entities_first c.args.judge.now c.loop-part.part-index part.Tags c.loop-part-test.true c.loop-part.invariant
 
 pub loop-part-preserved : goal.loop-part-preserved
 loop-part-preserved c =
-    All-more (AreRight c.args.judge.now) parts c.loop-part.part-index _ c.loop-part-test.true c.loop-part.invariant
+    All-more (AreRight c.args.judge.now) parts c.loop-part.part-index part.Tags c.loop-part-test.true c.loop-part.invariant
     (rw c.in-None.is at c.in_ok-found.ensures.ok)
 
 pub returns-in-Some-clause-ok : goal.returns-in-Some-clause-ok
 returns-in-Some-clause-ok c =
-    first_by c.args.judge.now c.loop-part.part-index _ c.in-Some.index _ c.loop-part-test.true refl c.loop-part.invariant
+    first_by c.args.judge.now c.loop-part.part-index (get_or parts c.loop-part.part-index part.Tags) c.in-Some.index part.Tags
+    c.loop-part-test.true refl c.loop-part.invariant
     (rw c.in-Some.is at c.in_ok-found.ensures.ok)
 
 pub returns-clause-ok : goal.returns-clause-ok

@@ -28,7 +28,7 @@ loop-i-preserved c =
     let named : c.as_str-name.result.now ≡ c.index-exports-i.result.name =
     c.as_str-name.ensures ∙ ap (λ (e : Export). e.name) (sym c.index-exports-i.is) in
     let known : IsTrue (contains (λ (a b : Bor (List ℕ)). bytes_eq a.now b.now) c.loop-i.names c.as_str-name.result)
-        ↔ IsNameUsed (map export_triple c.args.exports.now) c.loop-i.i c.index-exports-i.result.name =
+    ↔ IsNameUsed (map export_triple c.args.exports.now) c.loop-i.i c.index-exports-i.result.name =
     subst (λ (n : List ℕ). IsTrue (contains (λ (a b : Bor (List ℕ)). bytes_eq a.now b.now) c.loop-i.names c.as_str-name.result)
     ↔ IsNameUsed (map export_triple c.args.exports.now) c.loop-i.i n) named (c.loop-i.invariant.known c.as_str-name.result) in
     let none : contains (λ (a b : Bor (List ℕ)). bytes_eq a.now b.now) c.loop-i.names c.as_str-name.result ≡ false =

@@ -46,8 +46,8 @@ returns-then-not-done-clause-decided c = (
 pub returns-clause-decided : goal.returns-clause-decided
 returns-clause-decided c =
     let both = finished (context_of c.args.scope.now) c.args.scope.now.indices.now c.args.wanted c.args.expression.now
-    c.loop-instruction.instruction-index c.loop-instruction.stack.items c.loop-instruction-test.false c.loop-instruction.invariant.known in
-        (
+    c.loop-instruction.instruction-index c.loop-instruction.stack.items c.loop-instruction-test.false
+    c.loop-instruction.invariant.known in (
       λ yes. both.0 (subst (λ vs. (value : ValType) × (vs ≡ value ∷ []) × IsValBelow c.args.scope.now.types.now.types value c.args.wanted)
           c.as_slice.ensures.value (c.is_value.ensures.0 yes)),
       λ e. c.is_value.ensures.1 (subst (λ vs. (value : ValType) × (vs ≡ value ∷ []) × IsValBelow c.args.scope.now.types.now.types value

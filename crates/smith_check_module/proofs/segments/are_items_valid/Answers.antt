@@ -17,7 +17,8 @@ returns-in-Functions-clause-decided c =
     let answer = c.are_functions_valid.ensures in
     let same = c.as_slice.ensures in
     let P = λ (fs : List ℕ). All (IsItem (context_of c.args.scope.now) c.args.ty) fs in
-    let Q = λ (items : ElementItems). AreItemsValid (context_of c.args.scope.now) c.args.scope.now.indices.now c.args.ty (items_view items) in (
+    let Q = λ (items : ElementItems). AreItemsValid (context_of c.args.scope.now) c.args.scope.now.indices.now c.args.ty
+    (items_view items) in (
       λ yes. subst Q (sym c.in-Functions.is) (both.0 (subst P same (answer.0 yes))),
       λ valid. answer.1 (subst P (sym same) (both.1 (subst Q c.in-Functions.is valid))),
     )
@@ -27,7 +28,8 @@ returns-in-Expressions-clause-decided c =
     let both = expressions_valid (context_of c.args.scope.now) c.args.scope.now.indices.now c.args.ty c.in-Expressions.items in
     let same = c.as_slice-in-Expressions.ensures in
     let P = λ (es : List (List Instr)). All (IsItemValid (context_of c.args.scope.now) c.args.scope.now.indices.now c.args.ty) es in
-    let Q = λ (items : ElementItems). AreItemsValid (context_of c.args.scope.now) c.args.scope.now.indices.now c.args.ty (items_view items) in
+    let Q = λ (items : ElementItems). AreItemsValid (context_of c.args.scope.now) c.args.scope.now.indices.now c.args.ty
+    (items_view items) in
     IfOk-weaker c.are_expressions_valid.result _ _ (λ b answer. (
       λ yes. subst Q (sym c.in-Expressions.is) (both.0 (subst P same (answer.0 yes))),
       λ valid. answer.1 (subst P (sym same) (both.1 (subst Q c.in-Expressions.is valid))),

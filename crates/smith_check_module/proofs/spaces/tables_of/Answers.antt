@@ -8,4 +8,4 @@ use Rattle.smith_check_module.proofs.spaces.tables_of.Goals as goal
 pub returns-clause-ok : goal.returns-clause-ok
 returns-clause-ok c =
     two_mapped (renamed_table (canonical_index c.args.indices.now)) c.args.imported.now (map table_type c.args.tables.now) _ _ _
-        c.new-made.ensures c.in_ok-push_tables.ensures.ok c.in_ok-push_table_definitions.ensures.ok
+    c.new-made.ensures c.in_ok-push_tables.ensures.ok c.in_ok-push_table_definitions.ensures.ok

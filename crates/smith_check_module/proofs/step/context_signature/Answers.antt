@@ -7,37 +7,37 @@ use Rattle.smith_check_module.proofs.step.context_signature.Goals as goal
 pub returns-in-GlobalGet-clause-ok : goal.returns-in-GlobalGet-clause-ok
 returns-in-GlobalGet-clause-ok c =
     answered (context_of c.args.scope.now) c.args.instruction (constant.GlobalGet c.in-GlobalGet.index) c.args.before.now
-        c.global_signature.result c.in-GlobalGet.is
+    c.global_signature.result c.in-GlobalGet.is
     c.global_signature.ensures
 
 pub returns-in-RefNull-clause-ok : goal.returns-in-RefNull-clause-ok
 returns-in-RefNull-clause-ok c =
     answered (context_of c.args.scope.now) c.args.instruction (constant.RefNull c.in-RefNull.heap_type) c.args.before.now
-        c.null_signature.result c.in-RefNull.is
+    c.null_signature.result c.in-RefNull.is
     c.null_signature.ensures
 
 pub returns-in-RefFunc-clause-ok : goal.returns-in-RefFunc-clause-ok
 returns-in-RefFunc-clause-ok c =
     answered (context_of c.args.scope.now) c.args.instruction (constant.RefFunc c.in-RefFunc.function) c.args.before.now
-        c.function_signature.result c.in-RefFunc.is
+    c.function_signature.result c.in-RefFunc.is
     c.function_signature.ensures
 
 pub returns-in-StructNewDefault-clause-ok : goal.returns-in-StructNewDefault-clause-ok
 returns-in-StructNewDefault-clause-ok c =
     answered (context_of c.args.scope.now) c.args.instruction (constant.StructNewDefault c.in-StructNewDefault.index) c.args.before.now
-        c.default_struct_signature.result c.in-StructNewDefault.is
+    c.default_struct_signature.result c.in-StructNewDefault.is
     c.default_struct_signature.ensures
 
 pub returns-in-ArrayNew-clause-ok : goal.returns-in-ArrayNew-clause-ok
 returns-in-ArrayNew-clause-ok c =
     answered_result (context_of c.args.scope.now) c.args.instruction (constant.ArrayNew c.in-ArrayNew.index) c.args.before.now
-        c.array_signature.result
+    c.array_signature.result
     c.in-ArrayNew.is c.array_signature.ensures.ok
 
 pub returns-in-ArrayNewDefault-clause-ok : goal.returns-in-ArrayNewDefault-clause-ok
 returns-in-ArrayNewDefault-clause-ok c =
     answered_result (context_of c.args.scope.now) c.args.instruction (constant.ArrayNewDefault c.in-ArrayNewDefault.index) c.args.before.now
-        c.default_array_signature.result
+    c.default_array_signature.result
     c.in-ArrayNewDefault.is c.default_array_signature.ensures.ok
 
 pub returns-in-StructNew-clause-ok : goal.returns-in-StructNew-clause-ok
@@ -54,7 +54,7 @@ returns-in-ArrayNewFixed-clause-ok c =
 pub returns-in-AnyConvertExtern-clause-ok : goal.returns-in-AnyConvertExtern-clause-ok
 returns-in-AnyConvertExtern-clause-ok c =
     converts_extern (context_of c.args.scope.now) c.args.instruction c.args.before.now c.conversion_signature.result
-        c.in-AnyConvertExtern.is
+    c.in-AnyConvertExtern.is
     c.conversion_signature.ensures.ok
 
 pub returns-in-ExternConvertAny-clause-ok : goal.returns-in-ExternConvertAny-clause-ok

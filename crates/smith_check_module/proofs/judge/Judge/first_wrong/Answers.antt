@@ -1,4 +1,4 @@
-use Rattle.std.proofs.Common.{◌≤◌, subst}
+use Rattle.std.proofs.Common.{◌≤◌, ℕ, subst}
 use Rattle.smith_check_module.proofs.JudgeLemmas.{all_right, one_more}
 use Rattle.smith_check_module.proofs.judge.Judge.first_wrong.Goals as goal
 
@@ -8,5 +8,6 @@ loop-index-preserved c =
 
 pub returns-clause-ok : goal.returns-clause-ok
 returns-clause-ok c =
-    all_right c.args.self.now c.args.part c.loop-index.index (subst (λ n. n ≤ c.loop-index.index) c.count.ensures c.loop-index-test.false)
+    all_right c.args.self.now c.args.part c.loop-index.index
+    (subst (λ (n : ℕ). n ≤ c.loop-index.index) c.count-index-end.ensures c.loop-index-test.false)
     c.loop-index.invariant

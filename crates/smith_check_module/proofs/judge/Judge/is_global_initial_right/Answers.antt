@@ -25,9 +25,11 @@ returns-clause-decided c =
     let known = c.requires.judge.imported_globals in
     let all : c.len.result ≡ length c.args.self.now.module.now.globals = c.len.ensures in
     let end : length c.args.self.now.scope.globals.now - c.len.result + c.args.index
-        ≡ length (imported_spaces (syntax_of c.args.self.now.module.now).imports).globals + c.args.index = omega arith in
-    let seen : c.seeing-scope.result ≡ record c.args.self.now.scope { visible = seen_by_global (context_of c.args.self.now.scope)
-        (length (imported_spaces (syntax_of c.args.self.now.module.now).imports).globals + c.args.index) } =
+    ≡ length (imported_spaces (syntax_of c.args.self.now.module.now).imports).globals + c.args.index = omega arith in
+    let seen : c.seeing-scope.result ≡ record c.args.self.now.scope {
+      visible = seen_by_global (context_of c.args.self.now.scope)
+          (length (imported_spaces (syntax_of c.args.self.now.module.now).imports).globals + c.args.index);
+    } =
     c.seeing-scope.ensures ∙ ap (λ (n : ℕ). record c.args.self.now.scope { visible = n }) (c.visible_to.ensures
     ∙ ap (λ (n : ℕ). if (features_in c.args.self.now.scope.features).gc then n else c.args.self.now.scope.imported_globals) end) in
     mapped_decided (λ (global : GlobalType × List Instr). IsConstant (seeing (context_of c.args.self.now.scope)
