@@ -19,13 +19,8 @@ returns-in-Reference-clause-decided c =
     let is : c.args.item.now ≡ Reference (Func c.in-Reference.function) ∷ [] =
     only_item c.args.item.now (Reference (Func c.in-Reference.function)) c.in-Reference.len_at_least c.in-Reference.len_below
     (first_of (search rules, cc)) in
-    let answer : IsTrue c.is_item.result ↔ IsItem (context_of c.args.scope.now) c.args.ty c.in-Reference.function = first_of (
-      subst (λ (f : ℕ). IsTrue c.is_item.result ↔ IsItem (context_of c.args.scope.now) c.args.ty f) c.in-Reference.function-is
-          c.is_item.ensures,
-      subst (λ (f : ℕ). IsTrue c.is_item.result ↔ IsItem (context_of c.args.scope.now) c.args.ty f) (sym c.in-Reference.function-is)
-          c.is_item.ensures,
-      rw c.in-Reference.function-is at c.is_item.ensures,
-      search rules,
-    ) in
+    let answer : IsTrue c.is_item.result ↔ IsItem (context_of c.args.scope.now) c.args.ty c.in-Reference.function =
+    subst (λ (f : ℕ). IsTrue c.is_item.result ↔ IsItem (context_of c.args.scope.now) c.args.ty f) c.in-Reference.function-is
+    c.is_item.ensures in
     function_decided (context_of c.args.scope.now) c.args.scope.now.indices.now c.args.ty c.args.item.now c.in-Reference.function is
     (sym c.if-contains.ensures) c.is_item.result answer
