@@ -1,19 +1,18 @@
 -- A module whose items are right is valid.
-use Rattle.std.proofs.Common.{◌≡◌, ◌↔◌, ℕ, zero, suc, ◌+◌, ◌<◌, ◌⊎◌, List, [], ◌∷◌, ◌++◌, Option, Some, None, length, get_or, map, refl}
+use Rattle.std.proofs.Common.{◌≡◌, ℕ, zero, suc, ◌+◌, ◌<◌, List, [], ◌∷◌, Option, Some, None, length, get_or, map, refl}
 use Rattle.std.proofs.Common.{sym, ap}
-use Rattle.std.proofs.Common.{◌∙◌, subst, arith, inl, inr}
-use Rattle.std.specs.Prelude.{All, IfOk, IfSome, IsTrue, MatchOption, Result, Ok, Err, slice_get}
+use Rattle.std.proofs.Common.{◌∙◌, subst, arith}
+use Rattle.std.specs.Prelude.{All, IfOk, IfSome, MatchOption, Result, Ok, Err, slice_get}
 use Rattle.std.specs.Option.{option_map}
 use Rattle.std.proofs.lemmas.Option.{same_Some, slice_get-get_or, slice_get-map, slice_get_within}
 use Rattle.smith_bytes.specs.declared.error.Error.{Error}
 use Rattle.smith_syntax.specs.Features.{Features}
-use Rattle.smith_syntax.specs.declared.composite_type.SubType.{SubType}
 use Rattle.smith_syntax.specs.declared.entity_type.EntityType.{EntityType}
 use Rattle.smith_syntax.specs.declared.entity_type.ExportKind.{ExportKind}
 use Rattle.smith_syntax.specs.declared.entity_type.GlobalType.{GlobalType}
 use Rattle.smith_instr.specs.declared.instr.Instr.{Instr}
 use Rattle.smith_types.specs.Entities.{AreCountsEnabled, IsFuncTypeIndex, IsGlobalValid, IsMemoryValid, IsTableValid}
-use Rattle.smith_types.specs.Exports.{AreExportsValid, AreDistinct, IsEntityAt, IsStartValid}
+use Rattle.smith_types.specs.Exports.{AreExportsValid, IsEntityAt, IsStartValid}
 use Rattle.smith_types.specs.Expressions.{Context, seeing, seen_by_global, seen_by_segments, seen_by_tables}
 use Rattle.smith_types.specs.Imports.{EntitySpaces, imported_spaces}
 use Rattle.smith_types.proofs.ListLemmas.{mapped_at}

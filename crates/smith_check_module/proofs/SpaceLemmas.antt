@@ -6,12 +6,11 @@ use Rattle.smith_syntax.specs.declared.composite_type.SubType.{SubType}
 use Rattle.smith_syntax.specs.declared.entity_type.GlobalType.{GlobalType}
 use Rattle.smith_syntax.specs.declared.entity_type.TableType.{TableType}
 use Rattle.smith_instr.specs.declared.instr.Instr.{Instr}
-use Rattle.smith_types.specs.Expressions.{Context}
 use Rattle.smith_types.specs.Imports.{EntitySpaces, imported_spaces}
 use Rattle.smith_decode.specs.declared.definitions.GlobalDefinition.{GlobalDefinition}
 use Rattle.smith_decode.specs.declared.definitions.TableDefinition.{TableDefinition}
 use Rattle.smith_decode.specs.declared.modules.Module.{Module}
-use Rattle.smith_decode.specs.Modules.{Syntax, global_pair, syntax_of, table_pair, tag_index}
+use Rattle.smith_decode.specs.Modules.{global_pair, syntax_of, table_pair, tag_index}
 use Rattle.smith_check_types.specs.TypeSections.{canonical_index}
 use Rattle.smith_check_module.specs.CanonicalModules.{renamed_global, renamed_table}
 use Rattle.smith_check_module.specs.Contexts.{context_in, spaces_in, types_in}

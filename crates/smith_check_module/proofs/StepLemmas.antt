@@ -11,7 +11,7 @@ use Rattle.smith_syntax.specs.declared.const_instr.ConstInstr.TheVariants as con
 use Rattle.smith_syntax.specs.declared.value_type.AbstractHeapType.TheVariants as abstract
 use Rattle.smith_syntax.specs.declared.value_type.HeapType.{HeapType}
 use Rattle.smith_syntax.specs.declared.value_type.ValType.{ValType}
-use Rattle.smith_types.specs.Expressions.{Context, HasType, IsStackStep}
+use Rattle.smith_types.specs.Expressions.{Context}
 use Rattle.smith_types.specs.Subtyping.{IsValBelow, IsValInRange}
 use Rattle.smith_types.proofs.GrowthLemmas.{IsValBelow-refl}
 use Rattle.smith_check_operands.specs.Fits.{AreMatched}

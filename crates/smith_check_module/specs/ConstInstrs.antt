@@ -1,6 +1,6 @@
 -- Instructions of constant expressions among all instructions: the section Validation, Instructions,
 -- Constant Expressions, of the WebAssembly Core Specification 3.0.
-use Rattle.std.specs.Prelude.{◌≡◌, ℕ, IsTrue, List, Option, Some, None}
+use Rattle.std.specs.Prelude.{◌≡◌, ℕ, List, Option, Some, None}
 use Rattle.smith_syntax.specs.declared.const_instr.ConstInstr.{ConstInstr}
 use Rattle.smith_syntax.specs.declared.const_instr.ConstInstr.TheVariants as constant
 use Rattle.smith_syntax.specs.declared.value_type.ValType.{ValType}

@@ -1,4 +1,4 @@
-use Rattle.std.proofs.Common.{subst, sym}
+use Rattle.std.proofs.Common.{subst}
 use Rattle.std.specs.Prelude.{MatchOption}
 use Rattle.smith_check_module.specs.ConstScopes.{context_of}
 use Rattle.smith_check_module.specs.Typings.{IsBest, TakesNothing}
