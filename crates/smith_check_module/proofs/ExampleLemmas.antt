@@ -1,21 +1,20 @@
 -- Modules of the examples.
-use Rattle.std.proofs.Common.{◌≡◌, ℕ, ◌<◌, ◌≤◌, List, [], ◌∷◌, Option, Some, None, refl, arith, rules}
-use Rattle.std.specs.Prelude.{All, pos, slice_get}
+use Rattle.std.proofs.Common.{ℕ, List, [], ◌∷◌, refl, arith}
+use Rattle.std.specs.Prelude.{pos}
 use Rattle.std.proofs.lemmas.List.Elements.{All-nil, All-head, All-cons}
 use Rattle.smith_syntax.specs.declared.const_instr.ConstInstr.TheVariants as constant
 use Rattle.smith_syntax.specs.declared.value_type.ValType.TheVariants.{I32}
 use Rattle.smith_types.specs.ExampleFeatures.{usual_features}
-use Rattle.smith_types.specs.ValidTypes.{AreTypesValid, IsGroupValid}
+use Rattle.smith_types.specs.ValidTypes.{AreTypesValid}
 use Rattle.smith_types.specs.Flags.{IsInstrEnabled}
 use Rattle.smith_types.specs.Groups.{space_of}
-use Rattle.smith_types.specs.Types.{IsOrderly, AreCovered}
 use Rattle.smith_types.specs.Exports.{IsEntityAt}
 use Rattle.smith_syntax.specs.declared.entity_type.EntityType.{EntityType}
 use Rattle.smith_syntax.specs.declared.entity_type.ExportKind.{ExportKind}
 use Rattle.smith_syntax.specs.declared.entity_type.ExportKind.TheVariants as kind
 use Rattle.smith_check_types.specs.Canonical.{AreCanonical}
 use Rattle.smith_check_module.specs.Contexts.{context_in, spaces_in}
-use Rattle.smith_check_module.specs.ValidModules.{IsConstant, AreEntitiesValid, AreDefinitionsValid, AreSegmentsValid, AreSectionsValid}
+use Rattle.smith_check_module.specs.ValidModules.{IsConstant, AreSectionsValid}
 use Rattle.smith_check_module.specs.ValidModules.{IsValidApart}
 use Rattle.smith_check_module.specs.ExampleSyntax.{nothing, exports_missing, one}
 

@@ -1,1 +1,16 @@
 pub mod ExampleLemmas
+pub mod StackLemmas
+pub mod SignatureLemmas
+pub mod AggregateLemmas
+pub mod ConversionLemmas
+pub mod StepLemmas
+pub mod ConstantLemmas
+pub mod ExpressionLemmas
+pub mod RightLemmas
+pub mod SectionLemmas
+pub mod SegmentLemmas
+pub mod ItemLemmas
+pub mod RepeatedLemmas
+pub mod JudgeLemmas
+pub mod SpaceLemmas
+pub mod CheckLemmas

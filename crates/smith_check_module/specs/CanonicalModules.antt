@@ -1,7 +1,7 @@
 -- A module that refers to types by their canonical indices, so that equal types are one type: the
 -- section Validation, Conventions, of the WebAssembly Core Specification 3.0. An index past all types
 -- stays as it is.
-use Rattle.std.specs.Prelude.{ℕ, List, map}
+use Rattle.std.specs.Prelude.{ℕ, map}
 use Rattle.smith_syntax.specs.declared.const_instr.ConstInstr.{ConstInstr}
 use Rattle.smith_syntax.specs.declared.const_instr.ConstInstr.TheVariants as instr
 use Rattle.smith_syntax.specs.declared.entity_type.GlobalType.{GlobalType}

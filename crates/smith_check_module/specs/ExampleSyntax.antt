@@ -1,5 +1,5 @@
 -- Modules of the examples.
-use Rattle.std.specs.Prelude.{ℕ, List, [], ◌∷◌, Some, None, pos}
+use Rattle.std.specs.Prelude.{List, [], ◌∷◌, Some, None, pos}
 use Rattle.smith_syntax.specs.declared.entity_type.ExportKind.TheVariants as kind
 use Rattle.smith_instr.specs.declared.instr.Instr.{Instr}
 use Rattle.smith_instr.specs.declared.instr.Instr.TheVariants as instr

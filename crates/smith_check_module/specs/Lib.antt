@@ -1,4 +1,10 @@
 pub mod CanonicalModules
 pub mod Contexts
 pub mod ValidModules
+pub mod SectionFaults
+pub mod ConstScopes
+pub mod Typings
+pub mod ConstInstrs
+pub mod Items
+pub mod Judges
 pub mod ExampleSyntax

@@ -1,10 +1,9 @@
 -- Whether a module is valid, apart from the bodies of its functions: the section Validation, Modules,
 -- of the WebAssembly Core Specification 3.0. The conditions on features, sharedness and exact types are
 -- rules of this project. Types are compared by canonical indices, so that equal types are one type.
-use Rattle.std.specs.Prelude.{◌≡◌, ℕ, ◌+◌, ◌⊎◌, true, false, IsTrue, List, [], ◌∷◌, Option, Some, None, length, map, slice_get, All}
+use Rattle.std.specs.Prelude.{◌≡◌, ℕ, ◌+◌, ◌⊎◌, false, IsTrue, List, [], ◌∷◌, Some, length, map, slice_get, All}
 use Rattle.smith_syntax.specs.Features.{Features}
 use Rattle.smith_syntax.specs.declared.const_instr.ConstInstr.{ConstInstr}
-use Rattle.smith_syntax.specs.declared.entity_type.ExportKind.{ExportKind}
 use Rattle.smith_syntax.specs.declared.entity_type.GlobalType.{GlobalType}
 use Rattle.smith_syntax.specs.declared.entity_type.MemoryType.{MemoryType}
 use Rattle.smith_syntax.specs.declared.entity_type.TableType.{TableType}
@@ -13,8 +12,6 @@ use Rattle.smith_syntax.specs.declared.value_type.ValType.{ValType}
 use Rattle.smith_syntax.specs.declared.value_type.ValType.TheVariants.{Ref}
 use Rattle.smith_syntax.specs.declared.composite_type.SubType.{SubType}
 use Rattle.smith_instr.specs.declared.instr.Instr.{Instr}
-use Rattle.smith_instr.specs.declared.instr.Instr.TheVariants.{Reference}
-use Rattle.smith_instr.specs.declared.reference.ReferenceInstr.TheVariants.{Func}
 use Rattle.smith_types.specs.Entities.{IsMemoryValid, IsTableValid, IsGlobalValid, IsFuncTypeIndex, AreCountsEnabled}
 use Rattle.smith_types.specs.Exports.{AreExportsValid, IsStartValid}
 use Rattle.smith_types.specs.Expressions.{Context, IsConstExpr, seeing, seen_by_tables, seen_by_global, seen_by_segments}

@@ -1,0 +1,14 @@
+use Rattle.std.proofs.Common.{◌↔◌, List, ℕ, Bor, map}
+use Rattle.std.specs.Prelude.{IsTrue}
+use Rattle.std.specs.Str.{bytes_eq}
+use Rattle.std.specs.HashSet.{contains}
+use Rattle.smith_decode.specs.Modules.{export_triple}
+use Rattle.smith_check_module.proofs.RepeatedLemmas.{IsNameUsed, AreNew}
+use Rattle.smith_check_module.proofs.exports.first_repeated.Given as goal
+
+abbrev pub invariant-loop-i : goal.invariant-loop-i
+invariant-loop-i l = record {
+  known : (q : Bor (List ℕ)) → IsTrue (contains (λ (a b : Bor (List ℕ)). bytes_eq a.now b.now) l.names q)
+      ↔ IsNameUsed (map export_triple l.exports) l.i q.now;
+  new : AreNew (map export_triple l.exports) l.i;
+}

@@ -1,0 +1,9 @@
+use Rattle.std.proofs.Common.{◌≡◌, ◌++◌, map, take}
+use Rattle.smith_check_module.specs.CanonicalModules.{renamed_global}
+use Rattle.smith_check_module.specs.Judges.{global_type}
+use Rattle.smith_check_types.specs.TypeSections.{canonical_index}
+use Rattle.smith_check_module.proofs.spaces.push_global_definitions.Given as goal
+
+abbrev pub invariant-loop-item : goal.invariant-loop-item
+invariant-loop-item l = l.made ≡ l.initial.made ++ map (renamed_global (canonical_index l.indices))
+    (map global_type (take l.item-index l.list))
