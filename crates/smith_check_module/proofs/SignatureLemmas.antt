@@ -10,14 +10,12 @@ use Rattle.smith_syntax.specs.declared.composite_type.SubType.{SubType}
 use Rattle.smith_syntax.specs.declared.const_instr.ConstInstr.{ConstInstr}
 use Rattle.smith_syntax.specs.declared.const_instr.ConstInstr.TheVariants as constant
 use Rattle.smith_syntax.specs.declared.entity_type.GlobalType.{GlobalType}
-use Rattle.smith_syntax.specs.declared.value_type.HeapType.{HeapType}
-use Rattle.smith_syntax.specs.declared.value_type.HeapType.TheVariants.{Abstract, Concrete, Exact}
+use Rattle.smith_syntax.specs.declared.value_type.HeapType.TheVariants.{Concrete, Exact}
 use Rattle.smith_syntax.specs.declared.value_type.ValType.{ValType}
 use Rattle.smith_syntax.specs.declared.value_type.ValType.TheVariants.{I32, I64, F32, F64, V128, Ref}
 use Rattle.smith_types.specs.Expressions.{Context, HasType, created}
 use Rattle.smith_types.specs.Expressions.{function_reference}
 use Rattle.smith_types.specs.Subtyping.{IsInRange, IsValBelow, IsValInRange}
-use Rattle.smith_types.specs.ValidTypes.{IsHeapTypeValid}
 use Rattle.smith_types.specs.Types.{IsOrderly}
 use Rattle.smith_types.proofs.GrowthLemmas.{IsValBelow-refl}
 use Rattle.smith_types.proofs.RangeLemmas.{above_stands}
@@ -135,21 +133,6 @@ module _ (context : Context) where
 
   pub func_none : (function : ℕ) → slice_get context.funcs function ≡ None → HasNoType context (constant.RefFunc function)
   func_none function missing = λ others other (found, there, none, is). cc
-
-  heap_in_range : (heap_type : HeapType) → IsHeapTypeValid context.features (length context.types) heap_type
-      → IsInRange context.types heap_type
-  heap_in_range (Abstract shared ty) valid = tt
-  heap_in_range (Concrete index) valid = valid.1
-  heap_in_range (Exact index) valid = valid.1
-
-  pub null_only : (heap_type : HeapType) → IsHeapTypeValid context.features (length context.types) heap_type
-      → IsOnly context (constant.RefNull heap_type) [] (Ref (record { nullable = true; heap_type = heap_type }))
-  null_only heap_type valid = record {
-    typed = (valid, refl, refl);
-    only = λ others other h. (h.1, h.2);
-    operands_stand = no_range;
-    result_stands = heap_in_range heap_type valid;
-  }
 
   pub created_in_range : (index : ℕ) → index < length context.types → IsValInRange context.types (created context index)
   created_in_range index inside =
