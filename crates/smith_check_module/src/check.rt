@@ -44,13 +44,13 @@ pub fn check_sections<'a>(
     module: &'a Module,
     types: &'a CheckedTypes,
 ) -> Result<Option<SectionFault>, Error>
-    requires checked { AreChecked (features_in features) module.now.types types.now }
+    requires checked { AreChecked (features_in features) «module».now.types types.now }
     ensures decided { IfOk result (λ found. MatchOption found
-        (AreSectionsValid (features_in features) types.now.indices (syntax_of module.now))
+        (AreSectionsValid (features_in features) types.now.indices (syntax_of «module».now))
         (λ fault. ¬ AreSectionsValid (features_in features) types.now.indices
-        (syntax_of module.now))) }
+        (syntax_of «module».now))) }
     ensures first { IfOk result (λ found. IfSome found (λ fault.
-        IsFirstFault (features_in features) types.now.indices (syntax_of module.now) fault)) }
+        IsFirstFault (features_in features) types.now.indices (syntax_of «module».now) fault)) }
     ensures memory { IfErr result (λ e. e ≡ Error.Memory) }
 {
     let imported = imported_spaces_of(alloc, module.imports.as_slice())?;

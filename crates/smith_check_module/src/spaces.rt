@@ -22,9 +22,9 @@ pub(crate) fn canonical_spaces(
     imported: &EntitySpaces,
     module: &Module,
 ) -> Result<EntitySpaces, Error>
-    requires { spaces_in imported.now ≡ imported_spaces (syntax_of module.now).imports }
+    requires { spaces_in imported.now ≡ imported_spaces (syntax_of «module».now).imports }
     ensures ok { IfOk result (λ made.
-        spaces_in made ≡ spaces_of_module indices.now (syntax_of module.now)) }
+        spaces_in made ≡ spaces_of_module indices.now (syntax_of «module».now)) }
     ensures memory { IfErr result (λ e. e ≡ Error.Memory) }
 {
     let tags = tags_of(

@@ -5,8 +5,10 @@ use Rattle.smith_syntax.specs.declared.composite_type.FuncType.{FuncType}
 use Rattle.smith_syntax.specs.declared.entity_type.GlobalType.{GlobalType}
 use Rattle.smith_syntax.specs.declared.composite_type.SubType.{SubType}
 use Rattle.smith_syntax.specs.declared.entity_type.TableType.{TableType}
+use Rattle.smith_syntax.specs.declared.value_type.RefType.{RefType}
 use Rattle.smith_types.specs.Entities.{IsFuncAt, IsFuncTypeIndex}
 use Rattle.smith_types.specs.Flags.{IsSubTypeEnabled}
+use Rattle.smith_types.specs.Subtyping.{IsInRange}
 use Rattle.smith_types.specs.ValidTypes.{values_of}
 use Rattle.smith_instr.specs.Contexts.{BodyContext, IsValid, AreValid, IsRefValid}
 use Rattle.smith_check_operands.specs.declared.scope.Scope.{Scope}
@@ -31,13 +33,14 @@ bare scope = record {
   results = scope.results.now;
 }
 
--- the parts of a context are valid (Validation, Types), and its types are enabled (own rule)
+-- the parts of a context are valid (Validation, Types), and its types are enabled (own rule). The type of a
+-- segment of functions is `(ref func)`, also where the features have no such type: its heap type alone matters
 pub record IsScope (context : BodyContext) : Type 0 where
   pub enabled : All (IsSubTypeEnabled context.features) context.types
   pub types : All (λ (ty : SubType). AreValid context (values_of ty.composite_type.inner)) context.types
   pub funcs : All (IsFuncTypeIndex context.types) context.funcs
   pub tables : All (λ (table : TableType). IsRefValid context table.element_type) context.tables
-  pub elems : All (IsRefValid context) context.elems
+  pub elems : All (λ (elem : RefType). IsInRange context.types elem.heap_type) context.elems
   pub globals : All (λ (global : GlobalType). IsValid context global.val_type) context.globals
   pub locals : AreValid context context.locals
   pub results : AreValid context context.results

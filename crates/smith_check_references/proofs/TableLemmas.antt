@@ -37,11 +37,12 @@ pub element_in_range : (context : BodyContext) (index : ℕ) (table : TableType)
 element_in_range context index table valid at =
     heap_in_range context table.element_type.heap_type (element_valid context index table valid at).heap_type
 
--- the references in an element segment are of a valid type
-pub held_in_range : (context : BodyContext) (segment : ℕ) (reference : RefType) → All (IsRefValid context) context.elems
+-- the heap type of the references in an element segment is in range
+pub held_in_range : (context : BodyContext) (segment : ℕ) (reference : RefType)
+    → All (λ (elem : RefType). IsInRange context.types elem.heap_type) context.elems
     → slice_get context.elems segment ≡ Some reference → IsInRange context.types reference.heap_type
 held_in_range context segment reference valid at =
-    heap_in_range context reference.heap_type (all_at (IsRefValid context) context.elems segment reference valid at).heap_type
+    all_at (λ (elem : RefType). IsInRange context.types elem.heap_type) context.elems segment reference valid at
 
 pub narrower_in_range : (types : List SubType) (one other : Bool) → IsValInRange types (narrower one other)
 narrower_in_range types true other = address_in_range types other
