@@ -1,1 +1,2 @@
-pub mod Judgements
+pub mod ValidPrograms
+pub mod Faults

@@ -1,7 +1,6 @@
 ghost use Rattle.std.specs.Prelude.{◌≡◌, IfOk, IfErr};
 ghost use Rattle.smith_syntax.specs.FeatureBits.{features_in};
-ghost use Rattle.smith_decode.specs.Modules.{syntax_of};
-ghost use Rattle.smith_check.specs.Judgements.{IsJudgement};
+ghost use Rattle.smith_check.specs.Faults.{IsJudgement};
 
 use crate::judgement::{Judgement, Unjudged};
 use smith_bytes::Error;
@@ -10,15 +9,11 @@ use smith_types::WasmFeatures;
 use std::alloc::Global;
 
 /// A stub.
-pub fn check(
-    alloc: Global,
-    features: WasmFeatures,
-    module: &Module,
-) -> Result<Judgement, Error>
-    ensures ok { IfOk result (IsJudgement (features_in features) (syntax_of «module».now)) }
+pub fn check(_alloc: Global, _features: WasmFeatures, module: &Module) -> Result<Judgement, Error>
+    ensures ok { IfOk result (IsJudgement (features_in _features) «module».now) }
     ensures memory { IfErr result (λ e. e ≡ Error.Memory) }
 {
-    let _ = (alloc, features, module);
+    let _ = module;
     Ok(Judgement::NotJudged {
         body: 0,
         why: Unjudged::Locals,
