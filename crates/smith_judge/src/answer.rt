@@ -1,0 +1,67 @@
+use crate::finding::Finding;
+use crate::words::Words;
+use smith_binary_read::Reason;
+use smith_check::Unjudged;
+use std::fmt;
+
+/// What is said of a file.
+#[derive(Clone, Copy, Debug, PartialEq, Eq)]
+pub enum Answer {
+    /// The file is a valid module.
+    Valid,
+    /// The file is a module that is not valid, with its first fault.
+    Invalid(Finding),
+    /// The file is no module: the first fault is at the byte `offset`, counted from 0, and breaks the
+    /// rule `reason`.
+    Malformed { offset: usize, reason: Reason },
+    /// The file is no module of the features that are on: the first item with a form of another feature
+    /// begins at the byte `offset`, counted from 0.
+    FeatureOff { offset: usize },
+    /// The file is a module whose items before a body are valid, and the body is not judged.
+    NotJudged(Gap),
+}
+
+/// What is not judged of a module.
+#[derive(Clone, Copy, Debug, PartialEq, Eq)]
+pub struct Gap {
+    /// The index of the function, with imported functions first.
+    pub function: usize,
+    /// Why its body is not judged.
+    pub why: Unjudged,
+    /// The offset in the file of the body, or of the instruction that is not known, counted from 0.
+    pub offset: usize,
+}
+
+impl Answer {
+    /// Returns the number of the kind of the answer: 0 for a valid file, 1 for an invalid one, 2 for one
+    /// that is no module of the features, and 3 for one that is not judged.
+    pub fn number(&self) -> u32 {
+        match self {
+            Answer::Valid => 0,
+            Answer::Invalid(_) => 1,
+            Answer::Malformed { .. } | Answer::FeatureOff { .. } => 2,
+            Answer::NotJudged(_) => 3,
+        }
+    }
+
+    /// Returns the kind of the answer in words.
+    pub fn name(&self) -> &'static str {
+        match self {
+            Answer::Valid => "valid",
+            Answer::Invalid(_) => "invalid",
+            Answer::Malformed { .. } | Answer::FeatureOff { .. } => "malformed",
+            Answer::NotJudged(_) => "not judged",
+        }
+    }
+}
+
+/// The answer in words, in one line, without the name of an instruction. [`Words`] has it too.
+impl fmt::Display for Answer {
+    fn fmt<W: fmt::Write>(&self, f: &mut fmt::Formatter<W>) -> fmt::Result {
+        let words = Words {
+            answer: self,
+            keyword: "",
+        };
+        write!(f, "{words}")
+    }
+}

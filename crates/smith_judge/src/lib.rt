@@ -1,0 +1,24 @@
+//! Judges files: whether the bytes of a file are a valid module of the WebAssembly Core Specification 3.0,
+//! and if not, where the first fault is, and which rule it breaks. Sections in parentheses are sections
+//! of the standard.
+//!
+//! A call that returns a `Result` fails only if an allocation fails.
+#![tactic(auto)]
+
+mod answer;
+mod finding;
+mod judge;
+mod places;
+mod rules;
+mod wording;
+mod words;
+
+pub use answer::{Answer, Gap};
+pub use finding::{Finding, Item};
+pub use judge::judge;
+pub use rules::Rule;
+pub use smith_binary_read::Reason;
+pub use smith_bytes::Error;
+pub use smith_check::{Fault, LOCALS, Unjudged};
+pub use smith_types::WasmFeatures;
+pub use words::Words;
