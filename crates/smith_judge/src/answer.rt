@@ -5,7 +5,7 @@ use smith_check::Unjudged;
 use std::fmt;
 
 /// What is said of a file.
-#[derive(Clone, Copy, Debug, PartialEq, Eq)]
+#[derive(Clone, Copy, Debug)]
 pub enum Answer {
     /// The file is a valid module.
     Valid,
@@ -22,7 +22,7 @@ pub enum Answer {
 }
 
 /// What is not judged of a module.
-#[derive(Clone, Copy, Debug, PartialEq, Eq)]
+#[derive(Clone, Copy, Debug)]
 pub struct Gap {
     /// The index of the function, with imported functions first.
     pub function: usize,

@@ -3,7 +3,7 @@ use smith_check::Fault;
 use smith_check_module::Part;
 
 /// The first fault of a module.
-#[derive(Clone, Copy, Debug, PartialEq, Eq)]
+#[derive(Clone, Copy, Debug)]
 pub struct Finding {
     /// The fault, by places in the sections of the file.
     pub fault: Fault,
