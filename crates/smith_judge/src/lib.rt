@@ -8,6 +8,7 @@
 mod answer;
 mod finding;
 mod judge;
+mod origins;
 mod places;
 mod rules;
 mod wording;

@@ -1,136 +1,124 @@
+ghost use Rattle.std.specs.Prelude.{◌≡◌, IfOk, IfErr};
+ghost use Rattle.smith_judge.specs.Places.{
+  IsEntityPlace,
+  IsFaultPlace,
+  IsItemPlace,
+  fault_index,
+  index_after,
+  item_index,
+  origin_place,
+};
+
+use crate::origins::{Origin, imported_count, origin_of};
+use smith_bytes::Error;
 use smith_check::Fault;
-use smith_check_module::{Part, SectionFault};
-use smith_decode::{Module, Place};
-use smith_types::{EntityType, ExportKind, Imports};
+use smith_check_module::Part;
+use smith_decode::Place;
+use smith_types::{ExportKind, Imports};
+use std::alloc::Global;
 
-/// Where an entity of an index space is.
-#[derive(Clone, Copy, Debug, PartialEq, Eq)]
-pub enum Origin {
-    /// In the group of imports at this index.
-    Imported(usize),
-    /// At this index of the section that defines entities of its kind.
-    Defined(usize),
-}
-
-// Returns whether `entity` is of the kind `kind`.
-fn is_of_kind(entity: &EntityType, kind: ExportKind) -> bool {
-    match entity {
-        EntityType::Func(_) => kind == ExportKind::Func,
-        EntityType::Table(_) => kind == ExportKind::Table,
-        EntityType::Memory(_) => kind == ExportKind::Memory,
-        EntityType::Global(_) => kind == ExportKind::Global,
-        EntityType::Tag(_) => kind == ExportKind::Tag,
+// Returns the place of an entity of the kind `kind`.
+fn place_at(kind: ExportKind, origin: Origin) -> Place
+    ensures { result ≡ origin_place kind origin }
+{
+    match (origin, kind) {
+        (Origin::Imported(group), _) => Place::Imports(group),
+        (Origin::Defined(index), ExportKind::Func) => Place::Function(index),
+        (Origin::Defined(index), ExportKind::Table) => Place::Table(index),
+        (Origin::Defined(index), ExportKind::Memory) => Place::Memory(index),
+        (Origin::Defined(index), ExportKind::Global) => Place::Global(index),
+        (Origin::Defined(index), ExportKind::Tag) => Place::Tag(index),
     }
-}
-
-// Returns the number of imports of the kind `kind` in `group`.
-fn count_in(group: &Imports, kind: ExportKind) -> usize {
-    match group {
-        Imports::Single(import) => usize::from(is_of_kind(&import.entity_type, kind)),
-        Imports::Compact1 { items, .. } => items
-            .iter()
-            .filter(|item| is_of_kind(&item.entity_type, kind))
-            .count(),
-        Imports::Compact2 {
-            entity_type,
-            names,
-            ..
-        } => {
-            if is_of_kind(entity_type, kind) {
-                names.len()
-            } else {
-                0
-            }
-        }
-    }
-}
-
-/// Returns the number of imports of the kind `kind`.
-pub fn imported_count(groups: &[Imports], kind: ExportKind) -> usize {
-    let mut count: usize = 0;
-    for group in groups {
-        count = count.saturating_add(count_in(group, kind));
-    }
-    count
-}
-
-/// Returns where the entity of the kind `kind` at `index` of its index space is.
-pub fn origin_of(groups: &[Imports], kind: ExportKind, index: usize) -> Origin {
-    let mut left = index;
-    for (place, group) in groups.iter().enumerate() {
-        let count = count_in(group, kind);
-        if left < count {
-            return Origin::Imported(place);
-        }
-        left -= count;
-    }
-    Origin::Defined(left)
 }
 
 // Returns the place of the entity of the kind `kind` at `index` of its index space.
-fn entity_place(module: &Module, kind: ExportKind, index: usize) -> Place {
-    match origin_of(module.imports.as_slice(), kind, index) {
-        Origin::Imported(group) => Place::Imports(group),
-        Origin::Defined(index) => match kind {
-            ExportKind::Func => Place::Function(index),
-            ExportKind::Table => Place::Table(index),
-            ExportKind::Memory => Place::Memory(index),
-            ExportKind::Global => Place::Global(index),
-            ExportKind::Tag => Place::Tag(index),
-        },
+fn entity_place(
+    alloc: Global,
+    groups: &[Imports],
+    kind: ExportKind,
+    index: usize,
+) -> Result<Place, Error>
+    ensures ok { IfOk result (IsEntityPlace groups.now kind index) }
+    ensures memory { IfErr result (λ e. e ≡ Error.Memory) }
+{
+    let origin = origin_of(alloc, groups, kind, index)?;
+    Ok(place_at(kind, origin))
+}
+
+// Returns the place of the item at `index` of a part.
+fn item_place(alloc: Global, groups: &[Imports], part: Part, index: usize) -> Result<Place, Error>
+    ensures ok { IfOk result (IsItemPlace groups.now part index) }
+    ensures memory { IfErr result (λ e. e ≡ Error.Memory) }
+{
+    match part {
+        Part::Tags => entity_place(alloc, groups, ExportKind::Tag, index),
+        Part::Functions => entity_place(alloc, groups, ExportKind::Func, index),
+        Part::Tables => entity_place(alloc, groups, ExportKind::Table, index),
+        Part::Memories => entity_place(alloc, groups, ExportKind::Memory, index),
+        Part::Globals => entity_place(alloc, groups, ExportKind::Global, index),
+        Part::TableInitials => Ok(Place::Table(index)),
+        Part::GlobalInitials => Ok(Place::GlobalInitial(index)),
+        Part::Exports => Ok(Place::Export(index)),
+        Part::Start => Ok(Place::Start),
+        Part::Elements => Ok(Place::Element(index)),
+        Part::Datas => Ok(Place::Data(index)),
     }
 }
 
-// Returns the place of an item of a section.
-fn item_place(module: &Module, fault: SectionFault) -> Place {
-    let index = fault.index;
-    match fault.part {
-        Part::Tags => entity_place(module, ExportKind::Tag, index),
-        Part::Functions => entity_place(module, ExportKind::Func, index),
-        Part::Tables => entity_place(module, ExportKind::Table, index),
-        Part::Memories => entity_place(module, ExportKind::Memory, index),
-        Part::Globals => entity_place(module, ExportKind::Global, index),
-        Part::TableInitials => Place::Table(index),
-        Part::GlobalInitials => Place::GlobalInitial(index),
-        Part::Exports => Place::Export(index),
-        Part::Start => Place::Start,
-        Part::Elements => Place::Element(index),
-        Part::Datas => Place::Data(index),
-    }
-}
-
-/// Returns the place of a fault in the file of `module`. A run of locals has no place of its own, and is
-/// at that of its body.
-pub fn place_of(module: &Module, fault: Fault) -> Place {
+/// Returns the place of `fault` in the file of a module that imports `groups`. A run of locals has no place
+/// of its own, and is at that of its body.
+pub fn fault_place(alloc: Global, groups: &[Imports], fault: Fault) -> Result<Place, Error>
+    ensures ok { IfOk result (IsFaultPlace groups.now fault) }
+    ensures memory { IfErr result (λ e. e ≡ Error.Memory) }
+{
     match fault {
-        Fault::Types(group) => Place::Types(group),
-        Fault::Section(fault) => item_place(module, fault),
-        Fault::Local { body, .. } => Place::Body(body),
-        Fault::Body { body, instruction } => Place::Instruction {
+        Fault::Types(group) => Ok(Place::Types(group)),
+        Fault::Section(item) => item_place(alloc, groups, item.part, item.index),
+        Fault::Local { body, .. } => Ok(Place::Body(body)),
+        Fault::Body { body, instruction } => Ok(Place::Instruction {
             body,
             index: instruction,
-        },
+        }),
     }
 }
 
-/// Returns the index of the function with the body at `body`, with imported functions first.
-pub fn function_of(module: &Module, body: usize) -> usize {
-    let imported = imported_count(module.imports.as_slice(), ExportKind::Func);
-    imported.saturating_add(body)
+/// Returns the index of the entity of the kind `kind` that is defined at `place`, in a module that imports
+/// `groups`.
+pub fn index_after(
+    alloc: Global,
+    groups: &[Imports],
+    kind: ExportKind,
+    place: usize,
+) -> Result<usize, Error>
+    ensures ok { IfOk result (λ index. index ≡ index_after kind groups.now place) }
+    ensures memory { IfErr result (λ e. e ≡ Error.Memory) }
+{
+    let count = imported_count(alloc, groups, kind)?;
+    Ok(count.saturating_add(place))
 }
 
-/// Returns the index of the item of a fault, with imported items first.
-pub fn index_of(module: &Module, fault: Fault) -> usize {
-    let imports = module.imports.as_slice();
+// Returns the index of the item at `place` of a part, with imports first.
+fn item_index(alloc: Global, groups: &[Imports], part: Part, place: usize) -> Result<usize, Error>
+    ensures ok { IfOk result (λ index. index ≡ item_index groups.now part place) }
+    ensures memory { IfErr result (λ e. e ≡ Error.Memory) }
+{
+    match part {
+        Part::TableInitials => index_after(alloc, groups, ExportKind::Table, place),
+        Part::GlobalInitials => index_after(alloc, groups, ExportKind::Global, place),
+        _ => Ok(place),
+    }
+}
+
+/// Returns the index of the item of `fault`, with imports first, in a module that imports `groups`.
+pub fn fault_index(alloc: Global, groups: &[Imports], fault: Fault) -> Result<usize, Error>
+    ensures ok { IfOk result (λ index. index ≡ fault_index groups.now fault) }
+    ensures memory { IfErr result (λ e. e ≡ Error.Memory) }
+{
     match fault {
-        Fault::Types(group) => group,
-        Fault::Section(SectionFault { part, index }) => match part {
-            Part::TableInitials => imported_count(imports, ExportKind::Table).saturating_add(index),
-            Part::GlobalInitials => {
-                imported_count(imports, ExportKind::Global).saturating_add(index)
-            }
-            _ => index,
-        },
-        Fault::Local { body, .. } | Fault::Body { body, .. } => function_of(module, body),
+        Fault::Types(group) => Ok(group),
+        Fault::Section(item) => item_index(alloc, groups, item.part, item.index),
+        Fault::Local { body, .. } | Fault::Body { body, .. } => {
+            index_after(alloc, groups, ExportKind::Func, body)
+        }
     }
 }

@@ -1,0 +1,4 @@
+pub mod Files
+pub mod Places
+pub mod Rules
+pub mod Answers
