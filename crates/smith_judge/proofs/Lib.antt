@@ -1,1 +1,3 @@
 mod OriginLemmas
+mod AnswerLemmas
+mod ExampleLemmas

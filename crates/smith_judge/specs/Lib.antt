@@ -2,3 +2,4 @@ pub mod Files
 pub mod Places
 pub mod Rules
 pub mod Answers
+pub mod ExampleImports

@@ -6,6 +6,7 @@
 #![tactic(auto)]
 
 mod answer;
+mod examples;
 mod finding;
 mod judge;
 mod origins;
