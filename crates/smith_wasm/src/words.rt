@@ -373,9 +373,13 @@ fn with_features<'a>(alloc: Global, mut command: Command<'a>) -> Result<Command<
     Ok(command)
 }
 
-/// Returns whether the field `name` has an effect on the features of a file: several memories are one.
+/// Returns whether the field `name` has an effect on the features of a file: several memories are one, and
+/// `non-nullable-enabled` is about modules that are made.
 fn is_feature(name: &str) -> bool {
-    name == "max-memories" || (name.ends_with("-enabled") && !has_no_effect(name))
+    if name == "max-memories" {
+        return true;
+    }
+    name.ends_with("-enabled") && name != "non-nullable-enabled" && !has_no_effect(name)
 }
 
 /// Returns `about` without the default of modules that are made.
