@@ -1,5 +1,4 @@
 -- A stub.
-use Rattle.std.specs.Prelude.{ℕ}
 use Rattle.smith_syntax.specs.Features.{Features}
 use Rattle.smith_decode.specs.declared.modules.Module.{Module}
 use Rattle.smith_decode.specs.Modules.{Syntax, syntax_of}
@@ -12,10 +11,10 @@ use Rattle.smith_check.specs.declared.judgement.Unjudged.{Unjudged}
 abbrev pub IsFirstFault : Features → Module → Fault → Type 0
 IsFirstFault features m fault = Unit {0}
 
-abbrev pub IsUnjudged : Features → Syntax → ℕ → Unjudged → Type 0
-IsUnjudged features m place why = Unit {0}
+abbrev pub IsUnjudged : Features → Syntax → Unjudged → Type 0
+IsUnjudged features m why = Unit {0}
 
 abbrev pub IsJudgement : Features → Module → Judgement → Type 0
 IsJudgement features m judgement.Valid = IsValidProgram features (syntax_of m)
 IsJudgement features m (judgement.Invalid fault) = (IsValidProgram features (syntax_of m) → ⊥) × IsFirstFault features m fault
-IsJudgement features m (judgement.NotJudged body why) = IsUnjudged features (syntax_of m) body why
+IsJudgement features m (judgement.NotJudged why) = IsUnjudged features (syntax_of m) why

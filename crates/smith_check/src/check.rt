@@ -14,8 +14,5 @@ pub fn check(_alloc: Global, _features: WasmFeatures, module: &Module) -> Result
     ensures memory { IfErr result (λ e. e ≡ Error.Memory) }
 {
     let _ = module;
-    Ok(Judgement::NotJudged {
-        body: 0,
-        why: Unjudged::Locals,
-    })
+    Ok(Judgement::NotJudged(Unjudged::Types))
 }

@@ -4,18 +4,18 @@ use smith_check_module::SectionFault;
 pub const LOCALS: usize = 50_000;
 
 /// What a check says of a module.
-#[derive(Clone, Copy, Debug, PartialEq, Eq)]
+#[derive(Clone, Copy, Debug)]
 pub enum Judgement {
     /// The module is valid.
     Valid,
     /// The module is not valid.
     Invalid(Fault),
-    /// The first body that is not judged, and why.
-    NotJudged { body: usize, why: Unjudged },
+    /// What is not judged.
+    NotJudged(Unjudged),
 }
 
 /// The first part of a module that is not valid.
-#[derive(Clone, Copy, Debug, PartialEq, Eq)]
+#[derive(Clone, Copy, Debug)]
 pub enum Fault {
     /// A recursive group of types.
     Types(usize),
@@ -27,11 +27,13 @@ pub enum Fault {
     Body { body: usize, instruction: usize },
 }
 
-/// Why a body is not judged.
-#[derive(Clone, Copy, Debug, PartialEq, Eq)]
+/// What is not judged.
+#[derive(Clone, Copy, Debug)]
 pub enum Unjudged {
-    /// It has more locals than [`LOCALS`].
-    Locals,
+    /// There are 2^32 - 1 types or more.
+    Types,
+    /// A function has more than [`LOCALS`] locals.
+    Locals { body: usize },
     /// The check does not know this instruction.
-    Instruction(usize),
+    Instruction { body: usize, instruction: usize },
 }
