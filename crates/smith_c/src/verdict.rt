@@ -1,4 +1,4 @@
-use smith_judge::{Answer, Finding, Gap, Item, Reason, Unjudged};
+use smith_judge::{Answer, Finding, Gap, Reason};
 
 /// What a file is, in the numbers of `smith.h`.
 #[repr(C)]
@@ -90,17 +90,13 @@ fn of_format(kind: u32, reason: u32, offset: usize) -> Verdict {
 }
 
 fn of_gap(kind: u32, gap: &Gap) -> Verdict {
-    let inner = match gap.why {
-        Unjudged::Instruction(index) => Some(index),
-        Unjudged::Locals => None,
-    };
     Verdict {
         kind,
         rule: 0,
         reason: 0,
-        item: Item::Function.number(),
-        index: gap.function as u64,
-        inner: inner_number(inner),
+        item: gap.item().number(),
+        index: gap.index as u64,
+        inner: inner_number(gap.inner()),
         offset: gap.offset as u64,
     }
 }

@@ -1,21 +1,17 @@
 -- What is said of a file.
 use Rattle.std.specs.Prelude.{◌≡◌, ℕ, List, Err}
 use Rattle.smith_syntax.specs.Features.{Features}
-use Rattle.smith_syntax.specs.declared.entity_type.ExportKind.TheVariants as kind
 use Rattle.smith_decode.specs.Forms.{AreFormsEnabled}
 use Rattle.smith_decode.specs.ModuleReadings.{module_at}
 use Rattle.smith_decode.specs.Modules.{Syntax, IsModuleBinary, syntax_of}
 use Rattle.smith_decode.specs.Results.{Locates, offset_in}
 use Rattle.smith_decode.specs.declared.error.DecodeError.TheVariants as error
 use Rattle.smith_decode.specs.declared.locations.Place.{Place}
-use Rattle.smith_decode.specs.declared.locations.Place.TheVariants as place
 use Rattle.smith_decode.specs.declared.modules.Module.{Module}
 use Rattle.smith_check.specs.Faults.{IsFirstFault, IsUnjudged}
 use Rattle.smith_check.specs.ValidPrograms.{IsValidProgram}
-use Rattle.smith_check.specs.declared.judgement.Unjudged.{Unjudged}
-use Rattle.smith_check.specs.declared.judgement.Unjudged.TheVariants as unjudged
 use Rattle.smith_judge.specs.Files.{IsModuleFile, IsValidFile}
-use Rattle.smith_judge.specs.Places.{IsFaultPlace, fault_index, index_after}
+use Rattle.smith_judge.specs.Places.{IsFaultPlace, fault_index, gap_index, gap_place}
 use Rattle.smith_judge.specs.Rules.{fault_rule}
 use Rattle.smith_judge.specs.declared.answer.Answer.{Answer}
 use Rattle.smith_judge.specs.declared.answer.Answer.TheVariants as answer
@@ -47,20 +43,14 @@ pub record IsInvalidFile (features : Features) (bytes : List ℕ) (finding : Fin
   pub first : IsFirstFault features m finding.fault
   pub described : IsDescribed bytes m finding
 
--- the place of what is not judged
-abbrev pub gap_place : ℕ → Unjudged → Place
-gap_place body unjudged.Locals = place.Body body
-gap_place body (unjudged.Instruction at) = place.Instruction body at
-
 -- a file is a module of these features of which this is not judged (own rule)
 pub record IsUnjudgedFile (features : Features) (bytes : List ℕ) (gap : Gap) : Type 0 where
   pub m : Module
   pub file : IsModuleFile bytes m
   pub enabled : AreFormsEnabled features m
-  pub body : ℕ
-  pub unjudged : IsUnjudged features (syntax_of m) body gap.why
-  pub function : gap.function ≡ index_after kind.Func m.imports body
-  pub offset : gap.offset ≡ offset_in bytes (gap_place body gap.why)
+  pub unjudged : IsUnjudged features (syntax_of m) gap.why
+  pub index : gap.index ≡ gap_index m.imports gap.why
+  pub offset : gap.offset ≡ offset_in bytes (gap_place gap.why)
 
 -- a file is no module: its first fault is the one that is read (Binary Format, Modules)
 pub record IsMalformedFile (bytes : List ℕ) (located : Type 0) : Type 0 where

@@ -13,6 +13,8 @@ use Rattle.smith_check_module.specs.declared.faults.Part.{Part}
 use Rattle.smith_check_module.specs.declared.faults.Part.TheVariants as part
 use Rattle.smith_check.specs.declared.judgement.Fault.{Fault}
 use Rattle.smith_check.specs.declared.judgement.Fault.TheVariants as fault
+use Rattle.smith_check.specs.declared.judgement.Unjudged.{Unjudged}
+use Rattle.smith_check.specs.declared.judgement.Unjudged.TheVariants as unjudged
 use Rattle.smith_judge.specs.declared.origins.Origin.{Origin}
 use Rattle.smith_judge.specs.declared.origins.Origin.TheVariants as origin
 
@@ -81,3 +83,14 @@ fault_index groups (fault.Types group) = group
 fault_index groups (fault.Section item) = item_index groups item.part item.index
 fault_index groups (fault.Local body run) = index_after kind.Func groups body
 fault_index groups (fault.Body body instruction) = index_after kind.Func groups body
+
+-- the place and the index of what is not judged
+abbrev pub gap_place : Unjudged → Place
+gap_place unjudged.Types = place.Types 0
+gap_place (unjudged.Locals body) = place.Body body
+gap_place (unjudged.Instruction body instruction) = place.Instruction body instruction
+
+abbrev pub gap_index : List Imports → Unjudged → ℕ
+gap_index groups unjudged.Types = 0
+gap_index groups (unjudged.Locals body) = index_after kind.Func groups body
+gap_index groups (unjudged.Instruction body instruction) = index_after kind.Func groups body

@@ -1,4 +1,4 @@
-use crate::finding::Finding;
+use crate::finding::{Finding, Item};
 use crate::words::Words;
 use smith_binary_read::Reason;
 use smith_check::Unjudged;
@@ -17,19 +17,38 @@ pub enum Answer {
     /// The file is no module of the features that are on: the first item with a form of another feature
     /// begins at the byte `offset`, counted from 0.
     FeatureOff { offset: usize },
-    /// The file is a module whose items before a body are valid, and the body is not judged.
+    /// The file is a module of which this is not judged, and all that is judged before it is valid.
     NotJudged(Gap),
 }
 
 /// What is not judged of a module.
 #[derive(Clone, Copy, Debug)]
 pub struct Gap {
-    /// The index of the function, with imported functions first.
-    pub function: usize,
-    /// Why its body is not judged.
+    /// What it is, by its place in the sections of the file, and why.
     pub why: Unjudged,
-    /// The offset in the file of the body, or of the instruction that is not known, counted from 0.
+    /// The index of the function, with imported functions first, or 0 if it is no function.
+    pub index: usize,
+    /// The offset in the file of the first type, the body, or the instruction that is not known, counted
+    /// from 0.
     pub offset: usize,
+}
+
+impl Gap {
+    /// Returns the kind of the item.
+    pub fn item(&self) -> Item {
+        match self.why {
+            Unjudged::Types => Item::Types,
+            Unjudged::Locals { .. } | Unjudged::Instruction { .. } => Item::Function,
+        }
+    }
+
+    /// Returns the index of the instruction in its body, if it is one.
+    pub fn inner(&self) -> Option<usize> {
+        match self.why {
+            Unjudged::Types | Unjudged::Locals { .. } => None,
+            Unjudged::Instruction { instruction, .. } => Some(instruction),
+        }
+    }
 }
 
 impl Answer {

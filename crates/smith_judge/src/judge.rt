@@ -1,22 +1,19 @@
-ghost use Rattle.std.specs.Prelude.{◌≡◌, ◌×◌, Ok, IfOk, IfErr};
+ghost use Rattle.std.specs.Prelude.{◌≡◌, IfOk, IfErr};
 ghost use Rattle.smith_syntax.specs.FeatureBits.{features_in};
 ghost use Rattle.smith_decode.specs.Forms.{AreFormsEnabled};
 ghost use Rattle.smith_decode.specs.Results.{offset_in};
-ghost use Rattle.smith_check.specs.Faults.{IsUnjudged};
-ghost use Rattle.smith_decode.specs.Modules.{syntax_of};
-ghost use Rattle.smith_judge.specs.Answers.{Decides, IsAnswer, IsDescribed, gap_place};
+ghost use Rattle.smith_judge.specs.Answers.{Decides, IsAnswer, IsDescribed};
 ghost use Rattle.smith_judge.specs.Files.{IsModuleFile, IsValidFile};
-ghost use Rattle.smith_judge.specs.Places.{index_after};
-ghost use Rattle.smith_syntax.specs.declared.entity_type.ExportKind.TheVariants as kind;
+ghost use Rattle.smith_judge.specs.Places.{gap_index, gap_place};
 
 use crate::answer::{Answer, Gap};
 use crate::finding::Finding;
-use crate::places::{fault_index, fault_place, index_after};
+use crate::places::{fault_index, fault_place, gap_index, gap_place};
 use crate::rules::rule_of;
 use smith_bytes::Error;
 use smith_check::{Fault, Judgement, Unjudged, check};
 use smith_decode::{DecodeError, Module, Place, decode, locate};
-use smith_types::{ExportKind, WasmFeatures};
+use smith_types::WasmFeatures;
 use std::alloc::Global;
 
 // Returns the offset of `place` in `bytes`, or of their end if there is no such place.
@@ -50,38 +47,16 @@ fn describe(alloc: Global, bytes: &[u8], module: &Module, fault: Fault) -> Resul
     })
 }
 
-// Returns the place of what is not judged of `body`.
-fn gap_place(body: usize, why: Unjudged) -> Place
-    ensures { result ≡ gap_place body why }
-{
-    match why {
-        Unjudged::Locals => Place::Body(body),
-        Unjudged::Instruction(index) => Place::Instruction { body, index },
-    }
-}
-
-// Returns what is not judged of `body` of `module`, which `bytes` are.
-fn gap_of(
-    alloc: Global,
-    bytes: &[u8],
-    module: &Module,
-    body: usize,
-    why: Unjudged,
-) -> Result<Gap, Error>
+// Returns what is not judged of `module`, which `bytes` are.
+fn gap_of(alloc: Global, bytes: &[u8], module: &Module, why: Unjudged) -> Result<Gap, Error>
     ensures why { IfOk result (λ gap. gap.why ≡ why) }
-    ensures function { IfOk result (λ gap.
-        gap.function ≡ index_after kind.Func «module».now.imports body) }
-    ensures offset { IfOk result (λ gap. gap.offset ≡ offset_in bytes.now (gap_place body why)) }
+    ensures index { IfOk result (λ gap. gap.index ≡ gap_index «module».now.imports why) }
+    ensures offset { IfOk result (λ gap. gap.offset ≡ offset_in bytes.now (gap_place why)) }
     ensures memory { IfErr result (λ e. e ≡ Error.Memory) }
 {
-    let groups = module.imports.as_slice();
-    let function = index_after(alloc, groups, ExportKind::Func, body)?;
-    let offset = offset_of(alloc, bytes, gap_place(body, why))?;
-    Ok(Gap {
-        function,
-        why,
-        offset,
-    })
+    let index = gap_index(alloc, module.imports.as_slice(), why)?;
+    let offset = offset_of(alloc, bytes, gap_place(why))?;
+    Ok(Gap { why, index, offset })
 }
 
 // Judges `module`, which `bytes` are.
@@ -103,8 +78,8 @@ fn judge_module(
             let finding = describe(alloc, bytes, module, fault)?;
             Ok(Answer::Invalid(finding))
         }
-        Judgement::NotJudged { body, why } => {
-            let gap = gap_of(alloc, bytes, module, body, why)?;
+        Judgement::NotJudged(why) => {
+            let gap = gap_of(alloc, bytes, module, why)?;
             Ok(Answer::NotJudged(gap))
         }
     }

@@ -4,6 +4,8 @@ ghost use Rattle.smith_judge.specs.Places.{
   IsFaultPlace,
   IsItemPlace,
   fault_index,
+  gap_index,
+  gap_place,
   index_after,
   item_index,
   origin_place,
@@ -11,7 +13,7 @@ ghost use Rattle.smith_judge.specs.Places.{
 
 use crate::origins::{Origin, imported_count, origin_of};
 use smith_bytes::Error;
-use smith_check::Fault;
+use smith_check::{Fault, Unjudged};
 use smith_check_module::Part;
 use smith_decode::Place;
 use smith_types::{ExportKind, Imports};
@@ -82,9 +84,9 @@ pub fn fault_place(alloc: Global, groups: &[Imports], fault: Fault) -> Result<Pl
     }
 }
 
-/// Returns the index of the entity of the kind `kind` that is defined at `place`, in a module that imports
+// Returns the index of the entity of the kind `kind` that is defined at `place`, in a module that imports
 /// `groups`.
-pub fn index_after(
+fn index_after(
     alloc: Global,
     groups: &[Imports],
     kind: ExportKind,
@@ -118,6 +120,34 @@ pub fn fault_index(alloc: Global, groups: &[Imports], fault: Fault) -> Result<us
         Fault::Types(group) => Ok(group),
         Fault::Section(item) => item_index(alloc, groups, item.part, item.index),
         Fault::Local { body, .. } | Fault::Body { body, .. } => {
+            index_after(alloc, groups, ExportKind::Func, body)
+        }
+    }
+}
+
+/// Returns the place of what is not judged.
+pub fn gap_place(why: Unjudged) -> Place
+    ensures { result ≡ gap_place why }
+{
+    match why {
+        Unjudged::Types => Place::Types(0),
+        Unjudged::Locals { body } => Place::Body(body),
+        Unjudged::Instruction { body, instruction } => Place::Instruction {
+            body,
+            index: instruction,
+        },
+    }
+}
+
+/// Returns the index of the function of what is not judged, with imports first, in a module that imports
+/// `groups`, or 0 if it is no function.
+pub fn gap_index(alloc: Global, groups: &[Imports], why: Unjudged) -> Result<usize, Error>
+    ensures ok { IfOk result (λ index. index ≡ gap_index groups.now why) }
+    ensures memory { IfErr result (λ e. e ≡ Error.Memory) }
+{
+    match why {
+        Unjudged::Types => Ok(0),
+        Unjudged::Locals { body } | Unjudged::Instruction { body, .. } => {
             index_after(alloc, groups, ExportKind::Func, body)
         }
     }

@@ -76,12 +76,16 @@ fn write_instruction<W: fmt::Write>(
 
 // Writes what is not judged, and why.
 fn write_gap<W: fmt::Write>(gap: &Gap, keyword: &str, f: &mut fmt::Formatter<W>) -> fmt::Result {
-    let (function, offset) = (gap.function, gap.offset);
-    write!(f, "function {function}")?;
+    let offset = gap.offset;
     match gap.why {
-        Unjudged::Locals => write!(f, " at 0x{offset:x}: it has more than {LOCALS} locals"),
-        Unjudged::Instruction(index) => {
-            write_instruction(index, keyword, f)?;
+        Unjudged::Types => write!(f, "there are 2^32 - 1 types or more"),
+        Unjudged::Locals { .. } => {
+            write_item(gap.item(), gap.index, f)?;
+            write!(f, " at 0x{offset:x}: it has more than {LOCALS} locals")
+        }
+        Unjudged::Instruction { instruction, .. } => {
+            write_item(gap.item(), gap.index, f)?;
+            write_instruction(instruction, keyword, f)?;
             write!(f, " at 0x{offset:x}: this instruction is not judged")
         }
     }

@@ -16,8 +16,8 @@ fn instruction_offset(answer: &Answer) -> Option<usize> {
             _ => None,
         },
         Answer::NotJudged(gap) => match gap.why {
-            Unjudged::Instruction(_) => Some(gap.offset),
-            Unjudged::Locals => None,
+            Unjudged::Instruction { .. } => Some(gap.offset),
+            Unjudged::Types | Unjudged::Locals { .. } => None,
         },
         _ => None,
     }

@@ -1,5 +1,5 @@
 use json::Writer;
-use smith_judge::{Answer, Finding, Gap, Unjudged, Words};
+use smith_judge::{Answer, Finding, Gap, Words};
 use std::alloc::{AllocError, Global};
 use std::fmt;
 
@@ -112,10 +112,10 @@ fn write_finding(writer: &mut Writer, finding: &Finding) -> Result<(), AllocErro
 
 /// Writes the members of what is not judged.
 fn write_gap(writer: &mut Writer, gap: &Gap) -> Result<(), AllocError> {
-    write_text(writer, "item", "function")?;
-    write_number(writer, "index", gap.function as u64)?;
-    if let Unjudged::Instruction(index) = gap.why {
-        write_number(writer, "inner", index as u64)?;
+    write_text(writer, "item", gap.item().name())?;
+    write_number(writer, "index", gap.index as u64)?;
+    if let Some(inner) = gap.inner() {
+        write_number(writer, "inner", inner as u64)?;
     }
     write_number(writer, "offset", gap.offset as u64)
 }
