@@ -1,8 +1,8 @@
 -- A stub.
+use Rattle.std.specs.Prelude.{◌≡◌, length}
 use Rattle.smith_syntax.specs.Features.{Features}
 use Rattle.smith_decode.specs.Modules.{Syntax}
-use Rattle.smith_check_module.specs.ValidModules.{IsValidApart}
 
 -- a stub
 pub record IsValidProgram (features : Features) (m : Syntax) : Type 0 where
-  pub apart : IsValidApart features m
+  pub bodies : length m.functions ≡ length m.bodies
