@@ -8,7 +8,6 @@ use Rattle.smith_types.specs.Imports.{flattened, imported_spaces}
 use Rattle.smith_validity.specs.Decided.{count_at}
 use Rattle.smith_decode.specs.declared.locations.Place.{Place}
 use Rattle.smith_decode.specs.declared.locations.Place.TheVariants as place
-use Rattle.smith_decode.specs.declared.modules.Module.{Module}
 use Rattle.smith_check_module.specs.declared.faults.Part.{Part}
 use Rattle.smith_check_module.specs.declared.faults.Part.TheVariants as part
 use Rattle.smith_check.specs.declared.judgement.Fault.{Fault}

@@ -1,5 +1,5 @@
 -- The rule that a fault breaks, as far as the fault says which one, and the number of each rule (own rules).
-use Rattle.std.specs.Prelude.{ℕ, nat_lt, if◌then◌else◌, List, Option, Some, None, length, slice_get}
+use Rattle.std.specs.Prelude.{ℕ, nat_lt, if◌then◌else◌, Option, Some, None, length, slice_get}
 use Rattle.smith_syntax.specs.declared.entity_type.ExportKind.{ExportKind}
 use Rattle.smith_syntax.specs.declared.entity_type.ExportKind.TheVariants as export
 use Rattle.smith_syntax.specs.declared.instruction_kind.InstructionKind.{InstructionKind}

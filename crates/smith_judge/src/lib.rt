@@ -8,7 +8,7 @@
 mod answer;
 mod examples;
 mod finding;
-mod judge;
+mod judgement;
 mod origins;
 mod places;
 mod rules;
@@ -17,7 +17,7 @@ mod words;
 
 pub use answer::{Answer, Gap};
 pub use finding::{Finding, Item};
-pub use judge::judge;
+pub use judgement::judge;
 pub use rules::Rule;
 pub use smith_binary_read::Reason;
 pub use smith_bytes::Error;

@@ -1,5 +1,5 @@
-use Rattle.std.proofs.Common.{◌≡◌, ◌+◌, ◌≤◌, ◌<◌, arith, length, refl, subst, take, take_all}
-use Rattle.smith_judge.specs.Places.{imported, defined, imported_count}
+use Rattle.std.proofs.Common.{arith, refl, take_all}
+use Rattle.smith_judge.specs.Places.{imported, defined}
 use Rattle.smith_judge.proofs.OriginLemmas.{count_next}
 use Rattle.smith_judge.proofs.origins.origin_of.Goals as goal
 
