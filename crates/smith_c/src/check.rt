@@ -1,8 +1,7 @@
-use crate::verdict::Verdict;
 use smith_bytes::Error;
 use smith_config::Config;
 use smith_config_json::{Preset, read_text};
-use smith_judge::{WasmFeatures, judge};
+use smith_judge::{Verdict, WasmFeatures, judge};
 use smith_judge_text::words;
 use smith_request::Refusal;
 use std::alloc::Global;

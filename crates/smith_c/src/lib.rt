@@ -15,14 +15,13 @@ mod check;
 mod explanation;
 mod kept;
 mod laws;
-mod verdict;
 
 pub use crate::answer::Answer;
 use crate::answer::put;
 use crate::check::check;
 use crate::explanation::explain;
 pub use crate::kept::KeptConfig;
-pub use crate::verdict::Verdict;
+pub use smith_judge::Verdict;
 use smith_request::{Form, Layout, Request};
 use std::alloc::Global;
 

@@ -2,4 +2,5 @@ pub mod Files
 pub mod Places
 pub mod Rules
 pub mod Answers
+pub mod Verdicts
 pub mod ExampleImports

@@ -1,3 +1,6 @@
+ghost use Rattle.std.specs.Prelude.{◌≡◌};
+ghost use Rattle.smith_judge.specs.Verdicts.{answer_number, gap_inner, gap_item};
+
 use crate::finding::{Finding, Item};
 use crate::words::Words;
 use smith_binary_read::Reason;
@@ -35,7 +38,9 @@ pub struct Gap {
 
 impl Gap {
     /// Returns the kind of the item.
-    pub fn item(&self) -> Item {
+    pub fn item(&self) -> Item
+        ensures { result ≡ gap_item self.now.why }
+    {
         match self.why {
             Unjudged::Types => Item::Types,
             Unjudged::Locals { .. } | Unjudged::Instruction { .. } => Item::Function,
@@ -43,7 +48,9 @@ impl Gap {
     }
 
     /// Returns the index of the instruction in its body, if it is one.
-    pub fn inner(&self) -> Option<usize> {
+    pub fn inner(&self) -> Option<usize>
+        ensures { result ≡ gap_inner self.now.why }
+    {
         match self.why {
             Unjudged::Types | Unjudged::Locals { .. } => None,
             Unjudged::Instruction { instruction, .. } => Some(instruction),
@@ -54,7 +61,9 @@ impl Gap {
 impl Answer {
     /// Returns the number of the kind of the answer: 0 for a valid file, 1 for an invalid one, 2 for one
     /// that is no module of the features, and 3 for one that is not judged.
-    pub fn number(&self) -> u32 {
+    pub fn number(&self) -> u32
+        ensures { result ≡ answer_number self.now }
+    {
         match self {
             Answer::Valid => 0,
             Answer::Invalid(_) => 1,

@@ -1,3 +1,6 @@
+ghost use Rattle.std.specs.Prelude.{◌≡◌};
+ghost use Rattle.smith_judge.specs.Verdicts.{fault_inner, fault_item, item_number, part_item};
+
 use crate::rules::Rule;
 use smith_check::Fault;
 use smith_check_module::Part;
@@ -42,7 +45,9 @@ pub enum Item {
 
 impl Item {
     /// Returns the number of the kind, from 1 on. Later versions append kinds and renumber none.
-    pub fn number(self) -> u32 {
+    pub fn number(self) -> u32
+        ensures { result ≡ item_number self }
+    {
         match self {
             Item::Types => 1,
             Item::Tag => 2,
@@ -76,7 +81,9 @@ impl Item {
 
 impl Finding {
     /// Returns the kind of the item.
-    pub fn item(&self) -> Item {
+    pub fn item(&self) -> Item
+        ensures { result ≡ fault_item self.now.fault }
+    {
         match self.fault {
             Fault::Types(_) => Item::Types,
             Fault::Section(fault) => item_of(fault.part),
@@ -85,7 +92,9 @@ impl Finding {
     }
 
     /// Returns the index of the instruction in its body, or of the run of locals, if the fault is one.
-    pub fn inner(&self) -> Option<usize> {
+    pub fn inner(&self) -> Option<usize>
+        ensures { result ≡ fault_inner self.now.fault }
+    {
         match self.fault {
             Fault::Types(_) | Fault::Section(_) => None,
             Fault::Local { run, .. } => Some(run),
@@ -94,7 +103,9 @@ impl Finding {
     }
 }
 
-fn item_of(part: Part) -> Item {
+fn item_of(part: Part) -> Item
+    ensures { result ≡ part_item part }
+{
     match part {
         Part::Tags => Item::Tag,
         Part::Functions => Item::Function,

@@ -12,6 +12,7 @@ mod judgement;
 mod origins;
 mod places;
 mod rules;
+mod verdict;
 mod wording;
 mod words;
 
@@ -23,4 +24,5 @@ pub use smith_binary_read::Reason;
 pub use smith_bytes::Error;
 pub use smith_check::{Fault, LOCALS, Unjudged};
 pub use smith_types::WasmFeatures;
+pub use verdict::{NOWHERE, Verdict};
 pub use words::Words;

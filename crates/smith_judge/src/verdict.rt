@@ -1,11 +1,24 @@
-use smith_judge::{Answer, Finding, Gap, Reason};
+ghost use Rattle.std.specs.Prelude.{◌≡◌, Option};
+ghost use Rattle.smith_judge.specs.Verdicts.{
+  finding_verdict,
+  format_verdict,
+  gap_verdict,
+  inner_number,
+  nothing_found,
+  reason_number,
+  verdict_of,
+};
 
-/// What a file is, in the numbers of `smith.h`.
+use crate::answer::{Answer, Gap};
+use crate::finding::Finding;
+use smith_binary_read::Reason;
+
+/// An answer in numbers, in memory as a caller in C has it. Later versions append numbers and renumber
+/// none.
 #[repr(C)]
 #[derive(Clone, Copy, Debug, PartialEq, Eq)]
 pub struct Verdict {
-    /// The kind of the answer: 0 for a valid module, 1 for an invalid one, 2 for a file that is malformed
-    /// or of another feature, and 3 for a module that is not judged.
+    /// The number of the kind of the answer.
     pub kind: u32,
     /// The number of the rule of validity that is broken, or 0.
     pub rule: u32,
@@ -25,8 +38,10 @@ pub struct Verdict {
 pub const NOWHERE: u64 = u64::MAX;
 
 impl Verdict {
-    /// Returns the verdict on a valid module.
-    pub fn valid() -> Verdict {
+    /// Returns the verdict on a valid file.
+    pub fn valid() -> Verdict
+        ensures { result ≡ nothing_found }
+    {
         Verdict {
             kind: 0,
             rule: 0,
@@ -38,19 +53,16 @@ impl Verdict {
         }
     }
 
-    /// Returns the numbers of `answer`.
-    pub fn of(answer: &Answer) -> Verdict {
-        let kind = answer.number();
+    /// Returns `answer` in numbers.
+    pub fn of(answer: &Answer) -> Verdict
+        ensures { result ≡ verdict_of answer.now }
+    {
         match answer {
             Answer::Valid => Verdict::valid(),
-            Answer::Invalid(finding) => of_finding(kind, finding),
-            Answer::Malformed { offset, reason } => of_format(
-                kind,
-                reason_number(*reason),
-                *offset,
-            ),
-            Answer::FeatureOff { offset } => of_format(kind, FEATURE_OFF, *offset),
-            Answer::NotJudged(gap) => of_gap(kind, gap),
+            Answer::Invalid(finding) => of_finding(finding),
+            Answer::Malformed { offset, reason } => of_format(reason_number(*reason), *offset),
+            Answer::FeatureOff { offset } => of_format(FEATURE_OFF, *offset),
+            Answer::NotJudged(gap) => of_gap(gap),
         }
     }
 }
@@ -58,16 +70,20 @@ impl Verdict {
 // The number of the rule that a form is of no feature that is off, after those of the format.
 const FEATURE_OFF: u32 = 12;
 
-fn inner_number(inner: Option<usize>) -> u64 {
+fn inner_number(inner: Option<usize>) -> u64
+    ensures { result ≡ inner_number inner }
+{
     match inner {
         Some(index) => index as u64,
         None => NOWHERE,
     }
 }
 
-fn of_finding(kind: u32, finding: &Finding) -> Verdict {
+fn of_finding(finding: &Finding) -> Verdict
+    ensures { result ≡ finding_verdict finding.now }
+{
     Verdict {
-        kind,
+        kind: 1,
         rule: finding.rule.number(),
         reason: 0,
         item: finding.item().number(),
@@ -77,9 +93,11 @@ fn of_finding(kind: u32, finding: &Finding) -> Verdict {
     }
 }
 
-fn of_format(kind: u32, reason: u32, offset: usize) -> Verdict {
+fn of_format(reason: u32, offset: usize) -> Verdict
+    ensures { result ≡ format_verdict reason offset }
+{
     Verdict {
-        kind,
+        kind: 2,
         rule: 0,
         reason,
         item: 0,
@@ -89,9 +107,11 @@ fn of_format(kind: u32, reason: u32, offset: usize) -> Verdict {
     }
 }
 
-fn of_gap(kind: u32, gap: &Gap) -> Verdict {
+fn of_gap(gap: &Gap) -> Verdict
+    ensures { result ≡ gap_verdict gap.now }
+{
     Verdict {
-        kind,
+        kind: 3,
         rule: 0,
         reason: 0,
         item: gap.item().number(),
@@ -101,8 +121,9 @@ fn of_gap(kind: u32, gap: &Gap) -> Verdict {
     }
 }
 
-// Returns the number of a rule of the format. Later versions append rules and renumber none.
-fn reason_number(reason: Reason) -> u32 {
+fn reason_number(reason: Reason) -> u32
+    ensures { result ≡ reason_number reason }
+{
     match reason {
         Reason::UnexpectedEnd => 1,
         Reason::IntegerTooLong => 2,
