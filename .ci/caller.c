@@ -133,7 +133,7 @@ static void judge_module(const uint8_t *file, size_t length, uint8_t *out) {
     struct smith_verdict whole = judged(file, length, out, ROOM), none = judged(file, length, out, 0);
     need(whole.kind == SMITH_VALID || whole.kind == SMITH_NOT_JUDGED, 5);
     need(memcmp(&whole, &none, sizeof whole) == 0, 5);
-    need((whole.kind == SMITH_VALID) == (whole.offset == UINT64_MAX), 5);
+    need((whole.kind == SMITH_VALID) == (whole.offset == ~(uint64_t)0), 5);
     struct smith_verdict front = judged(file, length - 1, out, ROOM);
     need(front.kind == SMITH_MALFORMED && front.reason == SMITH_REASON_END && front.offset <= length, 5);
 }
