@@ -5,14 +5,14 @@
 //! those of other features.
 #![tactic(auto)]
 
-mod check;
 mod elements;
 mod examples;
 mod functions;
 mod groups;
+mod judge;
 mod judgement;
 mod locals;
 mod references;
 
-pub use check::check;
+pub use judge::check;
 pub use judgement::{Fault, Judgement, LOCALS, Unjudged};
