@@ -12,14 +12,14 @@ use Rattle.smith_check_types.specs.Canonical.{AreCanonical}
 use Rattle.smith_check_types.specs.TypeSections.{IsTypeSectionValid}
 
 -- no groups are valid types
-no_types : (features : Features) → AreTypesValid features (space_of [])
+pub no_types : (features : Features) → AreTypesValid features (space_of [])
 no_types features = record {
   covered = record { consecutive = tt; whole = refl };
   orderly = record { under = λ i s t at up. absurd (cc at) };
   groups = All-nil _;
 }
 
-none_canonical : AreCanonical [] []
+pub none_canonical : AreCanonical [] []
 none_canonical = record { long = refl; each = λ index first at. absurd (cc at) }
 
 pub none_valid : (features : Features) → IsTypeSectionValid features []

@@ -4,3 +4,6 @@ pub mod ReferenceLemmas
 pub mod GroupLemmas
 pub mod FunctionLemmas
 pub mod JudgeLemmas
+pub mod ContextLemmas
+pub mod CheckLemmas
+pub mod ExampleLemmas
