@@ -5,15 +5,13 @@ use Rattle.std.proofs.lemmas.List.{length-map}
 use Rattle.smith_bytes.specs.declared.error.Error.{Error}
 use Rattle.smith_syntax.specs.FeatureBits.{features_in}
 use Rattle.smith_syntax.specs.declared.composite_type.FuncType.{FuncType}
-use Rattle.smith_types.specs.GroupedTypes.{GroupedTypes}
 use Rattle.smith_types.specs.Imports.{EntitySpaces}
 use Rattle.smith_instr.specs.Contexts.{BodyContext}
 use Rattle.smith_instr.specs.declared.instr.Instr.{Instr}
 use Rattle.smith_decode.specs.DataReadings.{segment_view}
 use Rattle.smith_decode.specs.Modules.{syntax_of}
 use Rattle.smith_decode.specs.declared.bodies.Body.{Body}
-use Rattle.smith_check_operands.specs.Scopes.{IsScope, bare}
-use Rattle.smith_check_operands.specs.declared.scope.Scope.{Scope}
+use Rattle.smith_check_operands.specs.Scopes.{IsScope}
 use Rattle.smith_check_types.specs.TypeSections.{canonical_index}
 use Rattle.smith_check_body.specs.Verdicts.{IsVerdict}
 use Rattle.smith_check_body.specs.declared.verdict.Verdict.{Verdict}
@@ -23,30 +21,29 @@ use Rattle.smith_check.specs.declared.functions.FunctionJudge.{FunctionJudge}
 use Rattle.smith_check.proofs.JudgeLemmas.{judge_types, same_types, type_in_module}
 use Rattle.smith_check.proofs.ScopeLemmas.{scope_of_function}
 
--- a scope has the parts of a judge, and those of a function
-pub record IsScopeOf (judge : FunctionJudge) (function : FuncType) (body : Body) (scope : Scope) : Type 0 where
-  pub features : scope.features ≡ judge.features
-  pub types : scope.types.now ≡ judge.types.now.space
-  pub funcs : scope.funcs.now ≡ judge.spaces.now.funcs
-  pub imported : scope.imported_funcs ≡ judge.imported_funcs
-  pub tables : scope.tables.now ≡ judge.spaces.now.tables
-  pub memories : scope.memories.now ≡ judge.spaces.now.memories
-  pub globals : scope.globals.now ≡ judge.spaces.now.globals
-  pub tags : scope.tags.now ≡ judge.spaces.now.tags
-  pub elems : scope.elems.now ≡ judge.elems.now
-  pub datas : scope.datas ≡ length judge.module.now.datas
-  pub references : scope.references.now ≡ judge.references.now
-  pub locals : scope.locals.now ≡ function.params ++ locals_in judge body
-  pub params : scope.params ≡ length function.params
-  pub results : scope.results.now ≡ function.results
+-- a context has the parts of a judge, and those of a function
+pub record IsContextOf (judge : FunctionJudge) (function : FuncType) (body : Body) (context : BodyContext) : Type 0 where
+  pub features : context.features ≡ features_in judge.features
+  pub types : context.types ≡ judge.types.now.space.types
+  pub funcs : context.funcs ≡ judge.spaces.now.funcs
+  pub imported : context.imported_funcs ≡ judge.imported_funcs
+  pub tables : context.tables ≡ judge.spaces.now.tables
+  pub memories : context.memories ≡ judge.spaces.now.memories
+  pub globals : context.globals ≡ judge.spaces.now.globals
+  pub tags : context.tags ≡ judge.spaces.now.tags
+  pub elems : context.elems ≡ judge.elems.now
+  pub datas : context.datas ≡ length judge.module.now.datas
+  pub references : context.references ≡ judge.references.now
+  pub locals : context.locals ≡ function.params ++ locals_in judge body
+  pub params : context.params ≡ length function.params
+  pub labels : context.labels ≡ []
+  pub results : context.results ≡ function.results
 
-module _ (judge : FunctionJudge) (j : IsFunctionJudge judge) (function : FuncType) (body : Body) (scope : Scope)
-    (s : IsScopeOf judge function body scope) where
-  pub same_context : bare scope ≡ context_in judge function body
+module _ (judge : FunctionJudge) (j : IsFunctionJudge judge) (function : FuncType) (body : Body) (context : BodyContext)
+    (s : IsContextOf judge function body context) where
+  same_context : context ≡ context_in judge function body
   same_context =
-      let features = ap features_in s.features in
-      let types : scope.types.now.types ≡ types_in judge.types.now.indices (syntax_of judge.module.now) =
-      ap (λ (t : GroupedTypes). t.types) s.types ∙ same_types judge j in
+      let types : context.types ≡ types_in judge.types.now.indices (syntax_of judge.module.now) = s.types ∙ same_types judge j in
       let funcs = s.funcs ∙ ap (λ (e : EntitySpaces). e.funcs) j.spaces in
       let imported = s.imported ∙ j.imported in
       let tables = s.tables ∙ ap (λ (e : EntitySpaces). e.tables) j.spaces in
@@ -57,7 +54,7 @@ module _ (judge : FunctionJudge) (j : IsFunctionJudge judge) (function : FuncTyp
       let datas = s.datas ∙ sym (length-map judge.module.now.datas segment_view) in
       let references = s.references ∙ j.references in
       λ i. record {
-        features = features i;
+        features = s.features i;
         types = types i;
         funcs = funcs i;
         imported_funcs = imported i;
@@ -70,11 +67,11 @@ module _ (judge : FunctionJudge) (j : IsFunctionJudge judge) (function : FuncTyp
         references = references i;
         locals = s.locals i;
         params = s.params i;
-        labels = [];
+        labels = s.labels i;
         results = s.results i;
       }
 
-  pub is_scope : (place : ℕ) → HasTypeAt judge place function → AreLocalsRight judge body → IsScope (bare scope)
+  pub is_scope : (place : ℕ) → HasTypeAt judge place function → AreLocalsRight judge body → IsScope context
   is_scope place typed locals =
       subst IsScope (sym same_context)
       (scope_of_function (features_in judge.features) judge.types.now.indices (syntax_of judge.module.now) (judge_types judge j) j.sections
@@ -82,7 +79,7 @@ module _ (judge : FunctionJudge) (j : IsFunctionJudge judge) (function : FuncTyp
       locals)
 
   pub same_verdict : (found : Result Verdict Error) (instructions : List Instr) → instructions ≡ body_in judge body
-      → IfOk found (IsVerdict (bare scope) instructions) → IfOk found (IsVerdict (context_in judge function body) (body_in judge body))
+      → IfOk found (IsVerdict context instructions) → IfOk found (IsVerdict (context_in judge function body) (body_in judge body))
   same_verdict found instructions is verdict =
-      subst (λ (context : BodyContext). IfOk found (IsVerdict context (body_in judge body))) same_context
-      (subst (λ (code : List Instr). IfOk found (IsVerdict (bare scope) code)) is verdict)
+      subst (λ (other : BodyContext). IfOk found (IsVerdict other (body_in judge body))) same_context
+      (subst (λ (code : List Instr). IfOk found (IsVerdict context code)) is verdict)

@@ -1,5 +1,5 @@
 -- The modules of the examples.
-use Rattle.std.proofs.Common.{◌≡◌, ◌∙◌, ◌×◌, ℕ, zero, suc, ◌<◌, ◌≤◌, false, List, [], ◌∷◌, Some, length, refl, sym, ap, subst, arith}
+use Rattle.std.proofs.Common.{◌≡◌, ◌∙◌, ℕ, zero, suc, ◌<◌, ◌≤◌, false, List, [], ◌∷◌, Some, length, refl, sym, ap, subst, arith}
 use Rattle.std.specs.Prelude.{slice_get}
 use Rattle.std.proofs.lemmas.List.Elements.{All-cons, All-nil}
 use Rattle.std.proofs.lemmas.Option.{same_Some}
@@ -74,7 +74,7 @@ own_valid : IsTypeValid usual_features (types_in indices does_nothing) 1 (functi
 own_valid = record {
   enabled = record {
     inner = λ many. absurd (omega (arith, many));
-    not_final = λ open. absurd (cc open);
+    not_final = λ opens. absurd (cc opens);
     supertype = λ some. absurd some;
     shared = λ shared. absurd (cc shared);
   };

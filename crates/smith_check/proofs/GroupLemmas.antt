@@ -1,15 +1,17 @@
 -- The first groups of types.
-use Rattle.std.proofs.Common.{◌≡◌, ◌∙◌, ℕ, zero, suc, ◌+◌, ◌^◌, ◌<◌, ◌≤◌, List, [], ◌∷◌, ◌++◌, Some, drop, get_or, length, take, ap, arith, refl, subst, sym}
-use Rattle.std.proofs.Common.{add-one, drop-cons, length-append}
+use Rattle.std.proofs.Common.{◌≡◌, ℕ, zero, suc, ◌<◌, ◌≤◌, List, [], ◌∷◌, ◌++◌, Option, Some, None, length, take, arith, refl}
+use Rattle.std.proofs.Common.{length-append}
+use Rattle.std.specs.Prelude.{MatchOption}
 use Rattle.std.specs.List.{flat_map}
-use Rattle.std.proofs.lemmas.List.{drop_all}
 use Rattle.std.proofs.lemmas.List.Elements.{All-nil}
 use Rattle.smith_syntax.specs.Features.{Features}
 use Rattle.smith_syntax.specs.declared.composite_type.SubType.{SubType}
 use Rattle.smith_types.specs.Groups.{space_of}
 use Rattle.smith_types.specs.ValidTypes.{AreTypesValid}
 use Rattle.smith_check_types.specs.Canonical.{AreCanonical}
+use Rattle.smith_check_types.specs.CheckedTypes.{AreChecked}
 use Rattle.smith_check_types.specs.TypeSections.{IsTypeSectionValid}
+use Rattle.smith_check_types.specs.declared.check.CheckedTypes.{CheckedTypes}
 
 -- no groups are valid types
 pub no_types : (features : Features) → AreTypesValid features (space_of [])
@@ -41,10 +43,9 @@ few_in_first (group ∷ groups) (suc count) =
     let others = few_in_first groups count in
     omega (arith, first, whole, others)
 
--- the types of the groups from an index on, of which the first group is known
-pub count_from : (groups : List (List SubType)) (i : ℕ) (group d : List SubType) → i < length groups → group ≡ get_or groups i d
-    → length (space_of (drop i groups)).types ≡ length group + length (space_of (drop (i + 1) groups)).types
-count_from groups i group d inside read =
-    let next : drop i groups ≡ group ∷ drop (i + 1) groups = rw (read, add-one) (drop-cons groups i d inside) in
-    ap (λ (gs : List (List SubType)). length (space_of gs).types) next
-    ∙ length-append group (flat_map (λ (g : List SubType). g) (drop (i + 1) groups))
+-- groups that are checked are valid
+pub checked_valid : (features : Features) (groups : List (List SubType)) (found : Option CheckedTypes) (types : CheckedTypes)
+    → MatchOption found (IsTypeSectionValid features groups → ⊥) (λ kept. AreChecked features groups kept) → found ≡ Some types
+    → IsTypeSectionValid features groups
+checked_valid features groups None types decided is = absurd (cc is)
+checked_valid features groups (Some kept) types decided is = decided.valid

@@ -1,6 +1,7 @@
 ghost use Rattle.std.specs.Prelude.{◌≡◌, map, IfOk, IfErr};
-ghost use Rattle.smith_decode.specs.ElementReadings.{element_view};
-ghost use Rattle.smith_check.specs.ValidPrograms.{element_types};
+ghost use Rattle.smith_decode.specs.declared.elements.ElementSegment.{ElementSegment as Element};
+ghost use Rattle.smith_check_types.specs.Renamed.{renamed_ref};
+ghost use Rattle.smith_check_types.specs.TypeSections.{canonical_index};
 
 use smith_bytes::Error;
 use smith_check_types::canonical_ref_type;
@@ -14,8 +15,9 @@ pub(crate) fn element_types(
     indices: &[u32],
     segments: &[ElementSegment],
 ) -> Result<Items<RefType>, Error>
-    ensures types { IfOk result (λ made.
-        made ≡ element_types indices.now (map element_view segments.now)) }
+    ensures types { IfOk result (λ made. made
+        ≡ map (λ (segment : Element). renamed_ref (canonical_index indices.now) segment.ty)
+        segments.now) }
     ensures memory { IfErr result (λ e. e ≡ Error.Memory) }
 {
     let mut made = Items::new(alloc);

@@ -1,13 +1,13 @@
-ghost use Rattle.std.specs.Prelude.{◌≡◌, ◌++◌, ℕ, List, map, IfOk, IfErr, OnOk};
+ghost use Rattle.std.specs.Prelude.{◌≡◌, ◌++◌, IfOk, IfErr, OnOk};
 ghost use Rattle.std.specs.List.{flat_map};
-ghost use Rattle.smith_syntax.specs.declared.entity_type.ExportKind.{ExportKind as Kind};
-ghost use Rattle.smith_syntax.specs.declared.entity_type.GlobalType.{GlobalType};
-ghost use Rattle.smith_syntax.specs.declared.entity_type.TableType.{TableType};
-ghost use Rattle.smith_instr.specs.declared.instr.Instr.{Instr as Instruction};
-ghost use Rattle.smith_decode.specs.Data.{Data};
-ghost use Rattle.smith_decode.specs.DataReadings.{segment_view, mode_view as data_mode_view};
+ghost use Rattle.smith_binary_read.specs.declared.exports.Export.{Export as Exported};
+ghost use Rattle.smith_decode.specs.DataReadings.{mode_view as data_mode_view};
 ghost use Rattle.smith_decode.specs.ElementReadings.{element_view, items_view, mode_view};
-ghost use Rattle.smith_decode.specs.Modules.{export_triple, global_pair, syntax_of, table_pair};
+ghost use Rattle.smith_decode.specs.Modules.{syntax_of};
+ghost use Rattle.smith_decode.specs.declared.data.DataSegment.{DataSegment as Data};
+ghost use Rattle.smith_decode.specs.declared.definitions.GlobalDefinition.{GlobalDefinition as Variable};
+ghost use Rattle.smith_decode.specs.declared.definitions.TableDefinition.{TableDefinition as Table};
+ghost use Rattle.smith_decode.specs.declared.elements.ElementSegment.{ElementSegment as Element};
 ghost use Rattle.smith_check.specs.References.{
   exported_by,
   named_by,
@@ -46,8 +46,7 @@ pub(crate) fn references_of(alloc: Global, module: &Module) -> Result<Items<u32>
 
 fn push_exported(exports: &[Export], named: &mut Items<u32>) -> Result<(), Error>
     ensures named { OnOk result (named.new ≡ named.old
-        ++ flat_map (λ (item : List ℕ × Kind × ℕ). exported_by item.1 item.2)
-        (map export_triple exports.now)) }
+        ++ flat_map (λ (item : Exported). exported_by item.kind item.index) exports.now) }
     ensures memory { IfErr result (λ e. e ≡ Error.Memory) }
 {
     for export in exports {
@@ -68,8 +67,7 @@ fn push_export(kind: ExportKind, index: u32, named: &mut Items<u32>) -> Result<(
 
 fn push_of_tables(tables: &[TableDefinition], named: &mut Items<u32>) -> Result<(), Error>
     ensures named { OnOk result (named.new ≡ named.old
-        ++ flat_map (λ (table : TableType × List Instruction). named_in table.1)
-        (map table_pair tables.now)) }
+        ++ flat_map (λ (table : Table). named_in table.initial) tables.now) }
     ensures memory { IfErr result (λ e. e ≡ Error.Memory) }
 {
     for table in tables {
@@ -80,8 +78,7 @@ fn push_of_tables(tables: &[TableDefinition], named: &mut Items<u32>) -> Result<
 
 fn push_of_globals(globals: &[GlobalDefinition], named: &mut Items<u32>) -> Result<(), Error>
     ensures named { OnOk result (named.new ≡ named.old
-        ++ flat_map (λ (global : GlobalType × List Instruction). named_in global.1)
-        (map global_pair globals.now)) }
+        ++ flat_map (λ (global : Variable). named_in global.initial) globals.now) }
     ensures memory { IfErr result (λ e. e ≡ Error.Memory) }
 {
     for global in globals {
@@ -91,8 +88,8 @@ fn push_of_globals(globals: &[GlobalDefinition], named: &mut Items<u32>) -> Resu
 }
 
 fn push_of_elements(segments: &[ElementSegment], named: &mut Items<u32>) -> Result<(), Error>
-    ensures named { OnOk result (named.new
-        ≡ named.old ++ flat_map named_by_element (map element_view segments.now)) }
+    ensures named { OnOk result (named.new ≡ named.old
+        ++ flat_map (λ (segment : Element). named_by_element (element_view segment)) segments.now) }
     ensures memory { IfErr result (λ e. e ≡ Error.Memory) }
 {
     for segment in segments {
@@ -126,8 +123,8 @@ fn push_of_element_mode(mode: &ElementMode, named: &mut Items<u32>) -> Result<()
 
 fn push_of_datas(segments: &[DataSegment], named: &mut Items<u32>) -> Result<(), Error>
     ensures named { OnOk result (named.new ≡ named.old
-        ++ flat_map (λ (segment : Data). named_by_data_mode segment.mode)
-        (map segment_view segments.now)) }
+        ++ flat_map (λ (segment : Data). named_by_data_mode (data_mode_view segment.mode))
+        segments.now) }
     ensures memory { IfErr result (λ e. e ≡ Error.Memory) }
 {
     for segment in segments {
