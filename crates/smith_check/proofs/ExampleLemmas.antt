@@ -75,7 +75,7 @@ own_valid = record {
   enabled = record {
     inner = λ many. absurd (omega (arith, many));
     not_final = λ opens. absurd (cc opens);
-    supertype = λ some. absurd some;
+    supertype = λ some. absurd (cc some);
     shared = λ shared. absurd (cc shared);
   };
   values = All-nil _;

@@ -29,7 +29,7 @@ use Rattle.smith_types.specs.Groups.{space_of}
 use Rattle.smith_check_types.specs.Renamed.{renamed_val}
 use Rattle.smith_check_body.specs.Verdicts.{IsNotJudged, IsRefused}
 use Rattle.smith_check_module.specs.Contexts.{types_in}
-use Rattle.smith_check.specs.Faults.{AreTypesRight, IsJudgement, IsRightBefore, most_locals}
+use Rattle.smith_check.specs.Faults.{AreTypesRight, IsBodyRefused, IsJudgement, IsRightBefore, most_locals}
 use Rattle.smith_check.specs.FunctionJudges.{AreLocalsRight, AreRightBefore, HasPartsAt, HasTypeAt, IsFunctionJudge, IsRightAt, body_in, context_in}
 use Rattle.smith_check.specs.FunctionJudges.{locals_in}
 use Rattle.smith_check.specs.Locals.{IsFirstWrongRun, IsRunRight}
@@ -157,7 +157,7 @@ module _ (judge : FunctionJudge) (place : ℕ) (j : IsFunctionJudge judge) where
         let features = features_in judge.features in
         let indices = judge.types.now.indices in
         let m = syntax_of judge.module.now in
-        let wrong = record {
+        let wrong : IsBodyRefused features indices m place at = record {
           function = function;
           locals = locals_in judge body;
           body = body_in judge body;
