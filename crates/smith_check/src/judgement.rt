@@ -1,39 +1,57 @@
 use smith_check_module::SectionFault;
 
-/// The most locals of a body, parameters included, that is judged.
+/// The number of locals, parameters included, that a function may have to be judged.
 pub const LOCALS: usize = 50_000;
 
 /// What a check says of a module.
 #[derive(Clone, Copy, Debug)]
 pub enum Judgement {
-    /// The module is valid.
+    /// The module is valid (Validation, Modules).
     Valid,
     /// The module is not valid.
     Invalid(Fault),
-    /// What is not judged.
-    NotJudged(Unjudged),
+    /// The types and the other sections are valid, and so are the functions before one that is not
+    /// judged.
+    NotJudged {
+        /// The index of the body of that function in the code section.
+        body: usize,
+        /// The reason.
+        why: Unjudged,
+    },
 }
 
-/// The first part of a module that is not valid.
+/// The first fault of a module: types come first, then the other sections in the order of
+/// [`smith_check_module::Part`], then the bodies of functions in order.
 #[derive(Clone, Copy, Debug)]
 pub enum Fault {
-    /// A recursive group of types.
+    /// The types up to this group of the type section, the first that is wrong, are not valid
+    /// (Validation, Types).
     Types(usize),
-    /// An item of another section.
+    /// An item of another section is not valid (Validation, Modules).
     Section(SectionFault),
-    /// A run of locals.
-    Local { body: usize, run: usize },
-    /// An instruction.
-    Body { body: usize, instruction: usize },
+    /// The type of a run of locals is not valid (Validation, Locals). A run of no locals is.
+    Local {
+        /// The index of the body in the code section.
+        body: usize,
+        /// The index of the run in the body.
+        run: usize,
+    },
+    /// A body is not typed (Validation, Functions).
+    Body {
+        /// The index of the body in the code section.
+        body: usize,
+        /// The index of the first instruction up to which no typed body begins as this one does, or
+        /// the number of instructions if more are missing. It is 0 if there is no such body, or no
+        /// type of its function.
+        instruction: usize,
+    },
 }
 
-/// What is not judged.
+/// Why a function is not judged.
 #[derive(Clone, Copy, Debug)]
 pub enum Unjudged {
-    /// There are 2^32 - 1 types or more.
-    Types,
-    /// A function has more than [`LOCALS`] locals.
-    Locals { body: usize },
-    /// The check does not know this instruction.
-    Instruction { body: usize, instruction: usize },
+    /// It has more than [`LOCALS`] locals, parameters included.
+    Locals,
+    /// The check does not know the instruction at this index of its body.
+    Instruction(usize),
 }
