@@ -24,7 +24,9 @@ fn instruction_offset(answer: &Answer) -> Option<usize> {
 }
 
 // Returns the instruction that begins at `offset` of `bytes`, if one does.
-fn instruction_at(alloc: Global, bytes: &[u8], offset: usize) -> Result<Option<Instr>, Error> {
+fn instruction_at(alloc: Global, bytes: &[u8], offset: usize) -> Result<Option<Instr>, Error>
+    ensures memory { IfErr result (λ e. e ≡ Error.Memory) }
+{
     let (_, rest) = bytes.split_at_checked(offset).unwrap_or((bytes, &[]));
     let mut reader = Reader::new(alloc, rest);
     match read_instr(&mut reader) {
@@ -35,7 +37,9 @@ fn instruction_at(alloc: Global, bytes: &[u8], offset: usize) -> Result<Option<I
 }
 
 // Returns the name of `instruction`: its text up to the first space.
-fn name_of(alloc: Global, instruction: &Instr) -> Result<String, Error> {
+fn name_of(alloc: Global, instruction: &Instr) -> Result<String, Error>
+    ensures memory { IfErr result (λ e. e ≡ Error.Memory) }
+{
     let mut sink = FromFmt::new(String::new(alloc));
     if write_instr(instruction, &[], &mut sink).is_err() {
         return Err(Error::Memory);
