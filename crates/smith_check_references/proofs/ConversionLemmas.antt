@@ -90,36 +90,36 @@ seen_top context reference top outer s n orderly is convertible below =
     top_above context.types orderly reference.heap_type (Abstract s outer) top below.heap is
     ∙ ap (λ k. Abstract s k) (own_top outer convertible)
 
-same_shared : (s r : Bool) (a : AbstractHeapType) → Abstract s a ≡ Abstract r a → s ≡ r
-same_shared s r a same = cc
+same_shared : (s r : Bool) (a b : AbstractHeapType) → Abstract s a ≡ Abstract r b → s ≡ r
+same_shared s r a b same = cc
 
 same_kind : (s r : Bool) (a b : AbstractHeapType) → Abstract s a ≡ Abstract r b → a ≡ b
 same_kind s r a b same = cc
 
-pub reference_apart : (context : BodyContext) (reference : RefType) (top : HeapType) (outer inner : AbstractHeapType)
-    → IsOrderly context.types → IsTop context.types reference.heap_type top → IsConvertible outer
-    → ((s : Bool) → top ≡ Abstract s outer → ⊥) → HasNoneOf context (IsConverted outer inner) (Value (Ref reference))
-reference_apart context reference top outer inner orderly is convertible never from to other (inl (s, n, same, also)) below valid above =
-    never s (seen_top context reference top outer s n orderly is convertible
-    (subst (λ x. IsBelow context.types (Value (Ref reference)) x) same below))
-reference_apart context reference top outer inner orderly is convertible never from to other (inr (same, also)) below valid above =
+-- a reference to another hierarchy
+pub reference_apart : (context : BodyContext) (shared : Bool) (reference : RefType) (ty outer inner : AbstractHeapType)
+    → IsOrderly context.types → IsTop context.types reference.heap_type (Abstract shared ty) → IsConvertible outer → (ty ≡ outer → ⊥)
+    → HasNoneOf context (IsConverted outer inner) (Value (Ref reference))
+reference_apart context shared reference ty outer inner orderly is outside never from to other (inl (s, n, same, also)) below valid above =
+    never (same_kind shared s ty outer (seen_top context reference (Abstract shared ty) outer s n orderly is outside
+    (subst (λ x. IsBelow context.types (Value (Ref reference)) x) same below)))
+reference_apart context shared reference ty outer inner orderly is outside never from to other (inr (same, also)) below valid above =
     subst (λ x. IsBelow context.types (Value (Ref reference)) x) same below
 
 -- what is converted from a reference, and counts as one of a valid type
-record IsConvertedRef (context : BodyContext) (shared : Bool) (reference : RefType) (inner : AbstractHeapType) (to other : Slot)
-    : Type 0 where
+record IsConvertedRef (context : BodyContext) (shared : Bool) (reference : RefType) (inner : AbstractHeapType) (to : Slot) : Type 0 where
   under : IsBelow context.types (Value (referring shared reference.nullable inner)) to
   heap_valid : IsHeapValid context (Abstract shared inner)
 
-converted_ref : (context : BodyContext) (shared : Bool) (reference : RefType) (outer inner : AbstractHeapType)
-    → IsOrderly context.types → IsTop context.types reference.heap_type (Abstract shared outer) → IsConvertible outer → IsConvertible inner
+converted_ref : (context : BodyContext) (shared : Bool) (reference : RefType) (ty outer inner : AbstractHeapType)
+    → IsOrderly context.types → IsTop context.types reference.heap_type (Abstract shared ty) → IsConvertible outer → IsConvertible inner
     → (from to other : Slot) → IsConverted outer inner from to → IsBelow context.types (Value (Ref reference)) from
-    → IsSlotValid context other → IsBelow context.types to other → IsConvertedRef context shared reference inner to other
-converted_ref context shared reference outer inner orderly is outside inside from to other (inl (s, n, same, also)) below valid above =
+    → IsSlotValid context other → IsBelow context.types to other → IsConvertedRef context shared reference inner to
+converted_ref context shared reference ty outer inner orderly is outside inside from to other (inl (s, n, same, also)) below valid above =
     let upper : IsRefBelow context.types reference (record { nullable = n; heap_type = Abstract s outer }) =
     subst (λ x. IsBelow context.types (Value (Ref reference)) x) same below in
-    let shares : s ≡ shared = sym (same_shared shared s outer
-    (seen_top context reference (Abstract shared outer) outer s n orderly is outside upper)) in
+    let shares : s ≡ shared = sym (same_shared shared s ty outer
+    (seen_top context reference (Abstract shared ty) outer s n orderly is outside upper)) in
     record {
       under = subst (λ x. IsBelow context.types (Value (referring shared reference.nullable inner)) x) (sym also)
           (subst (λ q. IsBelow context.types (Value (referring q reference.nullable inner)) (Value (referring s n inner))) shares
@@ -127,14 +127,15 @@ converted_ref context shared reference outer inner orderly is outside inside fro
       heap_valid = subst (λ q. IsHeapValid context (Abstract q inner)) shares
           (inner_valid context inner s n other inside valid (subst (λ x. IsBelow context.types x other) also above));
     }
-converted_ref context shared reference outer inner orderly is outside inside from to other (inr (same, also)) below valid above =
+converted_ref context shared reference ty outer inner orderly is outside inside from to other (inr (same, also)) below valid above =
     absurd (subst (λ x. IsBelow context.types (Value (Ref reference)) x) same below)
 
+-- a reference to the hierarchy
 pub reference_converted : (context : BodyContext) (shared : Bool) (reference : RefType) (outer inner : AbstractHeapType)
     → IsOrderly context.types → IsTop context.types reference.heap_type (Abstract shared outer) → IsConvertible outer → IsConvertible inner
-    → IsValid context (Ref (record { nullable = reference.nullable; heap_type = Abstract shared inner }))
+    → IsValid context (Ref reference) → IsRefValid context (record { nullable = reference.nullable; heap_type = Abstract shared inner })
     → IsLeastOf context (IsConverted outer inner) (Value (Ref reference)) (Value (referring shared reference.nullable inner))
-reference_converted context shared reference outer inner orderly is outside inside valid = record {
+reference_converted context shared reference outer inner orderly is outside inside operand_valid valid = record {
   sound = λ other other_valid above. (
     Value (referring shared reference.nullable outer),
     Value (referring shared reference.nullable inner),
@@ -143,18 +144,21 @@ reference_converted context shared reference outer inner orderly is outside insi
     above,
   );
   least = λ from to other row below other_valid above.
-      let c = converted_ref context shared reference outer inner orderly is outside inside from to other row below other_valid above in
+      let c = converted_ref context shared reference outer outer inner orderly is outside inside from to other row below other_valid above
+      in
       below_trans context.types (Value (referring shared reference.nullable inner)) to other c.under above;
-  valid = valid;
+  valid = (operand_valid.0, valid);
 }
 
-pub reference_unconverted : (context : BodyContext) (shared : Bool) (reference : RefType) (outer inner : AbstractHeapType)
-    → IsOrderly context.types → IsTop context.types reference.heap_type (Abstract shared outer) → IsConvertible outer → IsConvertible inner
+-- what a reference becomes is of no valid type
+pub reference_unconverted : (context : BodyContext) (shared : Bool) (reference : RefType) (ty outer inner : AbstractHeapType)
+    → IsOrderly context.types → IsTop context.types reference.heap_type (Abstract shared ty) → IsConvertible outer → IsConvertible inner
     → IsValid context (Ref reference)
     → (IsRefValid context (record { nullable = reference.nullable; heap_type = Abstract shared inner }) → ⊥)
     → HasNoneOf context (IsConverted outer inner) (Value (Ref reference))
-reference_unconverted context shared reference outer inner orderly is outside inside valid never from to other row below other_valid above =
-    let c = converted_ref context shared reference outer inner orderly is outside inside from to other row below other_valid above in
+reference_unconverted context shared reference ty outer inner orderly is outside inside valid never from to other row below other_valid
+    above =
+    let c = converted_ref context shared reference ty outer inner orderly is outside inside from to other row below other_valid above in
     never (record { heap_type = c.heap_valid; nullable = valid.1.nullable })
 
 -- what is no reference, or one to another hierarchy

@@ -56,8 +56,7 @@ pub fn top_at(types: &TypeSpace, index: u32) -> HeapType
 /// type that it refers to to exist.
 pub fn top_of(types: &TypeSpace, heap_type: HeapType) -> HeapType
     requires { IsInRange types.now.types heap_type }
-    ensures top { IsTop types.now.types heap_type result }
-    ensures orderly { IsOrderly types.now.types }
+    ensures { IsTop types.now.types heap_type result }
 {
     match heap_type {
         HeapType::Abstract { shared, ty } => HeapType::Abstract {

@@ -60,14 +60,14 @@ fn converted_reference(
     let HeapType::Abstract { shared, ty } = top_of(scope.types, reference.heap_type) else {
         return None;
     };
-    if ty != outer {
-        return None;
-    }
     let given = RefType {
         nullable: reference.nullable,
         heap_type: HeapType::Abstract { shared, ty: inner },
     };
-    if is_ref_valid(scope, given) {
+    if !is_ref_valid(scope, given) {
+        return None;
+    }
+    if ty == outer {
         Some(Slot::Value(ValType::Ref(given)))
     } else {
         None

@@ -9,8 +9,8 @@ returns-then-is_ref_valid c = λ outer top fits.
     either_converted (bare c.args.scope.now) outer c.args.inner top c.requires
     (c.is_ref_valid.ensures.valid.0 c.if-is_ref_valid.true).heap_type fits
 
-pub returns : goal.returns
-returns c = λ outer top fits.
+pub returns-else-is_ref_valid : goal.returns-else-is_ref_valid
+returns-else-is_ref_valid c = λ outer top fits.
     none_converted (bare c.args.scope.now) outer c.args.inner top c.requires
     (λ valid. false≢true (sym c.if-is_ref_valid.false
     ∙ c.is_ref_valid.ensures.valid.1 (record { heap_type = valid; nullable = λ null. absurd (false≢true (sym null)) })))
