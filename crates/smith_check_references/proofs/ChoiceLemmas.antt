@@ -121,41 +121,7 @@ ref_non_null context reference nullable is valid = record {
   );
 }
 
--- a number or a vector is no reference
-pub no_ref_non_null : (context : BodyContext) (value : ValType)
-    → ((reference : RefType) → IsBelow context.types (Value value) (Value (Ref reference)) → ⊥)
-    → HasNoneOf context (HasNonNull context) (Value value)
-no_ref_non_null context value never from to other (inl (heap_type, heap_valid, is, also)) below valid above =
-    never (record { nullable = true; heap_type = heap_type }) (subst (λ s. IsBelow context.types (Value value) s) is below)
-no_ref_non_null context value never from to other (inr (bottom, same)) below valid above =
-    no_bottom_above context.types value from bottom below
-
--- a reference of a bottom type is not null
-bottom_non_null : (context : BodyContext) (top least : Slot) → IsBottomRef least → IsBelow context.types top least
-    → IsSlotValid context least
-    → ((from to : Slot) → HasNonNull context from to → IsBelow context.types top from → IsBelow context.types least to)
-    → IsLeastOf context (HasNonNull context) top least
-bottom_non_null context top least bottom fits valid under = record {
-  sound = λ other other_valid above. (least, least, inr (bottom, refl), fits, above);
-  least = λ from to other row below other_valid above. below_trans context.types least to other (under from to row below) above;
-  valid = valid;
-}
-
-some_ref_under : (types : List SubType) (to : Slot) → IsBottomRef to → IsBelow types SomeRef to
-some_ref_under types SomeRef bottom = tt
-some_ref_under types (EitherRef ty) bottom = tt
-some_ref_under types to bottom = absurd bottom
-
-some_ref_least : (context : BodyContext) (from to : Slot) → HasNonNull context from to → IsBelow context.types SomeRef to
-some_ref_least context from to (inl (heap_type, valid, is, also)) = subst (λ s. IsBelow context.types SomeRef s) (sym also) tt
-some_ref_least context from to (inr (bottom, same)) =
-    subst (λ s. IsBelow context.types SomeRef s) (sym same) (some_ref_under context.types from bottom)
-
-pub some_ref_non_null : (context : BodyContext) (top : Slot) → IsBelow context.types top SomeRef
-    → IsLeastOf context (HasNonNull context) top SomeRef
-some_ref_non_null context top fits =
-    bottom_non_null context top SomeRef tt fits tt (λ from to row below. some_ref_least context from to row)
-
+-- a reference that is shared or not is not null
 either_ref_least : (context : BodyContext) (ty : AbstractHeapType) (from to : Slot) → HasNonNull context from to
     → IsBelow context.types (EitherRef ty) from → IsBelow context.types (EitherRef ty) to
 either_ref_least context ty from to (inl (heap_type, valid, is, also)) below =
@@ -165,7 +131,12 @@ either_ref_least context ty from to (inr (bottom, same)) below = subst (λ s. Is
 
 pub either_ref_non_null : (context : BodyContext) (ty : AbstractHeapType) → IsSlotValid context (EitherRef ty)
     → IsLeastOf context (HasNonNull context) (EitherRef ty) (EitherRef ty)
-either_ref_non_null context ty valid = bottom_non_null context (EitherRef ty) (EitherRef ty) tt refl valid (either_ref_least context ty)
+either_ref_non_null context ty valid = record {
+  sound = λ other other_valid above. (EitherRef ty, EitherRef ty, inr (tt, refl), refl, above);
+  least = λ from to other row below other_valid above.
+      below_trans context.types (EitherRef ty) to other (either_ref_least context ty from to row below) above;
+  valid = valid;
+}
 
 -- references to a heap type, shared or not
 pub either_read : (context : BodyContext) (ty : AbstractHeapType) (top : Slot) → FitsEither context.types ty top

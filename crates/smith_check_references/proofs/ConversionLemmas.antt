@@ -161,23 +161,6 @@ reference_unconverted context shared reference ty outer inner orderly is outside
     let c = converted_ref context shared reference ty outer inner orderly is outside inside from to other row below other_valid above in
     never (record { heap_type = c.heap_valid; nullable = valid.1.nullable })
 
--- what is no reference, or one to another hierarchy
-pub number_unconverted : (context : BodyContext) (value : ValType) (outer inner : AbstractHeapType)
-    → ((reference : RefType) → IsBelow context.types (Value value) (Value (Ref reference)) → ⊥)
-    → HasNoneOf context (IsConverted outer inner) (Value value)
-number_unconverted context value outer inner never from to other (inl (s, n, is, also)) below valid above =
-    never (record { nullable = n; heap_type = Abstract s outer }) (subst (λ x. IsBelow context.types (Value value) x) is below)
-number_unconverted context value outer inner never from to other (inr (is, also)) below valid above =
-    subst (λ x. IsBelow context.types (Value value) x) is below
-
-pub either_apart : (context : BodyContext) (ty outer inner : AbstractHeapType) → IsConvertible ty → (ty ≡ outer → ⊥)
-    → HasNoneOf context (IsConverted outer inner) (EitherRef ty)
-either_apart context ty outer inner convertible never from to other (inl (s, n, is, also)) below valid above =
-    let (r, under) = subst (λ x. IsBelow context.types (EitherRef ty) x) is below in
-    never (sym (same_kind s r outer ty (only_itself context.types r ty under.heap refl convertible)))
-either_apart context ty outer inner convertible never from to other (inr (is, also)) below valid above =
-    never (subst (λ x. IsBelow context.types (EitherRef ty) x) is below)
-
 -- the rows of the two conversions
 pub inwards_row : (context : BodyContext) (labels : List (List ValType)) (set : List ℕ)
     → HasRow (with_labels context labels) set (instr.Aggregate aggregate.AnyConvertExtern) (IsConverted abstract.Extern abstract.Any)
