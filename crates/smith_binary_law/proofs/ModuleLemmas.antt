@@ -1,4 +1,5 @@
--- Modules have one meaning: their sections are read as those of a decoded module are, but for the expressions of bodies, which stay bytes.
+-- Modules have one meaning: their sections are read as those of a decoded module are, and the expressions of
+-- bodies as any bytes.
 use Rattle.std.proofs.Common.{◌≡◌, ℕ, Option, None, List, [], ◌∷◌, map, refl, sym, subst, ap, ◌∙◌, length, arith}
 use Rattle.smith_binary.specs.Pieces.{Joined, IsList}
 use Rattle.smith_binary.proofs.UnambiguousLemmas.{same_front}
@@ -42,8 +43,8 @@ use Rattle.smith_decode.proofs.ViewLemmas.{table_viewed, tag_viewed, global_view
 use Rattle.smith_binary_law.proofs.ConstantLemmas.{from_table, from_global, from_elem, from_data, table_again, global_again, elem_again}
 use Rattle.smith_binary_law.proofs.ConstantLemmas.{data_again, map_again}
 use Rattle.smith_binary_law.proofs.ReadLemmas.{raw_decodes, viewed_decodes}
-use Rattle.smith_binary_law.proofs.SectionLemmas.{AreRead, count_form, last_form, more_read, read_whole, section_of, start_form, stated_viewed}
-use Rattle.smith_binary_law.proofs.SectionLemmas.{then_form}
+use Rattle.smith_binary_law.proofs.SectionLemmas.{AreRead, count_form, last_form, more_read, read_whole, section_of, start_form}
+use Rattle.smith_binary_law.proofs.SectionLemmas.{stated_viewed, then_form}
 
 -- the parts of a module in the order of their sections, with the number of data segments if it is stated
 abbrev Parts : Type 0

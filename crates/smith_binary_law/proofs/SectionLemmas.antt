@@ -26,7 +26,8 @@ then_form {piece = piece} id h one more = record {
 }
 
 -- the last section, and no byte after it
-pub last_form : {N : Type 0} {P : List ℕ → Type 0} {piece : List ℕ} (id : ℕ) → IsOptionalSection id N P piece → IsThen id N P AreCustoms piece
+pub last_form : {N : Type 0} {P : List ℕ → Type 0} {piece : List ℕ} (id : ℕ) → IsOptionalSection id N P piece
+    → IsThen id N P AreCustoms piece
 last_form {piece = piece} id h = record {
   first = [];
   second = piece;
@@ -60,7 +61,8 @@ stated_viewed = record {
   back = λ x piece h. record { item = h.number; is = sym h.is; form = h.form };
 }
 
-pub start_form : (start : Option ℕ) {piece : List ℕ} → IsStartSection start piece → IsOptionalSection 8 (start ≡ None) (IsStated start) piece
+pub start_form : (start : Option ℕ) {piece : List ℕ} → IsStartSection start piece
+    → IsOptionalSection 8 (start ≡ None) (IsStated start) piece
 start_form (Some index) h = IsOptionalSection.present (section_as 8 (stated_viewed.forth index) h)
 start_form None h = IsOptionalSection.absent refl h
 
