@@ -16,7 +16,7 @@ use Rattle.smith_decode.specs.Constants.{as_instr, as_expr, as_table, as_global,
 use Rattle.smith_decode.specs.Data.{Data, DataMode}
 use Rattle.smith_decode.specs.Elements.{Elem, Mode}
 
--- a constant instruction, of an instruction that is one
+-- the constant instruction that an instruction is, if it is one, else any
 pub from_instr : Instr → ConstInstr
 from_instr (instr.I32Const value) = constant.I32Const value
 from_instr (instr.I64Const value) = constant.I64Const value
