@@ -21,7 +21,7 @@ use smith_types::{AbstractHeapType, HeapType, RefType, ValType};
 
 /// Returns what a conversion into references to `inner` leaves of an operand in dead code, which may
 /// be shared or not.
-fn converted_either(scope: &Scope, inner: AbstractHeapType) -> Option<Slot>
+fn conversion_in_dead_code(scope: &Scope, inner: AbstractHeapType) -> Option<Slot>
     requires { IsConvertible inner }
     ensures { (outer : AbstractHeapType) (top : Slot)
         → IsBelow scope.now.types.now.types top (EitherRef outer)
@@ -44,7 +44,7 @@ fn converted_either(scope: &Scope, inner: AbstractHeapType) -> Option<Slot>
 
 /// Returns what a conversion of references to `outer` into references to `inner` leaves of
 /// `reference`.
-fn converted_reference(
+fn conversion_of_reference(
     scope: &Scope,
     reference: RefType,
     outer: AbstractHeapType,
@@ -76,7 +76,7 @@ fn converted_reference(
 
 /// Returns what a conversion of references to `outer` into references to `inner` leaves of an operand
 /// of the type `top`.
-fn converted(
+fn conversion_of(
     scope: &Scope,
     top: Slot,
     outer: AbstractHeapType,
@@ -89,16 +89,18 @@ fn converted(
         (λ given. IsLeastOf (bare scope.now) (IsConverted outer inner) top given) }
 {
     match top {
-        Slot::Bottom => converted_either(scope, inner),
-        Slot::SomeRef => converted_either(scope, inner),
+        Slot::Bottom => conversion_in_dead_code(scope, inner),
+        Slot::SomeRef => conversion_in_dead_code(scope, inner),
         Slot::EitherRef(ty) => {
             if ty == outer {
-                converted_either(scope, inner)
+                conversion_in_dead_code(scope, inner)
             } else {
                 None
             }
         }
-        Slot::Value(ValType::Ref(reference)) => converted_reference(scope, reference, outer, inner),
+        Slot::Value(ValType::Ref(reference)) => conversion_of_reference(
+            scope, reference, outer, inner,
+        ),
         Slot::Value(_) => None,
     }
 }
@@ -121,7 +123,7 @@ fn convert(
     let Some(top) = operands.pop(scope) else {
         return Ok(false);
     };
-    let Some(given) = converted(scope, top, outer, inner) else {
+    let Some(given) = conversion_of(scope, top, outer, inner) else {
         return Ok(false);
     };
     operands.known.push(given)?;

@@ -1,11 +1,12 @@
 ghost use Rattle.std.specs.Prelude.{[], ◌∷◌};
+ghost use Rattle.smith_types.specs.ExampleFeatures.{without_gc};
 ghost use Rattle.smith_types.specs.Flags.{funcref};
-ghost use Rattle.smith_syntax.specs.declared.value_type.AbstractHeapType.TheVariants.{Any, Extern};
+ghost use Rattle.smith_syntax.specs.declared.value_type.AbstractHeapType.TheVariants.{Any, Extern, I31};
 ghost use Rattle.smith_syntax.specs.declared.value_type.ValType.TheVariants.{I32, I64, Ref};
 ghost use Rattle.smith_instr.specs.declared.aggregate.AggregateInstr.TheVariants as aggregate;
 ghost use Rattle.smith_instr.specs.declared.instr.Instr.TheVariants as instr;
 ghost use Rattle.smith_instr.specs.declared.reference.ReferenceInstr.TheVariants as reference;
-ghost use Rattle.smith_check_rules.specs.Slots.{IsBelow};
+ghost use Rattle.smith_check_rules.specs.Slots.{IsBelow, IsSlotValid};
 ghost use Rattle.smith_check_rules.specs.Sequences.{AreTyped, IsBodyTyped, stacked};
 ghost use Rattle.smith_check_rules.specs.ExampleBodies.{
   HasType,
@@ -46,6 +47,16 @@ fn either_matching()
     ensures unshared { ¬ IsBelow [] (Value some_internal) (EitherRef Any) }
 {}
 
+// Whether the type of a reference that is shared or not is valid.
+fn either_validity()
+    ensures internal { IsSlotValid plain (EitherRef Any) }
+    ensures internal_without_gc { ¬ IsSlotValid
+        (record plain { features = without_gc }) (EitherRef Any) }
+    ensures external_without_gc { IsSlotValid
+        (record plain { features = without_gc }) (EitherRef Extern) }
+    ensures i31 { ¬ IsSlotValid plain (EitherRef I31) }
+{}
+
 // Instructions with operands of the bottom types, and without.
 fn instructions()
     ensures drop_of_bottom { HasType instr.Drop (Bottom ∷ []) [] }
@@ -78,6 +89,10 @@ fn conversions()
         (Value I32 ∷ []) }
     ensures of_a_value { HasType (instr.Aggregate aggregate.AnyConvertExtern)
         (Value some_external ∷ []) (Value some_internal ∷ []) }
+    ensures of_a_value_as_shared { ¬ HasType (instr.Aggregate aggregate.AnyConvertExtern)
+        (Value some_external ∷ []) (Value shared_internal ∷ []) }
+    ensures of_either_as_unshared { ¬ HasType (instr.Aggregate aggregate.AnyConvertExtern)
+        (EitherRef Extern ∷ []) (Value some_internal ∷ []) }
     ensures non_null_of_either { HasType (instr.Reference reference.AsNonNull)
         (EitherRef Any ∷ []) (EitherRef Any ∷ []) }
     ensures non_null_of_either_as_some { ¬ HasType (instr.Reference reference.AsNonNull)

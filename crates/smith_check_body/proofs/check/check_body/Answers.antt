@@ -1,4 +1,4 @@
-use Rattle.std.proofs.Common.{◌+◌, ◌<◌, ◌∙◌, ap, sym, subst, take, length, arith, [], MatchBool}
+use Rattle.std.proofs.Common.{◌+◌, ◌<◌, ◌∙◌, ap, subst, take, length, arith, [], MatchBool}
 use Rattle.std.proofs.lemmas.List.{take_all}
 use Rattle.smith_check_operands.specs.declared.frame.Kind.TheVariants as kind
 use Rattle.smith_check_operands.specs.Scopes.{bare}

@@ -3,7 +3,7 @@ use Rattle.smith_syntax.specs.declared.value_type.ValType.{ValType}
 use Rattle.smith_syntax.specs.declared.value_type.ValType.TheVariants.{Ref}
 use Rattle.smith_check_operands.specs.Scopes.{bare}
 use Rattle.std.specs.Prelude.{not}
-use Rattle.smith_check_rules.specs.declared.slot.Slot.TheVariants.{EitherRef, SomeRef, Value}
+use Rattle.smith_check_rules.specs.declared.slot.Slot.TheVariants.{EitherRef, Value}
 use Rattle.smith_check_rules.specs.Slots.{IsSlotValid}
 use Rattle.smith_check_rules.specs.StackTypes.{HasNonNull}
 use Rattle.smith_check_references.specs.Rows.{IsLeastOf}

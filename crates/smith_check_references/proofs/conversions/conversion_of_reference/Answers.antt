@@ -6,7 +6,7 @@ use Rattle.smith_check_operands.specs.Scopes.{bare}
 use Rattle.smith_check_references.specs.Hierarchies.{IsTop}
 use Rattle.smith_check_references.proofs.ConversionLemmas.{reference_apart, reference_converted, reference_unconverted}
 use denote.Enum.Bare.{same_true, same_false}
-use Rattle.smith_check_references.proofs.conversions.converted_reference.Goals as goal
+use Rattle.smith_check_references.proofs.conversions.conversion_of_reference.Goals as goal
 
 pub returns-then-not-is_ref_valid : goal.returns-then-not-is_ref_valid
 returns-then-not-is_ref_valid c =

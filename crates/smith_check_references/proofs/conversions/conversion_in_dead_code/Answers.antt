@@ -2,7 +2,7 @@ use Rattle.std.proofs.Common.{◌∙◌, sym}
 use Rattle.std.proofs.lemmas.Bool.{false≢true}
 use Rattle.smith_check_operands.specs.Scopes.{bare}
 use Rattle.smith_check_references.proofs.ConversionLemmas.{either_converted, none_converted}
-use Rattle.smith_check_references.proofs.conversions.converted_either.Goals as goal
+use Rattle.smith_check_references.proofs.conversions.conversion_in_dead_code.Goals as goal
 
 pub returns-then-is_ref_valid : goal.returns-then-is_ref_valid
 returns-then-is_ref_valid c = λ outer top fits.
