@@ -1,9 +1,8 @@
 -- The modules of the examples.
-use Rattle.std.proofs.Common.{◌≡◌, ◌∙◌, ℕ, zero, suc, ◌<◌, ◌≤◌, false, List, [], ◌∷◌, Some, length, refl, sym, ap, subst, arith}
+use Rattle.std.proofs.Common.{◌≡◌, ◌∙◌, ℕ, zero, suc, ◌<◌, ◌≤◌, List, [], ◌∷◌, Some, refl, sym, ap, subst, arith}
 use Rattle.std.specs.Prelude.{slice_get}
 use Rattle.std.proofs.lemmas.List.Elements.{All-cons, All-nil}
 use Rattle.std.proofs.lemmas.Option.{same_Some}
-use Rattle.std.specs.declared.ops.Range.{Range}
 use Rattle.smith_syntax.specs.declared.composite_type.CompositeInnerType.TheVariants.{Func}
 use Rattle.smith_syntax.specs.declared.composite_type.FuncType.{FuncType}
 use Rattle.smith_syntax.specs.declared.composite_type.SubType.{SubType}
@@ -12,12 +11,12 @@ use Rattle.smith_syntax.specs.declared.value_type.ValType.TheVariants.{I32}
 use Rattle.smith_types.specs.Entities.{IsFuncAt, IsFuncTypeIndex}
 use Rattle.smith_types.specs.ExampleFeatures.{usual_features}
 use Rattle.smith_types.specs.Groups.{space_of}
-use Rattle.smith_types.specs.ValidTypes.{AreTypesValid, IsGroupValid, IsTypeValid, IsValTypeValid}
+use Rattle.smith_types.specs.ValidTypes.{AreTypesValid, IsGroupValid, IsTypeValid}
 use Rattle.smith_instr.specs.Contexts.{BodyContext}
 use Rattle.smith_instr.specs.declared.instr.Instr.{Instr}
-use Rattle.smith_decode.specs.Modules.{Syntax}
 use Rattle.smith_check_rules.specs.Slots.{AreBelow, values}
-use Rattle.smith_check_rules.specs.Sequences.{AreTyped, CountsAs, IsBodyTyped, Stacked, block, if_alone, if_else, loop, nothing, step, try_table}
+use Rattle.smith_check_rules.specs.Sequences.{AreTyped, CountsAs, IsBodyTyped, Stacked, block, if_alone, if_else, loop}
+use Rattle.smith_check_rules.specs.Sequences.{nothing, step, try_table}
 use Rattle.smith_check_types.specs.Canonical.{AreCanonical, IsFirstEqual, defined_types}
 use Rattle.smith_check_types.specs.TypeSections.{IsInScope, IsTypeInScope, canonical_groups, canonical_index}
 use Rattle.smith_check_renamed.specs.RenamedInstructions.{renamed_body}

@@ -1,9 +1,7 @@
 -- Functions of a module, and what makes the module wrong.
-use Rattle.std.proofs.Common.{◌≡◌, ◌⊎◌, ◌∙◌, ℕ, ◌<◌, ◌≤◌, List, Some, length, map, sym, ap, subst, arith, inl, inr}
-use Rattle.std.specs.Prelude.{slice_get}
+use Rattle.std.proofs.Common.{◌≡◌, ◌∙◌, ℕ, ◌<◌, List, length, map, sym, ap, subst, arith, inl, inr}
 use Rattle.std.proofs.lemmas.Option.{same_Some, slice_get_within}
 use Rattle.smith_syntax.specs.Features.{Features}
-use Rattle.smith_syntax.specs.declared.composite_type.CompositeInnerType.{CompositeInnerType}
 use Rattle.smith_syntax.specs.declared.composite_type.CompositeInnerType.TheVariants.{Func}
 use Rattle.smith_syntax.specs.declared.composite_type.FuncType.{FuncType}
 use Rattle.smith_syntax.specs.declared.composite_type.SubType.{SubType}
@@ -19,10 +17,11 @@ use Rattle.smith_check_types.specs.Renamed.{renamed_val}
 use Rattle.smith_check_types.specs.TypeSections.{canonical_index, IsTypeSectionValid}
 use Rattle.smith_check_module.specs.Contexts.{types_in}
 use Rattle.smith_check_module.specs.ValidModules.{AreSectionsValid}
-use Rattle.smith_check.specs.Faults.{AreTypesRight, IsBodyRefused, IsRightBefore, IsUnpaired}
-use Rattle.smith_check.specs.ValidPrograms.{AreValuesValid, IsFunctionAt, IsFunctionValid, IsValidProgram, context_of_function}
+use Rattle.smith_check.specs.Faults.{AreTypesRight, IsBodyRefused, IsUnpaired}
+use Rattle.smith_check.specs.ValidPrograms.{IsFunctionAt, IsFunctionValid, IsValidProgram, context_of_function}
 
-same_function : (types : List SubType) (index : ℕ) (one other : FuncType) → IsFuncAt types index one → IsFuncAt types index other → one ≡ other
+same_function : (types : List SubType) (index : ℕ) (one other : FuncType) → IsFuncAt types index one → IsFuncAt types index other
+    → one ≡ other
 same_function types index one other (t, at, is) (u, there, also) =
     let same : t ≡ u = same_Some t u (sym at ∙ there) in
     let inner : Func one ≡ Func other = sym is ∙ ap (λ (s : SubType). s.composite_type.inner) same ∙ also in
@@ -64,8 +63,9 @@ module _ (features : Features) (indices : List ℕ) (m : Syntax) where
       valid.body refused.body valid.there refused.there in
       let bodies : valid.body ≡ refused.body = same_body place valid.function refused.function valid.locals refused.locals
       valid.body refused.body valid.there refused.there in
-      refused.refused.untyped (subst (λ (body : List Instr). IsBodyTyped (context_of_function features indices m refused.function refused.locals)
-      body) bodies (subst (λ (ls : List ValType). IsBodyTyped (context_of_function features indices m refused.function ls) valid.body) locals
+      refused.refused.untyped (subst (λ (body : List Instr).
+      IsBodyTyped (context_of_function features indices m refused.function refused.locals) body) bodies
+      (subst (λ (ls : List ValType). IsBodyTyped (context_of_function features indices m refused.function ls) valid.body) locals
       (subst (λ (f : FuncType). IsBodyTyped (context_of_function features indices m f valid.locals) valid.body) types valid.body_typed)))
 
   -- a valid function has a type and a body

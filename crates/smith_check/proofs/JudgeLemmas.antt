@@ -1,6 +1,6 @@
 -- What a judge of functions says.
-use Rattle.std.proofs.Common.{◌≡◌, ◌∙◌, ℕ, ◌+◌, ◌<◌, ◌≤◌, List, ◌++◌, Option, Some, None, Bor, length, map, get_or, sym, ap, subst, arith, inl, inr, refl}
-use Rattle.std.proofs.Common.{below_more}
+use Rattle.std.proofs.Common.{◌≡◌, ◌∙◌, ℕ, ◌+◌, ◌<◌, ◌≤◌, List, ◌++◌, Option, Some, None, Bor, length}
+use Rattle.std.proofs.Common.{map, get_or, sym, ap, subst, arith, below_more, inl, inr, refl}
 use Rattle.std.specs.Prelude.{All, MatchOption, slice_get}
 use Rattle.std.proofs.Math.ListN.{get_or-map}
 use Rattle.std.proofs.lemmas.List.{length-append, length-map}
@@ -30,8 +30,8 @@ use Rattle.smith_check_types.specs.Renamed.{renamed_val}
 use Rattle.smith_check_body.specs.Verdicts.{IsNotJudged, IsRefused}
 use Rattle.smith_check_module.specs.Contexts.{types_in}
 use Rattle.smith_check.specs.Faults.{AreTypesRight, IsBodyRefused, IsJudgement, IsRightBefore, most_locals}
-use Rattle.smith_check.specs.FunctionJudges.{AreLocalsRight, AreRightBefore, HasPartsAt, HasTypeAt, IsFunctionJudge, IsRightAt, body_in, context_in}
-use Rattle.smith_check.specs.FunctionJudges.{locals_in}
+use Rattle.smith_check.specs.FunctionJudges.{AreLocalsRight, AreRightBefore, HasPartsAt, HasTypeAt, IsFunctionJudge, IsRightAt}
+use Rattle.smith_check.specs.FunctionJudges.{body_in, context_in, locals_in}
 use Rattle.smith_check.specs.Locals.{IsFirstWrongRun, IsRunRight}
 use Rattle.smith_check.specs.ValidPrograms.{AreValuesValid, IsFunctionAt, IsValidProgram}
 use Rattle.smith_check.specs.declared.functions.FunctionJudge.{FunctionJudge}
@@ -44,7 +44,8 @@ use Rattle.smith_check.proofs.LocalLemmas.{length-locals_by, locals_from_runs, w
 -- the types of a judge
 pub judge_types : (judge : FunctionJudge) → IsFunctionJudge judge
     → AreTypesValid (features_in judge.features) (space_of (canonical_groups judge.types.now.indices judge.module.now.types))
-judge_types judge j = section_valid (features_in judge.features) judge.module.now.types judge.types.now.indices j.types.canonical j.types.valid
+judge_types judge j =
+    section_valid (features_in judge.features) judge.module.now.types judge.types.now.indices j.types.canonical j.types.valid
 
 pub same_types : (judge : FunctionJudge) → IsFunctionJudge judge
     → judge.types.now.space.types ≡ types_in judge.types.now.indices (syntax_of judge.module.now)
@@ -70,8 +71,10 @@ body_inside : (judge : FunctionJudge) (place : ℕ) (body : Body) → slice_get 
 body_inside judge place body held =
     slice_get_within (syntax_of judge.module.now).bodies place (body_view body) (body_viewed judge place body held)
 
-pub type_in_module : (judge : FunctionJudge) (place : ℕ) (function : FuncType) → IsFunctionJudge judge → (typed : HasTypeAt judge place function)
-    → IsFuncAt (types_in judge.types.now.indices (syntax_of judge.module.now)) (canonical_index judge.types.now.indices typed.index) function
+pub type_in_module : (judge : FunctionJudge) (place : ℕ) (function : FuncType) → IsFunctionJudge judge
+    → (typed : HasTypeAt judge place function)
+    → IsFuncAt (types_in judge.types.now.indices (syntax_of judge.module.now)) (canonical_index judge.types.now.indices typed.index)
+    function
 type_in_module judge place function j typed =
     subst (λ (types : List SubType). IsFuncAt types (canonical_index judge.types.now.indices typed.index) function) (same_types judge j)
     typed.typed
@@ -119,8 +122,8 @@ module _ (judge : FunctionJudge) (place : ℕ) (functions indices : List ℕ) (t
   }
 
 -- a body, as it is read
-pub body_read : (bodies slice : List Body) (place : ℕ) (body : Body) → slice ≡ bodies → place < length bodies → body ≡ get_or slice place body
-    → slice_get bodies place ≡ Some body
+pub body_read : (bodies slice : List Body) (place : ℕ) (body : Body) → slice ≡ bodies → place < length bodies
+    → body ≡ get_or slice place body → slice_get bodies place ≡ Some body
 body_read bodies slice place body same inside read =
     slice_get_read bodies (length bodies) place body refl inside (read ∙ ap (λ (bs : List Body). get_or bs place body) same)
 
@@ -164,8 +167,7 @@ module _ (judge : FunctionJudge) (place : ℕ) (j : IsFunctionJudge judge) where
           there = function_at judge place function body j parts;
           locals_valid = locals;
           refused = refused;
-        } in
-        (
+        } in (
           function_wrong features indices m (right_types judge j) place (body_inside judge place body parts.held)
               (refused_wrong features indices m place at wrong),
           (indices, right_before judge place j before, inl wrong),
@@ -173,7 +175,7 @@ module _ (judge : FunctionJudge) (place : ℕ) (j : IsFunctionJudge judge) where
 
     pub unknown_judgement : (function : FuncType) (body : Body) (at : ℕ) → HasPartsAt judge place function body → AreLocalsRight judge body
         → IsNotJudged (body_in judge body) at
-        → IsJudgement (features_in judge.features) judge.module.now (judgement.NotJudged place (unjudged.Instruction at))
+        → IsJudgement (features_in judge.features) judge.module.now (judgement.NotJudged (unjudged.Instruction place at))
     unknown_judgement function body at parts locals first = record {
       indices = judge.types.now.indices;
       before = right_before judge place j before;
@@ -181,12 +183,12 @@ module _ (judge : FunctionJudge) (place : ℕ) (j : IsFunctionJudge judge) where
       locals = locals_in judge body;
       body = body_in judge body;
       there = function_at judge place function body j parts;
-      because = (locals, first);
+      has = (locals, first);
     }
 
     pub many_judgement : (function : FuncType) (body : Body) → HasPartsAt judge place function body
         → (length function.params + total body.locals ≤ most_locals → ⊥)
-        → IsJudgement (features_in judge.features) judge.module.now (judgement.NotJudged place unjudged.Locals)
+        → IsJudgement (features_in judge.features) judge.module.now (judgement.NotJudged (unjudged.Locals place))
     many_judgement function body parts many = record {
       indices = judge.types.now.indices;
       before = right_before judge place j before;
@@ -194,7 +196,7 @@ module _ (judge : FunctionJudge) (place : ℕ) (j : IsFunctionJudge judge) where
       locals = locals_in judge body;
       body = body_in judge body;
       there = function_at judge place function body j parts;
-      because =
+      has =
           let both = length-append function.params (locals_in judge body) in
           let own = length-locals_by judge.types.now.indices body.locals in
           omega (arith, both, own, many);
@@ -209,8 +211,7 @@ module _ (judge : FunctionJudge) (place : ℕ) (j : IsFunctionJudge judge) where
         let indices = judge.types.now.indices in
         let m = syntax_of judge.module.now in
         let here : IsFirstWrongRun features (length (types_in indices m)) indices body.locals run =
-        subst (λ (n : ℕ). IsFirstWrongRun features n indices body.locals run) long first in
-        (
+        subst (λ (n : ℕ). IsFirstWrongRun features n indices body.locals run) long first in (
           function_wrong features indices m (right_types judge j) place (body_inside judge place body held) (λ valid.
               let code : valid.there.code ≡ body_view body = same_Some valid.there.code (body_view body)
               (sym valid.there.held ∙ body_viewed judge place body held) in
@@ -231,8 +232,7 @@ module _ (judge : FunctionJudge) (place : ℕ) (j : IsFunctionJudge judge) where
         let none : length m.functions < place → ⊥ = λ low.
         let own = type_inside features indices m (length m.functions) (before.each (length m.functions) low) in omega (arith, own) in
         let at : place ≡ length m.functions = omega (arith, past, none) in
-        let held : place < length m.bodies = let same = bodies_counted judge in omega (arith, same, inside) in
-        (
+        let held : place < length m.bodies = let same = bodies_counted judge in omega (arith, same, inside) in (
           unpaired_wrong features indices m place (inl (at, held)),
           (indices, right_before judge place j before, inr (refl, inl (at, held))),
         )
@@ -244,8 +244,7 @@ module _ (judge : FunctionJudge) (place : ℕ) (j : IsFunctionJudge judge) where
         let features = features_in judge.features in
         let indices = judge.types.now.indices in
         let m = syntax_of judge.module.now in
-        let last : place ≡ length m.bodies = at ∙ sym (bodies_counted judge) in
-        (
+        let last : place ≡ length m.bodies = at ∙ sym (bodies_counted judge) in (
           unpaired_wrong features indices m place (inr (last, inside)),
           (indices, right_before judge place j before, inr (refl, inr (last, inside))),
         )

@@ -1,7 +1,8 @@
 -- The locals of runs.
-use Rattle.std.proofs.Common.{◌≡◌, ◌∙◌, ℕ, zero, suc, ◌+◌, ◌<◌, List, [], ◌∷◌, ◌++◌, length, map, replicate, take, get_or, sym, ap, subst, arith, refl, append_assoc}
-use Rattle.std.specs.Prelude.{All, Some, slice_get}
-use Rattle.std.proofs.lemmas.List.{append-nil, take_more, length-append, length-map, length-replicate, map-append}
+use Rattle.std.proofs.Common.{◌≡◌, ◌∙◌, ℕ, zero, suc, ◌+◌, ◌<◌, List, [], ◌∷◌, ◌++◌, length}
+use Rattle.std.proofs.Common.{map, replicate, take, get_or, sym, ap, subst, arith, refl, append_assoc}
+use Rattle.std.specs.Prelude.{All}
+use Rattle.std.proofs.lemmas.List.{append-nil, take_more, length-append, length-replicate, map-append}
 use Rattle.std.proofs.lemmas.List.Elements.{All-append, All-cons, All-head, All-nil, All-replicate}
 use Rattle.smith_syntax.specs.Features.{Features}
 use Rattle.smith_syntax.specs.declared.value_type.ValType.{ValType}
@@ -40,13 +41,14 @@ locals_by-append indices (first ∷ runs) run =
     ∙ sym (append_assoc own (locals_by indices runs) last)
     ∙ ap (λ (xs : List ValType). xs ++ last) (sym (locals_by-cons indices first runs))
 
-pub pushed_run : (indices : List ℕ) (params made new : List ValType) (runs : List LocalRun) (i : ℕ) (d : LocalRun) (count : ℕ) (ty : ValType)
-    → i < length runs → count ≡ (get_or runs i d).count → ty ≡ renamed_val (canonical_index indices) (get_or runs i d).ty
+pub pushed_run : (indices : List ℕ) (params made new : List ValType) (runs : List LocalRun) (i : ℕ) (d : LocalRun) (count : ℕ)
+    (ty : ValType) → i < length runs → count ≡ (get_or runs i d).count → ty ≡ renamed_val (canonical_index indices) (get_or runs i d).ty
     → made ≡ params ++ locals_by indices (take i runs) → new ≡ made ++ replicate count ty
     → new ≡ params ++ locals_by indices (take (i + 1) runs)
 pushed_run indices params made new runs i d count ty inside counted typed before after =
     let run = get_or runs i d in
-    let own : replicate count ty ≡ replicate run.count (renamed_val (canonical_index indices) run.ty) = λ k. replicate (counted k) (typed k) in
+    let own : replicate count ty ≡ replicate run.count (renamed_val (canonical_index indices) run.ty) =
+    λ k. replicate (counted k) (typed k) in
     let more : locals_by indices (take (i + 1) runs)
     ≡ locals_by indices (take i runs) ++ replicate run.count (renamed_val (canonical_index indices) run.ty) =
     ap (λ (rs : List LocalRun). locals_by indices rs) (take_more runs i d inside) ∙ locals_by-append indices (take i runs) run in

@@ -1,10 +1,11 @@
 -- What a check says of a module: that it is valid, or its first fault, or what is not judged. The order
 -- of faults is a rule of this project: types, then the other sections, then the bodies of functions in
 -- order.
-use Rattle.std.specs.Prelude.{◌≡◌, ◌⊎◌, ℕ, ◌+◌, ◌<◌, List, ◌++◌, Some, length, take, slice_get}
+use Rattle.std.specs.Prelude.{◌≡◌, ◌⊎◌, ℕ, ◌+◌, ◌^◌, ◌<◌, ◌≤◌, List, ◌++◌, Some, length, take, slice_get}
 use Rattle.smith_syntax.specs.Features.{Features}
 use Rattle.smith_syntax.specs.declared.composite_type.FuncType.{FuncType}
 use Rattle.smith_syntax.specs.declared.value_type.ValType.{ValType}
+use Rattle.smith_types.specs.Groups.{space_of}
 use Rattle.smith_instr.specs.declared.instr.Instr.{Instr}
 use Rattle.smith_decode.specs.declared.bodies.Body.{Body}
 use Rattle.smith_decode.specs.declared.modules.Module.{Module}
@@ -80,24 +81,30 @@ IsFirstFault features m (fault.Body body instruction) =
 abbrev pub most_locals : ℕ
 most_locals = 50000
 
--- why a function is not judged: it has too many locals, or an instruction that the check does not know
--- (own rule)
-abbrev pub IsWhy : Features → List ℕ → Syntax → FuncType → List ValType → List Instr → Unjudged → Type 0
-IsWhy features indices m function locals body unjudged.Locals = most_locals < length (function.params ++ locals)
-IsWhy features indices m function locals body (unjudged.Instruction at) = AreValuesValid features indices m locals × IsNotJudged body at
+-- everything before a function is valid, and its parts have a property (own rule)
+pub record HasAtFirst (features : Features) (m : Syntax) (place : ℕ) (Is : List ℕ → FuncType → List ValType → List Instr → Type 0) : Type 0
+  where
+    pub indices : List ℕ
+    pub before : IsRightBefore features indices m place
+    pub function : FuncType
+    pub locals : List ValType
+    pub body : List Instr
+    pub there : IsFunctionAt indices m place function locals body
+    pub has : Is indices function locals body
 
--- everything before a function is valid, and the function is not judged (own rule)
-pub record IsUnjudged (features : Features) (m : Syntax) (place : ℕ) (why : Unjudged) : Type 0 where
-  pub indices : List ℕ
-  pub before : IsRightBefore features indices m place
-  pub function : FuncType
-  pub locals : List ValType
-  pub body : List Instr
-  pub there : IsFunctionAt indices m place function locals body
-  pub because : IsWhy features indices m function locals body why
+-- why a module is not judged: it has too many types for their indices; or it has a function before which
+-- everything is valid, with too many locals, or with an instruction that the check does not know (own
+-- rule)
+abbrev pub IsUnjudged : Features → Syntax → Unjudged → Type 0
+IsUnjudged features m unjudged.Types = 2 ^ 32 ≤ length (space_of m.types).types + 1
+IsUnjudged features m (unjudged.Locals body) =
+    HasAtFirst features m body (λ indices function locals instructions. most_locals < length (function.params ++ locals))
+IsUnjudged features m (unjudged.Instruction body at) =
+    HasAtFirst features m body (λ indices function locals instructions. AreValuesValid features indices m locals
+    × IsNotJudged instructions at)
 
 -- a judgement is right (Validation, Modules)
 abbrev pub IsJudgement : Features → Module → Judgement → Type 0
 IsJudgement features m judgement.Valid = IsValidProgram features (syntax_of m)
 IsJudgement features m (judgement.Invalid fault) = (IsValidProgram features (syntax_of m) → ⊥) × IsFirstFault features m fault
-IsJudgement features m (judgement.NotJudged body why) = IsUnjudged features (syntax_of m) body why
+IsJudgement features m (judgement.NotJudged why) = IsUnjudged features (syntax_of m) why

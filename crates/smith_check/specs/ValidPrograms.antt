@@ -51,15 +51,15 @@ context_of_function features indices m function locals = record {
 
 -- the function that a module defines at a place: its type, its locals and its instructions, by
 -- canonical indices (Structure, Functions)
-pub record IsFunctionAt (indices : List ℕ) (m : Syntax) (place : ℕ) (function : FuncType) (locals : List ValType) (body : List Instr) : Type 0
-  where
-    pub index : ℕ
-    pub typed_by : slice_get m.functions place ≡ Some index
-    pub typed : IsFuncAt (types_in indices m) (canonical_index indices index) function
-    pub code : List ValType × List Instr
-    pub held : slice_get m.bodies place ≡ Some code
-    pub locals_are : locals ≡ map (renamed_val (canonical_index indices)) code.0
-    pub body_is : body ≡ renamed_body (canonical_index indices) code.1
+pub record IsFunctionAt (indices : List ℕ) (m : Syntax) (place : ℕ) (function : FuncType) (locals : List ValType)
+    (body : List Instr) : Type 0 where
+  pub index : ℕ
+  pub typed_by : slice_get m.functions place ≡ Some index
+  pub typed : IsFuncAt (types_in indices m) (canonical_index indices index) function
+  pub code : List ValType × List Instr
+  pub held : slice_get m.bodies place ≡ Some code
+  pub locals_are : locals ≡ map (renamed_val (canonical_index indices)) code.0
+  pub body_is : body ≡ renamed_body (canonical_index indices) code.1
 
 -- valid value types over the types of a module (Validation, Value Types)
 abbrev pub AreValuesValid : Features → List ℕ → Syntax → List ValType → Type 0

@@ -116,10 +116,10 @@ impl<'a> FunctionJudge<'a> {
                 body: place,
                 instruction: at,
             })),
-            Verdict::NotJudged { at } => Some(Judgement::NotJudged {
+            Verdict::NotJudged { at } => Some(Judgement::NotJudged(Unjudged::Instruction {
                 body: place,
-                why: Unjudged::Instruction(at),
-            }),
+                instruction: at,
+            })),
         })
     }
 
@@ -144,10 +144,7 @@ impl<'a> FunctionJudge<'a> {
         let body = &self.module.bodies.as_slice()[place];
         let runs = body.locals.as_slice();
         if !are_few(function.params.len(), runs) {
-            return Ok(Some(Judgement::NotJudged {
-                body: place,
-                why: Unjudged::Locals,
-            }));
+            return Ok(Some(Judgement::NotJudged(Unjudged::Locals { body: place })));
         }
         let end = self.types.space.types().len();
         match first_wrong_run(self.features, end, self.types.indices.as_slice(), runs) {

@@ -8,7 +8,7 @@ ghost use Rattle.smith_check.specs.Faults.{IsJudgement};
 use crate::elements::element_types;
 use crate::functions::FunctionJudge;
 use crate::groups::{are_few, first_wrong_group};
-use crate::judgement::{Fault, Judgement};
+use crate::judgement::{Fault, Judgement, Unjudged};
 use crate::references::references_of;
 use smith_bytes::Error;
 use smith_check_module::{canonical_spaces, check_sections};
@@ -25,15 +25,14 @@ use std::alloc::Global;
 ///
 /// # Errors
 ///
-/// Returns `Memory` if an allocation fails, or if the module has 2^32 - 1 types or more, for which no
-/// memory is enough.
+/// Returns `Memory` if an allocation fails, and no other error.
 pub fn check(alloc: Global, features: WasmFeatures, module: &Module) -> Result<Judgement, Error>
     ensures decided { IfOk result (IsJudgement (features_in features) «module».now) }
     ensures memory { IfErr result (λ e. e ≡ Error.Memory) }
 {
     let groups = module.types.as_slice();
     if !are_few(groups) {
-        return Err(Error::Memory);
+        return Ok(Judgement::NotJudged(Unjudged::Types));
     }
     let found = check_types(alloc, features, groups)?;
     match found {

@@ -10,14 +10,8 @@ pub enum Judgement {
     Valid,
     /// The module is not valid.
     Invalid(Fault),
-    /// The types and the other sections are valid, and so are the functions before one that is not
-    /// judged.
-    NotJudged {
-        /// The index of the body of that function in the code section.
-        body: usize,
-        /// The reason.
-        why: Unjudged,
-    },
+    /// The module is not judged.
+    NotJudged(Unjudged),
 }
 
 /// The first fault of a module: types come first, then the other sections in the order of
@@ -47,11 +41,22 @@ pub enum Fault {
     },
 }
 
-/// Why a function is not judged.
+/// Why a module is not judged. If it is for a function, the types and the other sections are valid, and
+/// so are the functions before it.
 #[derive(Clone, Copy, Debug)]
 pub enum Unjudged {
-    /// It has more than [`LOCALS`] locals, parameters included.
-    Locals,
-    /// The check does not know the instruction at this index of its body.
-    Instruction(usize),
+    /// The module has 2^32 - 1 types or more.
+    Types,
+    /// A function has more than [`LOCALS`] locals, parameters included.
+    Locals {
+        /// The index of its body in the code section.
+        body: usize,
+    },
+    /// The check does not know an instruction of a function whose locals are valid.
+    Instruction {
+        /// The index of its body in the code section.
+        body: usize,
+        /// The index of the instruction in the body.
+        instruction: usize,
+    },
 }

@@ -106,7 +106,10 @@ fn push_of_items(items: &ElementItems, named: &mut Items<u32>) -> Result<(), Err
 {
     match items {
         ElementItems::Functions(functions) => named.extend_from_slice(functions.as_slice()),
-        ElementItems::Expressions(expressions) => push_of_expressions(expressions.as_slice(), named),
+        ElementItems::Expressions(expressions) => push_of_expressions(
+            expressions.as_slice(),
+            named,
+        ),
     }
 }
 

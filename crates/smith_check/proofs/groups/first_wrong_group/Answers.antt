@@ -1,6 +1,5 @@
-use Rattle.std.proofs.Common.{◌≡◌, ℕ, ◌+◌, ◌-◌, ◌/◌, ◌<◌, ◌≤◌, length, take, arith, refl, subst, sym, take_all}
+use Rattle.std.proofs.Common.{ℕ, ◌+◌, ◌-◌, ◌/◌, length, take, arith, subst, sym, take_all}
 use Rattle.smith_syntax.specs.FeatureBits.{features_in}
-use Rattle.smith_types.specs.Groups.{space_of}
 use Rattle.smith_check_types.specs.TypeSections.{IsTypeSectionValid}
 use Rattle.smith_check.proofs.GroupLemmas.{checked_valid, few_in_first, none_valid, some_groups}
 use Rattle.smith_check.proofs.groups.first_wrong_group.Goals as goal
@@ -12,7 +11,8 @@ loop-wrong-init c = record {
   inside = omega arith;
   right = none_valid (features_in c.args.features);
   refused = λ valid. c.requires.wrong
-      (subst (IsTypeSectionValid (features_in c.args.features)) (take_all (length c.args.groups.now) c.args.groups.now (omega arith)) valid);
+      (subst (IsTypeSectionValid (features_in c.args.features))
+      (take_all (length c.args.groups.now) c.args.groups.now (omega arith)) valid);
 }
 
 pub check_types-requires : goal.check_types-requires
@@ -32,17 +32,17 @@ loop-wrong-preserved-after-found c =
     let inside = c.loop-wrong.invariant.inside in
     elim c.match-found.branch [
       | in-Some w ↦ record {
-          order = let v = w.valid-is in let n = w.wrong-is in omega (arith, v, n, test);
-          inside = let n = w.wrong-is in omega (arith, n, inside);
-          right = subst (λ (k : ℕ). IsTypeSectionValid features (take k groups)) (sym w.valid-is)
-              (checked_valid features (take middle groups) c.in_ok-found.found _ c.in_ok-found.ensures.decided w.in-Some.is);
-          refused = subst (λ (k : ℕ). IsTypeSectionValid features (take k groups) → ⊥) (sym w.wrong-is) c.loop-wrong.invariant.refused;
-        }
+        order = let v = w.valid-is in let n = w.wrong-is in omega (arith, v, n, test);
+        inside = let n = w.wrong-is in omega (arith, n, inside);
+        right = subst (λ (k : ℕ). IsTypeSectionValid features (take k groups)) (sym w.valid-is)
+            (checked_valid features (take middle groups) c.in_ok-found.found _ c.in_ok-found.ensures.decided w.in-Some.is);
+        refused = subst (λ (k : ℕ). IsTypeSectionValid features (take k groups) → ⊥) (sym w.wrong-is) c.loop-wrong.invariant.refused;
+      }
       | in-None w ↦ record {
-          order = let v = w.valid-is in let n = w.wrong-is in omega (arith, v, n, test);
-          inside = let n = w.wrong-is in omega (arith, n, inside, test);
-          right = subst (λ (k : ℕ). IsTypeSectionValid features (take k groups)) (sym w.valid-is) c.loop-wrong.invariant.right;
-          refused = subst (λ (k : ℕ). IsTypeSectionValid features (take k groups) → ⊥) (sym w.wrong-is)
-              (rw w.in-None.is at c.in_ok-found.ensures.decided);
-        }
+        order = let v = w.valid-is in let n = w.wrong-is in omega (arith, v, n, test);
+        inside = let n = w.wrong-is in omega (arith, n, inside, test);
+        right = subst (λ (k : ℕ). IsTypeSectionValid features (take k groups)) (sym w.valid-is) c.loop-wrong.invariant.right;
+        refused = subst (λ (k : ℕ). IsTypeSectionValid features (take k groups) → ⊥) (sym w.wrong-is)
+            (rw w.in-None.is at c.in_ok-found.ensures.decided);
+      }
     ]

@@ -5,4 +5,5 @@ use Rattle.smith_check.specs.References.{exported_by}
 use Rattle.smith_check.proofs.references.push_exported.Given as goal
 
 abbrev pub invariant-loop-export : goal.invariant-loop-export
-invariant-loop-export l = l.named ≡ l.fn.named ++ flat_map (λ (item : Export). exported_by item.kind item.index) (take l.export-index l.exports)
+invariant-loop-export l = l.named ≡ l.fn.named ++ flat_map (λ (item : Export). exported_by item.kind item.index)
+    (take l.export-index l.exports)

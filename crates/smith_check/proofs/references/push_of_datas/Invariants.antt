@@ -6,4 +6,5 @@ use Rattle.smith_check.specs.References.{named_by_data_mode}
 use Rattle.smith_check.proofs.references.push_of_datas.Given as goal
 
 abbrev pub invariant-loop-segment : goal.invariant-loop-segment
-invariant-loop-segment l = l.named ≡ l.fn.named ++ flat_map (λ (segment : DataSegment). named_by_data_mode (mode_view segment.mode)) (take l.segment-index l.segments)
+invariant-loop-segment l = l.named ≡ l.fn.named ++ flat_map (λ (segment : DataSegment). named_by_data_mode (mode_view segment.mode))
+    (take l.segment-index l.segments)

@@ -6,4 +6,5 @@ use Rattle.smith_check.specs.References.{named_by_element}
 use Rattle.smith_check.proofs.references.push_of_elements.Given as goal
 
 abbrev pub invariant-loop-segment : goal.invariant-loop-segment
-invariant-loop-segment l = l.named ≡ l.fn.named ++ flat_map (λ (segment : ElementSegment). named_by_element (element_view segment)) (take l.segment-index l.segments)
+invariant-loop-segment l = l.named ≡ l.fn.named ++ flat_map (λ (segment : ElementSegment). named_by_element (element_view segment))
+    (take l.segment-index l.segments)
