@@ -2,10 +2,12 @@ use crate::failure::Failure;
 use crate::fields::fields;
 use crate::request::Request;
 use crate::words::{ARBITRARY, CONFIG, PRESET};
+use clap::ArgMatches;
 use smith_bytes::{Error, Unstructured};
 use smith_config::{Config, MemoryOffsetChoices};
-use smith_config_json::{Fault, FieldKind, kind_of, preset_named, read_text};
-use smith_types::InstructionKinds;
+use smith_config_json::{Fault, FieldKind, Preset, kind_of, preset_named, read_text};
+use smith_request::{Form, Manner};
+use smith_types::{InstructionKinds, WasmFeatures};
 use std::alloc::Global;
 use std::str::FromStr;
 
@@ -36,6 +38,27 @@ fn first_config(asked: &Request<'_, '_>, u: &mut Unstructured<'_>) -> Result<Con
 pub(crate) fn set_default(alloc: Global, asked: &Request<'_, '_>) -> Result<Config, Failure> {
     let mut config = Config::default();
     set_fields(alloc, asked, &mut config).and(Ok(config))
+}
+
+/// Returns the features by which files are judged: all that are known, changed by the preset that is a
+/// word, the configuration file `config` if there is one, and the fields that are words.
+pub(crate) fn check_features(
+    alloc: Global,
+    matches: &ArgMatches<'_>,
+    config: Option<String>,
+) -> Result<WasmFeatures, Failure> {
+    let asked = Request {
+        matches,
+        config,
+        manner: Manner {
+            form: Form::Binary,
+            fuel: None,
+        },
+    };
+    let mut config = Config::default();
+    Preset::Proposals.apply(&mut config);
+    set_fields(alloc, &asked, &mut config)?;
+    Ok(config.features())
 }
 
 /// Checks the configuration that `asked` requests. Of a drawn configuration, which depends on the

@@ -43,7 +43,10 @@ pub(crate) fn answer(rt: &HostRuntime, matches: &ArgMatches<'_>) -> Result<(), F
 }
 
 /// Reads the text of the configuration file, if there is one, without a byte order mark.
-fn config_text(rt: &HostRuntime, matches: &ArgMatches<'_>) -> Result<Option<String>, Failure> {
+pub(crate) fn config_text(
+    rt: &HostRuntime,
+    matches: &ArgMatches<'_>,
+) -> Result<Option<String>, Failure> {
     let Some(path) = matches.get_str(CONFIG) else {
         return Ok(None);
     };
