@@ -27,7 +27,7 @@ use Rattle.smith_check_types.proofs.CheckLemmas.{section_valid}
 use Rattle.smith_check_types.specs.TypeSections.{canonical_index, canonical_groups}
 use Rattle.smith_types.specs.Groups.{space_of}
 use Rattle.smith_check_types.specs.Renamed.{renamed_val}
-use Rattle.smith_check_body.specs.Verdicts.{IsNotJudged, IsRefused}
+use Rattle.smith_check_body.specs.Verdicts.{IsRefused}
 use Rattle.smith_check_module.specs.Contexts.{types_in}
 use Rattle.smith_check.specs.Faults.{AreTypesRight, IsBodyRefused, IsJudgement, IsRightBefore, most_locals}
 use Rattle.smith_check.specs.FunctionJudges.{AreLocalsRight, AreRightBefore, HasPartsAt, HasTypeAt, IsFunctionJudge, IsRightAt}
@@ -173,19 +173,6 @@ module _ (judge : FunctionJudge) (place : ℕ) (j : IsFunctionJudge judge) where
           (indices, right_before judge place j before, inl wrong),
         )
 
-    pub unknown_judgement : (function : FuncType) (body : Body) (at : ℕ) → HasPartsAt judge place function body → AreLocalsRight judge body
-        → IsNotJudged (body_in judge body) at
-        → IsJudgement (features_in judge.features) judge.module.now (judgement.NotJudged (unjudged.Instruction place at))
-    unknown_judgement function body at parts locals first = record {
-      indices = judge.types.now.indices;
-      before = right_before judge place j before;
-      function = function;
-      locals = locals_in judge body;
-      body = body_in judge body;
-      there = function_at judge place function body j parts;
-      has = (locals, first);
-    }
-
     pub many_judgement : (function : FuncType) (body : Body) → HasPartsAt judge place function body
         → (length function.params + total body.locals ≤ most_locals → ⊥)
         → IsJudgement (features_in judge.features) judge.module.now (judgement.NotJudged (unjudged.Locals place))
@@ -196,7 +183,7 @@ module _ (judge : FunctionJudge) (place : ℕ) (j : IsFunctionJudge judge) where
       locals = locals_in judge body;
       body = body_in judge body;
       there = function_at judge place function body j parts;
-      has =
+      many =
           let both = length-append function.params (locals_in judge body) in
           let own = length-locals_by judge.types.now.indices body.locals in
           omega (arith, both, own, many);

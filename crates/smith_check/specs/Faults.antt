@@ -12,7 +12,7 @@ use Rattle.smith_decode.specs.declared.modules.Module.{Module}
 use Rattle.smith_decode.specs.Modules.{Syntax, syntax_of}
 use Rattle.smith_check_types.specs.Canonical.{AreCanonical}
 use Rattle.smith_check_types.specs.TypeSections.{IsTypeSectionValid}
-use Rattle.smith_check_body.specs.Verdicts.{IsNotJudged, IsRefused}
+use Rattle.smith_check_body.specs.Verdicts.{IsRefused}
 use Rattle.smith_check_module.specs.Contexts.{types_in}
 use Rattle.smith_check_module.specs.SectionFaults.{IsFirstFault as IsFirstSectionFault}
 use Rattle.smith_check_module.specs.ValidModules.{AreSectionsValid}
@@ -81,27 +81,21 @@ IsFirstFault features m (fault.Body body instruction) =
 abbrev pub most_locals : ℕ
 most_locals = 50000
 
--- everything before a function is valid, and its parts have a property (own rule)
-pub record HasAtFirst (features : Features) (m : Syntax) (place : ℕ) (Is : List ℕ → FuncType → List ValType → List Instr → Type 0) : Type 0
-  where
-    pub indices : List ℕ
-    pub before : IsRightBefore features indices m place
-    pub function : FuncType
-    pub locals : List ValType
-    pub body : List Instr
-    pub there : IsFunctionAt indices m place function locals body
-    pub has : Is indices function locals body
+-- everything before a function is valid, and the function has too many locals (own rule)
+pub record HasManyLocals (features : Features) (m : Syntax) (place : ℕ) : Type 0 where
+  pub indices : List ℕ
+  pub before : IsRightBefore features indices m place
+  pub function : FuncType
+  pub locals : List ValType
+  pub body : List Instr
+  pub there : IsFunctionAt indices m place function locals body
+  pub many : most_locals < length (function.params ++ locals)
 
--- why a module is not judged: it has too many types for their indices; or it has a function before which
--- everything is valid, with too many locals, or with an instruction that the check does not know (own
--- rule)
+-- why a module is not judged: it has too many types for their indices, or a function with too many
+-- locals (own rule)
 abbrev pub IsUnjudged : Features → Syntax → Unjudged → Type 0
 IsUnjudged features m unjudged.Types = 2 ^ 32 ≤ length (space_of m.types).types + 1
-IsUnjudged features m (unjudged.Locals body) =
-    HasAtFirst features m body (λ indices function locals instructions. most_locals < length (function.params ++ locals))
-IsUnjudged features m (unjudged.Instruction body at) =
-    HasAtFirst features m body (λ indices function locals instructions. AreValuesValid features indices m locals
-    × IsNotJudged instructions at)
+IsUnjudged features m (unjudged.Locals body) = HasManyLocals features m body
 
 -- a judgement is right (Validation, Modules)
 abbrev pub IsJudgement : Features → Module → Judgement → Type 0

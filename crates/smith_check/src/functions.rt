@@ -116,10 +116,6 @@ impl<'a> FunctionJudge<'a> {
                 body: place,
                 instruction: at,
             })),
-            Verdict::NotJudged { at } => Some(Judgement::NotJudged(Unjudged::Instruction {
-                body: place,
-                instruction: at,
-            })),
         })
     }
 

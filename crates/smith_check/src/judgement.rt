@@ -41,22 +41,15 @@ pub enum Fault {
     },
 }
 
-/// Why a module is not judged. If it is for a function, the types and the other sections are valid, and
-/// so are the functions before it.
+/// Why a module is not judged.
 #[derive(Clone, Copy, Debug)]
 pub enum Unjudged {
     /// The module has 2^32 - 1 types or more.
     Types,
-    /// A function has more than [`LOCALS`] locals, parameters included.
+    /// A function has more than [`LOCALS`] locals, parameters included. The types and the other sections
+    /// are valid, and so are the functions before it.
     Locals {
         /// The index of its body in the code section.
         body: usize,
-    },
-    /// The check does not know an instruction of a function whose locals are valid.
-    Instruction {
-        /// The index of its body in the code section.
-        body: usize,
-        /// The index of the instruction in the body.
-        instruction: usize,
     },
 }

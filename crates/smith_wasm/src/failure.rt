@@ -1,4 +1,5 @@
 use crate::malformed::Malformed;
+use crate::print::LOCALS;
 use smith_bytes::Error;
 use smith_config_json::ConfigRefusal;
 use smith_request::Refusal;
@@ -22,6 +23,8 @@ pub(crate) enum Failure {
     Terminal,
     /// A file is no module.
     Malformed(Malformed),
+    /// The bodies of a file have more locals than are written as text: its path.
+    Locals(String),
 }
 
 impl Failure {
@@ -49,6 +52,7 @@ impl fmt::Display for Failure {
             Failure::Refused(refusal) => write!(f, "refused: {refusal}"),
             Failure::Terminal => f.write_str(TERMINAL),
             Failure::Malformed(malformed) => write!(f, "{malformed}"),
+            Failure::Locals(path) => write!(f, "{path}: it has more than {LOCALS} locals"),
         }
     }
 }

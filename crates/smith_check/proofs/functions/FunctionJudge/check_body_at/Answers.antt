@@ -1,4 +1,4 @@
-use Rattle.smith_check.proofs.JudgeLemmas.{refused_judgement, typed_right, unknown_judgement}
+use Rattle.smith_check.proofs.JudgeLemmas.{refused_judgement, typed_right}
 use Rattle.smith_check.proofs.functions.FunctionJudge.check_body_at.Goals as goal
 
 pub returns-in-Typed-clause-decided : goal.returns-in-Typed-clause-decided
@@ -10,8 +10,3 @@ pub returns-in-Refused-clause-decided : goal.returns-in-Refused-clause-decided
 returns-in-Refused-clause-decided c =
     refused_judgement c.args.self.now c.args.place c.requires.judge c.requires.before c.args.function.now c.args.body.now c.in-Refused.at
     c.requires.parts c.requires.locals (rw c.in-Refused.is at c.in_ok-verdict.ensures.decided)
-
-pub returns-in-NotJudged-clause-decided : goal.returns-in-NotJudged-clause-decided
-returns-in-NotJudged-clause-decided c =
-    unknown_judgement c.args.self.now c.args.place c.requires.judge c.requires.before c.args.function.now c.args.body.now c.in-NotJudged.at
-    c.requires.parts c.requires.locals (rw c.in-NotJudged.is at c.in_ok-verdict.ensures.decided)
