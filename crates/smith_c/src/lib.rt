@@ -11,15 +11,15 @@ ghost use Rattle.smith_request.specs.declared.manner.Form.TheVariants.{Binary, T
 ghost use Rattle.smith_text.specs.declared.module.Layout.TheVariants.{Notes, Signatures};
 
 mod answer;
-mod check;
 mod explanation;
+mod judged;
 mod kept;
 mod laws;
 
 pub use crate::answer::Answer;
 use crate::answer::put;
-use crate::check::check;
 use crate::explanation::explain;
+use crate::judged::check;
 pub use crate::kept::KeptConfig;
 pub use smith_judge::Verdict;
 use smith_request::{Form, Layout, Request};

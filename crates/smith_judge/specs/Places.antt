@@ -87,9 +87,7 @@ fault_index groups (fault.Body body instruction) = index_after kind.Func groups 
 abbrev pub gap_place : Unjudged → Place
 gap_place unjudged.Types = place.Types 0
 gap_place (unjudged.Locals body) = place.Body body
-gap_place (unjudged.Instruction body instruction) = place.Instruction body instruction
 
 abbrev pub gap_index : List Imports → Unjudged → ℕ
 gap_index groups unjudged.Types = 0
 gap_index groups (unjudged.Locals body) = index_after kind.Func groups body
-gap_index groups (unjudged.Instruction body instruction) = index_after kind.Func groups body

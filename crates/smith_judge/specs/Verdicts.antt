@@ -41,7 +41,6 @@ fault_item (fault.Body body instruction) = item.Function
 abbrev pub gap_item : Unjudged → Item
 gap_item unjudged.Types = item.Types
 gap_item (unjudged.Locals body) = item.Function
-gap_item (unjudged.Instruction body instruction) = item.Function
 
 -- the index in a body of an instruction, or of a run of locals
 abbrev pub fault_inner : Fault → Option ℕ
@@ -49,11 +48,6 @@ fault_inner (fault.Types group) = None
 fault_inner (fault.Section one) = None
 fault_inner (fault.Local body run) = Some run
 fault_inner (fault.Body body instruction) = Some instruction
-
-abbrev pub gap_inner : Unjudged → Option ℕ
-gap_inner unjudged.Types = None
-gap_inner (unjudged.Locals body) = None
-gap_inner (unjudged.Instruction body instruction) = Some instruction
 
 -- the number of a kind of items
 abbrev pub item_number : Item → ℕ
@@ -120,7 +114,7 @@ gap_verdict gap = record {
   reason = 0;
   item = item_number (gap_item gap.why);
   index = gap.index;
-  inner = inner_number (gap_inner gap.why);
+  inner = 2 ^ 64 - 1;
   offset = gap.offset;
 }
 

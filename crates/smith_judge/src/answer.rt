@@ -1,5 +1,5 @@
 ghost use Rattle.std.specs.Prelude.{◌≡◌};
-ghost use Rattle.smith_judge.specs.Verdicts.{answer_number, gap_inner, gap_item};
+ghost use Rattle.smith_judge.specs.Verdicts.{answer_number, gap_item};
 
 use crate::finding::{Finding, Item};
 use crate::words::Words;
@@ -31,8 +31,7 @@ pub struct Gap {
     pub why: Unjudged,
     /// The index of the function, with imported functions first, or 0 if it is no function.
     pub index: usize,
-    /// The offset in the file of the first type, the body, or the instruction that is not known, counted
-    /// from 0.
+    /// The offset in the file of the first type or the body, counted from 0.
     pub offset: usize,
 }
 
@@ -43,17 +42,7 @@ impl Gap {
     {
         match self.why {
             Unjudged::Types => Item::Types,
-            Unjudged::Locals { .. } | Unjudged::Instruction { .. } => Item::Function,
-        }
-    }
-
-    /// Returns the index of the instruction in its body, if it is one.
-    pub fn inner(&self) -> Option<usize>
-        ensures { result ≡ gap_inner self.now.why }
-    {
-        match self.why {
-            Unjudged::Types | Unjudged::Locals { .. } => None,
-            Unjudged::Instruction { instruction, .. } => Some(instruction),
+            Unjudged::Locals { .. } => Item::Function,
         }
     }
 }

@@ -132,10 +132,6 @@ pub fn gap_place(why: Unjudged) -> Place
     match why {
         Unjudged::Types => Place::Types(0),
         Unjudged::Locals { body } => Place::Body(body),
-        Unjudged::Instruction { body, instruction } => Place::Instruction {
-            body,
-            index: instruction,
-        },
     }
 }
 
@@ -147,8 +143,6 @@ pub fn gap_index(alloc: Global, groups: &[Imports], why: Unjudged) -> Result<usi
 {
     match why {
         Unjudged::Types => Ok(0),
-        Unjudged::Locals { body } | Unjudged::Instruction { body, .. } => {
-            index_after(alloc, groups, ExportKind::Func, body)
-        }
+        Unjudged::Locals { body } => index_after(alloc, groups, ExportKind::Func, body),
     }
 }

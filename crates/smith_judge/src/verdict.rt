@@ -116,7 +116,7 @@ fn of_gap(gap: &Gap) -> Verdict
         reason: 0,
         item: gap.item().number(),
         index: gap.index as u64,
-        inner: inner_number(gap.inner()),
+        inner: NOWHERE,
         offset: gap.offset as u64,
     }
 }

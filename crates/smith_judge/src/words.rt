@@ -28,7 +28,7 @@ impl fmt::Display for Words<'_> {
             }
             Answer::NotJudged(gap) => {
                 write!(f, "{name}: ")?;
-                write_gap(gap, self.keyword, f)
+                write_gap(gap, f)
             }
         }
     }
@@ -75,18 +75,13 @@ fn write_instruction<W: fmt::Write>(
 }
 
 // Writes what is not judged, and why.
-fn write_gap<W: fmt::Write>(gap: &Gap, keyword: &str, f: &mut fmt::Formatter<W>) -> fmt::Result {
+fn write_gap<W: fmt::Write>(gap: &Gap, f: &mut fmt::Formatter<W>) -> fmt::Result {
     let offset = gap.offset;
     match gap.why {
         Unjudged::Types => write!(f, "there are 2^32 - 1 types or more"),
         Unjudged::Locals { .. } => {
             write_item(gap.item(), gap.index, f)?;
             write!(f, " at 0x{offset:x}: it has more than {LOCALS} locals")
-        }
-        Unjudged::Instruction { instruction, .. } => {
-            write_item(gap.item(), gap.index, f)?;
-            write_instruction(instruction, keyword, f)?;
-            write!(f, " at 0x{offset:x}: this instruction is not judged")
         }
     }
 }

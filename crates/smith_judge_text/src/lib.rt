@@ -1,6 +1,6 @@
 //! The answer to whether a file is a valid module, in words, with the name of the instruction at its place.
 #![tactic(auto)]
 
-mod keyword;
+mod texts;
 
-pub use keyword::{keyword, words};
+pub use texts::{keyword, words};

@@ -114,9 +114,6 @@ fn write_finding(writer: &mut Writer, finding: &Finding) -> Result<(), AllocErro
 fn write_gap(writer: &mut Writer, gap: &Gap) -> Result<(), AllocError> {
     write_text(writer, "item", gap.item().name())?;
     write_number(writer, "index", gap.index as u64)?;
-    if let Some(inner) = gap.inner() {
-        write_number(writer, "inner", inner as u64)?;
-    }
     write_number(writer, "offset", gap.offset as u64)
 }
 

@@ -4,7 +4,7 @@ use smith_binary_read::{ReadError, Reader};
 use smith_binary_read_instr::read_instr;
 use smith_bytes::Error;
 use smith_instr::Instr;
-use smith_judge::{Answer, Fault, Unjudged, Words};
+use smith_judge::{Answer, Fault, Words};
 use smith_text_program::{FromFmt, write_instr};
 use std::alloc::Global;
 
@@ -14,10 +14,6 @@ fn instruction_offset(answer: &Answer) -> Option<usize> {
         Answer::Invalid(finding) => match finding.fault {
             Fault::Body { .. } => Some(finding.offset),
             _ => None,
-        },
-        Answer::NotJudged(gap) => match gap.why {
-            Unjudged::Instruction { .. } => Some(gap.offset),
-            Unjudged::Types | Unjudged::Locals { .. } => None,
         },
         _ => None,
     }
