@@ -30,7 +30,7 @@ struct Manner {
 /// Judges the files that `matches` names, and shows a line for each, or their sums. A file that can't be
 /// read is named on standard error. Returns the status.
 pub(crate) fn check_files(rt: &HostRuntime, matches: &ArgMatches<'_>) -> Result<u8, Failure> {
-    let config = config_text(rt, matches)?;
+    let (config, _) = config_text(rt, matches)?;
     let manner = Manner {
         features: check_features(rt.alloc(), matches, config)?,
         is_json: matches.get_flag(JSON),

@@ -1,6 +1,7 @@
 use crate::failure::Failure;
 use crate::fields::fields;
 use crate::request::Request;
+use crate::shapes::{NO_SHAPES, check_shapes};
 use crate::words::{ARBITRARY, CONFIG, PRESET};
 use clap::ArgMatches;
 use smith_bytes::{Error, Unstructured};
@@ -54,6 +55,7 @@ pub(crate) fn check_features(
             form: Form::Binary,
             fuel: None,
         },
+        shapes: NO_SHAPES,
     };
     let mut config = Config::default();
     Preset::Proposals.apply(&mut config);
@@ -81,17 +83,18 @@ fn set_and_check(
     }
     config.sanitize();
     match config.check() {
-        Ok(()) => Ok(()),
+        Ok(()) => check_shapes(alloc, config),
         Err(fault) => Err(Failure::from(Error::Config(fault))),
     }
 }
 
 /// Applies the preset that is a word, sets what the configuration file names, and then the fields
-/// that are words.
+/// that are words, and the shapes.
 fn set_fields(alloc: Global, asked: &Request<'_, '_>, config: &mut Config) -> Result<(), Failure> {
     set_preset(alloc, asked, config)?;
     set_from_file(alloc, asked, config)?;
-    set_from_words(alloc, asked, config)
+    set_from_words(alloc, asked, config)?;
+    asked.shapes.set(alloc, config)
 }
 
 /// Applies the preset that is a word, if there is one.
@@ -136,11 +139,17 @@ fn set_from_words(
     config: &mut Config,
 ) -> Result<(), Failure> {
     for field in fields() {
-        if let Some(value) = asked.matches.get_str(field.name) {
-            set_from_word(alloc, field.name, value, config)?;
+        match asked.matches.get_str(field.name) {
+            Some(value) if !is_file(field.name) => set_from_word(alloc, field.name, value, config)?,
+            _ => {}
         }
     }
     Ok(())
+}
+
+/// Returns whether the word `name` is a file of a shape.
+fn is_file(name: &str) -> bool {
+    kind_of(name) == Some(FieldKind::File)
 }
 
 /// Sets the field `name` to the value that the word `value` denotes.

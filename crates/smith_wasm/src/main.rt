@@ -1,9 +1,10 @@
 //! Makes a WebAssembly module from the bytes of a file or of standard input, and writes it in the
-//! binary or the text format. The command `print` writes the module of a binary file as text, and the command
-//! `check` says whether files are valid modules.
+//! binary or the text format. The command `print` writes the module of a binary file as text, the command
+//! `shape` only its types, imports, definitions and exports, and the command `check` says whether files are
+//! valid modules.
 //!
-//! `smith_wasm --help` lists the words. Each field of the configuration but the three shapes is a
-//! word of its own, named as in a configuration file.
+//! `smith_wasm --help` lists the words. Each field of the configuration is a word of
+//! its own, named as in a configuration file.
 #![tactic(auto)]
 
 mod check;
@@ -16,8 +17,11 @@ mod files;
 mod help;
 mod lines;
 mod malformed;
+mod paths;
 mod print;
 mod request;
+mod shape;
+mod shapes;
 mod warnings;
 mod words;
 
@@ -25,7 +29,8 @@ use crate::check::{NOT_CHECKED, check_files};
 use crate::failure::Failure;
 use crate::print::print_file;
 use crate::request::answer;
-use crate::words::{CHECK, PRINT, command};
+use crate::shape::print_shape;
+use crate::words::{CHECK, PRINT, SHAPE, command};
 use clap::ArgMatches;
 use std::env;
 use std::process::ExitCode;
@@ -64,6 +69,9 @@ fn run(rt: &HostRuntime) -> Result<u8, Failure> {
 fn answer_command(rt: &HostRuntime, matches: &ArgMatches<'_>) -> Result<u8, Failure> {
     if let Some(words) = matches.subcommand_matches(CHECK) {
         return answer_check(rt, words);
+    }
+    if let Some(words) = matches.subcommand_matches(SHAPE) {
+        return print_shape(rt, words).and(Ok(0));
     }
     let answered = match matches.subcommand_matches(PRINT) {
         Some(words) => print_file(rt, words),

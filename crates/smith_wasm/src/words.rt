@@ -19,6 +19,14 @@ pub(crate) const FILES: &str = "files";
 pub(crate) const JSON: &str = "json";
 /// The word of sums in place of answers.
 pub(crate) const QUIET: &str = "quiet";
+/// The command that prints the shape of a file.
+pub(crate) const SHAPE: &str = "shape";
+/// The word of the imports to choose from.
+pub(crate) const AVAILABLE_IMPORTS: &str = "available-imports";
+/// The word of the exports of a module.
+pub(crate) const EXPORTS: &str = "exports";
+/// The word of the imports and exports of a module.
+pub(crate) const MODULE_SHAPE: &str = "module-shape";
 /// The word of the file that is printed.
 pub(crate) const FILE: &str = "file";
 /// The word of the input.
@@ -136,6 +144,9 @@ static CHECK_WORDS: [Word; 4] = [
         about: PRESET_ABOUT,
     },
 ];
+/// What the command prints of a shape.
+const SHAPE_ABOUT: &str =
+    "Prints the types, imports, definitions and exports of a file in the binary format as text.";
 
 /// What a preset is, and the names of all.
 const PRESET_ABOUT: &str =
@@ -285,7 +296,9 @@ const EXAMPLES: &str = "Examples:
   smith_wasm input.bin -o module.wasm --preset v8 --max-memories 1
   smith_wasm --output-dir corpus --until 1000 --preset wabt --seed 7
   smith_wasm print module.wasm
-  smith_wasm check module.wasm";
+  smith_wasm check module.wasm
+  smith_wasm shape library.wasm -o library.wat
+  smith_wasm input.bin -o module.wasm --module-shape library.wat";
 
 /// Creates the command line of the program.
 pub(crate) fn command<'a>(alloc: Global) -> Result<Command<'a>, Failure> {
@@ -300,12 +313,12 @@ pub(crate) fn command<'a>(alloc: Global) -> Result<Command<'a>, Failure> {
         .value_name("INPUT")
         .help("The input file; standard input if it is - or omitted.");
     let command = with_fields(alloc, with_words(alloc, command.arg(input)?)?)?;
-    with_check(alloc, with_print(alloc, command)?)
+    with_check(alloc, with_shape(alloc, with_print(alloc, command)?)?)
 }
 
 /// Adds the command that prints a file.
 fn with_print<'a>(alloc: Global, command: Command<'a>) -> Result<Command<'a>, Failure> {
-    match print_command(alloc) {
+    match file_command(alloc, PRINT, PRINT_ABOUT) {
         Ok(print) => Ok(command.subcommand(print)?),
         Err(failure) => {
             drop(command);
@@ -314,8 +327,23 @@ fn with_print<'a>(alloc: Global, command: Command<'a>) -> Result<Command<'a>, Fa
     }
 }
 
-/// Creates the command that prints a file.
-fn print_command<'a>(alloc: Global) -> Result<Command<'a>, Failure> {
+/// Adds the command that prints the shape of a file.
+fn with_shape<'a>(alloc: Global, command: Command<'a>) -> Result<Command<'a>, Failure> {
+    match file_command(alloc, SHAPE, SHAPE_ABOUT) {
+        Ok(shape) => Ok(command.subcommand(shape)?),
+        Err(failure) => {
+            drop(command);
+            Err(failure)
+        }
+    }
+}
+
+/// Creates the command `name`, which prints a file.
+fn file_command<'a>(
+    alloc: Global,
+    name: &'static str,
+    about: &'static str,
+) -> Result<Command<'a>, Failure> {
     let file = Arg::new(alloc, FILE)
         .value_name("FILE")
         .required(true)
@@ -326,7 +354,7 @@ fn print_command<'a>(alloc: Global) -> Result<Command<'a>, Failure> {
         .value_name("FILE")
         .action(ArgAction::Set)
         .help(OUTPUT_ABOUT);
-    let command = Command::new(alloc, PRINT).about(PRINT_ABOUT);
+    let command = Command::new(alloc, name).about(about);
     Ok(command.arg(file)?.arg(output)?)
 }
 
@@ -444,7 +472,7 @@ fn with_value<'a>(arg: Arg<'a>, takes: Takes) -> Arg<'a> {
 fn with_fields<'a>(alloc: Global, mut command: Command<'a>) -> Result<Command<'a>, Failure> {
     for field in fields() {
         match kind_of(field.name) {
-            None | Some(FieldKind::File) => {}
+            None => {}
             Some(kind) => command = command.arg(field_arg(alloc, field, kind))?,
         }
     }
