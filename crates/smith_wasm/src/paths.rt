@@ -105,10 +105,12 @@ fn value_of(
     let Some(Token::String(file)) = reader.next() else {
         return Ok(None);
     };
-    let end = reader.offset();
-    let between = text.get(past_key..end).unwrap_or("");
-    let blank = between.find('"').unwrap_or(0);
-    let start = past_key.saturating_add(blank);
+    // The reader is past a comma after the value, too.
+    let between = text.get(past_key..reader.offset()).unwrap_or("");
+    let first = between.find('"').unwrap_or(0);
+    let last = between.rfind('"').unwrap_or(0);
+    let start = past_key.saturating_add(first);
+    let end = past_key.saturating_add(last).saturating_add(1);
     let file = String::from_str(alloc, file)?;
     Ok(Some((Place { start, end }, file)))
 }
