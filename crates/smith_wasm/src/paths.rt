@@ -30,11 +30,7 @@ struct Place {
 
 /// Takes the paths out of `text`, the configuration file at `path`: each becomes `null`. A path that does
 /// not begin with a slash is one from the folder of the configuration file.
-pub(crate) fn take_paths(
-    alloc: Global,
-    path: &str,
-    text: &mut String,
-) -> Result<Paths, Failure> {
+pub(crate) fn take_paths(alloc: Global, path: &str, text: &mut String) -> Result<Paths, Failure> {
     let available_imports = take_path(alloc, path, AVAILABLE_IMPORTS, text)?;
     let exports = take_path(alloc, path, EXPORTS, text)?;
     let module_shape = take_path(alloc, path, MODULE_SHAPE, text)?;
@@ -77,11 +73,7 @@ fn folder_of(path: &str) -> &str {
 
 // Finds the first member `name` of the object in `text`, and returns the place of its value and the string
 // that it is, if it is one.
-fn find_path(
-    alloc: Global,
-    text: &str,
-    name: &str,
-) -> Result<Option<(Place, String)>, Failure> {
+fn find_path(alloc: Global, text: &str, name: &str) -> Result<Option<(Place, String)>, Failure> {
     let mut scratch = Scratch::new(alloc);
     let mut reader = Reader::new(text, &mut scratch)?;
     // Each token has a byte.

@@ -85,7 +85,12 @@ fn read_shape(rt: &HostRuntime, path: &str) -> Result<Option<Shape>, Failure> {
 /// Checks the shapes of `config`, which is sanitised.
 pub(crate) fn check_shapes(alloc: Global, config: &Config) -> Result<(), Failure> {
     check_shape(alloc, Which::ModuleShape, &config.module_shape, config)?;
-    check_shape(alloc, Which::AvailableImports, &config.available_imports, config)?;
+    check_shape(
+        alloc,
+        Which::AvailableImports,
+        &config.available_imports,
+        config,
+    )?;
     check_shape(alloc, Which::Exports, &config.exports, config)
 }
 
