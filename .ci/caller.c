@@ -1,9 +1,9 @@
 /* Reads a configuration and inputs from standard input, each as its length in four bytes, least significant first, and then its bytes.
  * Writes for each input a status and the module, or the reason in words, in the same form.
  *
- * It also checks the buffer after each call, with too little room, with just enough, and with more, and that the calls for a
- * configuration that is read answer the same. The exit status is 3 if a buffer is not as smith.h says, 4 if memory runs out, or a read or
- * a write fails, and 5 if answers differ.
+ * It also checks the buffer after each call, with too little room, with just enough, and with more, that the calls for a
+ * configuration that is read answer the same, and what each module and its front are judged to be. The exit status is 3 if a buffer is not
+ * as smith.h says, 4 if memory runs out, or a read or a write fails, and 5 if answers differ or are wrong.
  */
 #include "smith.h"
 
@@ -116,9 +116,33 @@ static void compare(struct bytes config, const struct read *read, struct bytes i
     }
 }
 
-static void answer_record(struct bytes config, struct bytes input, uint8_t *out) {
+/* Judges the file of `length` bytes with a buffer of marks and `room` bytes of it, and returns the verdict, which must be written. */
+static struct smith_verdict judged(const uint8_t *file, size_t length, uint8_t *out, size_t room) {
+    struct smith_verdict verdict;
+    memset(&verdict, MARK, sizeof verdict);
+    memset(out, MARK, room + BEYOND);
+    struct smith_answer answer = smith_check(file, 0, file, length, &verdict, out, room);
+    need(answer.status == (answer.length > room ? SMITH_SHORT : SMITH_MADE), 3);
+    for (size_t i = answer.length > room ? 0 : answer.length; i < room + BEYOND; i++) need(out[i] == MARK, 3);
+    need(answer.length > 0 && verdict.kind <= SMITH_NOT_JUDGED, 3);
+    return verdict;
+}
+
+/* A module must be valid, or not judged, whatever room there is for the words, and its front must be malformed. */
+static void judge_module(const uint8_t *file, size_t length, uint8_t *out) {
+    struct smith_verdict whole = judged(file, length, out, ROOM), none = judged(file, length, out, 0);
+    need(whole.kind == SMITH_VALID || whole.kind == SMITH_NOT_JUDGED, 5);
+    need(memcmp(&whole, &none, sizeof whole) == 0, 5);
+    need((whole.kind == SMITH_VALID) == (whole.offset == ~(uint64_t)0), 5);
+    struct smith_verdict front = judged(file, length - 1, out, ROOM);
+    need(front.kind == SMITH_MALFORMED && front.reason == SMITH_REASON_END && front.offset <= length, 5);
+}
+
+static void answer_record(struct bytes config, struct bytes input, uint8_t *out, uint8_t *other) {
     struct smith_answer answer = tried(smith_binary, config, input, out, SMITH_MADE);
-    if (answer.status != SMITH_MADE) {
+    if (answer.status == SMITH_MADE) {
+        judge_module(out, answer.length, other);
+    } else {
         struct smith_answer reason = tried(smith_refusal, config, input, out, answer.status);
         need(reason.status == answer.status, 3);
         answer = reason;
@@ -129,7 +153,7 @@ static void answer_record(struct bytes config, struct bytes input, uint8_t *out)
 }
 
 int main(void) {
-    uint8_t *buffer = malloc(GIVEN), *out = malloc(ROOM + BEYOND), *other = malloc(ROOM);
+    uint8_t *buffer = malloc(GIVEN), *out = malloc(ROOM + BEYOND), *other = malloc(ROOM + BEYOND);
     need(buffer && out && other, 4);
     struct bytes given = {buffer, 0};
     for (long count; (count = read(0, buffer + given.length, GIVEN - given.length)) != 0;) {
@@ -142,7 +166,7 @@ int main(void) {
     while (given.length > 0) {
         struct bytes input = record(&given);
         compare(config, &read, input, out, other);
-        answer_record(config, input, out);
+        answer_record(config, input, out, other);
     }
     return 0;
 }

@@ -112,6 +112,95 @@ struct smith_answer smith_wat_with(const struct smith_config *config, const uint
 struct smith_answer smith_refusal_with(const struct smith_config *config, const uint8_t *input, size_t input_length,
                                        uint8_t *out, size_t out_length);
 
+/* What a file is. Later versions append numbers to the tables below, and renumber none. */
+enum {
+    SMITH_VALID = 0,        /* a valid module */
+    SMITH_INVALID = 1,      /* a module that isn't valid */
+    SMITH_MALFORMED = 2,    /* no module, or one with a form of a feature that is off */
+    SMITH_NOT_JUDGED = 3    /* a module of which some body isn't judged, and all before that body is valid */
+};
+
+/* The rules of the standard's chapter Validation that an invalid module breaks first, as far as its fault says which. */
+enum {
+    SMITH_RULE_TYPES = 1,               /* of a recursive type: a group of types that may refer to each other */
+    SMITH_RULE_TAG = 2,                 /* of the type of a tag */
+    SMITH_RULE_FUNCTION = 3,            /* of the type of a function */
+    SMITH_RULE_TABLE = 4,               /* of the type of a table */
+    SMITH_RULE_MEMORY = 5,              /* of the type of a memory */
+    SMITH_RULE_GLOBAL = 6,              /* of the type of a global */
+    SMITH_RULE_TABLE_INITIAL = 7,       /* of the first elements of a table */
+    SMITH_RULE_GLOBAL_INITIAL = 8,      /* of the first value of a global */
+    SMITH_RULE_EXPORT = 9,              /* that what an export names is there */
+    SMITH_RULE_EXPORT_NAME = 10,        /* that the names of exports differ */
+    SMITH_RULE_START = 11,              /* of the start function */
+    SMITH_RULE_ELEMENT = 12,            /* of an element segment */
+    SMITH_RULE_DATA = 13,               /* of a data segment */
+    SMITH_RULE_LOCAL = 14,              /* of the types of locals */
+    SMITH_RULE_NUMERIC = 15,            /* of numeric instructions */
+    SMITH_RULE_VECTOR = 16,             /* of vector instructions */
+    SMITH_RULE_REFERENCE = 17,          /* of reference instructions */
+    SMITH_RULE_PARAMETRIC = 18,         /* of parametric instructions */
+    SMITH_RULE_VARIABLE = 19,           /* of variable instructions */
+    SMITH_RULE_TABLE_INSTRUCTION = 20,  /* of table instructions */
+    SMITH_RULE_MEMORY_INSTRUCTION = 21, /* of memory instructions, atomic ones among them */
+    SMITH_RULE_AGGREGATE = 22,          /* of aggregate instructions */
+    SMITH_RULE_CONTROL = 23,            /* of control instructions, else and end aside */
+    SMITH_RULE_END = 24                 /* of else and end */
+};
+
+/* The rules of the standard's chapter Binary Format that a malformed file breaks first. */
+enum {
+    SMITH_REASON_END = 1,               /* the bytes end within an item */
+    SMITH_REASON_INTEGER_LONG = 2,      /* an integer has too many bytes */
+    SMITH_REASON_INTEGER_LARGE = 3,     /* an integer doesn't fit its type */
+    SMITH_REASON_UTF8 = 4,              /* a name isn't UTF-8 */
+    SMITH_REASON_SIZE = 5,              /* a content has bytes after its item */
+    SMITH_REASON_BYTE = 6,              /* a byte, or a number in its place, that begins nothing */
+    SMITH_REASON_LENGTH = 7,            /* a list of a length that no valid module has */
+    SMITH_REASON_LOCALS = 8,            /* a body has 2^32 locals or more */
+    SMITH_REASON_SECTION = 9,           /* a section is out of order, or comes twice */
+    SMITH_REASON_COUNTS = 10,           /* two numbers of items differ that must agree */
+    SMITH_REASON_DATA_COUNT = 11,       /* a body names a data segment, and their number isn't stated */
+    SMITH_REASON_FEATURE = 12           /* a form is of a feature that is off */
+};
+
+/* The kinds of items of a module. */
+enum {
+    SMITH_ITEM_TYPES = 1,               /* a recursive type */
+    SMITH_ITEM_TAG = 2,
+    SMITH_ITEM_FUNCTION = 3,
+    SMITH_ITEM_TABLE = 4,
+    SMITH_ITEM_MEMORY = 5,
+    SMITH_ITEM_GLOBAL = 6,
+    SMITH_ITEM_EXPORT = 7,
+    SMITH_ITEM_START = 8,
+    SMITH_ITEM_ELEMENT = 9,
+    SMITH_ITEM_DATA = 10
+};
+
+/* What smith_check says of a file. `rule` is above 0 if the file is invalid, `reason` if it is malformed, and `item` if it is invalid or
+ * not judged: `index` is then the index of the item, with imported items first. `inner` is the index of the instruction in the item's body,
+ * or with SMITH_RULE_LOCAL of the run of locals, or UINT64_MAX if there is neither. `offset` is where in the file that is, counted from 0,
+ * or UINT64_MAX if the file is valid. */
+struct smith_verdict {
+    uint32_t kind;
+    uint32_t rule;
+    uint32_t reason;
+    uint32_t item;
+    uint64_t index;
+    uint64_t inner;
+    uint64_t offset;
+};
+
+/* Judges a file. The features that are on are all that are known, changed by the configuration: {"preset": "mvp"} leaves those of version
+ * 1.0 of the standard, and {"gc-enabled": false} all but one. Fields without a feature have no effect.
+ *
+ * If the file is judged, the verdict is written, and the status is SMITH_MADE if its words were too, UTF-8 in one line, or SMITH_SHORT if
+ * `out` is too short for them. The other statuses are SMITH_CONFIG_TEXT and SMITH_NO_MEMORY, and then nothing is written. */
+struct smith_answer smith_check(const uint8_t *config, size_t config_length,
+                                const uint8_t *file, size_t file_length,
+                                struct smith_verdict *verdict, uint8_t *out, size_t out_length);
+
 #ifdef __cplusplus
 }
 #endif

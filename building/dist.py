@@ -10,7 +10,7 @@ from building.manual import page
 
 DIST = ROOT / "dist"
 SUMS = "SHA256SUMS"
-COMMANDS = ("print",)
+COMMANDS = ("print", "shape", "check")
 DOES = "make valid WebAssembly modules from bytes"
 
 # The places of the files in an installation.

@@ -6,6 +6,7 @@ checkout.
 from __future__ import annotations
 
 import ctypes
+import dataclasses
 import json
 import os
 import pathlib
@@ -48,10 +49,18 @@ class _Kept(ctypes.Structure):
     _fields_ = [("words", ctypes.c_uint64 * 48)]
 
 
+class _Numbers(ctypes.Structure):
+    """What a file is, as in smith.h."""
+
+    _fields_ = [(name, ctypes.c_uint32) for name in ("kind", "rule", "reason", "item")]
+    _fields_ += [(name, ctypes.c_uint64) for name in ("index", "inner", "offset")]
+
+
 _MADE, _SHORT = 0, 1
 _LIBRARY = ctypes.CDLL(_path())
 _BYTES = [ctypes.c_char_p, ctypes.c_size_t]
-_TAKES = {"smith_config_read": _BYTES + [ctypes.POINTER(_Kept)], "smith_refusal": _BYTES * 3}
+_TAKES = {"smith_check": _BYTES * 2 + [ctypes.POINTER(_Numbers)] + _BYTES}
+_TAKES |= {"smith_config_read": _BYTES + [ctypes.POINTER(_Kept)], "smith_refusal": _BYTES * 3}
 _TAKES |= {f"smith_{name}_with": [ctypes.POINTER(_Kept)] + _BYTES * 2 for name in ("binary", "text", "wat", "refusal")}
 for _name, _kinds in _TAKES.items():
     getattr(_LIBRARY, _name).restype = Answer
@@ -83,7 +92,7 @@ class Config:
 
     def __init__(self, config: str | dict = ""):
         """Reads a JSON object, as text or as a dictionary, or empty for the default. Raises `Refused` if it is none."""
-        words = _text_of(config)
+        words = self._text = _text_of(config)
         self._kept = _Kept()
         status = _LIBRARY.smith_config_read(words, len(words), self._kept).status
         if status != _MADE:
@@ -114,3 +123,43 @@ def text(given: bytes | bytearray | memoryview, config: Config | str | dict = ""
 def wat(given: bytes | bytearray | memoryview, config: Config | str | dict = "") -> str:
     """Returns the same module in the text format, for readers: with the parameters and results of each function type that is used."""
     return _made(_LIBRARY.smith_wat_with, config, given).decode()
+
+
+@dataclasses.dataclass(frozen=True)
+class Verdict:
+    """What a file is, by the numbers that smith.h names, and in words. `inner` and `offset` are None where there is none."""
+
+    kind: int
+    rule: int
+    reason: int
+    item: int
+    index: int
+    inner: int | None
+    offset: int | None
+    words: str
+
+    @property
+    def is_valid(self) -> bool:
+        """Whether the file is a valid module."""
+        return self.kind == 0
+
+
+_NOWHERE = 2**64 - 1
+
+
+def check(file: bytes | bytearray | memoryview, config: Config | str | dict | None = None) -> Verdict:
+    """Returns whether `file` is a valid module in the binary format, and if not, where and by which rule.
+
+    All features are on that are known, changed by the fields that `config` sets. Raises `Refused` if `config` is none, or for lack of memory.
+    """
+    words = config._text if isinstance(config, Config) else _text_of(config or "")
+    data, numbers = bytes(memoryview(file)), _Numbers()
+    status, output = _output(_LIBRARY.smith_check, words, len(words), data, len(data), numbers)
+    if status != _MADE:
+        raise Refused(status, _output(_LIBRARY.smith_refusal, words, len(words), b"", 0)[1].decode() or "out of memory")
+    found = [None if name in ("inner", "offset") and value == _NOWHERE else value for name, value in _values(numbers)]
+    return Verdict(*found, output.decode())
+
+
+def _values(numbers: _Numbers) -> list:
+    return [(name, getattr(numbers, name)) for name, _ in numbers._fields_]

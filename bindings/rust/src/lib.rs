@@ -1,6 +1,8 @@
 //! Valid WebAssembly modules from bytes, by the proved library `libsmith.a`.
+mod check;
 mod library;
 
+pub use check::{check, Kind, Verdict};
 use library::{smith_binary_with, smith_text_with, smith_wat_with, utf8, Call, Kept};
 use std::fmt;
 
@@ -18,6 +20,10 @@ impl Config {
         let text = text.into();
         let kept = Kept::read(&text);
         Config { text, kept }
+    }
+
+    pub(crate) fn text(&self) -> &str {
+        &self.text
     }
 
     fn made(&self, call: Call, input: &[u8]) -> Result<Vec<u8>, Refused> {

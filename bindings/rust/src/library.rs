@@ -15,6 +15,19 @@ pub struct Answer {
 #[derive(Clone, Copy, Debug)]
 pub struct Kept([u64; 48]);
 
+/// What a file is, `struct smith_verdict`.
+#[repr(C)]
+#[derive(Clone, Copy, Debug, Default)]
+pub struct Numbers {
+    pub kind: u32,
+    pub rule: u32,
+    pub reason: u32,
+    pub item: u32,
+    pub index: u64,
+    pub inner: u64,
+    pub offset: u64,
+}
+
 /// A call that makes an output of a configuration that is read, an input and a buffer.
 pub type Call = unsafe extern "C" fn(*const Kept, *const u8, usize, *mut u8, usize) -> Answer;
 
@@ -24,11 +37,20 @@ extern "C" {
     pub fn smith_binary_with(config: *const Kept, input: *const u8, input_length: usize, out: *mut u8, out_length: usize) -> Answer;
     pub fn smith_text_with(config: *const Kept, input: *const u8, input_length: usize, out: *mut u8, out_length: usize) -> Answer;
     pub fn smith_wat_with(config: *const Kept, input: *const u8, input_length: usize, out: *mut u8, out_length: usize) -> Answer;
+    fn smith_check(
+        config: *const u8,
+        config_length: usize,
+        file: *const u8,
+        file_length: usize,
+        verdict: *mut Numbers,
+        out: *mut u8,
+        out_length: usize,
+    ) -> Answer;
     fn smith_refusal_with(config: *const Kept, input: *const u8, input_length: usize, out: *mut u8, out_length: usize) -> Answer;
 }
 
 /// Returns the status and the output of `call`, which fills a buffer, from one that is enlarged once if necessary.
-fn output(call: impl Fn(&mut [u8]) -> Answer) -> (u32, Vec<u8>) {
+fn output(mut call: impl FnMut(&mut [u8]) -> Answer) -> (u32, Vec<u8>) {
     let mut out = vec![0; 1 << 16];
     loop {
         let answer = call(&mut out);
@@ -75,4 +97,20 @@ impl Kept {
             (status, _) => Err(refused(status, |out| with(smith_refusal_with, out))),
         }
     }
+}
+
+/// Returns what `file` is in numbers and in words, by the features of the JSON object in `text`, which may be empty.
+pub fn judged(text: &str, file: &[u8]) -> Result<(Numbers, String), Refused> {
+    let mut numbers = Numbers::default();
+    let (status, words) = output(|out| {
+        // SAFETY: each pointer is that of a slice with its length, and `numbers` and `out` are borrowed exclusively.
+        unsafe { smith_check(text.as_ptr(), text.len(), file.as_ptr(), file.len(), &mut numbers, out.as_mut_ptr(), out.len()) }
+    });
+    if status == MADE {
+        return Ok((numbers, utf8(words)));
+    }
+    Err(refused(status, |out| {
+        // SAFETY: each pointer is that of a slice with its length, and `out` is borrowed exclusively.
+        unsafe { smith_refusal(text.as_ptr(), text.len(), text.as_ptr(), 0, out.as_mut_ptr(), out.len()) }
+    }))
 }

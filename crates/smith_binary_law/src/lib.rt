@@ -1,5 +1,5 @@
 //! Laws of the binary format: the grammars of modules, of instructions and of bodies are
-//! unambiguous.
+//! unambiguous, since what they spell is read back.
 #![tactic(auto)]
 
 mod examples;

@@ -12,13 +12,16 @@ ghost use Rattle.smith_text.specs.declared.module.Layout.TheVariants.{Notes, Sig
 
 mod answer;
 mod explanation;
+mod judged;
 mod kept;
 mod laws;
 
 pub use crate::answer::Answer;
 use crate::answer::put;
 use crate::explanation::explain;
+use crate::judged::check;
 pub use crate::kept::KeptConfig;
+pub use smith_judge::Verdict;
 use smith_request::{Form, Layout, Request};
 use std::alloc::Global;
 
@@ -168,5 +171,25 @@ pub extern "C" fn smith_refusal_with(
     match config.request().write(alloc, input, Form::Binary) {
         Ok(_) => Answer::without_output(answer::MADE),
         Err(refusal) => explain(alloc, &refusal, out),
+    }
+}
+
+/// Judges `file`, and writes what it is to `verdict`, in numbers, and to the front of `out`, in words, if
+/// they fit. The features that are on are all that are known, changed by `config`, the text of a JSON
+/// object, or empty.
+#[unsafe(no_mangle)]
+pub extern "C" fn smith_check(
+    alloc: Global,
+    config: &[u8],
+    file: &[u8],
+    verdict: &mut Verdict,
+    out: &mut [u8],
+) -> Answer {
+    match check(alloc, config, file) {
+        Ok(judged) => {
+            *verdict = judged.verdict;
+            put(answer::MADE, judged.words.as_str().as_bytes(), out)
+        }
+        Err(refusal) => Answer::without_output(refusal.status()),
     }
 }

@@ -1,7 +1,7 @@
 -- Bodies that are checked.
 use Rattle.std.proofs.Common.{◌≡◌, ℕ, ◌+◌, ◌<◌, Bool, true, false, MatchBool, List, [], ◌∷◌, ◌++◌, length, take, drop, get_or, reverse, sym}
 use Rattle.std.proofs.Common.{ap, ◌∙◌, subst, append_assoc, arith}
-use Rattle.std.proofs.lemmas.List.{append-nil, take_more, take-append-drop, length-reverse, get_or_default}
+use Rattle.std.proofs.lemmas.List.{append-nil, take_more, take-append-drop, length-reverse}
 use Rattle.std.proofs.lemmas.List.Elements.{All-nil}
 use Rattle.smith_check_body.specs.declared.checker.Checker.{Checker}
 use Rattle.smith_check_operands.specs.declared.frame.Frame.{Frame}
@@ -85,9 +85,6 @@ begun context checker valid b =
 -- an instruction at a place of a body
 pub one_more : (body : List Instr) (i : ℕ) (x : Instr) → i < length body → x ≡ get_or body i x → take (i + 1) body ≡ take i body ++ x ∷ []
 one_more body i x within is = take_more body i x within ∙ ap (λ (y : Instr). take i body ++ y ∷ []) (sym is)
-
-pub same_at : (body : List Instr) (i : ℕ) (x y : Instr) → i < length body → x ≡ get_or body i x → y ≡ get_or body i y → x ≡ y
-same_at body i x y within is also = is ∙ get_or_default body i x y within ∙ sym also
 
 -- one instruction more
 pub reached_more : (context : BodyContext) (old new : Checker) (done more : List Instr) (x : Instr) → more ≡ done ++ x ∷ []

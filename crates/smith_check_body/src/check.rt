@@ -4,7 +4,6 @@ ghost use Rattle.smith_check_operands.specs.Covers.{held, holding};
 ghost use Rattle.smith_check_body.specs.Verdicts.{IsVerdict};
 
 use crate::checker::Checker;
-use crate::covered::is_covered;
 use crate::verdict::Verdict;
 use smith_bytes::Error;
 use smith_check_operands::{Kind, Operands, Scope, Shape};
@@ -53,9 +52,6 @@ pub fn check_body(
 {
     let mut checker = begin(alloc, results);
     for i in 0..body.len() {
-        if !is_covered(&body[i]) {
-            return Ok(Verdict::NotJudged { at: i });
-        }
         let goes = checker.check(alloc, scope, &body[i])?;
         if !goes {
             return Ok(Verdict::Refused { at: i });

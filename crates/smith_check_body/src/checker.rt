@@ -1,7 +1,6 @@
-ghost use Rattle.std.specs.Prelude.{◌≡◌, ◌++◌, ◌∷◌, [], length, IsTrue, IfOk, IfErr, OnOk, MatchBool};
+ghost use Rattle.std.specs.Prelude.{◌≡◌, ◌++◌, ◌∷◌, [], length, IfOk, IfErr, OnOk, MatchBool};
 ghost use Rattle.smith_instr.specs.declared.instr.Instr.TheVariants as instr;
 ghost use Rattle.smith_check_operands.specs.Scopes.{bare, IsScope};
-ghost use Rattle.smith_check_body.specs.Covered.{is_covered};
 ghost use Rattle.smith_check_operands.specs.Closes.{IsPlain};
 ghost use Rattle.smith_check_body.specs.Opens.{opening};
 ghost use Rattle.smith_check_body.specs.Checks.{IsWell, Goes, Stops, CanFinish};
@@ -36,7 +35,6 @@ impl Checker {
         requires well { IsWell (bare scope.now) self.old }
         requires scope { IsScope (bare scope.now) }
         requires plain { IsPlain instr.now }
-        requires covered { IsTrue (is_covered instr.now) }
         ensures ok { IfOk result (λ goes. MatchBool goes
             (Goes (bare scope.now) instr.now self.old self.new)
             (Stops (bare scope.now) instr.now self.old)) }
@@ -190,11 +188,10 @@ impl Checker {
         Ok(true)
     }
 
-    /// Checks a covered instruction, and returns whether it applies.
+    /// Checks an instruction, and returns whether it applies.
     pub fn check(&mut self, alloc: Global, scope: &Scope, instr: &Instr) -> Result<bool, Error>
         requires well { IsWell (bare scope.now) self.old }
         requires scope { IsScope (bare scope.now) }
-        requires covered { IsTrue (is_covered instr.now) }
         ensures ok { IfOk result (λ goes. MatchBool goes
             (Goes (bare scope.now) instr.now self.old self.new)
             (Stops (bare scope.now) instr.now self.old)) }

@@ -8,7 +8,6 @@
 mod blocks;
 mod check;
 mod checker;
-mod covered;
 mod families;
 mod step;
 mod verdict;

@@ -5,11 +5,10 @@ ghost use Rattle.smith_check_rules.specs.Slots.{AreSlotsValid};
 ghost use Rattle.smith_check_operands.specs.Scopes.{bare, IsScope};
 ghost use Rattle.smith_check_operands.specs.Covers.{held};
 ghost use Rattle.smith_check_operands.specs.Applies.{IsTried};
-ghost use Rattle.std.specs.Prelude.{IsTrue, option_to_list};
+ghost use Rattle.std.specs.Prelude.{option_to_list};
 ghost use Rattle.smith_instr.specs.Contexts.{AreValid};
 ghost use Rattle.smith_instr.specs.InstrTypes.{sets};
 ghost use Rattle.smith_check_operands.specs.Closes.{label_of, labels_of, IsPlain};
-ghost use Rattle.smith_check_body.specs.Covered.{is_covered};
 
 use crate::families::{step_access, step_branch, step_call, step_constant, step_variable};
 use smith_bytes::Error;
@@ -21,7 +20,7 @@ use smith_check_operands::{Frame, Operands, Scope, Shape};
 use smith_check_references::{aggregate, reference, table};
 use smith_instr::{Instr, SetLocals};
 
-/// Tries a covered instruction that opens and closes no block.
+/// Tries an instruction that opens and closes no block.
 pub fn step(
     operands: &mut Operands,
     scope: &Scope,
@@ -35,7 +34,6 @@ pub fn step(
         (label_of shape.now ∷ labels_of (reverse outers.now)) }
     requires scope { IsScope (bare scope.now) }
     requires plain { IsPlain instr.now }
-    requires covered { IsTrue (is_covered instr.now) }
     ensures ok { IfOk result
         (λ there. IsTried (bare scope.now) (label_of shape.now ∷ labels_of (reverse outers.now))
         instr.now log.now.items there (held operands.old) (held operands.new)) }

@@ -9,9 +9,4 @@ pub enum Verdict {
         /// the number of instructions if more are missing.
         at: usize,
     },
-    /// The check does not know an instruction.
-    NotJudged {
-        /// The index of the first such instruction.
-        at: usize,
-    },
 }

@@ -5,6 +5,8 @@ use Rattle.std.proofs.lemmas.Bool.{false≢true}
 use Rattle.std.proofs.lemmas.List.Elements.{All-head}
 use Rattle.smith_types.specs.Expressions.{reference_to}
 use Rattle.smith_types.specs.Subtyping.{itself, IsRefBelow}
+use Rattle.smith_syntax.specs.declared.composite_type.SubType.{SubType}
+use Rattle.smith_syntax.specs.declared.value_type.AbstractHeapType.{AbstractHeapType}
 use Rattle.smith_syntax.specs.declared.value_type.RefType.{RefType}
 use Rattle.smith_syntax.specs.declared.value_type.ValType.{ValType}
 use Rattle.smith_syntax.specs.declared.value_type.ValType.TheVariants.{I32, I64, F32, F64, V128, Ref}
@@ -12,7 +14,7 @@ use Rattle.smith_instr.specs.Contexts.{BodyContext, IsValid, IsHeapValid, nullab
 use Rattle.smith_instr.specs.declared.instr.Instr.TheVariants as instr
 use Rattle.smith_check_rules.specs.Sequences.{Stacked, stacked, IsStep}
 use Rattle.smith_check_rules.specs.Slots.{IsBelow, AreBelow, IsSlotValid, AreSlotsValid, values}
-use Rattle.smith_check_rules.specs.StackTypes.{HasNonNull}
+use Rattle.smith_check_rules.specs.StackTypes.{HasNonNull, IsBottomRef}
 use Rattle.smith_check_rules.specs.declared.slot.Slot.{Slot}
 use Rattle.smith_check_rules.specs.declared.slot.Slot.TheVariants as slot
 use Rattle.smith_check_operands.specs.Applies.{Applies, IsTaken}
@@ -67,6 +69,7 @@ pub slot_above_least : (context : BodyContext) (reference : RefType) (given : Sl
 slot_above_least context reference (slot.Value given) below valid = above_least context reference given below valid
 slot_above_least context reference slot.Bottom below valid = absurd below
 slot_above_least context reference slot.SomeRef below valid = absurd below
+slot_above_least context reference (slot.EitherRef ty) below valid = absurd below
 
 kept_null : (feature kept : Bool) → IsTrue kept → IsTrue (if feature then kept else true)
 kept_null true kept h = h
@@ -90,30 +93,62 @@ least_is_valid context reference on heap = (
   record { heap_type = heap; nullable = feature_needed context.features.function_references reference.nullable },
 )
 
+some_reference_under : (types : List SubType) (from : Slot) → IsBottomRef from → IsBelow types slot.SomeRef from
+some_reference_under types slot.SomeRef bottom = tt
+some_reference_under types (slot.EitherRef ty) bottom = tt
+some_reference_under types from bottom = absurd bottom
+
+no_bottom_above : (types : List SubType) (value : ValType) (from : Slot) → IsBottomRef from → IsBelow types (slot.Value value) from → ⊥
+no_bottom_above types value slot.SomeRef bottom below = below
+no_bottom_above types value (slot.EitherRef ty) bottom below = below
+no_bottom_above types value from bottom below = absurd bottom
+
 some_reference_below : (context : BodyContext) (from to given : Slot) → HasNonNull context from to → IsBelow context.types to given
     → IsBelow context.types slot.SomeRef given
 some_reference_below context from to given (inl (heap_type, valid, is, made)) below =
     below_trans context.types slot.SomeRef to given (subst (λ s. IsBelow context.types slot.SomeRef s) (sym made) tt) below
-some_reference_below context from to given (inr (is, made)) below =
-    below_trans context.types slot.SomeRef to given (subst (λ s. IsBelow context.types slot.SomeRef s) (sym made) tt) below
+some_reference_below context from to given (inr (bottom, made)) below =
+    below_trans context.types slot.SomeRef to given
+    (subst (λ s. IsBelow context.types slot.SomeRef s) (sym made) (some_reference_under context.types from bottom)) below
 
 some_reference : (context : BodyContext) (top : Slot) → IsBelow context.types top slot.SomeRef
     → IsLeastNonNull context top slot.SomeRef
 some_reference context top below = record {
   from = slot.SomeRef;
   to = slot.SomeRef;
-  related = inr (refl, refl);
+  related = inr (tt, refl);
   below = below;
   above = tt;
   valid = tt;
   smallest = λ other made given related p q v. some_reference_below context other made given related q;
 }
 
+either_reference_below : (context : BodyContext) (ty : AbstractHeapType) (from to given : Slot) → HasNonNull context from to
+    → IsBelow context.types (slot.EitherRef ty) from → IsBelow context.types to given → IsBelow context.types (slot.EitherRef ty) given
+either_reference_below context ty from to given (inl (heap_type, valid, is, made)) below above =
+    let (shared, under) = subst (λ s. IsBelow context.types (slot.EitherRef ty) s) is below in
+    below_trans context.types (slot.EitherRef ty) to given
+    (subst (λ s. IsBelow context.types (slot.EitherRef ty) s) (sym made) (shared, record { heap = under.heap; nullable = λ h. h })) above
+either_reference_below context ty from to given (inr (bottom, made)) below above =
+    below_trans context.types (slot.EitherRef ty) to given (subst (λ s. IsBelow context.types (slot.EitherRef ty) s) (sym made) below) above
+
+either_reference : (context : BodyContext) (ty : AbstractHeapType) → IsSlotValid context (slot.EitherRef ty)
+    → IsLeastNonNull context (slot.EitherRef ty) (slot.EitherRef ty)
+either_reference context ty valid = record {
+  from = slot.EitherRef ty;
+  to = slot.EitherRef ty;
+  related = inr (tt, refl);
+  below = refl;
+  above = refl;
+  valid = valid;
+  smallest = λ other made given related p q v. either_reference_below context ty other made given related p q;
+}
+
 smallest_reference : (context : BodyContext) (reference : RefType) (other made given : Slot) → HasNonNull context other made
     → IsBelow context.types (slot.Value (Ref reference)) other → IsBelow context.types made given → IsSlotValid context given
     → IsBelow context.types (slot.Value (Ref (least_valid context (record { nullable = false; heap_type = reference.heap_type })))) given
-smallest_reference context reference other made given (inr (is, same)) p q v =
-    absurd (subst (λ s. IsBelow context.types (slot.Value (Ref reference)) s) is p)
+smallest_reference context reference other made given (inr (bottom, same)) p q v =
+    absurd (no_bottom_above context.types (Ref reference) other bottom p)
 smallest_reference context reference other made given (inl (heap_type, valid, is, same)) p q v =
     let types = context.types in
     let lower : RefType = record { nullable = false; heap_type = reference.heap_type } in
@@ -142,14 +177,14 @@ no_reference : (context : BodyContext) (value : ValType)
     → HasNoNonNull context (slot.Value value)
 no_reference context value never from to (inl (heap_type, valid, is, made)) below =
     never (record { nullable = true; heap_type = heap_type }) (subst (λ s. IsBelow context.types (slot.Value value) s) is below)
-no_reference context value never from to (inr (is, made)) below =
-    subst (λ s. IsBelow context.types (slot.Value value) s) is below
+no_reference context value never from to (inr (bottom, made)) below = no_bottom_above context.types value from bottom below
 
 -- the table is right
 pub least_found : (context : BodyContext) (top : Slot) → IsSlotValid context top
     → MatchOption (least_non_null context top) (HasNoNonNull context top) (λ least. IsLeastNonNull context top least)
 least_found context slot.Bottom valid = some_reference context slot.Bottom tt
 least_found context slot.SomeRef valid = some_reference context slot.SomeRef tt
+least_found context (slot.EitherRef ty) valid = either_reference context ty valid
 least_found context (slot.Value (Ref reference)) valid = least_reference context reference valid
 least_found context (slot.Value I32) valid = no_reference context I32 (λ reference below. below)
 least_found context (slot.Value I64) valid = no_reference context I64 (λ reference below. below)

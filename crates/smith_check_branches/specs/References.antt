@@ -29,6 +29,7 @@ EndsInNoReference types = (others : List ValType) (reference : RefType) → type
 abbrev pub least_non_null : BodyContext → Slot → Option Slot
 least_non_null context slot.Bottom = Some slot.SomeRef
 least_non_null context slot.SomeRef = Some slot.SomeRef
+least_non_null context (slot.EitherRef ty) = Some (slot.EitherRef ty)
 least_non_null context (slot.Value (Ref reference)) =
     Some (slot.Value (Ref (least_valid context (record { nullable = false; heap_type = reference.heap_type }))))
 least_non_null context (slot.Value _) = None

@@ -23,6 +23,7 @@ pub fn least_non_null(scope: &Scope, slot: Slot) -> Option<Slot>
     match slot {
         Slot::Bottom => Some(Slot::SomeRef),
         Slot::SomeRef => Some(Slot::SomeRef),
+        Slot::EitherRef(ty) => Some(Slot::EitherRef(ty)),
         Slot::Value(value) => match value {
             ValType::Ref(reference) => {
                 let least = RefType {

@@ -11,7 +11,7 @@ use Rattle.smith_instr.specs.InstrTypes.{IsNumberOrVector}
 use Rattle.smith_instr.specs.ReferenceTypes.{narrower}
 use Rattle.smith_check_rules.specs.Slots.{IsBelow, AreBelow, IsSlotValid, AreSlotsValid}
 use Rattle.smith_check_rules.specs.declared.slot.Slot.{Slot}
-use Rattle.smith_check_rules.specs.declared.slot.Slot.TheVariants.{Bottom, SomeRef, Value}
+use Rattle.smith_check_rules.specs.declared.slot.Slot.TheVariants.{Bottom, SomeRef, EitherRef, Value}
 use Rattle.smith_check_operands.proofs.PushLemmas.{single}
 
 -- number types and vector types
@@ -51,6 +51,7 @@ plain_above : (types : List SubType) (value : ValType) (slot : Slot) → IsNumbe
     → slot ≡ Value value
 plain_above types value Bottom plain below = absurd below
 plain_above types value SomeRef plain below = absurd below
+plain_above types value (EitherRef ty) plain below = absurd below
 plain_above types I32 (Value I32) plain below = refl
 plain_above types I64 (Value I64) plain below = refl
 plain_above types F32 (Value F32) plain below = refl

@@ -5,9 +5,10 @@ use Rattle.smith_syntax.specs.declared.composite_type.SubType.{SubType}
 use Rattle.smith_syntax.specs.declared.value_type.ValType.TheVariants.{I32, I64, F32, F64, V128, Ref}
 use Rattle.smith_syntax.specs.declared.value_type.ValType.{ValType}
 use Rattle.smith_syntax.specs.declared.value_type.RefType.{RefType}
+use Rattle.smith_syntax.specs.declared.value_type.AbstractHeapType.{AbstractHeapType}
 use Rattle.smith_instr.specs.declared.instr.Instr.TheVariants as instr
 use Rattle.smith_check_rules.specs.declared.slot.Slot.{Slot}
-use Rattle.smith_check_rules.specs.declared.slot.Slot.TheVariants.{Bottom, SomeRef, Value}
+use Rattle.smith_check_rules.specs.declared.slot.Slot.TheVariants.{Bottom, SomeRef, EitherRef, Value}
 use Rattle.smith_check_rules.specs.Slots.{IsBelow, AreBelow, IsSlotValid, AreSlotsValid}
 use Rattle.std.proofs.lemmas.List.Elements.{All-nil, All-cons}
 use Rattle.smith_check_operands.proofs.CoverLemmas.{push_all}
@@ -117,19 +118,29 @@ selects context old middle lower rest new first second given pops seconds firsts
 no_number_above : (types : List SubType) (reference : RefType) (v : Slot) → IsNumeric v → IsBelow types (Value (Ref reference)) v → ⊥
 no_number_above types reference Bottom n p = absurd p
 no_number_above types reference SomeRef n p = absurd n
+no_number_above types reference (EitherRef ty) n p = absurd n
 no_number_above types reference (Value (Ref other)) n p = absurd n
 no_number_above types reference (Value v) n p = absurd p
 
 no_number_at_all : (types : List SubType) (v : Slot) → IsNumeric v → IsBelow types SomeRef v → ⊥
 no_number_at_all types Bottom n p = absurd p
 no_number_at_all types SomeRef n p = absurd n
+no_number_at_all types (EitherRef ty) n p = absurd n
 no_number_at_all types (Value (Ref other)) n p = absurd n
 no_number_at_all types (Value v) n p = absurd p
+
+no_number_of_either : (types : List SubType) (ty : AbstractHeapType) (v : Slot) → IsNumeric v → IsBelow types (EitherRef ty) v → ⊥
+no_number_of_either types ty Bottom n p = absurd p
+no_number_of_either types ty SomeRef n p = absurd n
+no_number_of_either types ty (EitherRef other) n p = absurd n
+no_number_of_either types ty (Value (Ref other)) n p = absurd n
+no_number_of_either types ty (Value v) n (shared, p) = absurd p
 
 apart : (types : List SubType) (a b : ValType) (v : Slot) → both a b ≡ None → IsNumeric v → IsBelow types (Value a) v
     → IsBelow types (Value b) v → ⊥
 apart types a b Bottom is n p q = absurd p
 apart types a b SomeRef is n p q = absurd n
+apart types a b (EitherRef ty) is n p q = absurd n
 apart types a b (Value (Ref r)) is n p q = absurd n
 apart types I32 I32 (Value I32) is n p q = cc
 apart types I64 I64 (Value I64) is n p q = cc
@@ -170,10 +181,13 @@ pub joined : (types : List SubType) (first second : Slot) → MatchOption (join 
     (λ given. IsJoin types first second given)
 joined types Bottom Bottom = join_same types Bottom tt
 joined types Bottom SomeRef = λ v n p q. no_number_at_all types v n q
+joined types Bottom (EitherRef ty) = λ v n p q. no_number_of_either types ty v n q
 joined types Bottom (Value value) = number_right types value
 joined types SomeRef second = λ v n p q. no_number_at_all types v n p
+joined types (EitherRef ty) second = λ v n p q. no_number_of_either types ty v n p
 joined types (Value value) Bottom = number_left types value
 joined types (Value value) SomeRef = λ v n p q. no_number_at_all types v n q
+joined types (Value value) (EitherRef ty) = λ v n p q. no_number_of_either types ty v n q
 joined types (Value value) (Value other) = both_joined types value other
 
 -- `select` steps as it selects
@@ -308,10 +322,13 @@ both_keeps P a b p = tt
 pub join_keeps : (P : Slot → Type 0) (first second : Slot) → P first → P second → MatchOption (join first second) (Unit {0}) P
 join_keeps P Bottom Bottom p q = p
 join_keeps P Bottom SomeRef p q = tt
+join_keeps P Bottom (EitherRef ty) p q = tt
 join_keeps P Bottom (Value value) p q = number_keeps P value q
 join_keeps P SomeRef second p q = tt
+join_keeps P (EitherRef ty) second p q = tt
 join_keeps P (Value value) Bottom p q = number_keeps P value p
 join_keeps P (Value value) SomeRef p q = tt
+join_keeps P (Value value) (EitherRef ty) p q = tt
 join_keeps P (Value value) (Value other) p q = both_keeps P value other p
 
 pub pushed_one : (context : BodyContext) (known after : List Slot) (slot : Slot) (dead : Bool) → AreSlotsValid context known

@@ -45,13 +45,13 @@ pub fn join(first: Slot, second: Slot) -> Option<Slot>
     match first {
         Slot::Bottom => match second {
             Slot::Bottom => Some(Slot::Bottom),
-            Slot::SomeRef => None,
+            Slot::SomeRef | Slot::EitherRef(_) => None,
             Slot::Value(value) => number(value),
         },
-        Slot::SomeRef => None,
+        Slot::SomeRef | Slot::EitherRef(_) => None,
         Slot::Value(value) => match second {
             Slot::Bottom => number(value),
-            Slot::SomeRef => None,
+            Slot::SomeRef | Slot::EitherRef(_) => None,
             Slot::Value(other) => both(value, other),
         },
     }

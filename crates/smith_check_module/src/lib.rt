@@ -27,3 +27,4 @@ pub use check::check_sections;
 pub use expression::is_constant;
 pub use faults::{Part, SectionFault};
 pub use scope::Scope;
+pub use spaces::canonical_spaces;

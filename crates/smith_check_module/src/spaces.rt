@@ -16,7 +16,7 @@ use std::alloc::Global;
 
 /// Returns the index spaces of `module`, whose imports have the index spaces `imported`, by the
 /// canonical `indices` of types.
-pub(crate) fn canonical_spaces(
+pub fn canonical_spaces(
     alloc: Global,
     indices: &[u32],
     imported: &EntitySpaces,

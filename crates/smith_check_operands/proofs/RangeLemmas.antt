@@ -22,7 +22,7 @@ use Rattle.smith_instr.specs.declared.numeric.NumericInstr.{NumericInstr}
 use Rattle.smith_instr.specs.declared.numeric.NumericInstr.TheVariants as numeric
 use Rattle.smith_check_rules.specs.Slots.{IsSlotValid, AreSlotsValid}
 use Rattle.smith_check_rules.specs.declared.slot.Slot.{Slot}
-use Rattle.smith_check_rules.specs.declared.slot.Slot.TheVariants.{Bottom, SomeRef, Value}
+use Rattle.smith_check_rules.specs.declared.slot.Slot.TheVariants.{Bottom, SomeRef, EitherRef, Value}
 use Rattle.smith_check_operands.specs.Fits.{IsSlotInRange}
 
 pub heap_in_range : (context : BodyContext) (heap_type : HeapType) → IsHeapValid context heap_type → IsInRange context.types heap_type
@@ -44,6 +44,7 @@ all_in_range context values valid = All-weaker (IsValid context) (IsValInRange c
 slot_in_range : (context : BodyContext) (slot : Slot) → IsSlotValid context slot → IsSlotInRange context.types slot
 slot_in_range context Bottom valid = tt
 slot_in_range context SomeRef valid = tt
+slot_in_range context (EitherRef ty) valid = tt
 slot_in_range context (Value value) valid = in_range context value valid
 
 pub slots_in_range : (context : BodyContext) (slots : List Slot) → AreSlotsValid context slots → All (IsSlotInRange context.types) slots

@@ -1,11 +1,23 @@
-ghost use Rattle.std.specs.Prelude.{IsTrue, ◌↔◌, All};
+ghost use Rattle.std.specs.Prelude.{◌≡◌, ◌↔◌, IsTrue, All};
+ghost use Rattle.smith_syntax.specs.declared.value_type.HeapType.TheVariants.{Abstract};
+ghost use Rattle.smith_types.specs.Expressions.{reference_to};
 ghost use Rattle.smith_types.specs.Subtyping.{IsValInRange};
 ghost use Rattle.smith_check_rules.specs.Slots.{IsBelow};
 ghost use Rattle.smith_check_rules.specs.declared.slot.Slot.TheVariants.{Value};
 ghost use Rattle.smith_check_operands.specs.Fits.{AreFit, AreMatched, IsSlotInRange};
 
 use smith_check_rules::Slot;
-use smith_types::{TypeSpace, ValType};
+use smith_types::{AbstractHeapType, HeapType, RefType, TypeSpace, ValType};
+
+/// Returns the type of non-null references to an abstract heap type.
+fn reference_to(shared: bool, ty: AbstractHeapType) -> ValType
+    ensures { result ≡ reference_to (Abstract shared ty) }
+{
+    ValType::Ref(RefType {
+        nullable: false,
+        heap_type: HeapType::Abstract { shared, ty },
+    })
+}
 
 /// Returns whether a value of the type `slot` may be used as one of the type `expected`
 /// (Validation, Matching, Value Types). Requires the types that both refer to to exist.
@@ -17,6 +29,10 @@ pub fn slot_fits(types: &TypeSpace, slot: Slot, expected: ValType) -> bool
     match slot {
         Slot::Bottom => true,
         Slot::SomeRef => matches!(expected, ValType::Ref(_)),
+        Slot::EitherRef(ty) => {
+            types.val_type_is_sub_type(reference_to(false, ty), expected)
+                || types.val_type_is_sub_type(reference_to(true, ty), expected)
+        }
         Slot::Value(value) => types.val_type_is_sub_type(value, expected),
     }
 }

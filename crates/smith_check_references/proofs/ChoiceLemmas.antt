@@ -7,6 +7,7 @@ use Rattle.smith_syntax.specs.declared.value_type.AbstractHeapType.{AbstractHeap
 use Rattle.smith_syntax.specs.declared.value_type.AbstractHeapType.TheVariants as abstract
 use Rattle.smith_syntax.specs.declared.value_type.HeapType.{HeapType}
 use Rattle.smith_syntax.specs.declared.value_type.HeapType.TheVariants.{Abstract}
+use Rattle.smith_syntax.specs.declared.composite_type.SubType.{SubType}
 use Rattle.smith_syntax.specs.declared.value_type.RefType.{RefType}
 use Rattle.smith_syntax.specs.declared.value_type.ValType.{ValType}
 use Rattle.smith_syntax.specs.declared.value_type.ValType.TheVariants.{I32, Ref}
@@ -21,9 +22,9 @@ use Rattle.smith_instr.specs.declared.instr.Instr.TheVariants as instr
 use Rattle.smith_instr.specs.declared.reference.ReferenceInstr.TheVariants as reference
 use Rattle.smith_check_rules.specs.Sequences.{Stacked, stacked, IsStep}
 use Rattle.smith_check_rules.specs.Slots.{IsBelow, AreBelow, IsSlotValid, values}
-use Rattle.smith_check_rules.specs.StackTypes.{HasNonNull, HasStackType, HasValueType}
+use Rattle.smith_check_rules.specs.StackTypes.{HasNonNull, HasStackType, HasValueType, IsBottomRef}
 use Rattle.smith_check_rules.specs.declared.slot.Slot.{Slot}
-use Rattle.smith_check_rules.specs.declared.slot.Slot.TheVariants.{Bottom, SomeRef, Value}
+use Rattle.smith_check_rules.specs.declared.slot.Slot.TheVariants.{Bottom, SomeRef, EitherRef, Value}
 use Rattle.smith_check_operands.proofs.BelowLemmas.{below_refl, below_trans}
 use Rattle.smith_check_operands.proofs.RangeLemmas.{slots_in_range}
 use Rattle.smith_check_operands.specs.Applies.{IsTaken}
@@ -59,10 +60,20 @@ bottom_read context = any_read context Bottom (Abstract false abstract.Func) (fu
 pub some_ref_read : (context : BodyContext) → IsLeastOf context (ReadsAny context) SomeRef (Value I32)
 some_ref_read context = any_read context SomeRef (Abstract false abstract.Func) (function_valid context) tt
 
+pub either_ref_read : (context : BodyContext) (ty : AbstractHeapType) → IsSlotValid context (EitherRef ty)
+    → IsLeastOf context (ReadsAny context) (EitherRef ty) (Value I32)
+either_ref_read context ty valid =
+    any_read context (EitherRef ty) (Abstract false ty) valid.1 (false, record { heap = itself; nullable = λ n. refl })
+
 pub ref_read : (context : BodyContext) (reference : RefType) → IsSlotValid context (Value (Ref reference))
     → IsLeastOf context (ReadsAny context) (Value (Ref reference)) (Value I32)
 ref_read context reference valid =
     any_read context (Value (Ref reference)) reference.heap_type valid.1.heap_type (record { heap = itself; nullable = λ n. refl })
+
+no_bottom_above : (types : List SubType) (value : ValType) (from : Slot) → IsBottomRef from → IsBelow types (Value value) from → ⊥
+no_bottom_above types value SomeRef bottom below = below
+no_bottom_above types value (EitherRef ty) bottom below = below
+no_bottom_above types value from bottom below = absurd bottom
 
 non_null_least : (context : BodyContext) (reference : RefType) (nullable : Bool) → nullable ≡ not context.features.function_references
     → (from to other : Slot) → HasNonNull context from to → IsBelow context.types (Value (Ref reference)) from → IsSlotValid context other
@@ -80,7 +91,7 @@ non_null_least context reference nullable is from to other row below valid above
             heap = IsBelow-trans context.types under.heap a.below.heap;
             nullable = λ n. must_be_nullable context a.upper a.valid (sym n ∙ is);
           })
-      | inr some ↦ absurd (subst (λ s. IsBelow context.types (Value (Ref reference)) s) some.0 below)
+      | inr bottom ↦ absurd (no_bottom_above context.types (Ref reference) from bottom.0 below)
     ]
 
 -- a reference that is not null
@@ -108,6 +119,23 @@ ref_non_null context reference nullable is valid = record {
           (sym is ∙ n);
     },
   );
+}
+
+-- a reference that is shared or not is not null
+either_ref_least : (context : BodyContext) (ty : AbstractHeapType) (from to : Slot) → HasNonNull context from to
+    → IsBelow context.types (EitherRef ty) from → IsBelow context.types (EitherRef ty) to
+either_ref_least context ty from to (inl (heap_type, valid, is, also)) below =
+    let (shared, under) = subst (λ s. IsBelow context.types (EitherRef ty) s) is below in
+    subst (λ s. IsBelow context.types (EitherRef ty) s) (sym also) (shared, record { heap = under.heap; nullable = λ n. n })
+either_ref_least context ty from to (inr (bottom, same)) below = subst (λ s. IsBelow context.types (EitherRef ty) s) (sym same) below
+
+pub either_ref_non_null : (context : BodyContext) (ty : AbstractHeapType) → IsSlotValid context (EitherRef ty)
+    → IsLeastOf context (HasNonNull context) (EitherRef ty) (EitherRef ty)
+either_ref_non_null context ty valid = record {
+  sound = λ other other_valid above. (EitherRef ty, EitherRef ty, inr (tt, refl), refl, above);
+  least = λ from to other row below other_valid above.
+      below_trans context.types (EitherRef ty) to other (either_ref_least context ty from to row below) above;
+  valid = valid;
 }
 
 -- references to a heap type, shared or not

@@ -70,7 +70,7 @@ top_along types o (Exact i) (Abstract r b) top step is = absurd step
 top_along types o (Exact i) (Concrete j) top same (u, there, is) = (u, subst (λ n. slice_get types n ≡ Some u) same there, is)
 top_along types o (Exact i) (Exact j) top step is = absurd step
 
-top_above : (types : List SubType) → IsOrderly types → (a b top : HeapType) → IsBelow types a b → IsTop types a top → IsTop types b top
+pub top_above : (types : List SubType) → IsOrderly types → (a b top : HeapType) → IsBelow types a b → IsTop types a top → IsTop types b top
 top_above types o a b top itself is = is
 top_above types o a c top (by_step {b = b} step below) is = top_above types o b c top below (top_along types o a b top step is)
 

@@ -6,4 +6,5 @@ pub mod AggregateLemmas
 pub mod CopyLemmas
 pub mod ChoiceLemmas
 pub mod CastLemmas
+pub mod ConversionLemmas
 pub mod FunctionLemmas

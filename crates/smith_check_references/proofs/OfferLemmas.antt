@@ -12,7 +12,7 @@ use Rattle.smith_instr.specs.Contexts.{BodyContext, IsValid, IsHeapValid, IsRefV
 use Rattle.smith_instr.proofs.AmongLemmas.{true_from_not}
 use Rattle.smith_check_rules.specs.Slots.{IsBelow, IsSlotValid}
 use Rattle.smith_check_rules.specs.declared.slot.Slot.{Slot}
-use Rattle.smith_check_rules.specs.declared.slot.Slot.TheVariants.{Bottom, SomeRef, Value}
+use Rattle.smith_check_rules.specs.declared.slot.Slot.TheVariants.{Bottom, SomeRef, EitherRef, Value}
 use Rattle.smith_check_operands.specs.Covers.{Held}
 use Rattle.smith_check_references.proofs.RowLemmas.{given_as}
 use Rattle.smith_check_references.specs.Offers.{IsOffer, HasNoOffer, IsOnlyItself, IsHeapOffer, HasNoHeapOffer, IsGiven}
@@ -29,6 +29,7 @@ pub above_ref : (context : BodyContext) (reference : RefType) (other : Slot) →
     → IsBelow context.types (Value (Ref reference)) other → IsAboveRef context reference other
 above_ref context reference Bottom valid below = absurd below
 above_ref context reference SomeRef valid below = absurd below
+above_ref context reference (EitherRef ty) valid below = absurd below
 above_ref context reference (Value (Ref upper)) valid below =
     record { upper = upper; is = refl; enabled = valid.0; valid = valid.1; below = below }
 above_ref context reference (Value value) valid below = absurd below

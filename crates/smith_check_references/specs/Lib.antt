@@ -3,4 +3,3 @@ pub mod Rows
 pub mod Hierarchies
 pub mod Lookups
 pub mod Choices
-pub mod Covered

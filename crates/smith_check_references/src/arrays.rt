@@ -16,10 +16,10 @@ ghost use Rattle.smith_check_operands.specs.Covers.{held, Pops, PopsNothing};
 ghost use Rattle.smith_check_operands.specs.Fits.{IsSlotInRange};
 ghost use Rattle.smith_check_operands.specs.Scopes.{bare, IsScope};
 ghost use Rattle.smith_check_references.specs.Choices.{ReadsEither};
-ghost use Rattle.smith_check_references.specs.Covered.{is_aggregate_covered};
 ghost use Rattle.smith_check_references.specs.Rows.{IsApplied, IsOneApplied};
 
 use crate::casts::is_ref_valid;
+use crate::conversions::{any_convert_extern, extern_convert_any};
 use crate::lookups::{array_at, is_elem_of, is_of_bytes, is_read_by, mutable_array_at};
 use crate::offers::{create, push_created, push_reference};
 use crate::references::fits_either;
@@ -457,21 +457,10 @@ fn ref_i31_shared(operands: &mut Operands, scope: &Scope) -> Result<bool, Error>
     make_i31(operands, scope, true)
 }
 
-/// Returns whether an aggregate instruction is one that the check knows.
-pub fn is_aggregate_covered(op: AggregateInstr) -> bool
-    ensures { result ≡ is_aggregate_covered op }
-{
-    !matches!(
-        op,
-        AggregateInstr::AnyConvertExtern | AggregateInstr::ExternConvertAny
-    )
-}
-
-/// Tries a covered aggregate instruction.
+/// Tries an aggregate instruction.
 pub fn aggregate(operands: &mut Operands, scope: &Scope, op: AggregateInstr) -> Result<bool, Error>
     requires known { AreSlotsValid (bare scope.now) operands.old.known.items }
     requires scope { IsScope (bare scope.now) }
-    requires covered { IsTrue (is_aggregate_covered op) }
     ensures ok { (labels : List (List ValType)) (set : List ℕ) → IfOk result
         (λ there. IsTried (bare scope.now) labels (instr.Aggregate op) set there
         (held operands.old) (held operands.new)) }
@@ -510,6 +499,7 @@ pub fn aggregate(operands: &mut Operands, scope: &Scope, op: AggregateInstr) -> 
         AggregateInstr::RefI31Shared => ref_i31_shared(operands, scope),
         AggregateInstr::I31GetS => i31_get_s(operands, scope),
         AggregateInstr::I31GetU => i31_get_u(operands, scope),
-        AggregateInstr::AnyConvertExtern | AggregateInstr::ExternConvertAny => Ok(false),
+        AggregateInstr::AnyConvertExtern => any_convert_extern(operands, scope),
+        AggregateInstr::ExternConvertAny => extern_convert_any(operands, scope),
     }
 }

@@ -4,12 +4,13 @@
 
 mod arrays;
 mod casts;
+mod conversions;
 mod lookups;
 mod offers;
 mod references;
 mod structs;
 mod tables;
 
-pub use arrays::{aggregate, is_aggregate_covered};
+pub use arrays::aggregate;
 pub use references::reference;
 pub use tables::table;

@@ -132,6 +132,7 @@ fn tested(top: Slot) -> Option<Slot>
     match top {
         Slot::Bottom => Some(Slot::Value(ValType::I32)),
         Slot::SomeRef => Some(Slot::Value(ValType::I32)),
+        Slot::EitherRef(_ty) => Some(Slot::Value(ValType::I32)),
         Slot::Value(ValType::Ref(_reference)) => Some(Slot::Value(ValType::I32)),
         Slot::Value(_) => None,
     }
@@ -164,6 +165,7 @@ fn non_null(scope: &Scope, top: Slot) -> Option<Slot>
 {
     match top {
         Slot::Bottom | Slot::SomeRef => Some(Slot::SomeRef),
+        Slot::EitherRef(ty) => Some(Slot::EitherRef(ty)),
         Slot::Value(ValType::Ref(reference)) => Some(Slot::Value(ValType::Ref(RefType {
             nullable: !scope.features.contains(WasmFeatures::FUNCTION_REFERENCES),
             heap_type: reference.heap_type,

@@ -9,6 +9,7 @@ use Rattle.smith_instr.specs.Sequences.{Stacked as ValueStacked, CountsAs as Cou
 use Rattle.smith_instr.specs.Sequences.{IsStep as IsValueStep, AreTyped as AreValuesTyped, nothing as value_nothing, step as value_step}
 use Rattle.smith_instr.specs.Sequences.{block as value_block, loop as value_loop, if_alone as value_if_alone, if_else as value_if_else}
 use Rattle.smith_instr.specs.Sequences.{try_table as value_try_table, IsBodyTyped as IsBodyValueTyped}
+use Rattle.smith_instr.specs.declared.aggregate.AggregateInstr.TheVariants as aggregate
 use Rattle.smith_instr.specs.declared.instr.Instr.{Instr}
 use Rattle.smith_instr.specs.declared.instr.Instr.TheVariants as instr
 use Rattle.smith_instr.specs.declared.reference.ReferenceInstr.TheVariants as reference
@@ -127,6 +128,10 @@ stack_type context set instr.Select operands results (value, number, (is, also))
     (Value value, numeric_value value number, ap (λ xs. values xs) is, ap (λ xs. values xs) also)
 stack_type context set (instr.Reference reference.AsNonNull) operands results (heap_type, valid, (is, also)) =
     (_, _, inl (heap_type, valid, refl, refl), ap (λ xs. values xs) is, ap (λ xs. values xs) also)
+stack_type context set (instr.Aggregate aggregate.AnyConvertExtern) operands results (shared, (nullable, (is, also))) =
+    (_, _, inl (shared, nullable, refl, refl), ap (λ xs. values xs) is, ap (λ xs. values xs) also)
+stack_type context set (instr.Aggregate aggregate.ExternConvertAny) operands results (shared, (nullable, (is, also))) =
+    (_, _, inl (shared, nullable, refl, refl), ap (λ xs. values xs) is, ap (λ xs. values xs) also)
 stack_type context set x operands results typed = (operands, results, typed, refl, refl)
 
 stepped : {context : BodyContext} {x : Instr} {before after : ValueStacked} → IsValueStep context x before after

@@ -1,15 +1,15 @@
 -- Bodies of dead code, step by step.
-use Rattle.std.proofs.Common.{◌≡◌, ℕ, false, true, List, [], ◌∷◌, ◌++◌, refl, sym, inl, inr, pos}
+use Rattle.std.proofs.Common.{◌≡◌, false, true, List, [], ◌∷◌, ◌++◌, refl, sym, inr, pos}
 use Rattle.std.specs.Prelude.{All}
 use Rattle.std.proofs.lemmas.List.Elements.{All-nil, All-cons}
 use Rattle.smith_syntax.specs.declared.value_type.AbstractHeapType.TheVariants as abstract
 use Rattle.smith_syntax.specs.declared.value_type.HeapType.TheVariants.{Abstract}
-use Rattle.smith_syntax.specs.declared.value_type.ValType.{ValType}
 use Rattle.smith_syntax.specs.declared.value_type.ValType.TheVariants.{I32, I64}
 use Rattle.smith_syntax.specs.declared.composite_type.SubType.{SubType}
 use Rattle.smith_types.proofs.GrowthLemmas.{IsValBelow-refl}
 use Rattle.smith_instr.specs.Contexts.{BodyContext, nullable_to, labelled}
 use Rattle.smith_instr.specs.InstrTypes.{sets}
+use Rattle.smith_instr.specs.declared.aggregate.AggregateInstr.TheVariants as aggregate
 use Rattle.smith_instr.specs.declared.instr.Instr.{Instr}
 use Rattle.smith_instr.specs.declared.instr.Instr.TheVariants as instr
 use Rattle.smith_instr.specs.declared.reference.ReferenceInstr.TheVariants as reference
@@ -17,9 +17,9 @@ use Rattle.smith_check_rules.specs.Slots.{IsBelow, AreBelow, IsSlotValid, AreSlo
 use Rattle.smith_check_rules.specs.StackTypes.{IsTaken, HasStackType}
 use Rattle.smith_check_rules.specs.Sequences.{stacked, IsStep, AreTyped, nothing, step, IsBodyTyped}
 use Rattle.smith_check_rules.specs.ExampleBodies.{plain, with_two_labels, some_function, some_external, selects_any, branches_apart}
-use Rattle.smith_check_rules.specs.ExampleBodies.{branches_with_reference}
+use Rattle.smith_check_rules.specs.ExampleBodies.{branches_with_reference, branches_with_conversion, some_internal, shared_internal}
 use Rattle.smith_check_rules.specs.declared.slot.Slot.{Slot}
-use Rattle.smith_check_rules.specs.declared.slot.Slot.TheVariants.{Bottom, SomeRef, Value}
+use Rattle.smith_check_rules.specs.declared.slot.Slot.TheVariants.{Bottom, SomeRef, EitherRef, Value}
 
 no_slots : (context : BodyContext) → AreSlotsValid context []
 no_slots context = All-nil (IsSlotValid context)
@@ -31,6 +31,7 @@ more_slots context slot slots first rest = All-cons (IsSlotValid context) slot s
 below_itself : (types : List SubType) (slot : Slot) → IsBelow types slot slot
 below_itself types Bottom = tt
 below_itself types SomeRef = tt
+below_itself types (EitherRef ty) = refl
 below_itself types (Value value) = IsValBelow-refl types value
 
 below_themselves : (types : List SubType) (slots : List Slot) → AreBelow types slots slots
@@ -99,7 +100,7 @@ with_reference =
     let index = more_slots context (Value I32) [] tt (no_slots context) in
     step (one context instr.Unreachable [] [] [] (SomeRef ∷ []) ([], refl, slot) tt slot refl)
     (step (one context (instr.Reference reference.AsNonNull) [] (SomeRef ∷ []) (SomeRef ∷ []) (SomeRef ∷ [])
-    (SomeRef, SomeRef, inr (refl, refl), refl, refl) (tt, tt) slot refl)
+    (SomeRef, SomeRef, inr (tt, refl), refl, refl) (tt, tt) slot refl)
     (step (one context (instr.I32Const (pos 0)) (SomeRef ∷ []) [] [] (Value I32 ∷ []) ([], I32 ∷ [], (refl, refl), refl, refl) tt index
     refl)
     (step (one context (instr.BrTable (0 ∷ []) 1) [] (SomeRef ∷ Value I32 ∷ []) (SomeRef ∷ Value I32 ∷ []) [] (
@@ -108,4 +109,24 @@ with_reference =
       (some_external ∷ [], refl, (tt, tt)),
       ([], refl, no_slots context),
     ) (tt, (tt, tt)) (no_slots context) refl)
+    (none_left context))))
+
+pub with_conversion : AreTyped (with_two_labels some_internal shared_internal) branches_with_conversion (stacked [] []) (stacked [] [])
+with_conversion =
+    let context = with_two_labels some_internal shared_internal in
+    let either = EitherRef abstract.Any in
+    let outside = more_slots context SomeRef [] tt (no_slots context) in
+    let inside = more_slots context either [] (tt, (refl, λ shared. refl)) (no_slots context) in
+    let index = more_slots context (Value I32) [] tt (no_slots context) in
+    step (one context instr.Unreachable [] [] [] (SomeRef ∷ []) ([], refl, outside) tt outside refl)
+    (step (one context (instr.Aggregate aggregate.AnyConvertExtern) [] (SomeRef ∷ []) (EitherRef abstract.Extern ∷ []) (either ∷ [])
+    (EitherRef abstract.Extern, either, inr (refl, refl), refl, refl) (tt, tt) inside refl)
+    (step (one context (instr.I32Const (pos 0)) (either ∷ []) [] [] (Value I32 ∷ []) ([], I32 ∷ [], (refl, refl), refl, refl) tt index
+    refl)
+    (step (one context (instr.BrTable (0 ∷ []) 1) [] (either ∷ Value I32 ∷ []) (either ∷ Value I32 ∷ []) [] (
+      either ∷ [],
+      both_taken context either (some_internal ∷ [], refl, ((false, below_itself [] (Value some_internal)), tt)),
+      (shared_internal ∷ [], refl, ((true, below_itself [] (Value shared_internal)), tt)),
+      ([], refl, no_slots context),
+    ) (refl, (tt, tt)) (no_slots context) refl)
     (none_left context))))

@@ -1,2 +1,3 @@
 mod EmbeddingLemmas
 mod ExampleLemmas
+pub mod ConversionLemmas

@@ -1,13 +1,13 @@
 -- Contexts and bodies of the examples.
 use Rattle.std.specs.Prelude.{List, [], ◌∷◌, pos, true, false}
 use Rattle.smith_types.specs.ExampleFeatures.{usual_features}
-use Rattle.smith_types.specs.Flags.{funcref}
 use Rattle.smith_types.specs.Expressions.{reference_to}
 use Rattle.smith_syntax.specs.declared.value_type.AbstractHeapType.TheVariants as abstract
 use Rattle.smith_syntax.specs.declared.value_type.HeapType.TheVariants.{Abstract}
 use Rattle.smith_syntax.specs.declared.value_type.ValType.{ValType}
-use Rattle.smith_syntax.specs.declared.value_type.ValType.TheVariants.{I32, I64, Ref}
+use Rattle.smith_syntax.specs.declared.value_type.ValType.TheVariants.{I32, I64}
 use Rattle.smith_instr.specs.Contexts.{BodyContext}
+use Rattle.smith_instr.specs.declared.aggregate.AggregateInstr.TheVariants as aggregate
 use Rattle.smith_instr.specs.declared.instr.Instr.{Instr}
 use Rattle.smith_instr.specs.declared.instr.Instr.TheVariants as instr
 use Rattle.smith_instr.specs.declared.reference.ReferenceInstr.TheVariants as reference
@@ -45,6 +45,13 @@ some_function = reference_to (Abstract false abstract.Func)
 abbrev pub some_external : ValType
 some_external = reference_to (Abstract false abstract.Extern)
 
+-- a non-null reference to an internal value, unshared and shared
+abbrev pub some_internal : ValType
+some_internal = reference_to (Abstract false abstract.Any)
+
+abbrev pub shared_internal : ValType
+shared_internal = reference_to (Abstract true abstract.Any)
+
 -- the type of what is selected in dead code is that of a number and that of a reference
 abbrev pub selects_any : List Instr
 selects_any = instr.Unreachable ∷ instr.Select ∷ instr.Reference reference.IsNull ∷ instr.Drop ∷ []
@@ -56,6 +63,11 @@ branches_apart = instr.Unreachable ∷ instr.BrTable (0 ∷ []) 1 ∷ []
 -- a table of branches whose labels take references to different values
 abbrev pub branches_with_reference : List Instr
 branches_with_reference = instr.Unreachable ∷ instr.Reference reference.AsNonNull ∷ instr.I32Const (pos 0) ∷ instr.BrTable (0 ∷ []) 1 ∷ []
+
+-- a table of branches whose labels take an unshared and a shared reference
+abbrev pub branches_with_conversion : List Instr
+branches_with_conversion =
+    instr.Unreachable ∷ instr.Aggregate aggregate.AnyConvertExtern ∷ instr.I32Const (pos 0) ∷ instr.BrTable (0 ∷ []) 1 ∷ []
 
 -- the instruction takes these operands and leaves these results
 abbrev pub HasType : Instr → List Slot → List Slot → Type 0

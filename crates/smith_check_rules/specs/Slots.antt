@@ -1,14 +1,18 @@
 -- The types of values on the stack, and which of them are below others: the sections Validation,
 -- Types, and Validation, Matching, of the WebAssembly Core Specification 3.0.
-use Rattle.std.specs.Prelude.{List, map, All}
+use Rattle.std.specs.Prelude.{◌≡◌, Bool, false, List, map, All}
 use Rattle.std.specs.List.{AllZip}
+use Rattle.smith_syntax.specs.declared.value_type.AbstractHeapType.{AbstractHeapType}
+use Rattle.smith_syntax.specs.declared.value_type.AbstractHeapType.TheVariants as abstract
+use Rattle.smith_syntax.specs.declared.value_type.HeapType.TheVariants.{Abstract}
 use Rattle.smith_syntax.specs.declared.value_type.ValType.{ValType}
 use Rattle.smith_syntax.specs.declared.value_type.ValType.TheVariants.{Ref}
 use Rattle.smith_syntax.specs.declared.composite_type.SubType.{SubType}
+use Rattle.smith_types.specs.Expressions.{reference_to}
 use Rattle.smith_types.specs.Subtyping.{IsValBelow}
-use Rattle.smith_instr.specs.Contexts.{BodyContext, IsValid}
+use Rattle.smith_instr.specs.Contexts.{BodyContext, IsValid, IsHeapValid}
 use Rattle.smith_check_rules.specs.declared.slot.Slot.{Slot}
-use Rattle.smith_check_rules.specs.declared.slot.Slot.TheVariants.{Bottom, SomeRef, Value}
+use Rattle.smith_check_rules.specs.declared.slot.Slot.TheVariants.{Bottom, SomeRef, EitherRef, Value}
 
 -- a reference type (Structure, Reference Types)
 abbrev pub IsReference : ValType → Type 0
@@ -16,12 +20,17 @@ IsReference (Ref reference) = Unit {0}
 IsReference _ = ⊥
 
 -- one type matches another: the bottom type every type, and a non-null reference to the bottom heap
--- type every reference type (Validation, Matching, Value Types and Heap Types)
+-- type every reference type (Validation, Matching, Value Types and Heap Types); a non-null reference
+-- that is shared or not matches what a shared or an unshared one matches (own rule)
 abbrev pub IsBelow : List SubType → Slot → Slot → Type 0
 IsBelow types Bottom _ = Unit {0}
 IsBelow types SomeRef SomeRef = Unit {0}
+IsBelow types SomeRef (EitherRef b) = Unit {0}
 IsBelow types SomeRef (Value b) = IsReference b
 IsBelow types SomeRef Bottom = ⊥
+IsBelow types (EitherRef a) (EitherRef b) = a ≡ b
+IsBelow types (EitherRef a) (Value b) = (shared : Bool) × IsValBelow types (reference_to (Abstract shared a)) b
+IsBelow types (EitherRef a) _ = ⊥
 IsBelow types (Value a) (Value b) = IsValBelow types a b
 IsBelow types (Value a) _ = ⊥
 
@@ -34,9 +43,17 @@ AreBelow types lower upper = AllZip (IsBelow types) lower upper
 abbrev pub values : List ValType → List Slot
 values types = map Value types
 
--- a valid type: the bottom types are (Validation, Value Types)
+-- the heap types of references that are converted (Validation, External Reference Instructions)
+abbrev pub IsConvertible : AbstractHeapType → Type 0
+IsConvertible abstract.Any = Unit {0}
+IsConvertible abstract.Extern = Unit {0}
+IsConvertible _ = ⊥
+
+-- a valid type: the bottom types are (Validation, Value Types), and that of a reference which is
+-- shared or not, if it refers to a valid type of those that conversions leave (own rule)
 abbrev pub IsSlotValid : BodyContext → Slot → Type 0
 IsSlotValid context (Value value) = IsValid context value
+IsSlotValid context (EitherRef ty) = IsConvertible ty × IsHeapValid context (Abstract false ty)
 IsSlotValid context _ = Unit {0}
 
 -- valid types (Validation, Result Types)

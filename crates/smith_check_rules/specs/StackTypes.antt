@@ -3,6 +3,7 @@
 use Rattle.std.specs.Prelude.{◌≡◌, ◌⊎◌, ℕ, Bool, false, List, [], ◌∷◌, ◌++◌, All}
 use Rattle.smith_types.specs.Expressions.{reference_to}
 use Rattle.smith_types.specs.Entities.{IsFuncAt}
+use Rattle.smith_syntax.specs.declared.value_type.AbstractHeapType.{AbstractHeapType}
 use Rattle.smith_syntax.specs.declared.value_type.AbstractHeapType.TheVariants as abstract
 use Rattle.smith_syntax.specs.declared.value_type.HeapType.{HeapType}
 use Rattle.smith_syntax.specs.declared.value_type.HeapType.TheVariants.{Abstract, Concrete}
@@ -11,6 +12,7 @@ use Rattle.smith_syntax.specs.declared.value_type.ValType.TheVariants.{I32, Ref}
 use Rattle.smith_syntax.specs.declared.composite_type.FuncType.{FuncType}
 use Rattle.smith_instr.specs.Contexts.{BodyContext, IsHeapValid, IsFunction, IsTag, address, nullable_to}
 use Rattle.smith_instr.specs.InstrTypes.{HasInstrType, IsLabel, IsFunctionTable, ReturnsFrom}
+use Rattle.smith_instr.specs.declared.aggregate.AggregateInstr.TheVariants as aggregate
 use Rattle.smith_instr.specs.declared.instr.Instr.{Instr}
 use Rattle.smith_instr.specs.declared.instr.Instr.TheVariants as instr
 use Rattle.smith_instr.specs.declared.reference.ReferenceInstr.TheVariants as reference
@@ -22,6 +24,7 @@ use Rattle.smith_check_rules.specs.declared.slot.Slot.TheVariants as slot
 abbrev pub IsNumeric : Slot → Type 0
 IsNumeric slot.Bottom = Unit {0}
 IsNumeric slot.SomeRef = ⊥
+IsNumeric (slot.EitherRef ty) = ⊥
 IsNumeric (slot.Value (Ref reference)) = ⊥
 IsNumeric (slot.Value _) = Unit {0}
 
@@ -41,19 +44,38 @@ Leaves context operands results taken = (below : List Slot) × (operands ≡ bel
 abbrev pub IsTaken : BodyContext → List Slot → ℕ → Type 0
 IsTaken context given label = (taken : List ValType) × IsLabel context label taken × AreBelow context.types given (values taken)
 
+-- the bottom types of references, which are not null (Validation, Heap Types; own rule)
+abbrev pub IsBottomRef : Slot → Type 0
+IsBottomRef slot.SomeRef = Unit {0}
+IsBottomRef (slot.EitherRef ty) = Unit {0}
+IsBottomRef _ = ⊥
+
 -- a reference of one type is not null, or is one of the other: the types of references to one heap
 -- type, which may be bottom (Validation, Reference Instructions, ref.as_non_null)
 abbrev pub HasNonNull : BodyContext → Slot → Slot → Type 0
 HasNonNull context from to =
     ((heap_type : HeapType) × IsHeapValid context heap_type × (from ≡ slot.Value (nullable_to heap_type))
     × (to ≡ slot.Value (reference_to heap_type)))
-    ⊎ ((from ≡ slot.SomeRef) × (to ≡ slot.SomeRef))
+    ⊎ (IsBottomRef from × (to ≡ from))
+
+-- the type of references to an abstract heap type (Structure, Reference Types)
+abbrev pub referring : Bool → Bool → AbstractHeapType → ValType
+referring shared nullable ty = Ref (record { nullable = nullable; heap_type = Abstract shared ty })
+
+-- a reference to `outer` becomes one to `inner`, which may be null if it may (Validation, External
+-- Reference Instructions), and which is shared if it is, or, like it, shared or not (own rule)
+abbrev pub IsConverted : AbstractHeapType → AbstractHeapType → Slot → Slot → Type 0
+IsConverted outer inner from to =
+    ((shared : Bool) × (nullable : Bool) × (from ≡ slot.Value (referring shared nullable outer))
+    × (to ≡ slot.Value (referring shared nullable inner)))
+    ⊎ ((from ≡ slot.EitherRef outer) × (to ≡ slot.EitherRef inner))
 
 -- an instruction takes operands of the first list of types, the last on top, and leaves results of
 -- the second list, if the given locals are set (Validation, Instructions). A rule that names its
 -- operands and results has these, also in dead code, where values of the bottom types match them.
--- The other rules are those below: instructions after which control does not continue, and those
--- whose operands have any type, or the type of any reference
+-- The other rules are those below: instructions after which control does not continue, those whose
+-- operands have any type, or the type of any reference, and conversions, whose operands may be shared
+-- or not
 abbrev pub HasStackType : BodyContext → List ℕ → Instr → List Slot → List Slot → Type 0
 HasStackType context set instr.Unreachable operands results = Leaves context operands results []
 HasStackType context set (instr.Throw tag) operands results =
@@ -84,4 +106,8 @@ HasStackType context set instr.Select operands results =
     (given : Slot) × IsNumeric given × (operands ≡ given ∷ given ∷ slot.Value I32 ∷ []) × (results ≡ given ∷ [])
 HasStackType context set (instr.Reference reference.AsNonNull) operands results =
     (from : Slot) × (to : Slot) × HasNonNull context from to × (operands ≡ from ∷ []) × (results ≡ to ∷ [])
+HasStackType context set (instr.Aggregate aggregate.AnyConvertExtern) operands results =
+    (from : Slot) × (to : Slot) × IsConverted abstract.Extern abstract.Any from to × (operands ≡ from ∷ []) × (results ≡ to ∷ [])
+HasStackType context set (instr.Aggregate aggregate.ExternConvertAny) operands results =
+    (from : Slot) × (to : Slot) × IsConverted abstract.Any abstract.Extern from to × (operands ≡ from ∷ []) × (results ≡ to ∷ [])
 HasStackType context set instruction operands results = HasValueType context set instruction operands results

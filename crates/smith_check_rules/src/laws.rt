@@ -1,4 +1,4 @@
-ghost use Rattle.smith_check_rules.specs.Laws.{TypedBodiesStayTyped, TypedSequencesStayTyped};
+ghost use Rattle.smith_check_rules.specs.Laws.{EitherIsUnshared, TypedBodiesStayTyped, TypedSequencesStayTyped};
 
 /// States that a body that is typed by the rules without bottom types is typed.
 pub fn typed_bodies_stay_typed()
@@ -8,4 +8,10 @@ pub fn typed_bodies_stay_typed()
 /// States that a sequence that is typed by the rules without bottom types is typed.
 pub fn typed_sequences_stay_typed()
     ensures { TypedSequencesStayTyped }
+{}
+
+/// States that without shared-everything-threads, a reference that is shared or not counts as one of
+/// the valid types of which an unshared one counts.
+pub fn either_is_unshared()
+    ensures { EitherIsUnshared }
 {}

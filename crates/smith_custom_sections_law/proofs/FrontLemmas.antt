@@ -47,11 +47,6 @@ same_section id other_id piece other rest other_rest h k whole =
 pub section_long : {Content : List ℕ → Type 0} {id : ℕ} {piece : List ℕ} → IsSection id Content piece → 1 ≤ length piece
 section_long h = rw (h.whole, h.is_first) (omega arith)
 
--- no custom sections
-pub no_customs : AreCustoms []
-unfolding Each
-no_customs = record { all = []; form = refl }
-
 -- bytes that begin with a section that is not custom begin with no custom section
 each_none : (all : List (Unit {0})) (sections : List (List ℕ)) (first rest bytes : List ℕ) → Each IsPlainSection sections bytes
     → Each IsCustom all first

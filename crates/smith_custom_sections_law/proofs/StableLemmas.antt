@@ -8,7 +8,8 @@ use Rattle.smith_custom_sections.specs.declared.custom_section.CustomSection.{Cu
 use Rattle.smith_custom_sections.specs.CustomSections.{AreDueIn, AreWovenIn, IsContentIn, IsPlainSection, is_due}
 use Rattle.smith_decode.specs.Customs.{IsNamed, AreCustoms, IsThen}
 use Rattle.smith_decode.specs.Modules.{AreSections, Syntax}
-use Rattle.smith_custom_sections_law.proofs.FrontLemmas.{no_customs, none_before, same_section, section_long}
+use Rattle.smith_decode.proofs.CustomLemmas.{no_customs}
+use Rattle.smith_custom_sections_law.proofs.FrontLemmas.{none_before, same_section, section_long}
 
 -- custom sections that come at a place
 one_custom : (custom : CustomSection) (piece : List ℕ) → IsSection 0 (IsContentIn any custom) piece → IsSection 0 IsNamed piece

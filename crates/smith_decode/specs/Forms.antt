@@ -5,7 +5,8 @@ use Rattle.std.specs.Prelude.{◌≡◌, ◌≤◌, ◌^◌, ℕ, ◌⊎◌, IsT
 use Rattle.smith_syntax.specs.Features.{Features}
 use Rattle.smith_syntax.specs.declared.entity_type.ExportKind.{ExportKind}
 use Rattle.smith_syntax.specs.declared.entity_type.ExportKind.TheVariants as kind
-use Rattle.smith_types.specs.Flags.{IsElementTypeEnabled, IsHeapTypeEnabled}
+use Rattle.smith_syntax.specs.declared.value_type.RefType.{RefType}
+use Rattle.smith_types.specs.Flags.{IsHeapTypeEnabled}
 use Rattle.smith_instr.specs.Enabled.{has_features}
 use Rattle.smith_instr.specs.declared.control.BlockType.{BlockType}
 use Rattle.smith_instr.specs.declared.control.BlockType.TheVariants as block
@@ -151,12 +152,13 @@ IsKindEnabled features _ = Unit {0}
 abbrev pub IsExportEnabled : Features → Export → Type 0
 IsExportEnabled features item = IsKindEnabled features item.kind
 
--- an element segment: expressions as items and a table other than the first require reference types,
--- and segments that are not copied into a table require bulk memory (Element Section)
-abbrev pub AreItemsEnabled : Features → ElementItems → Type 0
-AreItemsEnabled features (element_items.Functions functions) = Unit {0}
-AreItemsEnabled features (element_items.Expressions expressions) =
-    IsTrue features.reference_types × All (IsExprEnabled features) expressions
+-- an element segment: expressions as items, which have a type, and a table other than the first require
+-- reference types, and segments that are not copied into a table require bulk memory; functions as items
+-- are of every feature (Element Section)
+abbrev pub AreItemsEnabled : Features → RefType → ElementItems → Type 0
+AreItemsEnabled features ty (element_items.Functions functions) = Unit {0}
+AreItemsEnabled features ty (element_items.Expressions expressions) =
+    IsTrue features.reference_types × IsRefTypeEnabled features ty × All (IsExprEnabled features) expressions
 
 abbrev pub IsElementModeEnabled : Features → ElementMode → Type 0
 IsElementModeEnabled features element_mode.Passive = IsTrue features.bulk_memory
@@ -165,9 +167,7 @@ IsElementModeEnabled features (element_mode.Active table offset) =
     IsTableNameEnabled features table × IsExprEnabled features offset
 
 pub record IsElementEnabled (features : Features) (segment : ElementSegment) : Type 0 where
-  pub ty : IsRefTypeEnabled features segment.ty
-  pub ty_enabled : IsElementTypeEnabled features segment.ty
-  pub items : AreItemsEnabled features segment.items
+  pub items : AreItemsEnabled features segment.ty segment.items
   pub mode : IsElementModeEnabled features segment.mode
 
 -- a data segment: a memory other than the first requires several memories, and segments that are not

@@ -35,8 +35,8 @@ use crate::elements::{ElementItems, ElementMode, ElementSegment};
 use crate::locations::Place;
 use crate::modules::Module;
 use crate::type_forms::{
-    EnabledForm, is_element_type_enabled, is_global_type_enabled, is_heap_type_enabled,
-    is_ref_type_enabled, is_table_type_enabled, is_val_type_enabled,
+    EnabledForm, is_global_type_enabled, is_heap_type_enabled, is_ref_type_enabled,
+    is_table_type_enabled, is_val_type_enabled,
 };
 use smith_binary_read::{Export, TagDefinition};
 use smith_instr::{BlockType, BranchCast, Instr, MemArg, MemoryInstr, ReferenceInstr, TableInstr};
@@ -142,9 +142,7 @@ impl Predicate<ElementSegment> for EnabledForm {
     ghost meaning = { λ form segment. IsElementEnabled (features_in form.features) segment };
 
     fn holds(&self, item: &ElementSegment) -> bool {
-        is_ref_type_enabled(self.features, item.ty)
-            && is_element_type_enabled(self.features, item.ty)
-            && are_items_enabled(*self, &item.items)
+        are_items_enabled(*self, item.ty, &item.items)
             && is_element_mode_enabled(self.features, &item.mode)
     }
 }
@@ -348,13 +346,14 @@ fn is_kind_enabled(features: WasmFeatures, kind: ExportKind) -> bool
     }
 }
 
-fn are_items_enabled(form: EnabledForm, items: &ElementItems) -> bool
-    ensures { IsTrue result ↔ AreItemsEnabled (features_in form.features) items.now }
+fn are_items_enabled(form: EnabledForm, ty: RefType, items: &ElementItems) -> bool
+    ensures { IsTrue result ↔ AreItemsEnabled (features_in form.features) ty items.now }
 {
     match items {
         ElementItems::Functions(_) => true,
         ElementItems::Expressions(expressions) => {
             form.features.contains(WasmFeatures::REFERENCE_TYPES)
+                && is_ref_type_enabled(form.features, ty)
                 && all_hold(&form, expressions.as_slice())
         }
     }

@@ -186,8 +186,8 @@ fn is_funcref(reference: RefType) -> bool
         }
 }
 
-/// Returns whether `features` enable the elements `reference` of a table or a segment.
-pub(crate) fn is_element_type_enabled(features: WasmFeatures, reference: RefType) -> bool
+// Returns whether `features` enable the elements `reference` of a table.
+fn is_element_type_enabled(features: WasmFeatures, reference: RefType) -> bool
     ensures { IsTrue result ↔ IsElementTypeEnabled (features_in features) reference }
 {
     is_funcref(reference) || features.contains(WasmFeatures::REFERENCE_TYPES)

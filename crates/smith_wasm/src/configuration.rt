@@ -1,11 +1,14 @@
 use crate::failure::Failure;
 use crate::fields::fields;
 use crate::request::Request;
+use crate::shapes::{NO_SHAPES, check_shapes};
 use crate::words::{ARBITRARY, CONFIG, PRESET};
+use clap::ArgMatches;
 use smith_bytes::{Error, Unstructured};
 use smith_config::{Config, MemoryOffsetChoices};
-use smith_config_json::{Fault, FieldKind, kind_of, preset_named, read_text};
-use smith_types::InstructionKinds;
+use smith_config_json::{Fault, FieldKind, Preset, kind_of, preset_named, read_text};
+use smith_request::{Form, Manner};
+use smith_types::{InstructionKinds, WasmFeatures};
 use std::alloc::Global;
 use std::str::FromStr;
 
@@ -38,6 +41,28 @@ pub(crate) fn set_default(alloc: Global, asked: &Request<'_, '_>) -> Result<Conf
     set_fields(alloc, asked, &mut config).and(Ok(config))
 }
 
+/// Returns the features by which files are judged: all that are known, changed by the preset that is a
+/// word, the configuration file `config` if there is one, and the fields that are words.
+pub(crate) fn check_features(
+    alloc: Global,
+    matches: &ArgMatches<'_>,
+    config: Option<String>,
+) -> Result<WasmFeatures, Failure> {
+    let asked = Request {
+        matches,
+        config,
+        manner: Manner {
+            form: Form::Binary,
+            fuel: None,
+        },
+        shapes: NO_SHAPES,
+    };
+    let mut config = Config::default();
+    Preset::Proposals.apply(&mut config);
+    set_fields(alloc, &asked, &mut config)?;
+    Ok(config.features())
+}
+
 /// Checks the configuration that `asked` requests. Of a drawn configuration, which depends on the
 /// input, only the fields are checked that replace drawn ones.
 pub(crate) fn check_config(alloc: Global, asked: &Request<'_, '_>) -> Result<(), Failure> {
@@ -58,17 +83,18 @@ fn set_and_check(
     }
     config.sanitize();
     match config.check() {
-        Ok(()) => Ok(()),
+        Ok(()) => check_shapes(alloc, config),
         Err(fault) => Err(Failure::from(Error::Config(fault))),
     }
 }
 
 /// Applies the preset that is a word, sets what the configuration file names, and then the fields
-/// that are words.
+/// that are words, and the shapes.
 fn set_fields(alloc: Global, asked: &Request<'_, '_>, config: &mut Config) -> Result<(), Failure> {
     set_preset(alloc, asked, config)?;
     set_from_file(alloc, asked, config)?;
-    set_from_words(alloc, asked, config)
+    set_from_words(alloc, asked, config)?;
+    asked.shapes.set(alloc, config)
 }
 
 /// Applies the preset that is a word, if there is one.
@@ -113,11 +139,17 @@ fn set_from_words(
     config: &mut Config,
 ) -> Result<(), Failure> {
     for field in fields() {
-        if let Some(value) = asked.matches.get_str(field.name) {
-            set_from_word(alloc, field.name, value, config)?;
+        match asked.matches.get_str(field.name) {
+            Some(value) if !is_file(field.name) => set_from_word(alloc, field.name, value, config)?,
+            _ => {}
         }
     }
     Ok(())
+}
+
+/// Returns whether the word `name` is a file of a shape.
+fn is_file(name: &str) -> bool {
+    kind_of(name) == Some(FieldKind::File)
 }
 
 /// Sets the field `name` to the value that the word `value` denotes.

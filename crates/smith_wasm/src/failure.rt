@@ -3,6 +3,7 @@ use crate::print::LOCALS;
 use smith_bytes::Error;
 use smith_config_json::ConfigRefusal;
 use smith_request::Refusal;
+use smith_shape_file::ShapeFileFault;
 use std::alloc::{AllocError, AllocFailed};
 use std::{fmt, io};
 
@@ -25,14 +26,16 @@ pub(crate) enum Failure {
     Malformed(Malformed),
     /// The bodies of a file have more locals than are written as text: its path.
     Locals(String),
+    /// A file is no shape: its path, and why.
+    Shape(String, ShapeFileFault),
 }
 
 impl Failure {
     /// Returns the status that the program ends with: 2 if the parser of a word or of the
-    /// configuration file refuses it, or a binary would go to a terminal, else 1.
+    /// configuration file refuses it, a file is no shape, or a binary would go to a terminal, else 1.
     pub(crate) fn status(&self) -> u8 {
         match self {
-            Failure::Config(..) | Failure::Word(..) | Failure::Terminal => 2,
+            Failure::Config(..) | Failure::Word(..) | Failure::Terminal | Failure::Shape(..) => 2,
             _ => 1,
         }
     }
@@ -53,6 +56,7 @@ impl fmt::Display for Failure {
             Failure::Terminal => f.write_str(TERMINAL),
             Failure::Malformed(malformed) => write!(f, "{malformed}"),
             Failure::Locals(path) => write!(f, "{path}: it has more than {LOCALS} locals"),
+            Failure::Shape(path, fault) => write!(f, "{path}: {fault}"),
         }
     }
 }

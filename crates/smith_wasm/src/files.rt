@@ -5,6 +5,9 @@ use std::{fs, io};
 /// The name of standard input in messages.
 pub(crate) const STANDARD_INPUT: &str = "standard input";
 
+// The end of the names of the files in a folder that are judged.
+const ENDING: &str = ".wasm";
+
 /// Reads the file at `path` whole, or standard input to its end if there is no path.
 pub(crate) fn read_from(rt: &HostRuntime, path: Option<&str>) -> Result<Vec<u8>, Failure> {
     match path {
@@ -23,6 +26,26 @@ fn read_input(rt: &HostRuntime) -> Result<Vec<u8>, Failure> {
     let read = rt.stdin().read_to_end(&mut bytes);
     let _length = with_path(rt, STANDARD_INPUT, read)?;
     Ok(bytes)
+}
+
+/// Returns the paths of the files in the folder at `path` whose names end in `.wasm`, in the order of
+/// their names.
+pub(crate) fn names_in(rt: &HostRuntime, path: &str) -> Result<Vec<String>, Failure> {
+    let listed = list_in(rt, path);
+    let mut paths = with_path(rt, path, listed)?;
+    paths.sort_unstable();
+    Ok(paths)
+}
+
+fn list_in(rt: &HostRuntime, path: &str) -> io::Result<Vec<String>> {
+    let mut paths = Vec::new(rt.alloc());
+    for entry in fs::read_dir(rt, path)? {
+        let entry = entry?;
+        if entry.file_name().ends_with(ENDING) {
+            paths.push(String::from_str(rt.alloc(), entry.path().as_str())?)?;
+        }
+    }
+    Ok(paths)
 }
 
 /// Writes `bytes` to the file at `path`, which is created or replaced, or to standard output if there is

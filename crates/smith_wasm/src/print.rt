@@ -31,7 +31,7 @@ pub(crate) fn print_file(rt: &HostRuntime, matches: &ArgMatches<'_>) -> Result<(
 }
 
 /// Returns the module that `bytes` are, the contents of the file at `path`.
-fn module_in(alloc: Global, path: &str, bytes: &[u8]) -> Result<Module, Failure> {
+pub(crate) fn module_in(alloc: Global, path: &str, bytes: &[u8]) -> Result<Module, Failure> {
     let (offset, reason) = match decode(alloc, bytes, WasmFeatures::every()) {
         Ok(module) => return Ok(module),
         Err(DecodeError::Memory) => return Err(Failure::from(Error::Memory)),

@@ -3,6 +3,8 @@ use crate::corpus::make_corpus;
 use crate::counts::Counts;
 use crate::failure::Failure;
 use crate::files::{read_from, read_text, shows_output, write_to};
+use crate::paths::{NO_PATHS, Paths, take_paths};
+use crate::shapes::Shapes;
 use crate::warnings::warn;
 use crate::words::{
     CONFIG, ENSURE_TERMINATION, FUEL, FUEL_EXPORT, INPUT, NOTES, OUTPUT, OUTPUT_DIR, WAT,
@@ -11,7 +13,7 @@ use clap::ArgMatches;
 use smith_bytes::Unstructured;
 use smith_program::Program;
 use smith_request::{Form, Fuel, Layout, Manner, write_program};
-use std::alloc::Global;
+use std::alloc::{AllocError, Global};
 
 // The mark that some editors write at the beginning of a text.
 const BYTE_ORDER_MARK: char = '\u{FEFF}';
@@ -28,29 +30,43 @@ pub(crate) struct Request<'m, 'w> {
     pub(crate) config: Option<String>,
     /// The manner of writing modules.
     pub(crate) manner: Manner,
+    /// The shapes of the configuration.
+    pub(crate) shapes: Shapes,
 }
 
 /// Makes the modules that `matches` requests.
 pub(crate) fn answer(rt: &HostRuntime, matches: &ArgMatches<'_>) -> Result<(), Failure> {
-    let config = config_text(rt, matches)?;
+    let (config, paths) = config_text(rt, matches)?;
     let manner = manner_of(rt, matches, &config)?;
+    let shapes = Shapes::read(rt, matches, &paths)?;
     let asked = Request {
         matches,
         config,
         manner,
+        shapes,
     };
     make(rt, &asked)
 }
 
-/// Reads the text of the configuration file, if there is one, without a byte order mark.
-fn config_text(rt: &HostRuntime, matches: &ArgMatches<'_>) -> Result<Option<String>, Failure> {
+/// Reads the text of the configuration file, if there is one, without a byte order mark and without the
+/// paths of shapes, and these paths.
+pub(crate) fn config_text(
+    rt: &HostRuntime,
+    matches: &ArgMatches<'_>,
+) -> Result<(Option<String>, Paths), Failure> {
     let Some(path) = matches.get_str(CONFIG) else {
-        return Ok(None);
+        return Ok((None, NO_PATHS));
     };
-    let text = read_text(rt, path)?;
+    let mut text = unmarked(rt.alloc(), read_text(rt, path)?)?;
+    let paths = take_paths(rt.alloc(), path, &mut text)?;
+    Ok((Some(text), paths))
+}
+
+/// Returns `text` without a byte order mark.
+fn unmarked(alloc: Global, text: String) -> Result<String, AllocError> {
     match text.as_str().strip_prefix(BYTE_ORDER_MARK) {
-        Some(rest) => Ok(Some(String::from_str(rt.alloc(), rest)?)),
-        None => Ok(Some(text)),
+        Some(rest) => String::from_str(alloc, rest),
+        None => Ok(text),
     }
 }
 

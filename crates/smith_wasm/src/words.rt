@@ -11,6 +11,22 @@ const VERSION: &str = "0.7.0";
 
 /// The command that prints a file.
 pub(crate) const PRINT: &str = "print";
+/// The command that judges files.
+pub(crate) const CHECK: &str = "check";
+/// The word of the files that are judged.
+pub(crate) const FILES: &str = "files";
+/// The word of answers in JSON.
+pub(crate) const JSON: &str = "json";
+/// The word of sums in place of answers.
+pub(crate) const QUIET: &str = "quiet";
+/// The command that prints the shape of a file.
+pub(crate) const SHAPE: &str = "shape";
+/// The word of the imports to choose from.
+pub(crate) const AVAILABLE_IMPORTS: &str = "available-imports";
+/// The word of the exports of a module.
+pub(crate) const EXPORTS: &str = "exports";
+/// The word of the imports and exports of a module.
+pub(crate) const MODULE_SHAPE: &str = "module-shape";
 /// The word of the file that is printed.
 pub(crate) const FILE: &str = "file";
 /// The word of the input.
@@ -77,6 +93,61 @@ const OUTPUT_ABOUT: &str = "Writes to this file; to standard output if it is - o
 /// What the command prints.
 const PRINT_ABOUT: &str = "Prints the module of a file in the binary format as text.";
 
+/// What the command judges.
+const CHECK_ABOUT: &str =
+    "Says whether files are valid modules, and if not, where and by which rule.";
+
+/// Which files are judged.
+const FILES_ABOUT: &str =
+    "Files in the binary format, standard input if it is -, or folders, of which the files *.wasm are judged.";
+
+/// The statuses of the command.
+const CHECK_STATUS: &str =
+    "The status is 0 if all files are valid, 1 if one isn't or isn't judged, and 2 if a word is wrong or a file can't be read.
+All features are on unless a preset, the configuration file or a word turns them off.";
+
+/// What the configuration file is.
+const CONFIG_ABOUT: &str = "Reads the configuration from this file, a JSON object.";
+
+/// The words of the command that judges files, its files and the fields aside.
+static CHECK_WORDS: [Word; 4] = [
+    Word {
+        name: JSON,
+        short: None,
+        takes: Takes::Nothing,
+        needs: None,
+        excludes: &[],
+        about: "Shows each answer as a JSON object in a line.",
+    },
+    Word {
+        name: QUIET,
+        short: Some('q'),
+        takes: Takes::Nothing,
+        needs: None,
+        excludes: &[],
+        about: "Shows nothing but how many files have each answer.",
+    },
+    Word {
+        name: CONFIG,
+        short: Some('c'),
+        takes: Takes::Text("FILE"),
+        needs: None,
+        excludes: &[],
+        about: CONFIG_ABOUT,
+    },
+    Word {
+        name: PRESET,
+        short: None,
+        takes: Takes::Text("NAME"),
+        needs: None,
+        excludes: &[],
+        about: PRESET_ABOUT,
+    },
+];
+/// What the command prints of a shape.
+const SHAPE_ABOUT: &str =
+    "Prints the types, imports, definitions and exports of a file in the binary format as text.";
+
 /// What a preset is, and the names of all.
 const PRESET_ABOUT: &str =
     "Begins with a preset, before the configuration file and the fields below: \
@@ -119,7 +190,7 @@ static WORDS: [Word; 16] = [
         takes: Takes::Text("FILE"),
         needs: None,
         excludes: &[],
-        about: "Reads the configuration from this file, a JSON object.",
+        about: CONFIG_ABOUT,
     },
     Word {
         name: PRESET,
@@ -224,7 +295,10 @@ const EXAMPLES: &str = "Examples:
   head -c 4096 /dev/urandom | smith_wasm --preset run --wat
   smith_wasm input.bin -o module.wasm --preset v8 --max-memories 1
   smith_wasm --output-dir corpus --until 1000 --preset wabt --seed 7
-  smith_wasm print module.wasm";
+  smith_wasm print module.wasm
+  smith_wasm check module.wasm
+  smith_wasm shape library.wasm -o library.wat
+  smith_wasm input.bin -o module.wasm --module-shape library.wat";
 
 /// Creates the command line of the program.
 pub(crate) fn command<'a>(alloc: Global) -> Result<Command<'a>, Failure> {
@@ -239,12 +313,12 @@ pub(crate) fn command<'a>(alloc: Global) -> Result<Command<'a>, Failure> {
         .value_name("INPUT")
         .help("The input file; standard input if it is - or omitted.");
     let command = with_fields(alloc, with_words(alloc, command.arg(input)?)?)?;
-    with_print(alloc, command)
+    with_check(alloc, with_shape(alloc, with_print(alloc, command)?)?)
 }
 
 /// Adds the command that prints a file.
 fn with_print<'a>(alloc: Global, command: Command<'a>) -> Result<Command<'a>, Failure> {
-    match print_command(alloc) {
+    match file_command(alloc, PRINT, PRINT_ABOUT) {
         Ok(print) => Ok(command.subcommand(print)?),
         Err(failure) => {
             drop(command);
@@ -253,8 +327,23 @@ fn with_print<'a>(alloc: Global, command: Command<'a>) -> Result<Command<'a>, Fa
     }
 }
 
-/// Creates the command that prints a file.
-fn print_command<'a>(alloc: Global) -> Result<Command<'a>, Failure> {
+/// Adds the command that prints the shape of a file.
+fn with_shape<'a>(alloc: Global, command: Command<'a>) -> Result<Command<'a>, Failure> {
+    match file_command(alloc, SHAPE, SHAPE_ABOUT) {
+        Ok(shape) => Ok(command.subcommand(shape)?),
+        Err(failure) => {
+            drop(command);
+            Err(failure)
+        }
+    }
+}
+
+/// Creates the command `name`, which prints a file.
+fn file_command<'a>(
+    alloc: Global,
+    name: &'static str,
+    about: &'static str,
+) -> Result<Command<'a>, Failure> {
     let file = Arg::new(alloc, FILE)
         .value_name("FILE")
         .required(true)
@@ -265,8 +354,68 @@ fn print_command<'a>(alloc: Global) -> Result<Command<'a>, Failure> {
         .value_name("FILE")
         .action(ArgAction::Set)
         .help(OUTPUT_ABOUT);
-    let command = Command::new(alloc, PRINT).about(PRINT_ABOUT);
+    let command = Command::new(alloc, name).about(about);
     Ok(command.arg(file)?.arg(output)?)
+}
+
+/// Adds the command that judges files.
+fn with_check<'a>(alloc: Global, command: Command<'a>) -> Result<Command<'a>, Failure> {
+    match check_command(alloc) {
+        Ok(check) => Ok(command.subcommand(check)?),
+        Err(failure) => {
+            drop(command);
+            Err(failure)
+        }
+    }
+}
+
+/// Creates the command that judges files.
+fn check_command<'a>(alloc: Global) -> Result<Command<'a>, Failure> {
+    let files = Arg::new(alloc, FILES)
+        .value_name("FILE")
+        .required(true)
+        .num_args(1..)
+        .action(ArgAction::Append)
+        .help(FILES_ABOUT);
+    let mut command = Command::new(alloc, CHECK)
+        .about(CHECK_ABOUT)
+        .after_help(CHECK_STATUS)
+        .arg(files)?;
+    for word in &CHECK_WORDS {
+        command = with_word(alloc, command, word)?;
+    }
+    with_features(alloc, command)
+}
+
+/// Adds a word for each field of the configuration that turns features on and off.
+fn with_features<'a>(alloc: Global, mut command: Command<'a>) -> Result<Command<'a>, Failure> {
+    for field in fields() {
+        match kind_of(field.name) {
+            Some(kind) if is_feature(field.name) => {
+                let arg = field_arg(alloc, field, kind).help(without_default(field.about));
+                command = command.arg(arg)?;
+            }
+            _ => {}
+        }
+    }
+    Ok(command)
+}
+
+/// Returns whether the field `name` has an effect on the features of a file: several memories are one, and
+/// `non-nullable-enabled` is about modules that are made.
+fn is_feature(name: &str) -> bool {
+    if name == "max-memories" {
+        return true;
+    }
+    name.ends_with("-enabled") && name != "non-nullable-enabled" && !has_no_effect(name)
+}
+
+/// Returns `about` without the default of modules that are made.
+fn without_default(about: &'static str) -> &'static str {
+    match about.split_once(" The default ") {
+        Some((front, _)) => front,
+        None => about,
+    }
 }
 
 /// Adds the words that are not fields.
@@ -323,7 +472,7 @@ fn with_value<'a>(arg: Arg<'a>, takes: Takes) -> Arg<'a> {
 fn with_fields<'a>(alloc: Global, mut command: Command<'a>) -> Result<Command<'a>, Failure> {
     for field in fields() {
         match kind_of(field.name) {
-            None | Some(FieldKind::File) => {}
+            None => {}
             Some(kind) => command = command.arg(field_arg(alloc, field, kind))?,
         }
     }

@@ -1,80 +1,51 @@
-use Rattle.std.proofs.Common.{◌+◌, ◌<◌, ◌∙◌, ap, sym, subst, take, length, arith, [], MatchBool}
-use Rattle.std.specs.Prelude.{IsTrue, Some}
+use Rattle.std.proofs.Common.{◌+◌, ◌<◌, ◌∙◌, ap, subst, take, length, arith, [], MatchBool}
 use Rattle.std.proofs.lemmas.List.{take_all}
-use Rattle.std.proofs.lemmas.List.Elements.{All-nil, All-more}
-use Rattle.std.proofs.lemmas.Option.{slice_get-get_or}
-use Rattle.smith_instr.specs.declared.instr.Instr.{Instr}
-use Rattle.smith_check_body.specs.Covered.{is_covered}
 use Rattle.smith_check_operands.specs.declared.frame.Kind.TheVariants as kind
 use Rattle.smith_check_operands.specs.Scopes.{bare}
 use Rattle.smith_check_body.specs.Checks.{Goes, Stops}
-use Rattle.smith_check_body.proofs.BodyLemmas.{one_more, same_at, begun, reached_more, refused_at, refused_end, accepted}
+use Rattle.smith_check_body.proofs.BodyLemmas.{one_more, begun, reached_more, refused_at, refused_end, accepted}
 use Rattle.smith_check_body.proofs.check.check_body.Goals as goal
 
 pub check-requires-clause-well : goal.check-requires-clause-well
-check-requires-clause-well c = c.loop-i.invariant.0.well
+check-requires-clause-well c = c.loop-i.invariant.well
 
 pub loop-i-init : goal.loop-i-init
-loop-i-init c = (
-  begun (bare c.args.scope.now) c.begin-checker.result c.requires.scope.results (record {
-    shape = c.begin-checker.ensures.shape ∙ ap (λ rs. record { kind = kind.Block; params = []; results = rs }) c.requires.results;
-    operands = c.begin-checker.ensures.operands;
-    log = c.begin-checker.ensures.log;
-    height = c.begin-checker.ensures.height;
-    outers = c.begin-checker.ensures.outers;
-  }),
-  All-nil (λ (instruction : Instr). IsTrue (is_covered instruction)),
-)
+loop-i-init c =
+    begun (bare c.args.scope.now) c.begin-checker.result c.requires.scope.results (record {
+      shape = c.begin-checker.ensures.shape ∙ ap (λ rs. record { kind = kind.Block; params = []; results = rs }) c.requires.results;
+      operands = c.begin-checker.ensures.operands;
+      log = c.begin-checker.ensures.log;
+      height = c.begin-checker.ensures.height;
+      outers = c.begin-checker.ensures.outers;
+    })
 
 pub loop-i-preserved : goal.loop-i-preserved
 loop-i-preserved c =
-    let x = c.index-body-i-in-loop-i.result in
-    let within : c.loop-i.i < length c.args.body.now = omega arith in (
-      reached_more (bare c.args.scope.now) c.loop-i.checker c.check.new.self (take c.loop-i.i c.args.body.now)
-          (take (c.loop-i.i + 1) c.args.body.now) x
-          (one_more c.args.body.now c.loop-i.i x within c.index-body-i-in-loop-i.is) c.loop-i.invariant.0
-          (subst (λ b. MatchBool b (Goes (bare c.args.scope.now) x c.loop-i.checker c.check.new.self)
-          (Stops (bare c.args.scope.now) x c.loop-i.checker)) c.if-not-goes.false c.in_ok-goes.ensures.ok),
-      All-more (λ (instruction : Instr). IsTrue (is_covered instruction)) c.args.body.now c.loop-i.i x within c.loop-i.invariant.1
-          (subst (λ (instruction : Instr). IsTrue (is_covered instruction))
-          (same_at c.args.body.now c.loop-i.i c.index-body-i.result x within c.index-body-i.is c.index-body-i-in-loop-i.is
-          ∙ c.index-body-i-in-loop-i.is)
-          (sym c.is_covered.ensures ∙ c.if-not-is_covered.false)),
-    )
-
-pub check-requires-clause-covered : goal.check-requires-clause-covered
-check-requires-clause-covered c =
-    subst (λ (instruction : Instr). IsTrue (is_covered instruction))
-    (same_at c.args.body.now c.loop-i.i c.index-body-i.result c.index-body-i-in-loop-i.result (omega arith) c.index-body-i.is
-    c.index-body-i-in-loop-i.is)
-    (sym c.is_covered.ensures ∙ c.if-not-is_covered.false)
-
-pub returns-then-not-is_covered-clause-ok : goal.returns-then-not-is_covered-clause-ok
-returns-then-not-is_covered-clause-ok c = record {
-  before = c.loop-i.invariant.1;
-  first = c.index-body-i.result;
-  there = slice_get-get_or c.args.body.now c.loop-i.i c.index-body-i.result (omega arith) ∙ ap (λ (instruction : Instr). Some instruction)
-      (sym c.index-body-i.is);
-  uncovered = sym c.is_covered.ensures ∙ c.if-not-is_covered.true;
-}
+    let x = c.index-body-i.result in
+    let within : c.loop-i.i < length c.args.body.now = omega arith in
+    reached_more (bare c.args.scope.now) c.loop-i.checker c.check.new.self (take c.loop-i.i c.args.body.now)
+    (take (c.loop-i.i + 1) c.args.body.now) x
+    (one_more c.args.body.now c.loop-i.i x within c.index-body-i.is) c.loop-i.invariant
+    (subst (λ b. MatchBool b (Goes (bare c.args.scope.now) x c.loop-i.checker c.check.new.self)
+    (Stops (bare c.args.scope.now) x c.loop-i.checker)) c.if-not-goes.false c.in_ok-goes.ensures.ok)
 
 pub returns-then-not-goes-clause-ok : goal.returns-then-not-goes-clause-ok
 returns-then-not-goes-clause-ok c =
-    let x = c.index-body-i-in-loop-i.result in
+    let x = c.index-body-i.result in
     let within : c.loop-i.i < length c.args.body.now = omega arith in
     refused_at (bare c.args.scope.now) c.loop-i.checker c.args.body.now c.loop-i.i x within
-    (one_more c.args.body.now c.loop-i.i x within c.index-body-i-in-loop-i.is) c.loop-i.invariant.0
+    (one_more c.args.body.now c.loop-i.i x within c.index-body-i.is) c.loop-i.invariant
     (subst (λ b. MatchBool b (Goes (bare c.args.scope.now) x c.loop-i.checker c.check.new.self)
     (Stops (bare c.args.scope.now) x c.loop-i.checker)) c.if-not-goes.true c.in_ok-goes.ensures.ok)
 
 pub returns-then-not-is_finished-clause-ok : goal.returns-then-not-is_finished-clause-ok
 returns-then-not-is_finished-clause-ok c =
     refused_end (bare c.args.scope.now) c.loop-i.checker c.args.body.now (take c.loop-i.i c.args.body.now)
-    (take_all c.loop-i.i c.args.body.now (omega arith)) c.loop-i.invariant.0
+    (take_all c.loop-i.i c.args.body.now (omega arith)) c.loop-i.invariant
     c.if-not-is_finished.ensures
 
 pub returns-clause-ok : goal.returns-clause-ok
 returns-clause-ok c =
     accepted (bare c.args.scope.now) c.loop-i.checker c.args.body.now (take c.loop-i.i c.args.body.now)
-    (take_all c.loop-i.i c.args.body.now (omega arith)) c.loop-i.invariant.0
+    (take_all c.loop-i.i c.args.body.now (omega arith)) c.loop-i.invariant
     c.if-not-is_finished.ensures

@@ -1,11 +1,7 @@
 use Rattle.std.proofs.Common.{take}
-use Rattle.std.specs.Prelude.{All, IsTrue}
-use Rattle.smith_instr.specs.declared.instr.Instr.{Instr}
-use Rattle.smith_check_body.specs.Covered.{is_covered}
 use Rattle.smith_check_operands.specs.Scopes.{bare}
 use Rattle.smith_check_body.specs.Checks.{IsReached}
 use Rattle.smith_check_body.proofs.check.check_body.Given as goal
 
 abbrev pub invariant-loop-i : goal.invariant-loop-i
-invariant-loop-i l = IsReached (bare l.scope) l.checker (take l.i l.body) × All (λ (instruction : Instr). IsTrue (is_covered instruction))
-    (take l.i l.body)
+invariant-loop-i l = IsReached (bare l.scope) l.checker (take l.i l.body)

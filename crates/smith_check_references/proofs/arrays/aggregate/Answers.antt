@@ -59,3 +59,9 @@ returns-in-I31GetS-clause-ok c = λ labels set. rw c.in-I31GetS.is (c.i31_get_s.
 
 pub returns-in-I31GetU-clause-ok : goal.returns-in-I31GetU-clause-ok
 returns-in-I31GetU-clause-ok c = λ labels set. rw c.in-I31GetU.is (c.i31_get_u.ensures.ok labels set)
+
+pub returns-in-AnyConvertExtern-clause-ok : goal.returns-in-AnyConvertExtern-clause-ok
+returns-in-AnyConvertExtern-clause-ok c = λ labels set. rw c.in-AnyConvertExtern.is (c.any_convert_extern.ensures.ok labels set)
+
+pub returns-in-ExternConvertAny-clause-ok : goal.returns-in-ExternConvertAny-clause-ok
+returns-in-ExternConvertAny-clause-ok c = λ labels set. rw c.in-ExternConvertAny.is (c.extern_convert_any.ensures.ok labels set)

@@ -3,12 +3,18 @@ use Rattle.smith_syntax.specs.declared.value_type.ValType.{ValType}
 use Rattle.smith_syntax.specs.declared.value_type.ValType.TheVariants.{Ref}
 use Rattle.smith_check_operands.specs.Scopes.{bare}
 use Rattle.std.specs.Prelude.{not}
-use Rattle.smith_check_rules.specs.declared.slot.Slot.TheVariants.{Value}
+use Rattle.smith_check_rules.specs.declared.slot.Slot.TheVariants.{EitherRef, Value}
 use Rattle.smith_check_rules.specs.Slots.{IsSlotValid}
 use Rattle.smith_check_rules.specs.StackTypes.{HasNonNull}
 use Rattle.smith_check_references.specs.Rows.{IsLeastOf}
-use Rattle.smith_check_references.proofs.ChoiceLemmas.{ref_non_null}
+use Rattle.smith_check_references.proofs.ChoiceLemmas.{either_ref_non_null, ref_non_null}
 use Rattle.smith_check_references.proofs.references.non_null.Goals as goal
+
+pub returns-in-EitherRef : goal.returns-in-EitherRef
+returns-in-EitherRef c =
+    let context = bare c.args.scope.now in
+    subst (λ s. IsLeastOf context (HasNonNull context) s (EitherRef c.in-EitherRef.ty)) (sym c.in-EitherRef.is)
+    (either_ref_non_null context c.in-EitherRef.ty (subst (λ s. IsSlotValid context s) c.in-EitherRef.is c.requires))
 
 pub returns-in-Value-Ref : goal.returns-in-Value-Ref
 returns-in-Value-Ref c =

@@ -5,7 +5,7 @@ use Rattle.smith_check_rules.specs.declared.slot.Slot.TheVariants.{Value}
 use Rattle.smith_check_rules.specs.Slots.{IsSlotValid}
 use Rattle.smith_check_references.specs.Choices.{ReadsAny}
 use Rattle.smith_check_references.specs.Rows.{IsLeastOf}
-use Rattle.smith_check_references.proofs.ChoiceLemmas.{bottom_read, some_ref_read, ref_read}
+use Rattle.smith_check_references.proofs.ChoiceLemmas.{bottom_read, some_ref_read, either_ref_read, ref_read}
 use Rattle.smith_check_references.proofs.references.tested.Goals as goal
 
 pub returns-in-Bottom : goal.returns-in-Bottom
@@ -15,6 +15,11 @@ returns-in-Bottom c = λ context valid.
 pub returns-in-SomeRef : goal.returns-in-SomeRef
 returns-in-SomeRef c = λ context valid.
     subst (λ s. IsLeastOf context (ReadsAny context) s (Value I32)) (sym c.in-SomeRef.is) (some_ref_read context)
+
+pub returns-in-EitherRef : goal.returns-in-EitherRef
+returns-in-EitherRef c = λ context valid.
+    subst (λ s. IsLeastOf context (ReadsAny context) s (Value I32)) (sym c.in-EitherRef.is)
+    (either_ref_read context c.in-EitherRef._ty (subst (λ s. IsSlotValid context s) c.in-EitherRef.is valid))
 
 pub returns-in-Value-Ref : goal.returns-in-Value-Ref
 returns-in-Value-Ref c = λ context valid.

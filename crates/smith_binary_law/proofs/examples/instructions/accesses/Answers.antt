@@ -4,7 +4,7 @@ use Rattle.smith_binary.specs.Numbers.{IsUnsigned}
 use Rattle.smith_binary.specs.Pieces.{IsByte, Joined}
 use Rattle.smith_instr.specs.declared.memory.MemArg.{MemArg}
 use Rattle.smith_binary_instr.specs.Memory.{IsMemArg}
-use Rattle.smith_binary_law.proofs.InstructionLemmas.{instr_same}
+use Rattle.smith_binary_law.proofs.InstructionLemmas.{instr_whole}
 use Rattle.smith_binary_law.specs.ExampleInstructions.{load_word}
 use Rattle.smith_binary_law.proofs.SpelledExamples.{small, index, loaded, loaded_as_written, other_number, align_of}
 use Rattle.smith_binary_law.proofs.examples.instructions.accesses.Goals as goal
@@ -52,9 +52,8 @@ returns-clause-first_memory_is_not_named c =
 pub returns-clause-offset_first : goal.returns-clause-offset_first
 returns-clause-offset_first c =
     λ h.
-    let one = instr_same (load_word 2 5 0) (load_word 5 2 0) (0x28 ∷ 0x05 ∷ 0x02 ∷ []) (0x28 ∷ 0x05 ∷ 0x02 ∷ []) [] [] h
-    (loaded 5 2 (omega arith) (omega arith)) refl in
-    let aligned : 2 ≡ 5 = ap align_of one.item in
+    let aligned : 2 ≡ 5 = ap align_of (instr_whole.one (load_word 2 5 0) (load_word 5 2 0) (0x28 ∷ 0x05 ∷ 0x02 ∷ []) h
+    (loaded 5 2 (omega arith) (omega arith))) in
     omega (arith, aligned)
 
 pub returns-clause-too_wide : goal.returns-clause-too_wide

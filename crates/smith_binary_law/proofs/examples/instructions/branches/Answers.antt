@@ -4,7 +4,7 @@ use Rattle.smith_binary_law.proofs.CheckLemmas.{both}
 use Rattle.smith_binary_sections.specs.Instructions.{IsIndex}
 use Rattle.smith_instr.specs.declared.instr.Instr.TheVariants as instr
 use Rattle.smith_binary_instr.specs.Instructions.{IsInstr}
-use Rattle.smith_binary_law.proofs.InstructionLemmas.{instr_same}
+use Rattle.smith_binary_law.proofs.InstructionLemmas.{instr_whole}
 use Rattle.smith_binary_law.proofs.SpelledExamples.{small, index, prefixed, no_item, more_items, table_of}
 use Rattle.smith_binary_law.proofs.examples.instructions.branches.Goals as goal
 
@@ -27,9 +27,8 @@ returns-clause-indirect c = called 1 3 (omega arith) (omega arith)
 pub returns-clause-table_first : goal.returns-clause-table_first
 returns-clause-table_first c =
     λ h.
-    let one = instr_same (instr.CallIndirect 1 3) (instr.CallIndirect 3 1) (0x11 ∷ 0x01 ∷ 0x03 ∷ []) (0x11 ∷ 0x01 ∷ 0x03 ∷ []) [] [] h
-    (called 3 1 (omega arith) (omega arith)) refl in
-    let tables : 1 ≡ 3 = ap table_of one.item in
+    let tables : 1 ≡ 3 = ap table_of (instr_whole.one (instr.CallIndirect 1 3) (instr.CallIndirect 3 1) (0x11 ∷ 0x01 ∷ 0x03 ∷ []) h
+    (called 3 1 (omega arith) (omega arith))) in
     omega (arith, tables)
 
 pub returns-clause-on_cast : goal.returns-clause-on_cast

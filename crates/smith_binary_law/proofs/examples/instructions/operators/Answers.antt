@@ -1,8 +1,7 @@
-use Rattle.std.proofs.Common.{ℕ, ◌≡◌, [], ◌∷◌, refl, arith}
+use Rattle.std.proofs.Common.{ℕ, ◌≡◌, List, [], ◌∷◌, ◌++◌, refl, ap, ◌∙◌, arith}
 use Rattle.smith_binary.specs.Numbers.{IsUnsigned}
 use Rattle.smith_binary.proofs.UnambiguousLemmas.{same_head}
 use Rattle.smith_binary_law.proofs.CheckLemmas.{both}
-use Rattle.smith_binary_law.proofs.HeadLemmas.{byte_begins, joined_begins}
 use Rattle.smith_binary_law.proofs.SpelledExamples.{prefixed}
 use Rattle.smith_binary_law.proofs.examples.instructions.operators.Goals as goal
 
@@ -25,10 +24,7 @@ returns-clause-number_in_two_bytes c = both (0xFC ∷ []) (0x83 ∷ 0x00 ∷ [])
 
 pub returns-clause-without_its_prefix : goal.returns-clause-without_its_prefix
 returns-clause-without_its_prefix c =
-    λ h.
-    let start = joined_begins (λ (b : ℕ). b ≡ 0xFC) _ _ (0x03 ∷ []) (λ first one. byte_begins _ 0xFC first refl one) h in
-    let heads : 0x03 ≡ start.head = same_head start.whole in
-    omega (arith, heads, start.test)
+    λ h. let heads : 0x03 ≡ 0xFC = same_head (h.whole ∙ ap (λ (first : List ℕ). first ++ h.second) h.is_first) in omega (arith, heads)
 
 pub returns-clause-number_above_127 : goal.returns-clause-number_above_127
 returns-clause-number_above_127 c = both (0xFD ∷ []) (0x83 ∷ 0x01 ∷ []) refl above_127

@@ -1,0 +1,51 @@
+-- The first groups of types.
+use Rattle.std.proofs.Common.{◌≡◌, ℕ, zero, suc, ◌<◌, ◌≤◌, List, [], ◌∷◌, Option, Some, None, length, take, arith, refl}
+use Rattle.std.proofs.Common.{length-append}
+use Rattle.std.specs.Prelude.{MatchOption}
+use Rattle.std.specs.List.{flat_map}
+use Rattle.std.proofs.lemmas.List.Elements.{All-nil}
+use Rattle.smith_syntax.specs.Features.{Features}
+use Rattle.smith_syntax.specs.declared.composite_type.SubType.{SubType}
+use Rattle.smith_types.specs.Groups.{space_of}
+use Rattle.smith_types.specs.ValidTypes.{AreTypesValid}
+use Rattle.smith_check_types.specs.Canonical.{AreCanonical}
+use Rattle.smith_check_types.specs.CheckedTypes.{AreChecked}
+use Rattle.smith_check_types.specs.TypeSections.{IsTypeSectionValid}
+use Rattle.smith_check_types.specs.declared.check.CheckedTypes.{CheckedTypes}
+
+-- no groups are valid types
+pub no_types : (features : Features) → AreTypesValid features (space_of [])
+no_types features = record {
+  covered = record { consecutive = tt; whole = refl };
+  orderly = record { under = λ i s t at up. absurd (cc at) };
+  groups = All-nil _;
+}
+
+pub none_canonical : AreCanonical [] []
+none_canonical = record { long = refl; each = λ index first at. absurd (cc at) }
+
+pub none_valid : (features : Features) → IsTypeSectionValid features []
+none_valid features = record { scope = tt; indices = []; canonical = none_canonical; valid = no_types features }
+
+-- groups of which not all are valid are some
+pub some_groups : (features : Features) (groups : List (List SubType)) → (IsTypeSectionValid features groups → ⊥) → 0 < length groups
+some_groups features [] wrong = absurd (wrong (none_valid features))
+some_groups features (group ∷ groups) wrong = omega arith
+
+-- the first groups have no more types than all
+pub few_in_first : (groups : List (List SubType)) (count : ℕ)
+    → length (space_of (take count groups)).types ≤ length (space_of groups).types
+few_in_first groups zero = omega arith
+few_in_first [] (suc count) = omega arith
+few_in_first (group ∷ groups) (suc count) =
+    let first = length-append group (flat_map (λ (g : List SubType). g) (take count groups)) in
+    let whole = length-append group (flat_map (λ (g : List SubType). g) groups) in
+    let others = few_in_first groups count in
+    omega (arith, first, whole, others)
+
+-- groups that are checked are valid
+pub checked_valid : (features : Features) (groups : List (List SubType)) (found : Option CheckedTypes) (types : CheckedTypes)
+    → MatchOption found (IsTypeSectionValid features groups → ⊥) (λ kept. AreChecked features groups kept) → found ≡ Some types
+    → IsTypeSectionValid features groups
+checked_valid features groups None types decided is = absurd (cc is)
+checked_valid features groups (Some kept) types decided is = decided.valid

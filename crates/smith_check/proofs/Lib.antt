@@ -1,0 +1,9 @@
+pub mod ScopeLemmas
+pub mod LocalLemmas
+pub mod ReferenceLemmas
+pub mod GroupLemmas
+pub mod FunctionLemmas
+pub mod JudgeLemmas
+pub mod ContextLemmas
+pub mod CheckLemmas
+pub mod ExampleLemmas

@@ -1,0 +1,15 @@
+use Rattle.std.proofs.Common.{◌-◌, ◌<◌, ◌≤◌, length, take}
+use Rattle.smith_syntax.specs.FeatureBits.{features_in}
+use Rattle.smith_check_types.specs.TypeSections.{IsTypeSectionValid}
+use Rattle.smith_check.proofs.groups.first_wrong_group.Given as goal
+
+abbrev pub invariant-loop-wrong : goal.invariant-loop-wrong
+invariant-loop-wrong l = record {
+  order : l.valid < l.wrong;
+  inside : l.wrong ≤ length l.groups;
+  right : IsTypeSectionValid (features_in l.features) (take l.valid l.groups);
+  refused : IsTypeSectionValid (features_in l.features) (take l.wrong l.groups) → ⊥;
+}
+
+abbrev pub decreases-loop-wrong : goal.decreases-loop-wrong
+decreases-loop-wrong l = l.wrong - l.valid

@@ -1,0 +1,7 @@
+use Rattle.std.proofs.Common.{◌≡◌, ◌++◌, take}
+use Rattle.std.specs.List.{flat_map}
+use Rattle.smith_check.specs.References.{named_by}
+use Rattle.smith_check.proofs.references.push_of_expression.Given as goal
+
+abbrev pub invariant-loop-instruction : goal.invariant-loop-instruction
+invariant-loop-instruction l = l.named ≡ l.fn.named ++ flat_map named_by (take l.instruction-index l.expression)

@@ -1,0 +1,7 @@
+use Rattle.std.proofs.Common.{◌≡◌, ◌++◌, take}
+use Rattle.std.specs.List.{flat_map}
+use Rattle.smith_check.specs.References.{named_in}
+use Rattle.smith_check.proofs.references.push_of_expressions.Given as goal
+
+abbrev pub invariant-loop-expression : goal.invariant-loop-expression
+invariant-loop-expression l = l.named ≡ l.fn.named ++ flat_map named_in (take l.expression-index l.expressions)

@@ -1,0 +1,9 @@
+use Rattle.std.proofs.Common.{◌≡◌, ◌++◌, take}
+use Rattle.std.specs.List.{flat_map}
+use Rattle.smith_decode.specs.declared.definitions.GlobalDefinition.{GlobalDefinition}
+use Rattle.smith_check.specs.References.{named_in}
+use Rattle.smith_check.proofs.references.push_of_globals.Given as goal
+
+abbrev pub invariant-loop-global : goal.invariant-loop-global
+invariant-loop-global l = l.named ≡ l.fn.named ++ flat_map (λ (global : GlobalDefinition). named_in global.initial)
+    (take l.global-index l.globals)

@@ -1,0 +1,9 @@
+use Rattle.std.proofs.Common.{◌≡◌, ◌++◌, take}
+use Rattle.std.specs.List.{flat_map}
+use Rattle.smith_decode.specs.declared.definitions.TableDefinition.{TableDefinition}
+use Rattle.smith_check.specs.References.{named_in}
+use Rattle.smith_check.proofs.references.push_of_tables.Given as goal
+
+abbrev pub invariant-loop-table : goal.invariant-loop-table
+invariant-loop-table l = l.named ≡ l.fn.named ++ flat_map (λ (table : TableDefinition). named_in table.initial)
+    (take l.table-index l.tables)

@@ -1,0 +1,30 @@
+-- Modules of the examples.
+use Rattle.std.specs.Prelude.{List, [], ◌∷◌, true, false, None}
+use Rattle.smith_syntax.specs.declared.composite_type.CompositeInnerType.TheVariants.{Func}
+use Rattle.smith_syntax.specs.declared.composite_type.SubType.{SubType}
+use Rattle.smith_syntax.specs.declared.value_type.ValType.{ValType}
+use Rattle.smith_syntax.specs.declared.value_type.ValType.TheVariants.{I32}
+use Rattle.smith_decode.specs.Modules.{Syntax}
+use Rattle.smith_check_module.specs.ExampleSyntax.{nothing}
+
+-- a type of functions without parameters
+abbrev pub function_type : List ValType → SubType
+function_type results = record {
+  is_final = true;
+  supertype = None;
+  composite_type = record { inner = Func (record { params = []; results = results }); shared = false };
+}
+
+-- a module with a function of no instructions that returns nothing, and one that returns a number
+abbrev pub with_function : List ValType → Syntax
+with_function results = record nothing {
+  types = (function_type results ∷ []) ∷ [];
+  functions = 0 ∷ [];
+  bodies = ([], []) ∷ [];
+}
+
+abbrev pub does_nothing : Syntax
+does_nothing = with_function []
+
+abbrev pub returns_nothing : Syntax
+returns_nothing = with_function (I32 ∷ [])

@@ -1,0 +1,6 @@
+pub mod References
+pub mod Locals
+pub mod ValidPrograms
+pub mod Faults
+pub mod FunctionJudges
+pub mod ExamplePrograms

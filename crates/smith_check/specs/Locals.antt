@@ -1,0 +1,19 @@
+-- Runs of locals.
+use Rattle.std.specs.Prelude.{◌≡◌, ℕ, ◌<◌, List, Some, take, slice_get, All}
+use Rattle.smith_syntax.specs.Features.{Features}
+use Rattle.smith_types.specs.ValidTypes.{IsValTypeValid}
+use Rattle.smith_decode.specs.declared.bodies.LocalRun.{LocalRun}
+use Rattle.smith_check_types.specs.Renamed.{renamed_val}
+use Rattle.smith_check_types.specs.TypeSections.{canonical_index}
+
+-- the type of a run of locals is valid over so many types, by canonical indices, if the run has any
+-- locals (Validation, Locals)
+abbrev pub IsRunRight : Features → ℕ → List ℕ → LocalRun → Type 0
+IsRunRight features end indices run = 0 < run.count → IsValTypeValid features end (renamed_val (canonical_index indices) run.ty)
+
+-- the first run of locals that is not valid (Validation, Locals)
+pub record IsFirstWrongRun (features : Features) (end : ℕ) (indices : List ℕ) (runs : List LocalRun) (index : ℕ) : Type 0 where
+  pub wrong : LocalRun
+  pub at : slice_get runs index ≡ Some wrong
+  pub invalid : IsRunRight features end indices wrong → ⊥
+  pub before : All (IsRunRight features end indices) (take index runs)

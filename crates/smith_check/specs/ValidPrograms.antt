@@ -1,0 +1,86 @@
+-- Whether a module is valid: the sections Validation, Modules, and Validation, Functions, of the
+-- WebAssembly Core Specification 3.0. Types are compared by canonical indices, so that equal types are
+-- one type. The conditions on features, sharedness and exact types are rules of this project. Which
+-- instructions of bodies are of which features is no part of this: a decoder has refused the others.
+use Rattle.std.specs.Prelude.{◌≡◌, ℕ, ◌<◌, List, [], ◌++◌, Some, length, map, slice_get, All}
+use Rattle.smith_syntax.specs.Features.{Features}
+use Rattle.smith_syntax.specs.declared.composite_type.FuncType.{FuncType}
+use Rattle.smith_syntax.specs.declared.value_type.RefType.{RefType}
+use Rattle.smith_syntax.specs.declared.value_type.ValType.{ValType}
+use Rattle.smith_types.specs.Entities.{IsFuncAt}
+use Rattle.smith_types.specs.Groups.{space_of}
+use Rattle.smith_types.specs.Imports.{imported_spaces}
+use Rattle.smith_types.specs.ValidTypes.{AreTypesValid, IsValTypeValid}
+use Rattle.smith_instr.specs.Contexts.{BodyContext}
+use Rattle.smith_instr.specs.declared.instr.Instr.{Instr}
+use Rattle.smith_decode.specs.Elements.{Elem}
+use Rattle.smith_decode.specs.Modules.{Syntax}
+use Rattle.smith_check_rules.specs.Sequences.{IsBodyTyped}
+use Rattle.smith_check_types.specs.Canonical.{AreCanonical}
+use Rattle.smith_check_types.specs.Renamed.{renamed_ref, renamed_val}
+use Rattle.smith_check_types.specs.TypeSections.{canonical_index, canonical_groups, AreGroupsInScope}
+use Rattle.smith_check_renamed.specs.RenamedInstructions.{renamed_body}
+use Rattle.smith_check_module.specs.Contexts.{spaces_in, types_in}
+use Rattle.smith_check_module.specs.ValidModules.{AreSectionsValid}
+use Rattle.smith_check.specs.References.{references_of}
+
+-- the types of the element segments, by canonical indices (Validation, Modules)
+abbrev pub element_types : List ℕ → List Elem → List RefType
+element_types indices segments = map (λ (segment : Elem). renamed_ref (canonical_index indices) segment.ty) segments
+
+-- the context of a function of this type, with these locals after its parameters, by canonical indices
+-- (Validation, Functions; Modules)
+abbrev pub context_of_function : Features → List ℕ → Syntax → FuncType → List ValType → BodyContext
+context_of_function features indices m function locals = record {
+  features = features;
+  types = types_in indices m;
+  funcs = (spaces_in indices m).funcs;
+  imported_funcs = length (imported_spaces m.imports).funcs;
+  tables = (spaces_in indices m).tables;
+  memories = (spaces_in indices m).memories;
+  globals = (spaces_in indices m).globals;
+  tags = (spaces_in indices m).tags;
+  elems = element_types indices m.elems;
+  datas = length m.datas;
+  references = references_of m;
+  locals = function.params ++ locals;
+  params = length function.params;
+  labels = [];
+  results = function.results;
+}
+
+-- the function that a module defines at a place: its type, its locals and its instructions, by
+-- canonical indices (Structure, Functions)
+pub record IsFunctionAt (indices : List ℕ) (m : Syntax) (place : ℕ) (function : FuncType) (locals : List ValType)
+    (body : List Instr) : Type 0 where
+  pub index : ℕ
+  pub typed_by : slice_get m.functions place ≡ Some index
+  pub typed : IsFuncAt (types_in indices m) (canonical_index indices index) function
+  pub code : List ValType × List Instr
+  pub held : slice_get m.bodies place ≡ Some code
+  pub locals_are : locals ≡ map (renamed_val (canonical_index indices)) code.0
+  pub body_is : body ≡ renamed_body (canonical_index indices) code.1
+
+-- valid value types over the types of a module (Validation, Value Types)
+abbrev pub AreValuesValid : Features → List ℕ → Syntax → List ValType → Type 0
+AreValuesValid features indices m values = All (IsValTypeValid features (length (types_in indices m))) values
+
+-- the function that a module defines at a place is valid: its locals are, and its body is typed in its
+-- context (Validation, Functions)
+pub record IsFunctionValid (features : Features) (indices : List ℕ) (m : Syntax) (place : ℕ) : Type 0 where
+  pub function : FuncType
+  pub locals : List ValType
+  pub body : List Instr
+  pub there : IsFunctionAt indices m place function locals body
+  pub locals_valid : AreValuesValid features indices m locals
+  pub body_typed : IsBodyTyped (context_of_function features indices m function locals) body
+
+-- a valid module, with the bodies of its functions (Validation, Modules)
+pub record IsValidProgram (features : Features) (m : Syntax) : Type 0 where
+  pub scope : AreGroupsInScope 0 m.types
+  pub indices : List ℕ
+  pub canonical : AreCanonical m.types indices
+  pub types : AreTypesValid features (space_of (canonical_groups indices m.types))
+  pub sections : AreSectionsValid features indices m
+  pub bodies : length m.functions ≡ length m.bodies
+  pub functions : (place : ℕ) → place < length m.functions → IsFunctionValid features indices m place

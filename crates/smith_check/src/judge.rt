@@ -1,0 +1,92 @@
+ghost use Rattle.std.specs.Prelude.{◌≡◌, IfOk, IfErr};
+ghost use Rattle.smith_syntax.specs.FeatureBits.{features_in};
+ghost use Rattle.smith_decode.specs.Modules.{syntax_of};
+ghost use Rattle.smith_check_types.specs.CheckedTypes.{AreChecked};
+ghost use Rattle.smith_check_module.specs.ValidModules.{AreSectionsValid};
+ghost use Rattle.smith_check.specs.Faults.{IsJudgement};
+
+use crate::elements::element_types;
+use crate::functions::FunctionJudge;
+use crate::groups::{are_few, first_wrong_group};
+use crate::judgement::{Fault, Judgement, Unjudged};
+use crate::references::references_of;
+use smith_bytes::Error;
+use smith_check_module::{canonical_spaces, check_sections};
+use smith_check_types::{CheckedTypes, check_types};
+use smith_decode::Module;
+use smith_types::{WasmFeatures, imported_spaces_of};
+use std::alloc::Global;
+
+/// Checks a module (Validation, Modules), and returns its first fault if it is not valid. Types of equal
+/// groups are equal. The conditions on features and sharedness are rules of this project.
+///
+/// The index spaces are made once. A check of a body copies the parameters, the locals and the results of
+/// its function, and a `ref.func` reads the functions that are named outside of bodies.
+///
+/// # Errors
+///
+/// Returns `Memory` if an allocation fails, and no other error.
+pub fn check(alloc: Global, features: WasmFeatures, module: &Module) -> Result<Judgement, Error>
+    ensures decided { IfOk result (IsJudgement (features_in features) «module».now) }
+    ensures memory { IfErr result (λ e. e ≡ Error.Memory) }
+{
+    let groups = module.types.as_slice();
+    if !are_few(groups) {
+        return Ok(Judgement::NotJudged(Unjudged::Types));
+    }
+    let found = check_types(alloc, features, groups)?;
+    match found {
+        Some(types) => check_over(alloc, features, module, &types),
+        None => {
+            let group = first_wrong_group(alloc, features, groups)?;
+            Ok(Judgement::Invalid(Fault::Types(group)))
+        }
+    }
+}
+
+// Checks a module whose types are `types`.
+fn check_over(
+    alloc: Global,
+    features: WasmFeatures,
+    module: &Module,
+    types: &CheckedTypes,
+) -> Result<Judgement, Error>
+    requires { AreChecked (features_in features) «module».now.types types.now }
+    ensures decided { IfOk result (IsJudgement (features_in features) «module».now) }
+    ensures memory { IfErr result (λ e. e ≡ Error.Memory) }
+{
+    let found = check_sections(alloc, features, module, types)?;
+    match found {
+        Some(fault) => Ok(Judgement::Invalid(Fault::Section(fault))),
+        None => check_functions(alloc, features, module, types),
+    }
+}
+
+// Checks a module whose types are `types`, and whose other sections are valid.
+fn check_functions(
+    alloc: Global,
+    features: WasmFeatures,
+    module: &Module,
+    types: &CheckedTypes,
+) -> Result<Judgement, Error>
+    requires checked { AreChecked (features_in features) «module».now.types types.now }
+    requires sections { AreSectionsValid (features_in features) types.now.indices (syntax_of «module».now) }
+    ensures decided { IfOk result (IsJudgement (features_in features) «module».now) }
+    ensures memory { IfErr result (λ e. e ≡ Error.Memory) }
+{
+    let indices = types.indices.as_slice();
+    let imported = imported_spaces_of(alloc, module.imports.as_slice())?;
+    let spaces = canonical_spaces(alloc, indices, &imported, module)?;
+    let elems = element_types(alloc, indices, module.elements.as_slice())?;
+    let references = references_of(alloc, module)?;
+    let judge = FunctionJudge {
+        features,
+        module,
+        types,
+        spaces: &spaces,
+        imported_funcs: imported.funcs.len(),
+        elems: elems.as_slice(),
+        references: references.as_slice(),
+    };
+    judge.judgement(alloc)
+}

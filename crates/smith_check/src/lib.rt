@@ -1,0 +1,18 @@
+//! Judges whether a decoded module is valid, and if not, what its first fault is. The standard is the
+//! WebAssembly Core Specification 3.0. Sections in parentheses are sections of the standard.
+//!
+//! Which instructions of bodies are of which features is not judged here: `smith_decode::decode` refuses
+//! those of other features.
+#![tactic(auto)]
+
+mod elements;
+mod examples;
+mod functions;
+mod groups;
+mod judge;
+mod judgement;
+mod locals;
+mod references;
+
+pub use judge::check;
+pub use judgement::{Fault, Judgement, LOCALS, Unjudged};

@@ -1,0 +1,3 @@
+mod OriginLemmas
+mod AnswerLemmas
+mod ExampleLemmas

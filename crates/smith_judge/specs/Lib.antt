@@ -1,0 +1,6 @@
+pub mod Files
+pub mod Places
+pub mod Rules
+pub mod Answers
+pub mod Verdicts
+pub mod ExampleImports

@@ -1,0 +1,75 @@
+ghost use Rattle.std.specs.Prelude.{◌≡◌, IfErr};
+
+use smith_binary_read::{ReadError, Reader};
+use smith_binary_read_instr::read_instr;
+use smith_bytes::Error;
+use smith_instr::Instr;
+use smith_judge::{Answer, Fault, Words};
+use smith_text_program::{FromFmt, write_instr};
+use std::alloc::Global;
+
+// Returns the offset of the instruction that an answer is about, if it is about one.
+fn instruction_offset(answer: &Answer) -> Option<usize> {
+    match answer {
+        Answer::Invalid(finding) => match finding.fault {
+            Fault::Body { .. } => Some(finding.offset),
+            _ => None,
+        },
+        _ => None,
+    }
+}
+
+// Returns the instruction that begins at `offset` of `bytes`, if one does.
+fn instruction_at(alloc: Global, bytes: &[u8], offset: usize) -> Result<Option<Instr>, Error>
+    ensures memory { IfErr result (λ e. e ≡ Error.Memory) }
+{
+    let (_, rest) = bytes.split_at_checked(offset).unwrap_or((bytes, &[]));
+    let mut reader = Reader::new(alloc, rest);
+    match read_instr(&mut reader) {
+        Ok(instruction) => Ok(Some(instruction)),
+        Err(ReadError::Memory) => Err(Error::Memory),
+        Err(ReadError::Malformed(_)) => Ok(None),
+    }
+}
+
+// Returns the name of `instruction`: its text up to the first space.
+fn name_of(alloc: Global, instruction: &Instr) -> Result<String, Error>
+    ensures memory { IfErr result (λ e. e ≡ Error.Memory) }
+{
+    let mut sink = FromFmt::new(String::new(alloc));
+    if write_instr(instruction, &[], &mut sink).is_err() {
+        return Err(Error::Memory);
+    }
+    let text = sink.into_string();
+    match text.as_str().split_once(' ') {
+        Some((name, _)) => Ok(String::from_str(alloc, name)?),
+        None => Ok(text),
+    }
+}
+
+/// Returns the name of the instruction that `answer`, to the file whose bytes are `bytes`, is about, as
+/// the text format has it, or an empty text if it is about none. No clause states the name.
+pub fn keyword(alloc: Global, bytes: &[u8], answer: &Answer) -> Result<String, Error>
+    ensures memory { IfErr result (λ e. e ≡ Error.Memory) }
+{
+    let Some(offset) = instruction_offset(answer) else {
+        return Ok(String::new(alloc));
+    };
+    match instruction_at(alloc, bytes, offset)? {
+        Some(instruction) => name_of(alloc, &instruction),
+        None => Ok(String::new(alloc)),
+    }
+}
+
+/// Returns `answer`, to the file whose bytes are `bytes`, in words, in one line. No clause states the
+/// words.
+pub fn words(alloc: Global, bytes: &[u8], answer: &Answer) -> Result<String, Error>
+    ensures memory { IfErr result (λ e. e ≡ Error.Memory) }
+{
+    let keyword = keyword(alloc, bytes, answer)?;
+    let words = Words {
+        answer,
+        keyword: keyword.as_str(),
+    };
+    Ok(format!(in alloc; "{words}")?)
+}

@@ -1,0 +1,30 @@
+-- The shape of a decoded module is that of its syntax.
+use Rattle.std.proofs.Common.{◌≡◌, ℕ, List, sym, subst, refl}
+use Rattle.std.proofs.lemmas.Simd.{map-map}
+use Rattle.smith_syntax.specs.declared.entity_type.GlobalType.{GlobalType}
+use Rattle.smith_syntax.specs.declared.entity_type.TableType.{TableType}
+use Rattle.smith_instr.specs.declared.instr.Instr.{Instr}
+use Rattle.smith_config.specs.declared.shape.Shape.{Shape}
+use Rattle.smith_decode.specs.Modules.{IsModuleBinary, global_pair, syntax_of, table_pair}
+use Rattle.smith_decode.specs.declared.modules.Module.{Module}
+use Rattle.smith_shape.specs.ModuleShapes.{IsShapeBinary, IsShapeOf, shape_of}
+
+shape_is : (m : Module) → IsShapeOf (syntax_of m) (shape_of m)
+shape_is m = record {
+  types = refl;
+  imports = refl;
+  funcs = refl;
+  tags = refl;
+  tables = sym (map-map (λ (table : TableType × List Instr). table.0) table_pair m.tables);
+  memories = refl;
+  globals = sym (map-map (λ (global : GlobalType × List Instr). global.0) global_pair m.globals);
+  exports = refl;
+}
+
+pub shape_binary : (bytes : List ℕ) (m : Module) (shape : Shape) → IsModuleBinary (syntax_of m) bytes → shape ≡ shape_of m
+    → IsShapeBinary bytes shape
+shape_binary bytes m shape binary is = record {
+  m = syntax_of m;
+  binary = binary;
+  of_module = subst (IsShapeOf (syntax_of m)) (sym is) (shape_is m);
+}

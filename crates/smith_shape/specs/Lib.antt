@@ -1,0 +1,2 @@
+pub mod ModuleShapes
+pub mod ExampleShapes

@@ -1,0 +1,58 @@
+-- The shape of a module: what the section Structure, Modules, of the WebAssembly Core Specification 3.0
+-- has of it without bodies, initialisers, segments and the start function.
+use Rattle.std.specs.Prelude.{◌≡◌, ℕ, List, map, Err}
+use Rattle.smith_syntax.specs.Features.{every_feature}
+use Rattle.smith_syntax.specs.declared.entity_type.GlobalType.{GlobalType}
+use Rattle.smith_syntax.specs.declared.entity_type.TableType.{TableType}
+use Rattle.smith_instr.specs.declared.instr.Instr.{Instr}
+use Rattle.smith_types.specs.Imports.{flattened}
+use Rattle.smith_config.specs.declared.shape.Shape.{Shape}
+use Rattle.smith_decode.specs.Modules.{Syntax, IsModuleBinary, tag_index, export_triple}
+use Rattle.smith_decode.specs.ModuleReadings.{module_at}
+use Rattle.smith_decode.specs.Results.{Locates}
+use Rattle.smith_decode.specs.declared.definitions.GlobalDefinition.{GlobalDefinition}
+use Rattle.smith_decode.specs.declared.definitions.TableDefinition.{TableDefinition}
+use Rattle.smith_decode.specs.declared.error.DecodeError.{DecodeError}
+use Rattle.smith_decode.specs.declared.modules.Module.{Module}
+
+-- the type of a table and of a global, without the initialiser
+abbrev pub table_type : TableDefinition → TableType
+table_type table = table.ty
+
+abbrev pub global_type : GlobalDefinition → GlobalType
+global_type global = global.ty
+
+-- the shape of a decoded module, with the groups of its imports
+abbrev pub shape_of : Module → Shape
+shape_of m = record {
+  groups = m.types;
+  imports = m.imports;
+  funcs = m.functions;
+  tags = map tag_index m.tags;
+  tables = map table_type m.tables;
+  memories = m.memories;
+  globals = map global_type m.globals;
+  exports = map export_triple m.exports;
+}
+
+-- a shape has the types, the imports, the types of the definitions and the exports of a module in the
+-- abstract syntax
+pub record IsShapeOf (m : Syntax) (shape : Shape) : Type 0 where
+  pub types : shape.groups ≡ m.types
+  pub imports : flattened shape.imports ≡ m.imports
+  pub funcs : shape.funcs ≡ m.functions
+  pub tags : shape.tags ≡ m.tags
+  pub tables : shape.tables ≡ map (λ (table : TableType × List Instr). table.0) m.tables
+  pub memories : shape.memories ≡ m.memories
+  pub globals : shape.globals ≡ map (λ (global : GlobalType × List Instr). global.0) m.globals
+  pub exports : shape.exports ≡ m.exports
+
+-- a shape is that of the module that bytes are
+pub record IsShapeBinary (bytes : List ℕ) (shape : Shape) : Type 0 where
+  pub m : Syntax
+  pub binary : IsModuleBinary m bytes
+  pub of_module : IsShapeOf m shape
+
+-- the error of bytes that are no module: their fault and its offset, or memory was refused
+abbrev pub IsUndecoded : List ℕ → DecodeError → Type 0
+IsUndecoded bytes e = Locates every_feature (Err e) bytes (module_at bytes)

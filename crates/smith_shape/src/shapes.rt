@@ -1,0 +1,50 @@
+ghost use Rattle.std.specs.Prelude.{◌≡◌, IfOk, IfErr};
+ghost use Rattle.smith_shape.specs.ModuleShapes.{IsShapeBinary, IsUndecoded, shape_of};
+
+use crate::definitions::{export_triples, global_types, table_types, tag_indices};
+use smith_bytes::Error;
+use smith_config::Shape;
+use smith_decode::{DecodeError, Module, decode};
+use smith_types::{CloneIn, WasmFeatures};
+use std::alloc::Global;
+
+/// Returns the shape of `module`, which is copied into memory from `alloc`. Whether the shape may be
+/// used depends on the configuration: [`Shape::check`] decides it.
+///
+/// # Errors
+///
+/// Returns [`Error::Memory`] if an allocation fails.
+pub fn shape_of(alloc: Global, module: &Module) -> Result<Shape, Error>
+    ensures ok { IfOk result (λ shape. shape ≡ shape_of «module».now) }
+    ensures memory { IfErr result (λ e. e ≡ Error.Memory) }
+{
+    Ok(Shape {
+        groups: module.types.clone_in(alloc)?,
+        imports: module.imports.clone_in(alloc)?,
+        funcs: module.functions.copy_in(alloc)?,
+        tags: tag_indices(alloc, module.tags.as_slice())?,
+        tables: table_types(alloc, module.tables.as_slice())?,
+        memories: module.memories.copy_in(alloc)?,
+        globals: global_types(alloc, module.globals.as_slice())?,
+        exports: export_triples(alloc, module.exports.as_slice())?,
+    })
+}
+
+/// Returns the shape of the module that `bytes` are, with every feature on. Bodies, initialisers,
+/// segments and custom sections are read too, so that a fault in them is refused, but are no part of
+/// the shape.
+///
+/// # Errors
+///
+/// Returns the error of [`decode`] for bytes that are no module, with the place of the fault, and
+/// [`DecodeError::Memory`] if an allocation fails.
+pub fn read_shape(alloc: Global, bytes: &[u8]) -> Result<Shape, DecodeError>
+    ensures ok { IfOk result (IsShapeBinary bytes.now) }
+    ensures refused { IfErr result (IsUndecoded bytes.now) }
+{
+    let module = decode(alloc, bytes, WasmFeatures::every())?;
+    match shape_of(alloc, &module) {
+        Ok(shape) => Ok(shape),
+        Err(_) => Err(DecodeError::Memory),
+    }
+}

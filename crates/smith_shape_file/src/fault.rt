@@ -1,0 +1,24 @@
+use smith_decode::DecodeError;
+use smith_shape_text::{TextFault, TextRefusal};
+use thiserror::Error;
+
+/// The reason why the bytes of a file are no shape.
+#[derive(Clone, Copy, Debug, PartialEq, Eq, Error)]
+pub enum ShapeFileFault {
+    /// The bytes begin as a module in the binary format, and are none.
+    #[error("{0}")]
+    Binary(DecodeError),
+    /// The bytes are no module in the text format.
+    #[error("{0}")]
+    Text(TextRefusal),
+}
+
+impl ShapeFileFault {
+    /// Returns whether memory was refused.
+    pub fn is_memory(&self) -> bool {
+        match self {
+            ShapeFileFault::Binary(error) => *error == DecodeError::Memory,
+            ShapeFileFault::Text(refusal) => refusal.fault == TextFault::Memory,
+        }
+    }
+}
