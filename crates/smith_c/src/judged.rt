@@ -7,21 +7,29 @@ use smith_request::Refusal;
 use std::alloc::Global;
 use std::str;
 
+/// Sets what `text`, a JSON object or empty, says of a configuration.
+fn set_from(alloc: Global, text: &[u8], config: &mut Config) -> Result<(), Refusal> {
+    if text.is_empty() {
+        return Ok(());
+    }
+    let Ok(text) = str::from_utf8(text) else {
+        return Err(Refusal::NotUtf8);
+    };
+    match read_text(alloc, text, config) {
+        Ok(()) => Ok(()),
+        Err(refusal) => Err(Refusal::Config(refusal.in_text(text))),
+    }
+}
+
 /// Returns the features that the text of a configuration turns on: all that are known, changed by the
 /// JSON object that it is, unless it is empty.
 fn features_of(alloc: Global, text: &[u8]) -> Result<WasmFeatures, Refusal> {
     let mut config = Config::default();
     Preset::Proposals.apply(&mut config);
-    if text.is_empty() {
-        return Ok(config.features());
-    }
-    let Ok(text) = str::from_utf8(text) else {
-        return Err(Refusal::NotUtf8);
-    };
-    match read_text(alloc, text, &mut config) {
-        Ok(()) => Ok(config.features()),
-        Err(refusal) => Err(Refusal::Config(refusal.in_text(text))),
-    }
+    let read = set_from(alloc, text, &mut config);
+    let features = config.features();
+    drop(config);
+    read.and(Ok(features))
 }
 
 /// A verdict, and the same in words.
