@@ -182,20 +182,6 @@ table_functions_written table offset functions form index place list =
       )) h;
     }) (joined_written form (joined_written index (joined_written place list)))
 
--- a segment of functions by what it is in the abstract syntax
-pub listed_written : (segment : ElementSegment) (functions : List ℕ) {old new : Output} → segment.items ≡ Functions functions
-    → segment.ty ≡ func_ref false
-    → Writes (λ _ piece. is_element_mode_nested segment.mode ≡ true → IsElem (functions_elem functions (mode_view segment.mode)) piece) old new
-    → Writes (λ _. IfPasses is_element_nested IsSeenElem segment) old new
-listed_written segment functions items ty one =
-    let mode = mode_view segment.mode in
-    let same : functions_elem functions mode ≡ element_view segment =
-    ap (λ (t : RefType). elem t (func_items functions) mode) (sym ty)
-    ∙ ap (λ (those : ElementItems). elem segment.ty (items_view those) mode) (sym items) in
-    written_plain {Other = IfPasses is_element_nested IsSeenElem segment} (λ piece h passes.
-    let (nested, all) = and_parts (is_element_mode_nested segment.mode) (are_items_nested segment.items) passes in
-    subst (λ (e : Elem). IsElem e piece) same (h nested)) one
-
 -- element segments, as lists of expressions
 pub function_expr_written : (function : ℕ) {old new : Output} → Writes (λ s. IsExprIn s (Reference (Func function) ∷ [])) old new
     → Writes (λ _. IsNestedExpr (Reference (Func function) ∷ [])) old new
@@ -208,12 +194,6 @@ pub typed_written : (ty : RefType) (items : List (List Instr)) (passes : Bool) {
 typed_written ty items passes one list =
     written_plain {Other = λ piece. passes ≡ true → IsTypedItems ty items piece} (λ piece h all. second_as (λ p those. those all) h)
     (joined_written one list)
-
-pub both_pass : (nested passes : Bool) (P : List ℕ → Type 0) {old new : Output}
-    → Writes (λ _ piece. nested ≡ true → passes ≡ true → P piece) old new → Writes (λ _ piece. nested && passes ≡ true → P piece) old new
-both_pass nested passes P one =
-    written_plain {Spells = λ _ piece. nested ≡ true → passes ≡ true → P piece} {Other = λ piece. nested && passes ≡ true → P piece}
-    (λ piece h all. let (first, second) = and_parts nested passes all in h first second) one
 
 pub passive_exprs_written : (ty : RefType) (items : List (List Instr)) (nested : Bool) {a b c : Output}
     → Writes (λ s. IsUnsignedIn s 32 5) a b → Writes (λ _ piece. nested ≡ true → IsTypedItems ty items piece) b c

@@ -1,10 +1,10 @@
 -- Modules as they are written.
 use Rattle.std.proofs.Common.{◌≡◌, ℕ, ◌⊎◌, inl, inr, Bool, true, false, eqb, ◌||◌, List, [], ◌∷◌, ◌++◌, length, map, Option, Some, None, Result, Ok, Err}
 use Rattle.std.proofs.Common.{refl, sym, ap, subst, ◌∙◌, append_assoc, append-nil}
-use Rattle.std.specs.Prelude.{IfOk, IfErr, IfSome, IsErrAnd}
+use Rattle.std.specs.Prelude.{Any, IfOk, IfErr, IfSome, IsErrAnd}
 use Rattle.std.specs.List.{list_any}
 use Rattle.std.proofs.lemmas.Bool.{eqb-true}
-use Rattle.std.proofs.lemmas.List.{length-map}
+use Rattle.std.proofs.lemmas.List.{length-map, nil_from_length}
 use Rattle.smith_binary.specs.declared.error.EncodeError.{EncodeError}
 use Rattle.smith_binary.specs.Faults.{IsFault}
 use Rattle.smith_binary.specs.Pieces.{Each, Output, Writes}
@@ -21,7 +21,7 @@ use Rattle.smith_encode.specs.Faults.{HasNoSpelling}
 use Rattle.smith_encode.specs.Places.{skipped, left_after, HasCustomsAfter, WritesCustoms, WritesBefore}
 use Rattle.smith_encode.specs.Spelled.{are_parts_spelled}
 use Rattle.smith_encode.specs.Tails.{FromElements, FromTypes, IsCount, IsLongFrom, start_ids, front_ids, middle_ids, back_ids}
-use Rattle.smith_encode.specs.TooLong.{IsTooLong}
+use Rattle.smith_encode.specs.TooLong.{IsLongCustom, IsTooLong}
 use Rattle.smith_encode.proofs.OrderLemmas.{module_ordered}
 use Rattle.smith_encode.proofs.PartLemmas.{parts_pass}
 use Rattle.smith_encode.proofs.PlaceLemmas.{before_on}
@@ -62,9 +62,9 @@ from_earlier one (inl long) = inl long
 from_earlier one (inr custom) = inr (one.leads.rest custom)
 
 -- all custom sections
-pub from_start : {m : Module} → IsLongFrom m m.customs → IsTooLong m
-from_start (inl long) = long
-from_start (inr custom) = IsTooLong.customs custom
+pub from_start : {m : Module} {customs : List Custom} → customs ≡ m.customs → IsLongFrom m customs → IsTooLong m
+from_start same (inl long) = long
+from_start same (inr custom) = IsTooLong.customs (subst (Any IsLongCustom) same custom)
 
 -- the fault of a `?`, for another reason
 pub handed_on : {A P Q : Type 0} (r : Result A EncodeError) (e : EncodeError) → IsErrAnd r (λ y. y ≡ e) → (P → Q) → IsFault P e
@@ -85,6 +85,13 @@ counts_agree m (Some stated) h = h ∙ sym (length-map m.datas segment_view)
 no_customs_left : (after : Option ℕ) (customs : List Custom) → customs ≡ [] → HasCustomsAfter after customs []
 unfolding Each
 no_customs_left after customs none = ([], refl, none)
+
+-- whether nothing is left
+pub nothing_left : {A : Type 0} (xs : List A) (is_empty : Bool) → is_empty ≡ eqb (length xs) 0 → is_empty ≡ true → xs ≡ []
+nothing_left xs is_empty is empty = nil_from_length xs (eqb-true (length xs) 0 (sym is ∙ empty))
+
+pub some_left : (A : Type 0) (xs : List A) (is_empty : Bool) → is_empty ≡ eqb (length xs) 0 → is_empty ≡ false → xs ≡ [] → ⊥
+some_left A xs is_empty is some none = let never = sym some ∙ is ∙ ap (λ (those : List A). eqb (length those) 0) none in absurd cc
 
 -- a module after its preamble, once its custom sections are written
 pub module_spelled : {ids : List ℕ} {mid last : Option ℕ × List Custom} {start first second third : Output} (m : Module)
