@@ -1,5 +1,5 @@
 -- Items as they are written.
-use Rattle.std.proofs.Common.{◌≡◌, ℕ, ◌^◌, Bool, true, false, ◌&&◌, nat_lt, List, [], ◌∷◌, refl, sym, ap, subst, ◌∙◌}
+use Rattle.std.proofs.Common.{◌≡◌, ℕ, ◌^◌, Bool, true, ◌&&◌, nat_lt, List, [], ◌∷◌, refl}
 use Rattle.std.proofs.lemmas.Bool.{and_parts, ltb-true}
 use Rattle.smith_binary.specs.Spelling.{IsUnsignedIn}
 use Rattle.smith_binary.specs.Pieces.{Is, IsByte, IsSizedIn, IsList, IsListIn, Joined, Output, Writes}
@@ -20,20 +20,16 @@ use Rattle.smith_decode.specs.declared.bodies.Body.{Body}
 use Rattle.smith_decode.specs.declared.data.DataMode.TheVariants as data_mode
 use Rattle.smith_decode.specs.declared.definitions.GlobalDefinition.{GlobalDefinition}
 use Rattle.smith_decode.specs.declared.definitions.TableDefinition.{TableDefinition}
-use Rattle.smith_decode.specs.declared.elements.ElementItems.{ElementItems}
-use Rattle.smith_decode.specs.declared.elements.ElementItems.TheVariants.{Functions}
-use Rattle.smith_decode.specs.declared.elements.ElementSegment.{ElementSegment}
 use Rattle.smith_decode.specs.BodyReadings.{IsLocalRun, IsRunBody, total}
 use Rattle.smith_decode.specs.DataReadings.{segment, IsSegment}
 use Rattle.smith_decode.specs.DefinitionReadings.{IsGlobalDefinition, IsTableDefinition}
 use Rattle.smith_decode.specs.Definitions.{null_of, IsTable}
-use Rattle.smith_decode.specs.ElementReadings.{element_view, items_view, mode_view}
-use Rattle.smith_decode.specs.Elements.{Elem, elem, func_items, IsElem, IsItems, IsTypedItems}
+use Rattle.smith_decode.specs.Elements.{elem, IsElem, IsItems, IsTypedItems}
 use Rattle.smith_decode.specs.Elements.Mode.{passive, declared, active}
 use Rattle.smith_encode.specs.Nesting.{is_nested}
-use Rattle.smith_encode.specs.Segments.{functions_elem, IsSeenElem}
-use Rattle.smith_encode.specs.Spelled.{IfPasses, is_table_nested, is_global_nested, are_items_nested, is_element_mode_nested}
-use Rattle.smith_encode.specs.Spelled.{is_element_nested, is_body_spelled}
+use Rattle.smith_encode.specs.Segments.{functions_elem}
+use Rattle.smith_encode.specs.Spelled.{IfPasses, is_table_nested, is_global_nested}
+use Rattle.smith_encode.specs.Spelled.{is_body_spelled}
 use Rattle.smith_encode.proofs.NestingLemmas.{nested_sound}
 
 -- one part by another property

@@ -1,5 +1,5 @@
 -- Modules as they are written.
-use Rattle.std.proofs.Common.{◌≡◌, ℕ, ◌⊎◌, inl, inr, Bool, true, false, eqb, ◌||◌, List, [], ◌∷◌, ◌++◌, length, map, Option, Some, None, Result, Ok, Err}
+use Rattle.std.proofs.Common.{◌≡◌, ℕ, inl, inr, Bool, true, false, eqb, ◌||◌, List, [], ◌∷◌, ◌++◌, length, map, Option, Some, None, Result, Ok, Err}
 use Rattle.std.proofs.Common.{refl, sym, ap, subst, ◌∙◌, append_assoc, append-nil}
 use Rattle.std.specs.Prelude.{Any, IfOk, IfErr, IfSome, IsErrAnd}
 use Rattle.std.specs.List.{list_any}
@@ -14,7 +14,7 @@ use Rattle.smith_decode.specs.declared.bodies.Body.{Body}
 use Rattle.smith_decode.specs.declared.customs.Custom.{Custom}
 use Rattle.smith_decode.specs.declared.modules.Module.{Module}
 use Rattle.smith_decode.specs.BodyReadings.{body_view, name_data, names_data_in}
-use Rattle.smith_decode.specs.Customs.{AreCustoms, HasCustoms}
+use Rattle.smith_decode.specs.Customs.{AreCustoms}
 use Rattle.smith_decode.specs.DataReadings.{segment_view}
 use Rattle.smith_decode.specs.Modules.{IsModuleBinary, body_names_data, syntax_of}
 use Rattle.smith_encode.specs.Faults.{HasNoSpelling}
@@ -42,7 +42,7 @@ pub back_on : {A E : Type 0} {ids : List ℕ} {Tail : List ℕ → Type 0} {a b 
     → IsCount m count → WritesBefore ids Tail (FromElements (syntax_of m) count) a b first second
     → IfOk r (λ (next : A). WritesBefore others More Tail b (place_of next) second third)
     → IfOk r (λ (next : A). (count : Option ℕ) × IsCount m count
-        × WritesBefore (ids ++ others) More (FromElements (syntax_of m) count) a (place_of next) first third)
+    × WritesBefore (ids ++ others) More (FromElements (syntax_of m) count) a (place_of next) first third)
 back_on others More third m count place_of (Ok next) counts one h = (count, counts, before_on one h)
 back_on others More third m count place_of (Err e) counts one h = tt
 
@@ -51,7 +51,7 @@ pub counted_on : {A E : Type 0} {ids : List ℕ} {Whole Tail : Option ℕ → Li
     → ((count : Option ℕ) → WritesBefore ids (Tail count) (Whole count) a b first second)
     → IfOk r (λ (next : A). (count : Option ℕ) × IsCount m count × WritesBefore others More (Tail count) b (place_of next) second third)
     → IfOk r (λ (next : A). (count : Option ℕ) × IsCount m count
-        × WritesBefore (ids ++ others) More (Whole count) a (place_of next) first third)
+    × WritesBefore (ids ++ others) More (Whole count) a (place_of next) first third)
 counted_on others More third m place_of (Ok next) one h = (h.0, h.1, before_on (one h.0) h.2)
 counted_on others More third m place_of (Err e) one h = tt
 

@@ -1,16 +1,16 @@
 -- The custom sections of a module are in the order of its other sections.
 use Rattle.std.proofs.Common.{◌≡◌, ℕ, Bool, true, false, List, [], ◌∷◌, ◌++◌, Option, Some, None, refl, sym, ap, subst, ◌∙◌, append_assoc}
 use Rattle.std.proofs.Common.{append-nil, arith}
-use Rattle.smith_binary.specs.Pieces.{Is, Joined, Each, IsSection}
+use Rattle.smith_binary.specs.Pieces.{Is, Each, IsSection}
 use Rattle.smith_binary.specs.Unambiguous.{IsUnambiguousWhole, Same}
 use Rattle.smith_binary.proofs.UnambiguousLemmas.{same_head, section_is_unambiguous}
 use Rattle.smith_binary_sections.specs.Sections.{IsOptionalSection}
 use Rattle.smith_decode.specs.declared.customs.Custom.{Custom}
-use Rattle.smith_decode.specs.Customs.{IsNamed, IsCustom, AreCustoms, IsAnySection, IsNext, AreAmong, IsThen}
-use Rattle.smith_decode.specs.Modules.{Syntax, AreSections, IsModuleBinary, IsStated}
+use Rattle.smith_decode.specs.Customs.{IsCustom, AreCustoms, IsAnySection, IsNext, AreAmong, IsThen}
+use Rattle.smith_decode.specs.Modules.{Syntax, IsModuleBinary, IsStated}
 use Rattle.smith_encode.specs.Places.{is_same_section, skipped, left_after, HasCustomsAfter}
-use Rattle.smith_encode.specs.Tails.{FromBodies, FromCount, FromDatas, FromElements, FromExports, FromFunctions, FromGlobals, FromImports}
-use Rattle.smith_encode.specs.Tails.{FromMemories, FromStart, FromTables, FromTags, FromTypes, start_ids, front_ids, middle_ids, back_ids}
+use Rattle.smith_encode.specs.Tails.{FromElements}
+use Rattle.smith_encode.specs.Tails.{FromMemories, FromTypes, start_ids, front_ids, middle_ids, back_ids}
 use Rattle.smith_encode.proofs.PlaceLemmas.{same_here}
 
 -- what is skipped is at the front
@@ -30,11 +30,10 @@ end_more : (after : Option ℕ) (custom : Custom) (front customs : List Custom) 
     → (other : List Custom) × (skipped after (custom ∷ (front ++ customs)) ≡ other ++ skipped after customs)
 end_more after custom front customs true is h = (h.0, rw is h.1)
 end_more after custom front customs false is h =
-    let those = front_of after customs in
-    (
+    let those = front_of after customs in (
       custom ∷ (front ++ those.0),
       rw is (ap (λ (rest : List Custom). custom ∷ rest)
-      (ap (λ (rest : List Custom). front ++ rest) those.1 ∙ sym (append_assoc front those.0 (skipped after customs)))),
+          (ap (λ (rest : List Custom). front ++ rest) those.1 ∙ sym (append_assoc front those.0 (skipped after customs)))),
     )
 
 end_of : (after : Option ℕ) (front customs : List Custom)
@@ -109,6 +108,15 @@ first_skipped {after = after} content others each (IsNext.custom custom more zer
 }
 first_skipped content others each (IsNext.other nonzero among) = absurd (nonzero refl)
 
+then_skips : {after : Option ℕ} {customs : List Custom} {middle rest : List ℕ} (first : Skips after customs middle)
+    → Skips after first.customs_left rest → Skips after customs rest
+then_skips first more = record { customs_left = more.customs_left; same = first.same ∙ more.same; placed = more.placed }
+
+-- what is left of the custom sections after those at the front is what is left of all
+skips_to : (f : List Custom → List Custom) {after : Option ℕ} {customs : List Custom} {rest : List ℕ} (skips : Skips after customs rest)
+    → f (skipped after skips.customs_left) ≡ [] → f (skipped after customs) ≡ []
+skips_to f skips none = ap f skips.same ∙ none
+
 each_skips : (all : List (Unit {0})) (after : Option ℕ) (customs : List Custom) (piece rest : List ℕ) → Each IsCustom all piece
     → HasCustomsAfter after customs (piece ++ rest) → Skips after customs rest
 unfolding Each
@@ -123,8 +131,7 @@ each_skips (one ∷ all) after customs piece rest each h =
     let parts = split 0 each.first (each.second ++ rest) h.0 each.is_first (subst (Each IsAnySection h.0) whole h.1) in
     let first = first_skipped parts.content parts.others parts.each
     (subst (λ (sections : List (ℕ × List ℕ)). AreAmong after sections customs) parts.is h.2) in
-    let more = each_skips all after first.customs_left each.second rest each.is_second first.placed in
-    record { customs_left = more.customs_left; same = first.same ∙ more.same; placed = more.placed }
+    then_skips first (each_skips all after first.customs_left each.second rest each.is_second first.placed)
 
 -- whatever these sections are, their custom sections are in the order of these identifiers
 record IsOrdered (ids : List ℕ) (Spells : List ℕ → Type 0) : Type 0 where
@@ -152,7 +159,7 @@ customs_ordered = record {
   one = λ after customs piece h placed.
       let skips = each_skips h.all after customs piece [] h.form
       (subst (HasCustomsAfter after customs) (sym (append-nil piece)) placed) in
-      skips.same ∙ none_left after skips.customs_left skips.placed;
+      skips_to (λ all. all) skips (none_left after skips.customs_left skips.placed);
 }
 
 -- a section more
@@ -177,9 +184,9 @@ more_ordered id ids nonzero others = record {
   one = λ after customs piece h placed.
       let skips = each_skips h.is_first.all after customs h.first h.second h.is_first.form
       (subst (HasCustomsAfter after customs) h.whole placed) in
-      ap (λ (all : List Custom). left_after ids (skipped (Some id) all)) skips.same
-      ∙ later_ordered id ids nonzero others after skips.customs_left h.is_second.first h.is_second.second h.is_second.is_first
-      h.is_second.is_second (subst (HasCustomsAfter after skips.customs_left) h.is_second.whole skips.placed);
+      skips_to (λ all. left_after ids (skipped (Some id) all)) skips
+      (later_ordered id ids nonzero others after skips.customs_left h.is_second.first h.is_second.second h.is_second.is_first
+      h.is_second.is_second (subst (HasCustomsAfter after skips.customs_left) h.is_second.whole skips.placed));
 }
 
 -- a section that is left out
@@ -197,9 +204,9 @@ absent_ordered id ids never others = record {
       let empty = absent_section id h.is_second.first never h.is_second.is_first in
       let whole : h.second ≡ h.is_second.second =
       h.is_second.whole ∙ ap (λ (front : List ℕ). front ++ h.is_second.second) empty in
-      ap (left_after ids) skips.same
-      ∙ others.one after skips.customs_left h.is_second.second h.is_second.is_second
-      (subst (HasCustomsAfter after skips.customs_left) whole skips.placed);
+      skips_to (left_after ids) skips
+      (others.one after skips.customs_left h.is_second.second h.is_second.is_second
+      (subst (HasCustomsAfter after skips.customs_left) whole skips.placed));
 }
 
 start_ordered : {More : List ℕ → Type 0} (start : Option ℕ) (ids : List ℕ) → IsOrdered ids More

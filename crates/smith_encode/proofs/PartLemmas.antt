@@ -1,11 +1,11 @@
 -- The items of a module that bytes spell all have spellings.
-use Rattle.std.proofs.Common.{◌≡◌, ℕ, ◌+◌, ◌<◌, ◌^◌, Bool, true, false, ◌&&◌, nat_lt, eqb, List, [], ◌∷◌, length, map, refl, sym, ap, subst, ◌∙◌}
+use Rattle.std.proofs.Common.{◌≡◌, ℕ, ◌<◌, ◌^◌, Bool, true, ◌&&◌, nat_lt, eqb, List, [], ◌∷◌, length, map, refl, sym, ap, ◌∙◌}
 use Rattle.std.proofs.Common.{arith, length-append}
 use Rattle.std.specs.Prelude.{replicate}
 use Rattle.std.specs.List.{list_all}
 use Rattle.std.proofs.lemmas.Bool.{eq-eqb, lt-ltb}
 use Rattle.std.proofs.lemmas.List.{length-map, length-replicate}
-use Rattle.smith_binary.specs.Pieces.{Joined, Each, IsList}
+use Rattle.smith_binary.specs.Pieces.{Each, IsList}
 use Rattle.smith_binary_sections.specs.Codes.{locals_of}
 use Rattle.smith_binary_sections.specs.Sections.{IsOptionalSection}
 use Rattle.smith_binary_sections.specs.Elements.Form.{first_funcs, passive_funcs, table_funcs, declared_funcs, first_items, passive_items}
@@ -13,7 +13,6 @@ use Rattle.smith_binary_sections.specs.Elements.Form.{table_items, declared_item
 use Rattle.smith_binary_sections.specs.Data.DataForm.{first_memory, no_memory, named_memory}
 use Rattle.smith_binary_sections.specs.Elements.{Form}
 use Rattle.smith_binary_sections.specs.Data.{DataForm}
-use Rattle.smith_syntax.specs.declared.value_type.ValType.{ValType}
 use Rattle.smith_instr.specs.declared.instr.Instr.{Instr}
 use Rattle.smith_binary_read_instr.specs.Expressions.{IsNestedExpr}
 use Rattle.smith_decode.specs.declared.bodies.Body.{Body}

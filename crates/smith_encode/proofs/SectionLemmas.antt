@@ -1,5 +1,5 @@
 -- Sections as they are written.
-use Rattle.std.proofs.Common.{◌≡◌, ℕ, ◌≤◌, ◌^◌, ◌⊎◌, inl, inr, Bool, true, false, ◌&&◌, eqb, List, [], ◌∷◌, length, Option, Some, None, Result, Ok}
+use Rattle.std.proofs.Common.{◌≡◌, ℕ, ◌≤◌, ◌^◌, ◌⊎◌, inl, inr, Bool, true, false, eqb, List, [], ◌∷◌, length, Option, Some, None, Result, Ok}
 use Rattle.std.proofs.Common.{Err, refl, sym, ap, subst, arith}
 use Rattle.std.specs.Prelude.{IfOk}
 use Rattle.std.specs.List.{list_all}
@@ -28,7 +28,7 @@ pub section_written : {A E : Type 0} {S T : Type 0} {Content Other : List ℕ �
     → ((piece : List ℕ) → Content piece → Other piece)
     → IfOk r (λ (next : A). WritesNext id S Content old (place_of next) before after)
     → IfOk r (λ (next : A). (count : Option ℕ)
-        → WritesBefore (id ∷ []) (Tail count) (IsThen id T Other (Tail count)) old (place_of next) before after)
+    → WritesBefore (id ∷ []) (Tail count) (IsThen id T Other (Tail count)) old (place_of next) before after)
 section_written {Content = Content} {Other = Other} id old before after place_of (Ok next) Tail nothing weaker h =
     λ count. next_before {Content = Content} {Other = Other} (Tail count) nothing weaker h
 section_written id old before after place_of (Err e) Tail nothing weaker h = tt
@@ -48,7 +48,7 @@ pub start_written : {A E : Type 0} (old : Option ℕ × List Custom) (before aft
     (r : Result A E) (Tail : Option ℕ → List ℕ → Type 0) (start : Option ℕ) (index : ℕ) → start ≡ Some index
     → IfOk r (λ (next : A). WritesNext 8 (true ≡ false) (IsUnsigned 32 index) old (place_of next) before after)
     → IfOk r (λ (next : A). (count : Option ℕ)
-        → WritesBefore (start_ids start) (Tail count) (IsThen 8 (start ≡ None) (IsStated start) (Tail count)) old (place_of next) before after)
+    → WritesBefore (start_ids start) (Tail count) (IsThen 8 (start ≡ None) (IsStated start) (Tail count)) old (place_of next) before after)
 start_written old before after place_of (Ok next) Tail start index is h = λ count.
     subst (λ (ids : List ℕ). WritesBefore ids (Tail count) (IsThen 8 (start ≡ None) (IsStated start) (Tail count)) old (place_of next) before
     after) (sym (ap start_ids is))
@@ -60,7 +60,7 @@ pub no_start_written : {A E : Type 0} (old : Option ℕ × List Custom) (before 
     (r : Result A E) (Tail : Option ℕ → List ℕ → Type 0) (start : Option ℕ) → start ≡ None
     → IfOk r (λ (next : A). WritesCustoms old (place_of next) before after)
     → IfOk r (λ (next : A). (count : Option ℕ)
-        → WritesBefore (start_ids start) (Tail count) (IsThen 8 (start ≡ None) (IsStated start) (Tail count)) old (place_of next) before after)
+    → WritesBefore (start_ids start) (Tail count) (IsThen 8 (start ≡ None) (IsStated start) (Tail count)) old (place_of next) before after)
 no_start_written old before after place_of (Ok next) Tail start none h = λ count.
     subst (λ (ids : List ℕ). WritesBefore ids (Tail count) (IsThen 8 (start ≡ None) (IsStated start) (Tail count)) old (place_of next) before
     after) (sym (ap start_ids none)) (customs_before {T = start ≡ None} {Other = IsStated start} (Tail count) none h)
@@ -77,35 +77,35 @@ count_of m is_stated needless h (IsOptionalSection.present section) = (
   Some (length m.datas),
   (refl, λ none. absurd cc),
   next_before {S = ⊥} {T = Some (length m.datas) ≡ None} {Content = IsUnsigned 32 (length m.datas)}
-  {Other = IsStated (Some (length m.datas))} (FromBodies (syntax_of m)) (λ never. absurd never)
-  (λ piece one. record { number = length m.datas; is = refl; form = one }) (record {
-    customs = h.customs;
-    section = h.section;
-    are_customs = h.are_customs;
-    is_section = IsOptionalSection.present section;
-    leads = h.leads;
-    whole = h.whole;
-  }),
+      {Other = IsStated (Some (length m.datas))} (FromBodies (syntax_of m)) (λ never. absurd never)
+      (λ piece one. record { number = length m.datas; is = refl; form = one }) (record {
+        customs = h.customs;
+        section = h.section;
+        are_customs = h.are_customs;
+        is_section = IsOptionalSection.present section;
+        leads = h.leads;
+        whole = h.whole;
+      }),
 )
 count_of m is_stated needless h (IsOptionalSection.absent says empty) = (
   None,
   (tt, λ none. needless says),
   next_before {S = Unit {0}} {T = None ≡ None} {Content = λ (piece : List ℕ). ⊥}
-  {Other = IsStated None} (FromBodies (syntax_of m)) (λ some. refl) (λ piece never. absurd never) (record {
-    customs = h.customs;
-    section = h.section;
-    are_customs = h.are_customs;
-    is_section = IsOptionalSection.absent tt empty;
-    leads = h.leads;
-    whole = h.whole;
-  }),
+      {Other = IsStated None} (FromBodies (syntax_of m)) (λ some. refl) (λ piece never. absurd never) (record {
+        customs = h.customs;
+        section = h.section;
+        are_customs = h.are_customs;
+        is_section = IsOptionalSection.absent tt empty;
+        leads = h.leads;
+        whole = h.whole;
+      }),
 )
 
 pub count_written : {A E : Type 0} (old : Option ℕ × List Custom) (before after : Output) (m : Module) (is_stated : Bool)
     (place_of : A → Option ℕ × List Custom) (r : Result A E) → (is_stated ≡ false → name_data m.bodies ≡ false)
     → IfOk r (λ (next : A). WritesNext 12 (is_stated ≡ false) (IsUnsigned 32 (length m.datas)) old (place_of next) before after)
     → IfOk r (λ (next : A). (count : Option ℕ) × IsCount m count
-        × WritesBefore (12 ∷ []) (FromBodies (syntax_of m)) (FromCount (syntax_of m) count) old (place_of next) before after)
+    × WritesBefore (12 ∷ []) (FromBodies (syntax_of m)) (FromCount (syntax_of m) count) old (place_of next) before after)
 count_written old before after m is_stated place_of (Ok next) needless h = count_of m is_stated needless h h.is_section
 count_written old before after m is_stated place_of (Err e) needless h = tt
 

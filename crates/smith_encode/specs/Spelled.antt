@@ -1,7 +1,6 @@
 -- Which items have a spelling: those whose blocks all end, and bodies of fewer than 2^32 locals.
 use Rattle.std.specs.Prelude.{◌≡◌, ℕ, ◌==◌, ◌&&◌, ◌^◌, nat_lt, Bool, true, List, length}
 use Rattle.std.specs.List.{list_all}
-use Rattle.smith_instr.specs.declared.instr.Instr.{Instr}
 use Rattle.smith_decode.specs.declared.bodies.Body.{Body}
 use Rattle.smith_decode.specs.declared.data.DataMode.{DataMode}
 use Rattle.smith_decode.specs.declared.data.DataMode.TheVariants as data_mode

@@ -1,7 +1,7 @@
 -- The sections of a module from one of them on: the section Binary Format, Modules, of the WebAssembly
 -- Core Specification 3.0.
 use Rattle.std.specs.Prelude.{◌≡◌, ℕ, ◌⊎◌, false, Option, Some, None, List, [], ◌∷◌, length, IfSome, Any}
-use Rattle.smith_binary.specs.Pieces.{IsList, Output}
+use Rattle.smith_binary.specs.Pieces.{IsList}
 use Rattle.smith_binary_sections.specs.Types.{IsRecGroup}
 use Rattle.smith_binary_sections.specs.Instructions.{IsIndex}
 use Rattle.smith_binary_sections.specs.Entities.{IsMemoryType, IsTagType}
@@ -14,8 +14,7 @@ use Rattle.smith_decode.specs.Customs.{AreCustoms, IsThen}
 use Rattle.smith_decode.specs.Data.{IsData}
 use Rattle.smith_decode.specs.Definitions.{IsTable, IsGlobal}
 use Rattle.smith_decode.specs.Elements.{IsElem}
-use Rattle.smith_decode.specs.Modules.{Syntax, IsFunctionBody, IsStated, syntax_of}
-use Rattle.smith_encode.specs.Places.{WritesBefore}
+use Rattle.smith_decode.specs.Modules.{Syntax, IsFunctionBody, IsStated}
 use Rattle.smith_encode.specs.TooLong.{IsTooLong, IsLongCustom}
 
 abbrev pub FromDatas : Syntax → List ℕ → Type 0

@@ -108,11 +108,7 @@ fn write_active_functions(
 }
 
 // Writes a segment of `functions`, as a list of them.
-fn write_listed(
-    mode: &ElementMode,
-    functions: &[u32],
-    sink: &mut Sink,
-) -> Result<(), EncodeError>
+fn write_listed(mode: &ElementMode, functions: &[u32], sink: &mut Sink) -> Result<(), EncodeError>
     ensures writes { OnOk result (Writes (λ _ piece. is_element_mode_nested mode.now ≡ true
         → IsElem (functions_elem functions.now (mode_view mode.now)) piece) sink.old sink.new) }
     ensures fault { IfErr result

@@ -58,10 +58,7 @@ fn is_same_section(one: Option<u8>, other: Option<u8>) -> bool
 }
 
 /// Writes the custom sections at `place`. Returns the place after them.
-pub(crate) fn write_customs<'a>(
-    place: Place<'a>,
-    sink: &mut Sink,
-) -> Result<Place<'a>, EncodeError>
+pub(crate) fn write_customs<'a>(place: Place<'a>, sink: &mut Sink) -> Result<Place<'a>, EncodeError>
     ensures writes { IfOk result (λ next. WritesCustoms (place.entry.after, place.entry.customs.now)
         (next.after, next.customs.now) sink.old sink.new) }
     ensures done { IfOk result (λ next. skipped next.after next.customs.now ≡ next.customs.now) }

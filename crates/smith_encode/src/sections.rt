@@ -208,7 +208,13 @@ pub(crate) fn write_data_count<'a>(
         (place.entry.after, place.entry.customs.now) (next.after, next.customs.now) sink.old sink.new) }
     ensures fault { IfErr result (IsFault (IsLongFrom «module».now place.entry.customs.now)) }
 {
-    write_next(place, 12, states_count(module), &Count(module.datas.len()), sink)
+    write_next(
+        place,
+        12,
+        states_count(module),
+        &Count(module.datas.len()),
+        sink,
+    )
 }
 
 /// Writes the code section. Returns the place after it.

@@ -133,10 +133,12 @@ impl Spell for DataSegment {
 pub(crate) fn are_parts_spelled(alloc: Global, module: &Module) -> Result<bool, AllocError>
     ensures { IfOk result (λ spelled. spelled ≡ are_parts_spelled «module».now) }
 {
-    Ok(module.functions.len() == module.bodies.len()
-        && are_spelled(alloc, module.tables.as_slice())?
-        && are_spelled(alloc, module.globals.as_slice())?
-        && are_spelled(alloc, module.elements.as_slice())?
-        && are_spelled(alloc, module.bodies.as_slice())?
-        && are_spelled(alloc, module.datas.as_slice())?)
+    Ok(
+        module.functions.len() == module.bodies.len()
+            && are_spelled(alloc, module.tables.as_slice())?
+            && are_spelled(alloc, module.globals.as_slice())?
+            && are_spelled(alloc, module.elements.as_slice())?
+            && are_spelled(alloc, module.bodies.as_slice())?
+            && are_spelled(alloc, module.datas.as_slice())?,
+    )
 }

@@ -1,4 +1,4 @@
-use Rattle.std.proofs.Common.{ℕ, List, sym, subst, ◌∙◌}
+use Rattle.std.proofs.Common.{ℕ, List, subst}
 use Rattle.smith_decode.specs.Modules.{IsModuleBinary, Syntax}
 use Rattle.smith_decode.proofs.EncoderLemmas.{module_same}
 use Rattle.smith_encode.proofs.laws.encoding_keeps_modules.Goals as goal

@@ -1,4 +1,4 @@
-use Rattle.std.proofs.Common.{[], ◌∷◌, ◌++◌, None}
+use Rattle.std.proofs.Common.{◌++◌, None}
 use Rattle.smith_binary_sections.proofs.FaultLemmas.{fault_weaker}
 use Rattle.smith_decode.specs.Customs.{AreCustoms}
 use Rattle.smith_decode.specs.Modules.{syntax_of}

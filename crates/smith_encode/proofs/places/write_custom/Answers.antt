@@ -1,4 +1,3 @@
-use Rattle.std.proofs.Common.{true}
 use Rattle.std.proofs.lemmas.Result.{on_ok_weaker}
 use Rattle.smith_binary.proofs.WrittenLemmas.{written_plain}
 use Rattle.smith_binary_sections.proofs.FaultLemmas.{fault_weaker}

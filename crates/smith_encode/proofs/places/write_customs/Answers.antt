@@ -1,6 +1,5 @@
 use Rattle.std.proofs.Common.{sym, ◌∙◌}
-use Rattle.std.proofs.lemmas.List.{nil_from_length}
-use Rattle.smith_encode.proofs.PlaceLemmas.{none_yet, custom_written, skipped_none, skipped_elsewhere}
+use Rattle.smith_encode.proofs.PlaceLemmas.{none_yet, custom_written}
 use Rattle.smith_encode.proofs.places.write_customs.Goals as goal
 
 pub loop-custom-init : goal.loop-custom-init
