@@ -36,7 +36,7 @@ none_taken types rest (slot ∷ taken) operands given empty is below =
 drop_first : {context : BodyContext} {all : List Instr} {before after : Stacked} (more : List Instr) → AreTyped context all before after
     → all ≡ instr.Drop ∷ more → before.stack ≡ [] → ⊥
 drop_first more (nothing counts same) e empty = cc e
-drop_first {context} {all} {before} {after} more (step {context} {instruction} s t) e empty =
+drop_first more (step {context} {instruction} {before} s t) e empty =
     let is : instruction ≡ instr.Drop = cc e in
     let typed = subst (λ (i : Instr). HasStackType context before.set i s.operands s.results) is s.typed in
     let (given, one, none) = typed in

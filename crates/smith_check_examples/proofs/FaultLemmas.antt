@@ -1,6 +1,6 @@
 -- First faults of the examples.
 use Rattle.std.proofs.Common.{◌≡◌, ◌∙◌, ◌<◌, ◌++◌, ◌+◌, ◌^◌, ◌≤◌, ℕ, zero, suc, List, [], ◌∷◌, Some, length, length-append, ap, arith, inl, inr, refl, sym, subst}
-use Rattle.std.specs.Prelude.{map, replicate}
+use Rattle.std.specs.Prelude.{drop, map, replicate}
 use Rattle.std.specs.List.{All}
 use Rattle.std.proofs.lemmas.List.{length-map}
 use Rattle.std.proofs.lemmas.List.Elements.{All-cons, All-head, All-nil}
@@ -45,14 +45,14 @@ earlier_parts =
 
 earlier_right : All Right earlier_parts
 earlier_right =
-    All-cons Right part.Tags _ (λ index item at. absurd (cc at)) (
-    All-cons Right part.Functions _ (λ index item at. absurd (cc at)) (
-    All-cons Right part.Tables _ (λ index item at. absurd (cc at)) (
-    All-cons Right part.Memories _ (λ index item at. absurd (cc at)) (
-    All-cons Right part.Globals _ (λ index item at. absurd (cc at)) (
-    All-cons Right part.TableInitials _ (λ index item at. absurd (cc at)) (
-    All-cons Right part.GlobalInitials _ (λ index item at. absurd (cc at)) (
-    All-cons Right part.Exports _ (λ index item at. absurd (cc at)) (All-nil Right))))))))
+    All-cons Right part.Tags (drop 1 earlier_parts) (λ index item at. absurd (cc at)) (
+    All-cons Right part.Functions (drop 2 earlier_parts) (λ index item at. absurd (cc at)) (
+    All-cons Right part.Tables (drop 3 earlier_parts) (λ index item at. absurd (cc at)) (
+    All-cons Right part.Memories (drop 4 earlier_parts) (λ index item at. absurd (cc at)) (
+    All-cons Right part.Globals (drop 5 earlier_parts) (λ index item at. absurd (cc at)) (
+    All-cons Right part.TableInitials (drop 6 earlier_parts) (λ index item at. absurd (cc at)) (
+    All-cons Right part.GlobalInitials (drop 7 earlier_parts) (λ index item at. absurd (cc at)) (
+    All-cons Right part.Exports (drop 8 earlier_parts) (λ index item at. absurd (cc at)) (All-nil Right))))))))
 
 pub start_first : IsFirstFault usual_features starts_missing (fault.Section (record { part = part.Start; index = 0 }))
 start_first = (
@@ -76,7 +76,7 @@ tag_wrong : (indices : List ℕ)
     (syntax_of two_faults) part.Tags 0 → ⊥
 tag_wrong indices right =
     let (valid, on) = right (canonical_index indices 0) refl in
-    let (function, t, at, is) = valid in cc at
+    let (function, (t, at, is)) = valid in cc at
 
 pub tag_first : IsFirstFault usual_features two_faults (fault.Section (record { part = part.Tags; index = 0 }))
 tag_first = (
@@ -141,8 +141,8 @@ drop_first = (does_nothing_valid.indices, before_bodies _, inl drop_refused)
 
 pub no_instruction_not_first : IsFirstFault usual_features (with_body []) (fault.Body 0 0) → ⊥
 no_instruction_not_first (indices, right, inl refused) = nothing_not_refused indices refused
-no_instruction_not_first (indices, right, inr (zero, inl (past, held))) = omega (arith, past)
-no_instruction_not_first (indices, right, inr (zero, inr (past, held))) = omega (arith, past)
+no_instruction_not_first (indices, right, inr (first, inl (past, held))) = omega (arith, past)
+no_instruction_not_first (indices, right, inr (first, inr (past, held))) = omega (arith, past)
 
 pub missing_body_first : IsFirstFault usual_features without_body (fault.Body 0 0)
 missing_body_first = (does_nothing_valid.indices, before_bodies [], inr (refl, inr (refl, omega arith)))

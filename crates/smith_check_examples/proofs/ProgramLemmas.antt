@@ -94,13 +94,13 @@ passive_valid = record {
 -- imports
 pub no_function_type : IsValidProgram usual_features (imports (entity.Func 0)) → ⊥
 no_function_type valid =
-    let (function, t, at, is) = All-head (IsFuncTypeIndex (types_in valid.indices (imports (entity.Func 0))))
+    let (function, (t, at, is)) = All-head (IsFuncTypeIndex (types_in valid.indices (imports (entity.Func 0))))
     (canonical_index valid.indices 0) [] valid.sections.entities.funcs in
     cc at
 
 pub no_tag_type : IsValidProgram usual_features (imports (entity.Tag 0)) → ⊥
 no_tag_type valid =
-    let (function, t, at, is) = All-head (IsFuncTypeIndex (types_in valid.indices (imports (entity.Tag 0))))
+    let (function, (t, at, is)) = All-head (IsFuncTypeIndex (types_in valid.indices (imports (entity.Tag 0))))
     (canonical_index valid.indices 0) [] valid.sections.entities.tags in
     cc at
 
@@ -128,7 +128,7 @@ no_table valid =
 -- exports
 pub no_tag : IsValidProgram usual_features (exports kind.Tag 0) → ⊥
 no_tag valid =
-    let (ty, tag, at, is) = All-head (λ (item : List ℕ × ExportKind × ℕ). (ty : EntityType) × IsEntityAt
+    let (ty, (tag, at, is)) = All-head (λ (item : List ℕ × ExportKind × ℕ). (ty : EntityType) × IsEntityAt
     (spaces_in valid.indices (exports kind.Tag 0)) item.1 item.2 ty) ([], kind.Tag, 0) [] valid.sections.exports.stand in
     cc at
 
