@@ -21,8 +21,8 @@ pub enum Call {
     Parser(ParserCall),
     /// `config`.
     ReadConfig,
-    /// `decode`.
-    Decode,
+    /// A call on a file.
+    File(FileCall),
     /// A call on a type space.
     Space(SpaceCall),
     /// The recorded form of a set of answers.
@@ -253,6 +253,15 @@ pub enum ParserCall {
     DefaultKinds,
 }
 
+/// Calls on a file.
+#[derive(Clone, Copy)]
+pub enum FileCall {
+    /// `decode`.
+    Decode,
+    /// `judge`.
+    Judge,
+}
+
 /// Subtype tests, by the form of the types.
 #[derive(Clone, Copy)]
 pub enum SubtypeCall {
@@ -290,7 +299,7 @@ pub const RECORDED: &str = "recorded";
 const ANY: usize = usize::MAX;
 
 // Each call by its name, with the greatest number of its arguments.
-static CALLS: [(&str, Call, usize); 83] = [
+static CALLS: [(&str, Call, usize); 84] = [
     ("Module::new", Call::Module(ModuleCall::New), ANY),
     (
         "Module::new_internal",
@@ -574,7 +583,8 @@ static CALLS: [(&str, Call, usize); 83] = [
         0,
     ),
     ("config", Call::ReadConfig, ANY),
-    ("decode", Call::Decode, 0),
+    ("decode", Call::File(FileCall::Decode), 0),
+    ("judge", Call::File(FileCall::Judge), 0),
     (
         "TypeSpace::heap_type_is_sub_type",
         Call::Space(SpaceCall::Subtype(SubtypeCall::HeapType)),

@@ -75,7 +75,8 @@ fn keys_of(call: Call) -> Keys {
             ..NONE
         },
         Call::Parser(_) | Call::ReadConfig => Keys { args: true, ..NONE },
-        Call::Decode => Keys {
+        Call::File(_) => Keys {
+            config: true,
             input: true,
             ..NONE
         },

@@ -8,8 +8,9 @@
 //!   module from the bytes left. `encode` adds fuel to the module of `Module::new` for each
 //!   argument and encodes it. `Program::new` adds fuel to the program likewise and answers its text,
 //!   `encode of Program::new` its binary; both report the bytes of the input left. `decode` answers
-//!   the text of the module that the input is, or its first fault. `recorded` makes checksums of the
-//!   results for generated inputs.
+//!   the text of the module that the input is, or its first fault, and `judge` whether that module is
+//!   valid, in the words of `smith_judge`; for both each feature is on that `config` doesn't turn off.
+//!   `recorded` makes checksums of the results for generated inputs.
 //! - `args` lists the arguments of the call: numbers in decimal, types and heap types as the text
 //!   format writes them without its abbreviations, function types and entities as shapes write
 //!   them, `true` and `false`, names. The functions of `smith_case_answers` that make the calls describe

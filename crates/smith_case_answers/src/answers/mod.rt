@@ -4,9 +4,9 @@ mod case_config;
 mod configs;
 mod constants;
 mod copies;
-mod decoded;
 mod draws;
 mod entities;
+mod files;
 mod free_types;
 mod matching;
 mod module_forms;
@@ -24,8 +24,8 @@ mod types;
 
 use crate::answers::case_config::{answer_read_config, set_config};
 use crate::answers::configs::{answer_config, answer_drawn_config};
-use crate::answers::decoded::answer_decode;
 use crate::answers::draws::answer_draw;
+use crate::answers::files::answer_file;
 use crate::answers::modules::answer_module;
 use crate::answers::names::answer_name;
 use crate::answers::parsers::answer_parser;
@@ -37,6 +37,7 @@ use crate::recorded::answer_recorded;
 use smith_case::call::{Call, ConfigCall, call_named};
 use smith_case::{Case, Fault, check_keys, text_or};
 use smith_config::Config;
+use smith_config_json::Preset;
 use std::alloc::Global;
 
 /// Returns the answer to the call of `case`, which `line` holds, over the bytes `input`.
@@ -68,7 +69,6 @@ fn append_answer(
         Call::Name(call) => answer_name(alloc, case, call, input, answer),
         Call::Parser(call) => answer_parser(case, call, answer),
         Call::ReadConfig => answer_read_config(alloc, case, answer),
-        Call::Decode => answer_decode(alloc, input, answer),
         Call::Space(call) => answer_space(alloc, case, call, answer),
         Call::Config(ConfigCall::Arbitrary) => answer_drawn_config(input, answer),
         _ => answer_configured(alloc, line, case, call, input, answer),
@@ -90,7 +90,8 @@ fn answer_configured(
     told
 }
 
-// Appends the answer to the call of `case`, after `config` is set as `line` says.
+// Appends the answer to the call of `case`, after `config`, the default, is set as `line` says. Each
+// feature is on for a file, unless `line` turns it off.
 fn answer_call(
     alloc: Global,
     line: &str,
@@ -100,8 +101,12 @@ fn answer_call(
     input: &[u8],
     answer: &mut String,
 ) -> Result<(), Fault> {
+    if matches!(call, Call::File(_)) {
+        Preset::Proposals.apply(config);
+    }
     set_config(alloc, line, case, config)?;
     match call {
+        Call::File(call) => answer_file(alloc, call, config.features(), input, answer),
         Call::Module(call) => answer_module(alloc, case, call, config, input, answer),
         Call::Program(call) => answer_program(alloc, case, call, config, input, answer),
         Call::Draw(call) => answer_draw(alloc, case, call, config, input, answer),

@@ -1,0 +1,5 @@
+mod LocalLemmas
+mod TypeLemmas
+mod BodyLemmas
+mod FaultLemmas
+mod ProgramLemmas

@@ -1,0 +1,42 @@
+-- Modules of the examples, as they are decoded.
+use Rattle.std.specs.Prelude.{ℕ, List, [], ◌∷◌, Some}
+use Rattle.smith_syntax.specs.declared.value_type.HeapType.TheVariants.{Concrete}
+use Rattle.smith_syntax.specs.declared.value_type.ValType.{ValType}
+use Rattle.smith_syntax.specs.declared.value_type.ValType.TheVariants.{I32, Ref}
+use Rattle.smith_instr.specs.declared.instr.Instr.{Instr}
+use Rattle.smith_types.specs.ExampleTypes.{nullable}
+use Rattle.smith_decode.specs.BodyReadings.{body_of, local_run}
+use Rattle.smith_decode.specs.ExampleModules.{no_item}
+use Rattle.smith_decode.specs.declared.bodies.LocalRun.{LocalRun}
+use Rattle.smith_decode.specs.declared.modules.Module.{Module}
+use Rattle.smith_check.specs.ExamplePrograms.{function_type}
+use Rattle.smith_check_examples.specs.ExampleSyntax.{final_and_below}
+
+-- a reference to the fourth type
+abbrev pub fourth_type : ValType
+fourth_type = Ref (nullable (Concrete 3))
+
+-- runs of which the second and the third are of the fourth type
+abbrev pub three_runs : List LocalRun
+three_runs = local_run 2 I32 ∷ local_run 1 fourth_type ∷ local_run 1 fourth_type ∷ []
+
+-- a type below a final one, and a function to start with that isn't there
+abbrev pub below_final : Module
+below_final = record no_item { types = final_and_below; start = Some 0 }
+
+abbrev pub starts_missing : Module
+starts_missing = record no_item { start = Some 0 }
+
+-- a tag and a function, both of a type that isn't there
+abbrev pub two_faults : Module
+two_faults = record no_item { tags = record { 0 = 0 } ∷ []; functions = 0 ∷ [] }
+
+-- a function without parameters and results, which has no body, or this body
+abbrev pub without_body : Module
+without_body = record no_item { types = (function_type [] ∷ []) ∷ []; functions = 0 ∷ [] }
+
+abbrev pub of_runs : List LocalRun → Module
+of_runs runs = record without_body { bodies = body_of runs [] ∷ [] }
+
+abbrev pub with_body : List Instr → Module
+with_body instructions = record without_body { bodies = body_of [] instructions ∷ [] }

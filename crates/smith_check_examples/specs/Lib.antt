@@ -1,0 +1,2 @@
+pub mod ExampleSyntax
+pub mod ExampleModules

@@ -1,0 +1,51 @@
+-- How the files of the examples are read.
+use Rattle.std.proofs.Common.{◌≡◌, ◌∙◌, ℕ, List, [], ◌∷◌, Err, Ok, ap, refl, sym}
+use Rattle.smith_config.specs.declared.shape.Shape.{Shape}
+use Rattle.smith_binary_read.specs.Readings.{each_at}
+use Rattle.smith_binary_read.specs.Numbers.{unsigned_at}
+use Rattle.smith_binary_read.specs.Contents.{content_at, name_at, list_at, sized_at}
+use Rattle.smith_binary_read.specs.declared.error.Reason.TheVariants as reason
+use Rattle.smith_decode.specs.CustomReadings.{custom_whole, skip_customs, customs_at, section_at, end_at}
+use Rattle.smith_decode.specs.CustomReadings.{custom_at, next_section_at, gathered_at, kept_at}
+use Rattle.smith_decode.specs.ModuleReadings.{preamble_at, index_whole, bodies_at, counts_at, starts_at, globals_at, memories_at}
+use Rattle.smith_decode.specs.ModuleReadings.{functions_at, parts_at, sections_at, checked_at, module_at}
+use Rattle.smith_decode.specs.ExampleModules.{after_preamble, no_item}
+use Rattle.smith_decode.specs.Modules.{IsModuleBinary, Syntax, syntax_of}
+use Rattle.smith_decode.proofs.ContentsLemmas.{module_back, module_forth}
+use Rattle.smith_decode.proofs.EncoderLemmas.{no_module}
+use Rattle.smith_decode.proofs.ModuleLemmas.{module_decodes}
+use Rattle.smith_shape.specs.ExampleShapes.{no_shape}
+use Rattle.smith_shape.specs.ModuleShapes.{IsShapeBinary}
+use Rattle.smith_shape.proofs.ShapeLemmas.{shape_binary}
+use Rattle.smith_shape_examples.specs.ExampleFiles.{magic}
+
+-- the preamble is read as the empty module
+pub empty_read : module_at (after_preamble []) ≡ Ok no_item
+unfolding kept_at gathered_at next_section_at custom_at checked_at module_at preamble_at customs_at skip_customs custom_whole section_at
+    end_at sections_at parts_at functions_at memories_at globals_at starts_at counts_at bodies_at index_whole each_at unsigned_at
+    content_at name_at list_at sized_at
+empty_read = refl
+
+-- the magic number alone ends too early
+pub magic_read : module_at magic ≡ Err (record { left = 0; reason = reason.UnexpectedEnd })
+unfolding kept_at gathered_at next_section_at custom_at checked_at module_at preamble_at customs_at skip_customs custom_whole section_at
+    end_at sections_at parts_at functions_at memories_at globals_at starts_at counts_at bodies_at index_whole each_at unsigned_at
+    content_at name_at list_at sized_at
+magic_read = refl
+
+pub empty_shape : IsShapeBinary (after_preamble []) no_shape
+empty_shape =
+    shape_binary (after_preamble []) no_item no_shape
+    (module_forth no_item (after_preamble []) (module_decodes.sound (after_preamble []) no_item empty_read)) refl
+
+pub magic_no_shape : (shape : Shape) → IsShapeBinary magic shape → ⊥
+magic_no_shape shape file = no_module file.m magic _ magic_read file.binary
+
+-- no function is in the shape of the empty module
+pub only_empty : IsShapeBinary (after_preamble []) (record no_shape { funcs = 0 ∷ [] }) → ⊥
+only_empty file =
+    let one = module_back file.m (after_preamble []) file.binary in
+    let same : one.decoded ≡ no_item =
+    let e = sym (module_decodes.complete one.decoded (after_preamble []) one.form) ∙ empty_read in cc in
+    let funcs : file.m.functions ≡ [] = ap (λ (m : Syntax). m.functions) (sym one.is ∙ ap syntax_of same) in
+    let e = file.of_module.funcs ∙ funcs in cc
