@@ -1,2 +1,3 @@
+pub mod ExampleSplices
 pub mod Families
 pub mod Splices

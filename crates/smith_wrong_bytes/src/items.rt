@@ -77,10 +77,8 @@ fn walk_data(part: &mut Part<'_>, finder: &mut Finder) -> Result<(), Stop> {
     if form != 1 {
         walk_expr(part, finder)?;
     }
-    let start = part.offset();
-    let bytes = part.read_content(finder)?;
-    let mut before = Part::new(part.reader.alloc(), bytes, part.offset(), part.frames);
-    before.note(Kind::Count, start, finder);
+    let count = part.read_count(finder)?;
+    part.reader.read_bytes(count as usize)?;
     Ok(())
 }
 

@@ -9,6 +9,7 @@ mod counts;
 mod draws;
 mod edit;
 mod entities;
+mod examples;
 mod family;
 mod flags;
 mod instructions;

@@ -98,17 +98,12 @@ impl<'a> Part<'a> {
         Ok(count)
     }
 
-    /// Reads a number of bytes, then that many bytes.
-    pub(crate) fn read_content(&mut self, finder: &mut Finder) -> Result<&'a [u8], Stop> {
-        let count = self.read_u32(finder)?;
-        Ok(self.reader.read_bytes(count as usize)?)
-    }
-
     /// Reads a name.
     pub(crate) fn read_name(&mut self, finder: &mut Finder) -> Result<(), Stop> {
-        let bytes = self.read_content(finder)?;
+        let count = self.read_u32(finder)?;
+        let start = self.offset();
+        let bytes = self.reader.read_bytes(count as usize)?;
         if !bytes.is_empty() {
-            let start = self.offset().saturating_sub(bytes.len());
             self.note(Kind::Name, start, finder);
         }
         Ok(())

@@ -55,7 +55,7 @@ pub(crate) enum Kind {
     Name,
     /// A byte that chooses among forms.
     Flag,
-    /// The first byte of a type.
+    /// A type.
     Type,
     /// An instruction.
     Instruction,

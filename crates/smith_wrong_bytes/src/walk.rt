@@ -93,8 +93,8 @@ fn walk_sections(part: &mut Part<'_>, finder: &mut Finder) -> Result<(), Stop> {
     Ok(())
 }
 
-/// Walks `file`, and notes its places in `finder`. What follows a fault in a section is not walked, nor
-/// what follows a fault between sections.
+// Walks `file`, and notes its places in `finder`. What follows a fault in a section is not walked, nor
+// what follows a fault between sections.
 fn walk(alloc: Global, file: &[u8], finder: &mut Finder) -> Result<(), Stop> {
     let mut part = Part::new(alloc, file, file.len(), Frames::NONE);
     pass(walk_sections(&mut part, finder))
