@@ -29,10 +29,10 @@ pub enum BytesFamily {
     LeftOverByte,
     /// A name is not UTF-8 (Names).
     NotUtf8,
-    /// A byte that chooses among forms is another: flags of limits, the form of a segment, mutability,
-    /// the kind of an import or an export (Limits, Element Section, Data Section).
+    /// A byte that chooses among forms is another, or an integer of two bytes: flags of limits, the form of
+    /// a segment, mutability, the kind of an import or an export (Limits, Element Section, Data Section).
     UnknownFlag,
-    /// A type begins with a byte with which none begins (Types).
+    /// A type begins with a byte with which none begins, or with its byte as an integer of two (Types).
     UnknownType,
     /// An opcode is one that no instruction has (Instructions).
     UnknownOpcode,

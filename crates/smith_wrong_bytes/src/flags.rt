@@ -1,5 +1,3 @@
-ghost use Rattle.std.specs.Prelude.{◌<◌, length};
-
 use crate::edit::{Edit, Picks, bytes_at, replace};
 use crate::places::Kind;
 use crate::stop::Stop;
@@ -12,9 +10,7 @@ const NO_TYPES: [u8; 16] = [
 ];
 
 // Returns bytes that are not UTF-8 (Names).
-fn not_utf8_bytes(form: u16) -> &'static [u8]
-    ensures { 0 < length result.now }
-{
+fn not_utf8_bytes(form: u16) -> &'static [u8] {
     match form % 8 {
         0 => &[0xFF],
         1 => &[0x80],
@@ -29,8 +25,10 @@ fn not_utf8_bytes(form: u16) -> &'static [u8]
 
 // Returns `bytes` with `wrong` in place of as many of them, from an index on that `detail` picks.
 fn overwritten(alloc: Global, bytes: &[u8], wrong: &[u8], detail: u16) -> Result<Vec<u8>, Stop> {
-    let last = bytes.len().checked_sub(wrong.len()).ok_or(Stop::NoPlace)?;
-    let start = detail as usize % (last + 1);
+    if bytes.len() < wrong.len() {
+        return Err(Stop::NoPlace);
+    }
+    let start = detail as usize % (bytes.len() - wrong.len() + 1);
     let (before, rest) = bytes.split_at(start);
     let (_, after) = rest.split_at(wrong.len());
     let mut made = Vec::from_slice(alloc, before)?;
@@ -53,19 +51,40 @@ pub(crate) fn not_utf8(alloc: Global, file: &[u8], picks: Picks) -> Result<Edit,
     replace(alloc, file, &place, inserted)
 }
 
-/// Makes a byte that chooses among forms another: one of its bits is inverted, or it is any byte.
-pub(crate) fn unknown_flag(alloc: Global, file: &[u8], picks: Picks) -> Result<Edit, Stop> {
-    let place = pick_place(alloc, file, Kind::Flag, picks.place)?;
-    let byte = match bytes_at(file, &place)? {
-        [byte, ..] if picks.form % 2 == 0 => *byte ^ (1 << (picks.detail % 8)),
-        _ => (picks.detail % 256) as u8,
-    };
-    replace(alloc, file, &place, Vec::from_slice(alloc, &[byte])?)
+// Returns `byte`, below 0x80, as a signed integer of two bytes.
+fn in_two_bytes(byte: u8) -> [u8; 2] {
+    let high = if byte % 128 >= 64 { 0x7F } else { 0 };
+    [byte | 0x80, high]
 }
 
-/// Makes the first byte of a type one with which none begins.
+/// Makes a byte that chooses among forms another, or two: one of its bits is inverted, it is any byte, or
+/// it is an integer that is longer than needed.
+pub(crate) fn unknown_flag(alloc: Global, file: &[u8], picks: Picks) -> Result<Edit, Stop> {
+    let place = pick_place(alloc, file, Kind::Flag, picks.place)?;
+    let byte = bytes_at(file, &place)?
+        .first()
+        .copied()
+        .ok_or(Stop::NoPlace)?;
+    let inserted = match picks.form % 3 {
+        0 => Vec::from_slice(alloc, &[byte ^ (1 << (picks.detail % 8))])?,
+        1 => Vec::from_slice(alloc, &[(picks.detail % 256) as u8])?,
+        _ => Vec::from_slice(alloc, &[byte | 0x80, 0])?,
+    };
+    replace(alloc, file, &place, inserted)
+}
+
+/// Makes a type a byte with which none begins, or gives it its first byte as an integer of two.
 pub(crate) fn unknown_type(alloc: Global, file: &[u8], picks: Picks) -> Result<Edit, Stop> {
     let place = pick_place(alloc, file, Kind::Type, picks.place)?;
-    let byte = NO_TYPES[picks.form as usize % NO_TYPES.len()];
-    replace(alloc, file, &place, Vec::from_slice(alloc, &[byte])?)
+    let [first, rest @ ..] = bytes_at(file, &place)? else {
+        return Err(Stop::NoPlace);
+    };
+    let index = picks.detail as usize % NO_TYPES.len();
+    if picks.form % 2 == 0 {
+        let inserted = Vec::from_slice(alloc, &[NO_TYPES[index]])?;
+        return replace(alloc, file, &place, inserted);
+    }
+    let mut inserted = Vec::from_slice(alloc, in_two_bytes(*first).as_slice())?;
+    inserted.extend_from_slice(rest)?;
+    replace(alloc, file, &place, inserted)
 }
