@@ -1,0 +1,24 @@
+-- The errors of the encoder.
+use Rattle.std.specs.Prelude.{ℕ, List}
+use Rattle.smith_binary.specs.declared.error.EncodeError.{EncodeError}
+use Rattle.smith_binary.specs.declared.error.EncodeError.TheVariants as writer
+use Rattle.smith_decode.specs.declared.modules.Module.{Module}
+use Rattle.smith_decode.specs.Modules.{Syntax, IsModuleBinary, syntax_of}
+use Rattle.smith_encode.specs.declared.error.EncodeFault.{EncodeFault}
+use Rattle.smith_encode.specs.declared.error.EncodeFault.TheVariants.{Memory, TooLong, NoSpelling}
+use Rattle.smith_encode.specs.TooLong.{IsTooLong}
+
+-- no bytes spell a module
+abbrev pub HasNoSpelling : Syntax → Type 0
+HasNoSpelling m = (bytes : List ℕ) → IsModuleBinary m bytes → ⊥
+
+-- lack of memory, excess length, or a module that no bytes spell
+abbrev pub IsFault : Module → EncodeFault → Type 0
+IsFault m Memory = Unit {0}
+IsFault m TooLong = IsTooLong m
+IsFault m NoSpelling = HasNoSpelling (syntax_of m)
+
+-- an error of a writer as one of the encoder
+abbrev pub fault_of : EncodeError → EncodeFault
+fault_of writer.Memory = Memory
+fault_of writer.TooLong = TooLong

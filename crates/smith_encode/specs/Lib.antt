@@ -1,0 +1,2 @@
+pub mod TooLong
+pub mod Faults

@@ -1,0 +1,79 @@
+-- Decoded modules that are too long for the binary format.
+use Rattle.std.specs.Prelude.{ℕ, ◌⊎◌, List, Any, map}
+use Rattle.smith_binary.specs.Pieces.{Is, IsName, Joined}
+use Rattle.smith_binary_sections.specs.Types.{IsRecGroupWritten}
+use Rattle.smith_binary_sections.specs.Instructions.{IsIndex}
+use Rattle.smith_binary_sections.specs.Entities.{IsMemoryType}
+use Rattle.smith_binary_sections.specs.Imports.{IsImportGroup}
+use Rattle.smith_binary_sections.specs.Long.{IsLongSection, IsLongList, IsLongContent, IsLongText, IsNeverLong, IsLongGroup}
+use Rattle.smith_binary_sections.specs.Long.{IsLongImportGroup}
+use Rattle.smith_instr.specs.declared.instr.Instr.{Instr}
+use Rattle.smith_binary_instr.specs.Long.{IsLongInstr}
+use Rattle.smith_binary_read.specs.declared.exports.Export.{Export}
+use Rattle.smith_binary_read.specs.EntityReadings.{IsExportItem}
+use Rattle.smith_binary_read.specs.TagReadings.{IsTagDefinition}
+use Rattle.smith_decode.specs.declared.bodies.Body.{Body}
+use Rattle.smith_decode.specs.declared.customs.Custom.{Custom}
+use Rattle.smith_decode.specs.declared.data.DataSegment.{DataSegment}
+use Rattle.smith_decode.specs.declared.definitions.GlobalDefinition.{GlobalDefinition}
+use Rattle.smith_decode.specs.declared.definitions.TableDefinition.{TableDefinition}
+use Rattle.smith_decode.specs.declared.modules.Module.{Module}
+use Rattle.smith_decode.specs.BodyReadings.{IsRunBody, IsRunContent}
+use Rattle.smith_decode.specs.Data as data_segments
+use Rattle.smith_decode.specs.DataReadings.{IsSegment, segment_view}
+use Rattle.smith_decode.specs.DefinitionReadings.{IsGlobalDefinition, IsTableDefinition}
+use Rattle.smith_decode.specs.ElementReadings.{element_view}
+use Rattle.smith_decode.specs.Elements as element_segments
+use Rattle.smith_decode.specs.Elements.{Elem, IsElem}
+
+-- an expression with an instruction that the format cannot express
+abbrev pub IsLongExpr : List Instr → Type 0
+IsLongExpr instructions = Any IsLongInstr instructions
+
+abbrev pub IsLongTable : TableDefinition → Type 0
+IsLongTable table = IsLongExpr table.initial
+
+abbrev pub IsLongGlobal : GlobalDefinition → Type 0
+IsLongGlobal global = IsLongExpr global.initial
+
+abbrev pub IsLongExport : Export → Type 0
+IsLongExport item = IsLongText item.name
+
+-- an offset that is too long
+abbrev pub IsLongMode : element_segments.Mode → Type 0
+IsLongMode (element_segments.Mode.active table offset) = IsLongExpr offset
+IsLongMode mode = ⊥
+
+abbrev pub IsLongElem : Elem → Type 0
+IsLongElem e = IsLongMode e.mode ⊎ IsLongList IsLongExpr e.items
+
+-- a body with too many runs of locals, with such an expression, or with too many bytes
+abbrev pub IsLongBody : Body → Type 0
+IsLongBody body = IsLongList IsNeverLong body.locals ⊎ (IsLongExpr body.instructions ⊎ IsLongContent (IsRunContent body))
+
+abbrev pub IsLongDataMode : data_segments.DataMode → Type 0
+IsLongDataMode (data_segments.DataMode.active memory offset) = IsLongExpr offset
+IsLongDataMode mode = ⊥
+
+abbrev pub IsLongData : DataSegment → Type 0
+IsLongData segment = IsLongDataMode (segment_view segment).mode ⊎ IsLongText segment.bytes
+
+-- a custom section with a name of too many bytes, or with too many bytes
+abbrev pub IsLongCustom : Custom → Type 0
+IsLongCustom custom = IsLongText custom.name ⊎ IsLongContent (Joined (IsName custom.name) (Is custom.bytes))
+
+-- a section is too long: a list in it has 2^32 items or more, it or a body of it has a spelling of
+-- 2^32 bytes or more, or an instruction in it has a number that the format cannot express
+pub data IsTooLong (m : Module) : Type 0 where
+  types : IsLongSection IsRecGroupWritten IsLongGroup m.types → IsTooLong m
+  imports : IsLongSection IsImportGroup IsLongImportGroup m.imports → IsTooLong m
+  functions : IsLongSection IsIndex IsNeverLong m.functions → IsTooLong m
+  tables : IsLongSection IsTableDefinition IsLongTable m.tables → IsTooLong m
+  memories : IsLongSection IsMemoryType IsNeverLong m.memories → IsTooLong m
+  tags : IsLongSection IsTagDefinition IsNeverLong m.tags → IsTooLong m
+  globals : IsLongSection IsGlobalDefinition IsLongGlobal m.globals → IsTooLong m
+  exports : IsLongSection IsExportItem IsLongExport m.exports → IsTooLong m
+  elements : IsLongSection IsElem IsLongElem (map element_view m.elements) → IsTooLong m
+  bodies : IsLongSection IsRunBody IsLongBody m.bodies → IsTooLong m
+  datas : IsLongSection IsSegment IsLongData m.datas → IsTooLong m
+  customs : Any IsLongCustom m.customs → IsTooLong m
