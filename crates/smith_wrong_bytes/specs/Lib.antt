@@ -1,0 +1,3 @@
+pub mod ExampleSplices
+pub mod Families
+pub mod Splices

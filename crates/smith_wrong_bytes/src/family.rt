@@ -1,0 +1,99 @@
+ghost use Rattle.std.specs.Prelude.{◌≡◌};
+ghost use Rattle.smith_wrong_bytes.specs.Families.{family_name};
+
+/// A family of changes of the bytes of a file: which production is changed, and how. The sizes of the
+/// contents that a change is in are kept right, except by the families that are about sizes.
+#[derive(Clone, Copy, Debug, PartialEq, Eq)]
+pub enum BytesFamily {
+    /// An integer has more bytes than its type allows (Integers).
+    LongInteger,
+    /// Unused bits of the last byte of an integer are set, or differ from its sign (Integers).
+    UnusedBits,
+    /// The size of a section is one more or one less (Sections).
+    SectionSize,
+    /// The size of a body is one more or one less (Code Section).
+    BodySize,
+    /// The number of items of a list is one more or one less (Lists).
+    ListCount,
+    /// The number of functions is not that of bodies (Modules).
+    FunctionCount,
+    /// The number of data segments is not the stated one, or is not stated (Modules).
+    DataCount,
+    /// Two sections are exchanged, or one has the identifier of the one before it (Modules).
+    SectionOrder,
+    /// A section occurs twice (Modules).
+    SectionTwice,
+    /// A section has an identifier that no section has (Sections).
+    UnknownSection,
+    /// A byte is left over at the end of a section or a body (Sections, Code Section).
+    LeftOverByte,
+    /// A name is not UTF-8 (Names).
+    NotUtf8,
+    /// A byte that chooses among forms is another: flags of limits, the form of a segment, mutability,
+    /// the kind of an import or an export (Limits, Element Section, Data Section).
+    UnknownFlag,
+    /// A type begins with a byte with which none begins (Types).
+    UnknownType,
+    /// An opcode is one that no instruction has (Instructions).
+    UnknownOpcode,
+    /// The `end` of an expression is missing (Expressions).
+    MissingEnd,
+    /// The `end` of an expression occurs twice (Expressions).
+    SecondEnd,
+    /// A bit of the magic number or of the version is another (Modules).
+    Preamble,
+    /// The file ends within a section (Modules).
+    CutFile,
+}
+
+impl BytesFamily {
+    /// Every family, in order.
+    pub const ALL: [BytesFamily; 19] = [
+        BytesFamily::LongInteger,
+        BytesFamily::UnusedBits,
+        BytesFamily::SectionSize,
+        BytesFamily::BodySize,
+        BytesFamily::ListCount,
+        BytesFamily::FunctionCount,
+        BytesFamily::DataCount,
+        BytesFamily::SectionOrder,
+        BytesFamily::SectionTwice,
+        BytesFamily::UnknownSection,
+        BytesFamily::LeftOverByte,
+        BytesFamily::NotUtf8,
+        BytesFamily::UnknownFlag,
+        BytesFamily::UnknownType,
+        BytesFamily::UnknownOpcode,
+        BytesFamily::MissingEnd,
+        BytesFamily::SecondEnd,
+        BytesFamily::Preamble,
+        BytesFamily::CutFile,
+    ];
+
+    /// Returns the name of the family, in kebab case.
+    pub fn name(self) -> &'static str
+        ensures { result.now ≡ family_name self }
+    {
+        match self {
+            BytesFamily::LongInteger => "long-integer",
+            BytesFamily::UnusedBits => "unused-bits",
+            BytesFamily::SectionSize => "section-size",
+            BytesFamily::BodySize => "body-size",
+            BytesFamily::ListCount => "list-count",
+            BytesFamily::FunctionCount => "function-count",
+            BytesFamily::DataCount => "data-count",
+            BytesFamily::SectionOrder => "section-order",
+            BytesFamily::SectionTwice => "section-twice",
+            BytesFamily::UnknownSection => "unknown-section",
+            BytesFamily::LeftOverByte => "left-over-byte",
+            BytesFamily::NotUtf8 => "not-utf8",
+            BytesFamily::UnknownFlag => "unknown-flag",
+            BytesFamily::UnknownType => "unknown-type",
+            BytesFamily::UnknownOpcode => "unknown-opcode",
+            BytesFamily::MissingEnd => "missing-end",
+            BytesFamily::SecondEnd => "second-end",
+            BytesFamily::Preamble => "preamble",
+            BytesFamily::CutFile => "cut-file",
+        }
+    }
+}
