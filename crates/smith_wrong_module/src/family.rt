@@ -1,0 +1,167 @@
+use std::fmt;
+
+/// A family of changes of a module: the rule that a change is meant to break.
+#[derive(Clone, Copy, Debug, PartialEq, Eq)]
+pub enum ModuleFamily {
+    /// A constant, a `local.get` or a numeric instruction of another value type (Instructions).
+    OperandType,
+    /// An instruction left out, so that a later one misses an operand, or has one too many (Instructions).
+    MissingOperand,
+    /// A constant that nothing takes (Instructions).
+    ExtraOperand,
+    /// Another type of a block (Blocks).
+    BlockType,
+    /// A constant before the last `end` of a body (Functions).
+    FunctionResult,
+    /// An index past the end of its index space, in a body (Indices).
+    IndexPastEnd,
+    /// The index of another entity or type, in a body (Indices).
+    OtherEntity,
+    /// Another heap type of a null reference, a test or a cast, or another nullability (Reference
+    /// Instructions).
+    ReferenceType,
+    /// Another label of a branch or a clause of `try_table` (Control Instructions).
+    Label,
+    /// A test or a cast to a type of another hierarchy (Heap Types).
+    CastHierarchy,
+    /// A tail call in place of a call, or of another function (Control Instructions).
+    TailCall,
+    /// An instruction after one that leaves, where it is typed too (Control Instructions).
+    DeadCode,
+    /// A local without a default value that isn't set before it is read (Variable Instructions).
+    UnsetLocal,
+    /// A `global.set` of an immutable global (Variable Instructions).
+    ImmutableGlobal,
+    /// A write to an immutable field or array (Aggregate Instructions).
+    ImmutableField,
+    /// An extension of a field that isn't packed, or none of one that is (Aggregate Instructions).
+    PackedField,
+    /// A `ref.func` of a function that nothing outside bodies refers to (Reference Instructions).
+    UndeclaredFunction,
+    /// An alignment above the natural one, or other than it for an atomic access (Memory Instructions).
+    Alignment,
+    /// An offset past the addresses of a 32-bit memory (Memory Instructions).
+    Offset,
+    /// A lane past the last one (Vector Instructions).
+    Lane,
+    /// A supertype that a type doesn't match, or that is declared later (Types).
+    Supertype,
+    /// A type that is final and has subtypes (Types).
+    FinalType,
+    /// A reference to a type after the recursive group (Types).
+    ForwardReference,
+    /// A minimum of a table or a memory above its maximum (Limits).
+    Limits,
+    /// A second export of a name (Modules).
+    DuplicateExport,
+    /// An export of an entity past the end of its index space (Exports).
+    ExportIndex,
+    /// A start function with parameters or results, or that doesn't exist (Start Function).
+    StartFunction,
+    /// A constant expression of another type (Constant Expressions).
+    ConstantType,
+    /// An instruction in a constant expression that isn't constant (Constant Expressions).
+    NonConstant,
+    /// A mutable or a later global in a constant expression (Constant Expressions).
+    LaterGlobal,
+    /// Another type of a function, or a type that doesn't exist (Functions).
+    FunctionType,
+    /// A type of a tag that has results, is none of functions, or doesn't exist (Tags).
+    TagType,
+    /// A type of an imported function, tag, table or memory that isn't valid (Imports).
+    ImportType,
+    /// An element segment of another type, for another table or of a function that doesn't exist (Element
+    /// Segments).
+    ElementSegment,
+    /// A data segment for a memory that doesn't exist (Data Segments).
+    DataSegment,
+}
+
+impl ModuleFamily {
+    /// All families: first those of changes in bodies, and common rules before rare ones.
+    pub const ALL: [ModuleFamily; 35] = [
+        ModuleFamily::OperandType,
+        ModuleFamily::MissingOperand,
+        ModuleFamily::ExtraOperand,
+        ModuleFamily::BlockType,
+        ModuleFamily::FunctionResult,
+        ModuleFamily::IndexPastEnd,
+        ModuleFamily::OtherEntity,
+        ModuleFamily::ReferenceType,
+        ModuleFamily::Label,
+        ModuleFamily::CastHierarchy,
+        ModuleFamily::TailCall,
+        ModuleFamily::DeadCode,
+        ModuleFamily::UnsetLocal,
+        ModuleFamily::ImmutableGlobal,
+        ModuleFamily::ImmutableField,
+        ModuleFamily::PackedField,
+        ModuleFamily::UndeclaredFunction,
+        ModuleFamily::Alignment,
+        ModuleFamily::Offset,
+        ModuleFamily::Lane,
+        ModuleFamily::Supertype,
+        ModuleFamily::FinalType,
+        ModuleFamily::ForwardReference,
+        ModuleFamily::Limits,
+        ModuleFamily::DuplicateExport,
+        ModuleFamily::ExportIndex,
+        ModuleFamily::StartFunction,
+        ModuleFamily::ConstantType,
+        ModuleFamily::NonConstant,
+        ModuleFamily::LaterGlobal,
+        ModuleFamily::FunctionType,
+        ModuleFamily::TagType,
+        ModuleFamily::ImportType,
+        ModuleFamily::ElementSegment,
+        ModuleFamily::DataSegment,
+    ];
+
+    /// Returns the name of the family: words with `-` between them, for a command line.
+    pub fn name(self) -> &'static str {
+        match self {
+            ModuleFamily::OperandType => "operand-type",
+            ModuleFamily::MissingOperand => "missing-operand",
+            ModuleFamily::ExtraOperand => "extra-operand",
+            ModuleFamily::BlockType => "block-type",
+            ModuleFamily::FunctionResult => "function-result",
+            ModuleFamily::IndexPastEnd => "index-past-end",
+            ModuleFamily::OtherEntity => "other-entity",
+            ModuleFamily::ReferenceType => "reference-type",
+            ModuleFamily::Label => "label",
+            ModuleFamily::CastHierarchy => "cast-hierarchy",
+            ModuleFamily::TailCall => "tail-call",
+            ModuleFamily::DeadCode => "dead-code",
+            ModuleFamily::UnsetLocal => "unset-local",
+            ModuleFamily::ImmutableGlobal => "immutable-global",
+            ModuleFamily::ImmutableField => "immutable-field",
+            ModuleFamily::PackedField => "packed-field",
+            ModuleFamily::UndeclaredFunction => "undeclared-function",
+            ModuleFamily::Alignment => "alignment",
+            ModuleFamily::Offset => "offset",
+            ModuleFamily::Lane => "lane",
+            ModuleFamily::Supertype => "supertype",
+            ModuleFamily::FinalType => "final-type",
+            ModuleFamily::ForwardReference => "forward-reference",
+            ModuleFamily::Limits => "limits",
+            ModuleFamily::DuplicateExport => "duplicate-export",
+            ModuleFamily::ExportIndex => "export-index",
+            ModuleFamily::StartFunction => "start-function",
+            ModuleFamily::ConstantType => "constant-type",
+            ModuleFamily::NonConstant => "non-constant",
+            ModuleFamily::LaterGlobal => "later-global",
+            ModuleFamily::FunctionType => "function-type",
+            ModuleFamily::TagType => "tag-type",
+            ModuleFamily::ImportType => "import-type",
+            ModuleFamily::ElementSegment => "element-segment",
+            ModuleFamily::DataSegment => "data-segment",
+        }
+    }
+}
+
+/// Writes the name of the family.
+impl fmt::Display for ModuleFamily {
+    fn fmt<W: fmt::Write>(&self, f: &mut fmt::Formatter<W>) -> fmt::Result {
+        self.name().fmt(f)
+    }
+}
