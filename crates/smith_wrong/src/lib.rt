@@ -3,6 +3,7 @@
 #![tactic(auto)]
 
 mod changes;
+mod examples;
 mod families;
 mod refusal;
 mod seed;
