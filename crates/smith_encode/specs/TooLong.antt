@@ -1,6 +1,6 @@
 -- Decoded modules that are too long for the binary format.
-use Rattle.std.specs.Prelude.{ℕ, ◌⊎◌, List, Any, map}
-use Rattle.smith_binary.specs.Pieces.{Is, IsName, Joined}
+use Rattle.std.specs.Prelude.{◌⊎◌, List, Any}
+use Rattle.smith_binary.specs.Pieces.{Is, IsList, IsName, Joined}
 use Rattle.smith_binary_sections.specs.Types.{IsRecGroupWritten}
 use Rattle.smith_binary_sections.specs.Instructions.{IsIndex}
 use Rattle.smith_binary_sections.specs.Entities.{IsMemoryType}
@@ -8,6 +8,7 @@ use Rattle.smith_binary_sections.specs.Imports.{IsImportGroup}
 use Rattle.smith_binary_sections.specs.Long.{IsLongSection, IsLongList, IsLongContent, IsLongText, IsNeverLong, IsLongGroup}
 use Rattle.smith_binary_sections.specs.Long.{IsLongImportGroup}
 use Rattle.smith_instr.specs.declared.instr.Instr.{Instr}
+use Rattle.smith_binary_instr.specs.Instructions.{IsExpr}
 use Rattle.smith_binary_instr.specs.Long.{IsLongInstr}
 use Rattle.smith_binary_read.specs.declared.exports.Export.{Export}
 use Rattle.smith_binary_read.specs.EntityReadings.{IsExportItem}
@@ -17,14 +18,16 @@ use Rattle.smith_decode.specs.declared.customs.Custom.{Custom}
 use Rattle.smith_decode.specs.declared.data.DataSegment.{DataSegment}
 use Rattle.smith_decode.specs.declared.definitions.GlobalDefinition.{GlobalDefinition}
 use Rattle.smith_decode.specs.declared.definitions.TableDefinition.{TableDefinition}
+use Rattle.smith_decode.specs.declared.elements.ElementSegment.{ElementSegment}
 use Rattle.smith_decode.specs.declared.modules.Module.{Module}
-use Rattle.smith_decode.specs.BodyReadings.{IsRunBody, IsRunContent}
+use Rattle.smith_decode.specs.BodyReadings.{IsLocalRun, IsRunBody}
 use Rattle.smith_decode.specs.Data as data_segments
 use Rattle.smith_decode.specs.DataReadings.{IsSegment, segment_view}
 use Rattle.smith_decode.specs.DefinitionReadings.{IsGlobalDefinition, IsTableDefinition}
 use Rattle.smith_decode.specs.ElementReadings.{element_view}
 use Rattle.smith_decode.specs.Elements as element_segments
-use Rattle.smith_decode.specs.Elements.{Elem, IsElem}
+use Rattle.smith_decode.specs.Elements.{Elem}
+use Rattle.smith_encode.specs.Segments.{IsSeenElem}
 
 -- an expression with an instruction that the format cannot express
 abbrev pub IsLongExpr : List Instr → Type 0
@@ -47,9 +50,14 @@ IsLongMode mode = ⊥
 abbrev pub IsLongElem : Elem → Type 0
 IsLongElem e = IsLongMode e.mode ⊎ IsLongList IsLongExpr e.items
 
+abbrev pub IsLongSegment : ElementSegment → Type 0
+IsLongSegment segment = IsLongElem (element_view segment)
+
 -- a body with too many runs of locals, with such an expression, or with too many bytes
 abbrev pub IsLongBody : Body → Type 0
-IsLongBody body = IsLongList IsNeverLong body.locals ⊎ (IsLongExpr body.instructions ⊎ IsLongContent (IsRunContent body))
+IsLongBody body =
+    IsLongList IsNeverLong body.locals
+    ⊎ (IsLongExpr body.instructions ⊎ IsLongContent (Joined (IsList IsLocalRun body.locals) (IsExpr body.instructions)))
 
 abbrev pub IsLongDataMode : data_segments.DataMode → Type 0
 IsLongDataMode (data_segments.DataMode.active memory offset) = IsLongExpr offset
@@ -73,7 +81,7 @@ pub data IsTooLong (m : Module) : Type 0 where
   tags : IsLongSection IsTagDefinition IsNeverLong m.tags → IsTooLong m
   globals : IsLongSection IsGlobalDefinition IsLongGlobal m.globals → IsTooLong m
   exports : IsLongSection IsExportItem IsLongExport m.exports → IsTooLong m
-  elements : IsLongSection IsElem IsLongElem (map element_view m.elements) → IsTooLong m
+  elements : IsLongSection IsSeenElem IsLongSegment m.elements → IsTooLong m
   bodies : IsLongSection IsRunBody IsLongBody m.bodies → IsTooLong m
   datas : IsLongSection IsSegment IsLongData m.datas → IsTooLong m
   customs : Any IsLongCustom m.customs → IsTooLong m

@@ -2,8 +2,18 @@
 //! direction of `smith_decode`. Sections in parentheses are those of its chapter Binary Format, Modules.
 #![tactic(auto)]
 
+mod datas;
+mod elements;
 mod error;
+mod examples;
+mod items;
+/// Laws: functions without effect, whose clauses state properties.
+pub mod laws;
 mod modules;
+mod nesting;
+mod places;
+mod sections;
+mod spelled;
 
 pub use error::EncodeFault;
 pub use modules::encode;

@@ -1,0 +1,30 @@
+-- Lists whose items all pass a test.
+use Rattle.std.proofs.Common.{◌≡◌, ℕ, Bool, true, ◌&&◌, List, [], ◌∷◌}
+use Rattle.std.specs.List.{list_all}
+use Rattle.std.proofs.lemmas.Bool.{and_parts}
+use Rattle.smith_binary.specs.Pieces.{Each, IsList}
+use Rattle.smith_encode.specs.Spelled.{IfPasses}
+
+each_passes : {A : Type 0} (passes : A → Bool) (P : A → List ℕ → Type 0) (xs : List A) (piece : List ℕ) → list_all passes xs ≡ true
+    → Each (IfPasses passes P) xs piece → Each P xs piece
+unfolding Each
+each_passes passes P [] piece all h = h
+each_passes passes P (x ∷ xs) piece all h =
+    let (first, others) = and_parts (passes x) (list_all passes xs) all in
+    record {
+      first = h.first;
+      second = h.second;
+      is_first = h.is_first first;
+      is_second = each_passes passes P xs h.second others h.is_second;
+      whole = h.whole;
+    }
+
+pub list_passes : {A : Type 0} (passes : A → Bool) (P : A → List ℕ → Type 0) (xs : List A) (piece : List ℕ) → list_all passes xs ≡ true
+    → IsList (IfPasses passes P) xs piece → IsList P xs piece
+list_passes passes P xs piece all h = record {
+  first = h.first;
+  second = h.second;
+  is_first = h.is_first;
+  is_second = each_passes passes P xs h.second all h.is_second;
+  whole = h.whole;
+}

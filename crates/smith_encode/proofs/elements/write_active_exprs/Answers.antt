@@ -1,0 +1,16 @@
+use Rattle.std.proofs.Common.{sym, ◌∙◌}
+use Rattle.std.proofs.lemmas.Result.{on_ok_weaker}
+use Rattle.smith_decode.specs.ElementReadings.{items_view}
+use Rattle.smith_encode.specs.Spelled.{are_items_nested}
+use Rattle.smith_encode.proofs.ItemLemmas.{first_exprs_written, table_exprs_written}
+use Rattle.smith_encode.proofs.elements.write_active_exprs.Goals as goal
+
+pub returns-then-is_same-clause-writes : goal.returns-then-is_same-clause-writes
+returns-then-is_same-clause-writes c = ?
+
+pub returns-clause-writes : goal.returns-clause-writes
+returns-clause-writes c =
+    on_ok_weaker c.write_typed.result
+    (table_exprs_written c.args.table c.args.offset.now c.args.ty (items_view c.args.items.now) (are_items_nested c.args.items.now)
+    c.in_ok-write_u32-2.ensures.writes c.in_ok-write_u32-3.ensures.writes c.in_ok-encode_item-2.ensures.writes)
+    c.write_typed.ensures.writes

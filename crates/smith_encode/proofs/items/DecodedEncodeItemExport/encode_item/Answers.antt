@@ -1,0 +1,10 @@
+use Rattle.std.proofs.lemmas.Result.{on_ok_weaker}
+use Rattle.smith_binary.proofs.WrittenLemmas.{joined_written, written_plain}
+use Rattle.smith_encode.proofs.items.DecodedEncodeItemExport.encode_item.Goals as goal
+
+pub returns-clause-writes : goal.returns-clause-writes
+returns-clause-writes c =
+    on_ok_weaker c.write_u32.result
+    (λ last. written_plain (λ piece h. h) (joined_written (rw c.as_str.ensures at c.in_ok-write_name.ensures.writes)
+    (joined_written (rw c.kind_byte.ensures at c.in_ok-write_byte.ensures.writes) last)))
+    c.write_u32.ensures.writes

@@ -1,0 +1,56 @@
+-- Which items have a spelling: those whose blocks all end, and bodies of fewer than 2^32 locals.
+use Rattle.std.specs.Prelude.{◌≡◌, ℕ, ◌==◌, ◌&&◌, ◌^◌, nat_lt, Bool, true, List, length}
+use Rattle.std.specs.List.{list_all}
+use Rattle.smith_instr.specs.declared.instr.Instr.{Instr}
+use Rattle.smith_decode.specs.declared.bodies.Body.{Body}
+use Rattle.smith_decode.specs.declared.data.DataMode.{DataMode}
+use Rattle.smith_decode.specs.declared.data.DataMode.TheVariants as data_mode
+use Rattle.smith_decode.specs.declared.data.DataSegment.{DataSegment}
+use Rattle.smith_decode.specs.declared.definitions.GlobalDefinition.{GlobalDefinition}
+use Rattle.smith_decode.specs.declared.definitions.TableDefinition.{TableDefinition}
+use Rattle.smith_decode.specs.declared.elements.ElementItems.{ElementItems}
+use Rattle.smith_decode.specs.declared.elements.ElementItems.TheVariants.{Functions, Expressions}
+use Rattle.smith_decode.specs.declared.elements.ElementMode.{ElementMode}
+use Rattle.smith_decode.specs.declared.elements.ElementMode.TheVariants as element_mode
+use Rattle.smith_decode.specs.declared.elements.ElementSegment.{ElementSegment}
+use Rattle.smith_decode.specs.declared.modules.Module.{Module}
+use Rattle.smith_decode.specs.BodyReadings.{total}
+use Rattle.smith_encode.specs.Nesting.{is_nested}
+
+abbrev pub is_table_nested : TableDefinition → Bool
+is_table_nested table = is_nested table.initial
+
+abbrev pub is_global_nested : GlobalDefinition → Bool
+is_global_nested global = is_nested global.initial
+
+abbrev pub are_items_nested : ElementItems → Bool
+are_items_nested (Functions funcs) = true
+are_items_nested (Expressions items) = list_all is_nested items
+
+abbrev pub is_element_mode_nested : ElementMode → Bool
+is_element_mode_nested element_mode.Passive = true
+is_element_mode_nested element_mode.Declared = true
+is_element_mode_nested (element_mode.Active table offset) = is_nested offset
+
+abbrev pub is_element_nested : ElementSegment → Bool
+is_element_nested segment = is_element_mode_nested segment.mode && are_items_nested segment.items
+
+abbrev pub is_body_spelled : Body → Bool
+is_body_spelled body = nat_lt (total body.locals) (2 ^ 32) && is_nested body.instructions
+
+abbrev pub is_data_mode_nested : DataMode → Bool
+is_data_mode_nested data_mode.Passive = true
+is_data_mode_nested (data_mode.Active memory offset) = is_nested offset
+
+abbrev pub is_data_nested : DataSegment → Bool
+is_data_nested segment = is_data_mode_nested segment.mode
+
+-- whether the items of a module have spellings, and it has a body for each function
+abbrev pub are_parts_spelled : Module → Bool
+are_parts_spelled m =
+    (length m.functions == length m.bodies) && (list_all is_table_nested m.tables && (list_all is_global_nested m.globals
+    && (list_all is_element_nested m.elements && (list_all is_body_spelled m.bodies && list_all is_data_nested m.datas))))
+
+-- a spelling of an item that passes a test
+abbrev pub IfPasses : {A : Type 0} → (A → Bool) → (A → List ℕ → Type 0) → A → List ℕ → Type 0
+IfPasses passes Spells x piece = passes x ≡ true → Spells x piece

@@ -1,0 +1,14 @@
+ghost use Rattle.std.specs.Prelude.{◌↔◌, ℕ, List};
+ghost use Rattle.smith_decode.specs.declared.modules.Module.{Module};
+ghost use Rattle.smith_decode.specs.Modules.{IsModuleBinary, Syntax, syntax_of};
+ghost use Rattle.smith_encode.specs.Faults.{HasNoSpelling};
+
+/// States that the bytes of a decoded module, once it is encoded, are the module that the first bytes were,
+/// and no other one, and that a decoded module is never refused because it had no spelling.
+pub fn encoding_keeps_modules()
+    ensures same { (m : Module) (bytes again : List ℕ) → IsModuleBinary (syntax_of m) bytes
+        → IsModuleBinary (syntax_of m) again
+        → (syntax : Syntax) → IsModuleBinary syntax again ↔ IsModuleBinary syntax bytes }
+    ensures spelled { (m : Module) (bytes : List ℕ) → IsModuleBinary (syntax_of m) bytes
+        → ¬ HasNoSpelling (syntax_of m) }
+{}
