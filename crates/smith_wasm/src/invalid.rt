@@ -21,7 +21,8 @@ const DEFAULT_SIZE: u32 = 4096;
 const NO_MEMORY: u32 = 2;
 
 /// What is requested of invalid files.
-struct Asked<'a, 'm, 'w> {
+#[derive(Clone, Copy)]
+struct InvalidRequest<'a, 'm, 'w> {
     request: &'a Request<'m, 'w>,
     families: &'a [Family],
 }
@@ -55,7 +56,7 @@ pub(crate) fn make_invalid(rt: &HostRuntime, matches: &ArgMatches<'_>) -> Result
         shapes,
     };
     let families = families_of(rt.alloc(), matches)?;
-    let asked = Asked {
+    let asked = InvalidRequest {
         request: &request,
         families: families.as_slice(),
     };
@@ -103,7 +104,7 @@ fn list_families(alloc: Global, name: &str) -> Result<String, Failure> {
 }
 
 /// Makes the invalid file of the input, and writes it.
-fn make_one(rt: &HostRuntime, asked: &Asked<'_, '_, '_>) -> Result<(), Failure> {
+fn make_one(rt: &HostRuntime, asked: &InvalidRequest<'_, '_, '_>) -> Result<(), Failure> {
     let matches = asked.request.matches;
     let path = path_of(matches, OUTPUT);
     if path.is_none() && shows_output(rt) {
@@ -115,7 +116,11 @@ fn make_one(rt: &HostRuntime, asked: &Asked<'_, '_, '_>) -> Result<(), Failure> 
 }
 
 /// Makes the invalid file of `input`.
-fn wrong_of(alloc: Global, asked: &Asked<'_, '_, '_>, input: &[u8]) -> Result<Wrong, Failure> {
+fn wrong_of(
+    alloc: Global,
+    asked: &InvalidRequest<'_, '_, '_>,
+    input: &[u8],
+) -> Result<Wrong, Failure> {
     let mut u = Unstructured::new(input);
     let config = config_of(alloc, asked.request, &mut u)?;
     match Wrong::new(alloc, config, asked.families, &mut u) {
@@ -136,7 +141,11 @@ fn failure_of(refusal: WrongRefusal) -> Failure {
 /// Writes the invalid files of random inputs into the folder `folder`, each named by its number, and after
 /// them an index. Writes no file for an input that is refused, or of which no change breaks a rule; a file
 /// of that name from before stays. At the end a line on standard error counts.
-fn make_corpus(rt: &HostRuntime, asked: &Asked<'_, '_, '_>, folder: &str) -> Result<(), Failure> {
+fn make_corpus(
+    rt: &HostRuntime,
+    asked: &InvalidRequest<'_, '_, '_>,
+    folder: &str,
+) -> Result<(), Failure> {
     let Some(count) = asked.request.matches.get_one::<u32>(COUNT) else {
         return Err(word_failure(rt, "--output-dir needs --count"));
     };
@@ -167,7 +176,11 @@ fn word_failure(rt: &HostRuntime, sentence: &str) -> Failure {
 }
 
 /// Creates the folder `folder`, and the one of the twins if they are requested.
-fn make_folders(rt: &HostRuntime, asked: &Asked<'_, '_, '_>, folder: &str) -> Result<(), Failure> {
+fn make_folders(
+    rt: &HostRuntime,
+    asked: &InvalidRequest<'_, '_, '_>,
+    folder: &str,
+) -> Result<(), Failure> {
     if !asked.request.matches.get_flag(TWINS) {
         return make_folder(rt, folder);
     }
@@ -178,7 +191,7 @@ fn make_folders(rt: &HostRuntime, asked: &Asked<'_, '_, '_>, folder: &str) -> Re
 /// Makes the invalid files of `count` random inputs, and keeps in `corpus` what became of them.
 fn make_each(
     rt: &HostRuntime,
-    asked: &Asked<'_, '_, '_>,
+    asked: &InvalidRequest<'_, '_, '_>,
     folder: &str,
     count: u32,
     corpus: &mut Corpus,
@@ -199,7 +212,7 @@ fn make_each(
 /// of it. Lack of memory is a failure.
 fn make_next(
     rt: &HostRuntime,
-    asked: &Asked<'_, '_, '_>,
+    asked: &InvalidRequest<'_, '_, '_>,
     folder: &str,
     number: u32,
     input: &[u8],
@@ -230,7 +243,7 @@ fn count_refusal(refusal: Refusal, corpus: &mut Corpus) -> Result<(), Failure> {
 /// the index.
 fn write_wrong(
     rt: &HostRuntime,
-    asked: &Asked<'_, '_, '_>,
+    asked: &InvalidRequest<'_, '_, '_>,
     folder: &str,
     number: u32,
     wrong: &Wrong,

@@ -124,10 +124,11 @@ fn family_at(families: &[Family], place: u32) -> Option<Family>
 {
     let mut left = place;
     for family in families {
-        if left < family.weight() {
+        let weight = family.weight();
+        if left < weight {
             return Some(*family);
         }
-        left -= family.weight();
+        left -= weight;
     }
     None
 }
