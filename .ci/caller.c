@@ -2,32 +2,38 @@
  * Writes for each input a status and the module, or the reason in words, in the same form.
  *
  * It also checks the buffer after each call, with too little room, with just enough, and with more, that the calls for a
- * configuration that is read answer the same, and what each module and its front are judged to be. The exit status is 3 if a buffer is not
- * as smith.h says, 4 if memory runs out, or a read or a write fails, and 5 if answers differ or are wrong.
+ * configuration that is read answer the same, also with no shapes, that calls with a shape make modules, and what each module and its front
+ * are judged to be. The exit status is 3 if a buffer is not as smith.h says, 4 if memory runs out, or a read or a write fails, and 5 if
+ * answers differ or are wrong.
  */
 #include "smith.h"
 
 /* The parts of the C library that are needed. The kit lacks its headers. */
 long read(int file, void *buffer, size_t length);
 long write(int file, const void *buffer, size_t length);
-void *malloc(size_t length);
 void *memset(void *bytes, int byte, size_t length);
 int memcmp(const void *one, const void *other, size_t length);
 void _exit(int status);
 
 typedef struct smith_answer call(const uint8_t *, size_t, const uint8_t *, size_t, uint8_t *, size_t);
 typedef struct smith_answer call_with(const struct smith_config *, const uint8_t *, size_t, uint8_t *, size_t);
+typedef struct smith_answer call_shaped(const struct smith_config *, const struct smith_shapes *, const uint8_t *, size_t, uint8_t *,
+                                        size_t);
 
-/* Each call, and the same for a configuration that is read. */
+/* Each call, and the same for a configuration that is read, without shapes and with them. */
 static const struct {
     call *of_text;
     call_with *of_read;
-} PAIRS[] = {
-    {smith_binary, smith_binary_with},
-    {smith_text, smith_text_with},
-    {smith_wat, smith_wat_with},
-    {smith_refusal, smith_refusal_with},
+    call_shaped *of_shapes;
+} CALLS[] = {
+    {smith_binary, smith_binary_with, smith_binary_shaped},
+    {smith_text, smith_text_with, smith_text_shaped},
+    {smith_wat, smith_wat_with, smith_wat_shaped},
+    {smith_refusal, smith_refusal_with, smith_refusal_shaped},
 };
+
+/* Shapes: one that each default configuration permits, and one that is no module. */
+static const uint8_t SHAPE[] = "(module (func (export \"run\") (param i32)))", NO_SHAPE[] = "(modul)";
 
 enum { MARK = 0xA5, ROOM = 1 << 18, GIVEN = 64 << 20, BEYOND = 64 };
 
@@ -102,17 +108,27 @@ static void read_config(struct bytes config, struct read *read) {
     for (size_t i = 0; i < BEYOND; i++) need(read->marks[i] == MARK, 3);
     const uint8_t *bytes = (const uint8_t *)&read->config;
     for (size_t i = 0; answer.status != SMITH_MADE && i < sizeof read->config; i++) need(bytes[i] == MARK, 3);
+    struct smith_config *handle = smith_config_new(config.at, config.length);
+    need((handle != NULL) == (answer.status == SMITH_MADE), 5);
+    need(!handle || memcmp(handle, &read->config, sizeof *handle) == 0, 5);
+    smith_config_free(handle);
+}
+
+/* The answers must be the same, and so must be the outputs. */
+static void need_same(struct smith_answer one, const uint8_t *out, struct smith_answer same, const uint8_t *other) {
+    need(one.status == same.status && one.length == same.length, 5);
+    need(one.status == SMITH_SHORT || memcmp(out, other, one.length) == 0, 5);
 }
 
 /* Compares the answers of a text with those of what was read of it, or with the status if it wasn't read. */
 static void compare(struct bytes config, const struct read *read, struct bytes input, uint8_t *out, uint8_t *other) {
-    for (size_t i = 0; i < sizeof PAIRS / sizeof *PAIRS; i++) {
-        struct smith_answer one = PAIRS[i].of_text(config.at, config.length, input.at, input.length, out, ROOM);
+    struct smith_shapes none = smith_no_shapes();
+    for (size_t i = 0; i < sizeof CALLS / sizeof *CALLS; i++) {
+        struct smith_answer one = CALLS[i].of_text(config.at, config.length, input.at, input.length, out, ROOM);
         need(read->status == SMITH_MADE || one.status == read->status, 5);
         if (read->status != SMITH_MADE) continue;
-        struct smith_answer same = PAIRS[i].of_read(&read->config, input.at, input.length, other, ROOM);
-        need(one.status == same.status && one.length == same.length, 5);
-        need(one.status == SMITH_SHORT || memcmp(out, other, one.length) == 0, 5);
+        need_same(one, out, CALLS[i].of_read(&read->config, input.at, input.length, other, ROOM), other);
+        need_same(one, out, CALLS[i].of_shapes(&read->config, &none, input.at, input.length, other, ROOM), other);
     }
 }
 
@@ -136,6 +152,20 @@ static void judge_module(const uint8_t *file, size_t length, uint8_t *out) {
     need((whole.kind == SMITH_VALID) == (whole.offset == ~(uint64_t)0), 5);
     struct smith_verdict front = judged(file, length - 1, out, ROOM);
     need(front.kind == SMITH_MALFORMED && front.reason == SMITH_REASON_END && front.offset <= length, 5);
+}
+
+/* A module with a shape must be valid, or not judged, and the reason must be the shape if it isn't one. */
+static void try_shapes(const struct read *read, struct bytes input, uint8_t *out, uint8_t *other) {
+    struct smith_shapes shapes = smith_no_shapes();
+    shapes.exports = SHAPE;
+    shapes.exports_length = sizeof SHAPE - 1;
+    struct smith_answer made = smith_binary_shaped(&read->config, &shapes, input.at, input.length, out, ROOM);
+    need(made.status != SMITH_SHAPE && made.status != SMITH_NO_SHAPE, 5);
+    if (made.status == SMITH_MADE) judge_module(out, made.length, other);
+    shapes.module_shape = NO_SHAPE;
+    shapes.module_shape_length = sizeof NO_SHAPE - 1;
+    need(smith_binary_shaped(&read->config, &shapes, input.at, input.length, out, ROOM).status == SMITH_NO_SHAPE, 5);
+    need(smith_refusal_shaped(&read->config, &shapes, input.at, input.length, out, ROOM).status == SMITH_NO_SHAPE, 5);
 }
 
 static void answer_record(struct bytes config, struct bytes input, uint8_t *out, uint8_t *other) {
@@ -166,6 +196,7 @@ int main(void) {
     while (given.length > 0) {
         struct bytes input = record(&given);
         compare(config, &read, input, out, other);
+        if (read.status == SMITH_MADE) try_shapes(&read, input, out, other);
         answer_record(config, input, out, other);
     }
     return 0;

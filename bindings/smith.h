@@ -12,9 +12,13 @@
  *   this ending answer for the text.
  * - A struct smith_config is memory of the caller, without pointers: it may be copied, needs no release, and means the same in every
  *   process with a library of the same version. Give no other bytes than those that smith_config_read wrote, or copies of them.
+ *   smith_config_new returns such a struct in memory of its own, for callers that keep a handle.
+ * - A shape is a module in the binary or the text format that says what the drawn ones import or export. The calls whose names end in
+ *   _shaped take a struct smith_shapes beside a struct smith_config, and read its shapes each time.
  * - `input` is any bytes. The same configuration and input produce the same module.
  * - No pointer may be null, even where its length is 0, and what a call writes may overlap nothing else that it takes.
- *   No length may be above PTRDIFF_MAX. Neither `config` nor `input` may change during a call. What is written may be uninitialised.
+ *   No length may be above PTRDIFF_MAX. Neither `config` nor `input` nor a shape may change during a call. What is written may be
+ *   uninitialised.
  * - A call writes all of its output to the front of `out` and leaves the other bytes as they are, or it leaves all of `out` as it is.
  *   It keeps no pointer.
  *
@@ -42,6 +46,7 @@
 
 #include <stddef.h>
 #include <stdint.h>
+#include <stdlib.h>
 
 #ifdef __cplusplus
 extern "C" {
@@ -55,8 +60,9 @@ enum {
     SMITH_CONFIG_TEXT = 3,  /* the configuration isn't UTF-8, or isn't an object of known fields with values that they take */
     SMITH_CONFIG = 4,       /* a minimum is above its maximum, or a maximum is too large */
     SMITH_UNMET = 5,        /* the input doesn't reach a minimum of the configuration, or exports would pass the type size */
-    SMITH_SHAPE = 6,        /* refused for a shape; a configuration from JSON has none */
-    SMITH_TOO_LONG = 7      /* a list or a section is too long for the binary format */
+    SMITH_SHAPE = 6,        /* a shape is wrong, or needs what the configuration doesn't permit */
+    SMITH_TOO_LONG = 7,     /* a list or a section is too long for the binary format */
+    SMITH_NO_SHAPE = 8      /* the bytes of a shape are no module in the binary or the text format */
 };
 
 /* `length` is the number of bytes of the output. It is 0 if there is none. */
@@ -75,7 +81,21 @@ struct smith_config {
  * reason in words, for any input. */
 struct smith_answer smith_config_read(const uint8_t *config, size_t config_length, struct smith_config *read);
 
-/* Writes the module in the binary format. The status is any of the above. */
+/* Allocates a struct smith_config, the handle of a configuration, and reads the configuration into it. Returns a null pointer if malloc
+ * does, or if the text is refused; smith_refusal returns that reason in words. Any number of threads may give a handle to calls at the same
+ * time, which take it as `const`. One thread frees it, once, after all of these calls have returned. */
+static inline struct smith_config *smith_config_new(const uint8_t *config, size_t config_length) {
+    struct smith_config *read = (struct smith_config *)malloc(sizeof *read);
+    if (read && smith_config_read(config, config_length, read).status == SMITH_MADE) return read;
+    free(read);
+    return NULL;
+}
+
+/* Frees a handle that smith_config_new returned. A null pointer is none, and nothing is done. */
+static inline void smith_config_free(struct smith_config *config) { free(config); }
+
+/* Writes the module in the binary format. The status is any of the above, but SMITH_SHAPE and SMITH_NO_SHAPE only of calls that take
+ * shapes. */
 struct smith_answer smith_binary(const uint8_t *config, size_t config_length,
                                  const uint8_t *input, size_t input_length,
                                  uint8_t *out, size_t out_length);
@@ -111,6 +131,36 @@ struct smith_answer smith_wat_with(const struct smith_config *config, const uint
 
 struct smith_answer smith_refusal_with(const struct smith_config *config, const uint8_t *input, size_t input_length,
                                        uint8_t *out, size_t out_length);
+
+/* The bytes of shapes. A length of 0 is no shape. */
+struct smith_shapes {
+    const uint8_t *available_imports; /* a module imports nothing but what this one imports */
+    size_t available_imports_length;
+    const uint8_t *exports;           /* a module exports exactly what this one exports */
+    size_t exports_length;
+    const uint8_t *module_shape;      /* a module has the first types, and exactly the imports and the exports, of this one */
+    size_t module_shape_length;
+};
+
+/* Returns no shapes, to be set one by one. */
+static inline struct smith_shapes smith_no_shapes(void) {
+    static const uint8_t none[1] = {0};
+    struct smith_shapes shapes = {none, 0, none, 0, none, 0};
+    return shapes;
+}
+
+/* The same four calls for a configuration that is read, with shapes. The bytes of shapes may overlap each other and the input. */
+struct smith_answer smith_binary_shaped(const struct smith_config *config, const struct smith_shapes *shapes,
+                                        const uint8_t *input, size_t input_length, uint8_t *out, size_t out_length);
+
+struct smith_answer smith_text_shaped(const struct smith_config *config, const struct smith_shapes *shapes,
+                                      const uint8_t *input, size_t input_length, uint8_t *out, size_t out_length);
+
+struct smith_answer smith_wat_shaped(const struct smith_config *config, const struct smith_shapes *shapes,
+                                     const uint8_t *input, size_t input_length, uint8_t *out, size_t out_length);
+
+struct smith_answer smith_refusal_shaped(const struct smith_config *config, const struct smith_shapes *shapes,
+                                         const uint8_t *input, size_t input_length, uint8_t *out, size_t out_length);
 
 /* What a file is. Later versions append numbers to the tables below, and renumber none. */
 enum {

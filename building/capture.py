@@ -29,7 +29,7 @@ NO_HINTS = "#!/bin/sh\nexit 2\n"
 
 EXPORT = re.compile(r'#\[unsafe\(no_mangle\)\]\npub extern "C" fn (\w+)\((.*?),?\s*\) ->', re.S)
 VALUES = {"Global": "rt.alloc()", "&[u8]": 'b""', "&mut [u8]": "&mut out", "u32": "0", "usize": "0", "bool": "false"}
-VALUES |= {"&KeptConfig": "&kept", "&mut KeptConfig": "&mut kept", "&mut Verdict": "&mut verdict"}
+VALUES |= {"&KeptConfig": "&kept", "&mut KeptConfig": "&mut kept", "&mut Verdict": "&mut verdict", "&ShapeFiles<'_>": "&shapes"}
 
 # What the calls in `main` pass on.
 PASSED = """    let mut out = [0u8; 1];
@@ -38,6 +38,11 @@ PASSED = """    let mut out = [0u8; 1];
     };
     let mut kept = KeptConfig::of(&request);
     let mut verdict = Verdict::valid();
+    let shapes = ShapeFiles {
+        available_imports: b"",
+        exports: b"",
+        module_shape: b"",
+    };
 """
 
 

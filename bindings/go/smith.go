@@ -4,6 +4,21 @@ package smith
 // #cgo CFLAGS: -I${SRCDIR}/..
 // #cgo LDFLAGS: -L${SRCDIR}/../../dist -l:libsmith.a
 // #include "smith.h"
+//
+// typedef struct smith_answer (*shaped)(const struct smith_config *, const struct smith_shapes *, const uint8_t *, size_t, uint8_t *,
+//                                       size_t);
+//
+// // Calls with shapes in a struct of C, since one of Go would hold pointers.
+// static struct smith_answer call_shaped(shaped call, const struct smith_config *config,
+//                                        const uint8_t *available_imports, size_t available_imports_length,
+//                                        const uint8_t *exports, size_t exports_length,
+//                                        const uint8_t *module_shape, size_t module_shape_length,
+//                                        const uint8_t *input, size_t input_length, uint8_t *out, size_t out_length) {
+//     struct smith_shapes shapes = {
+//         available_imports, available_imports_length, exports, exports_length, module_shape, module_shape_length,
+//     };
+//     return call(config, &shapes, input, input_length, out, out_length);
+// }
 import "C"
 
 import "unsafe"
@@ -26,8 +41,23 @@ func pointer(bytes []byte) *C.uint8_t {
 	return (*C.uint8_t)(unsafe.Pointer(&bytes[0]))
 }
 
-// Config is a configuration that is read once, for any number of modules. Any number of goroutines may use it at the same time.
-type Config struct{ kept C.struct_smith_config }
+// Shapes are modules in the binary or the text format, or empty for none, that say what modules import and export.
+type Shapes struct {
+	// AvailableImports has the imports to choose from.
+	AvailableImports []byte
+	// Exports has the exports.
+	Exports []byte
+	// ModuleShape has the first types, and all imports and exports. The other two are then not used.
+	ModuleShape []byte
+}
+
+// Config is a configuration that is read once, for any number of modules, and its shapes, which are read for each. Any number of goroutines
+// may use it at the same time, while none changes its shapes.
+type Config struct {
+	// Shapes are the shapes of the modules.
+	Shapes Shapes
+	kept   C.struct_smith_config
+}
 
 // NewConfig reads a JSON object, or an empty text for the default configuration. The error is a *Refused.
 func NewConfig(text string) (*Config, error) {
@@ -40,18 +70,26 @@ func NewConfig(text string) (*Config, error) {
 	return nil, refused(out, C.smith_refusal(pointer(bytes), C.size_t(len(bytes)), pointer(nil), 0, pointer(out), C.size_t(len(out))))
 }
 
+// call returns what call answers for the shapes and input.
+func (config *Config) call(call C.shaped, input, out []byte) C.struct_smith_answer {
+	shapes, length := config.Shapes, func(bytes []byte) C.size_t { return C.size_t(len(bytes)) }
+	return C.call_shaped(call, &config.kept, pointer(shapes.AvailableImports), length(shapes.AvailableImports),
+		pointer(shapes.Exports), length(shapes.Exports), pointer(shapes.ModuleShape), length(shapes.ModuleShape),
+		pointer(input), length(input), pointer(out), length(out))
+}
+
 // Module returns the module of input, with bodies of instructions, in the binary format. The error is a *Refused.
 func (config *Config) Module(input []byte) ([]byte, error) {
-	at, length, out := pointer(input), C.size_t(len(input)), make([]byte, 1<<16)
+	out := make([]byte, 1<<16)
 	for {
-		answer := C.smith_binary_with(&config.kept, at, length, pointer(out), C.size_t(len(out)))
+		answer := config.call(C.shaped(C.smith_binary_shaped), input, out)
 		switch answer.status {
 		case C.SMITH_MADE:
 			return out[:answer.length], nil
 		case C.SMITH_SHORT:
 			out = make([]byte, answer.length)
 		default:
-			return nil, refused(out, C.smith_refusal_with(&config.kept, at, length, pointer(out), C.size_t(len(out))))
+			return nil, refused(out, config.call(C.shaped(C.smith_refusal_shaped), input, out))
 		}
 	}
 }

@@ -22,6 +22,24 @@ func FuzzModule(f *testing.F) {
 	})
 }
 
+func TestShape(t *testing.T) {
+	config, err := NewConfig("")
+	if err != nil {
+		t.Fatal(err)
+	}
+	config.Shapes.Exports = []byte(`(module (func (export "run")))`)
+	module, err := config.Module(nil)
+	if err != nil || !bytes.Contains(module, []byte("\x03run\x00")) {
+		t.Fatal(module, err)
+	}
+	config.Shapes.Exports = []byte("(modul)")
+	_, err = config.Module(nil)
+	refused, is := err.(*Refused)
+	if !is || refused.Status != 8 {
+		t.Fatal(err)
+	}
+}
+
 func TestRefused(t *testing.T) {
 	_, err := Module(`{"max-typos": 3}`, nil)
 	refused, is := err.(*Refused)

@@ -10,8 +10,12 @@ import dataclasses
 import json
 import os
 import pathlib
+import typing
 
 __version__ = "0.7.0"
+
+Bytes = typing.Union[bytes, bytearray, memoryview]
+Shape = typing.Union[str, bytes, bytearray, memoryview]
 
 
 class Answer(ctypes.Structure):
@@ -49,6 +53,16 @@ class _Kept(ctypes.Structure):
     _fields_ = [("words", ctypes.c_uint64 * 48)]
 
 
+class _Shapes(ctypes.Structure):
+    """The bytes of shapes, as in smith.h."""
+
+    _fields_ = [
+        (name + end, kind)
+        for name in ("available_imports", "exports", "module_shape")
+        for end, kind in (("", ctypes.c_char_p), ("_length", ctypes.c_size_t))
+    ]
+
+
 class _Numbers(ctypes.Structure):
     """What a file is, as in smith.h."""
 
@@ -61,7 +75,8 @@ _LIBRARY = ctypes.CDLL(_path())
 _BYTES = [ctypes.c_char_p, ctypes.c_size_t]
 _TAKES = {"smith_check": _BYTES * 2 + [ctypes.POINTER(_Numbers)] + _BYTES}
 _TAKES |= {"smith_config_read": _BYTES + [ctypes.POINTER(_Kept)], "smith_refusal": _BYTES * 3}
-_TAKES |= {f"smith_{name}_with": [ctypes.POINTER(_Kept)] + _BYTES * 2 for name in ("binary", "text", "wat", "refusal")}
+_SHAPED = [ctypes.POINTER(_Kept), ctypes.POINTER(_Shapes)] + _BYTES * 2
+_TAKES |= {f"smith_{name}_shaped": _SHAPED for name in ("binary", "text", "wat", "refusal")}
 for _name, _kinds in _TAKES.items():
     getattr(_LIBRARY, _name).restype = Answer
     getattr(_LIBRARY, _name).argtypes = _kinds
@@ -87,11 +102,28 @@ def _text_of(config: str | dict) -> bytes:
     raise TypeError(f"a configuration must be a Config, a str or a dict, not {type(config).__name__}")
 
 
-class Config:
-    """A configuration that is read once, for any number of modules. Any number of threads may use it at the same time."""
+def _bytes_of(shape: Shape | None) -> bytes:
+    return shape.encode() if isinstance(shape, str) else bytes(memoryview(shape or b""))
 
-    def __init__(self, config: str | dict = ""):
-        """Reads a JSON object, as text or as a dictionary, or empty for the default. Raises `Refused` if it is none."""
+
+class Config:
+    """A configuration that is read once, for any number of modules, and its shapes, which are read for each. Any number of threads may use
+    it at the same time."""
+
+    def __init__(
+        self,
+        config: str | dict = "",
+        *,
+        available_imports: Shape | None = None,
+        exports: Shape | None = None,
+        module_shape: Shape | None = None,
+    ):
+        """Reads a JSON object, as text or as a dictionary, or empty for the default. Raises `Refused` if it is none.
+
+        A shape is a module in the binary or the text format, or empty for none. One that is no module is refused with each module.
+        """
+        given = [_bytes_of(shape) for shape in (available_imports, exports, module_shape)]
+        self._shapes = _Shapes(*(part for data in given for part in (data, len(data))))
         words = self._text = _text_of(config)
         self._kept = _Kept()
         status = _LIBRARY.smith_config_read(words, len(words), self._kept).status
@@ -99,30 +131,41 @@ class Config:
             raise Refused(status, _output(_LIBRARY.smith_refusal, words, len(words), b"", 0)[1].decode())
 
 
-def _made(call, config: Config | str | dict, given: bytes | bytearray | memoryview) -> bytes:
-    kept, data = (config if isinstance(config, Config) else Config(config))._kept, bytes(memoryview(given))
-    status, output = _output(call, kept, data, len(data))
+def _config_of(config: Config | str | dict, shapes: dict) -> Config:
+    """Returns a configuration, which is read unless it is read already."""
+    if not isinstance(config, Config):
+        return Config(config, **shapes)
+    if shapes:
+        raise TypeError("a Config takes its shapes when it is made")
+    return config
+
+
+def _made(call, config: Config | str | dict, given: Bytes, shapes: dict) -> bytes:
+    config, data = _config_of(config, shapes), bytes(memoryview(given))
+    words = config._kept, config._shapes, data, len(data)
+    status, output = _output(call, *words)
     if status != _MADE:
-        raise Refused(status, _output(_LIBRARY.smith_refusal_with, kept, data, len(data))[1].decode())
+        raise Refused(status, _output(_LIBRARY.smith_refusal_shaped, *words)[1].decode())
     return output
 
 
-def module(given: bytes | bytearray | memoryview, config: Config | str | dict = "") -> bytes:
+def module(given: Bytes, config: Config | str | dict = "", **shapes: Shape) -> bytes:
     """Returns the module of `given`, with bodies of instructions, in the binary format.
 
-    `config` is a `Config`, or what it is made of, which is then read for this module alone. Raises `Refused` if there is no module.
+    `config` is a `Config`, or what it is made of, with shapes as keywords, which is then read for this module alone. Raises `Refused` if
+    there is no module.
     """
-    return _made(_LIBRARY.smith_binary_with, config, given)
+    return _made(_LIBRARY.smith_binary_shaped, config, given, shapes)
 
 
-def text(given: bytes | bytearray | memoryview, config: Config | str | dict = "") -> str:
+def text(given: Bytes, config: Config | str | dict = "", **shapes: Shape) -> str:
     """Returns the same module in the text format, and after it comments with values that the format cannot express."""
-    return _made(_LIBRARY.smith_text_with, config, given).decode()
+    return _made(_LIBRARY.smith_text_shaped, config, given, shapes).decode()
 
 
-def wat(given: bytes | bytearray | memoryview, config: Config | str | dict = "") -> str:
+def wat(given: Bytes, config: Config | str | dict = "", **shapes: Shape) -> str:
     """Returns the same module in the text format, for readers: with the parameters and results of each function type that is used."""
-    return _made(_LIBRARY.smith_wat_with, config, given).decode()
+    return _made(_LIBRARY.smith_wat_shaped, config, given, shapes).decode()
 
 
 @dataclasses.dataclass(frozen=True)
@@ -147,7 +190,7 @@ class Verdict:
 _NOWHERE = 2**64 - 1
 
 
-def check(file: bytes | bytearray | memoryview, config: Config | str | dict | None = None) -> Verdict:
+def check(file: Bytes, config: Config | str | dict | None = None) -> Verdict:
     """Returns whether `file` is a valid module in the binary format, and if not, where and by which rule.
 
     All features are on that are known, changed by the fields that `config` sets. Raises `Refused` if `config` is none, or for lack of memory.

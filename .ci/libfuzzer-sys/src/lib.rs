@@ -27,6 +27,12 @@ pub fn run<'a, T: Arbitrary<'a>>(target: impl Fn(T)) {
 /// Defines the `main` of a target.
 #[macro_export]
 macro_rules! fuzz_target {
+    (|$value:ident: $kind:ty $(,)?| -> $result:ty $body:block) => {
+        $crate::fuzz_target!(|$value: $kind| {
+            let result: $result = $body;
+            result
+        });
+    };
     (|$value:ident: $kind:ty $(,)?| $body:expr) => {
         #[no_mangle]
         pub extern "C" fn main(_: i32, _: *const *const u8) -> i32 {

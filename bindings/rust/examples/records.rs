@@ -1,7 +1,8 @@
 //! Reads a configuration and inputs from standard input, each as its length in four bytes, least significant first, and then its bytes.
-//! Writes for each input a status and the module, or the reason in words, in the same form.
+//! Writes for each input a status and the module, or the reason in words, in the same form. An argument is the file of a shape for exports.
 use smith::{module, Config};
 use std::io::{self, Read, Write};
+use std::{env, fs};
 
 fn main() -> io::Result<()> {
     let mut given = Vec::new();
@@ -13,7 +14,10 @@ fn main() -> io::Result<()> {
         rest = tail;
         Some(record)
     });
-    let config = Config::from_json(String::from_utf8_lossy(records.next().unwrap_or_default()));
+    let mut config = Config::from_json(String::from_utf8_lossy(records.next().unwrap_or_default()));
+    if let Some(name) = env::args_os().nth(1) {
+        config = config.with_exports(fs::read(name)?);
+    }
     let mut out = io::BufWriter::new(io::stdout().lock());
     for input in records {
         let (status, bytes) = match module(&config, input) {

@@ -28,15 +28,67 @@ pub struct Numbers {
     pub offset: u64,
 }
 
-/// A call that makes an output of a configuration that is read, an input and a buffer.
-pub type Call = unsafe extern "C" fn(*const Kept, *const u8, usize, *mut u8, usize) -> Answer;
+/// The bytes of the shapes of a configuration, each of which may be empty.
+#[derive(Clone, Debug, Default, PartialEq, Eq)]
+pub struct Shapes {
+    pub available_imports: Vec<u8>,
+    pub exports: Vec<u8>,
+    pub module_shape: Vec<u8>,
+}
+
+/// A pointer to bytes, and their number.
+#[repr(C)]
+struct Bytes {
+    at: *const u8,
+    length: usize,
+}
+
+/// The same bytes as `struct smith_shapes`.
+#[repr(C)]
+pub struct ShapeBytes {
+    available_imports: Bytes,
+    exports: Bytes,
+    module_shape: Bytes,
+}
+
+/// A call that makes an output of a configuration that is read, its shapes, an input and a buffer.
+pub type Call = unsafe extern "C" fn(*const Kept, *const ShapeBytes, *const u8, usize, *mut u8, usize) -> Answer;
 
 extern "C" {
     fn smith_config_read(config: *const u8, config_length: usize, read: *mut Kept) -> Answer;
     fn smith_refusal(config: *const u8, config_length: usize, input: *const u8, length: usize, out: *mut u8, out_length: usize) -> Answer;
-    pub fn smith_binary_with(config: *const Kept, input: *const u8, input_length: usize, out: *mut u8, out_length: usize) -> Answer;
-    pub fn smith_text_with(config: *const Kept, input: *const u8, input_length: usize, out: *mut u8, out_length: usize) -> Answer;
-    pub fn smith_wat_with(config: *const Kept, input: *const u8, input_length: usize, out: *mut u8, out_length: usize) -> Answer;
+    pub fn smith_binary_shaped(
+        config: *const Kept,
+        shapes: *const ShapeBytes,
+        input: *const u8,
+        input_length: usize,
+        out: *mut u8,
+        out_length: usize,
+    ) -> Answer;
+    pub fn smith_text_shaped(
+        config: *const Kept,
+        shapes: *const ShapeBytes,
+        input: *const u8,
+        input_length: usize,
+        out: *mut u8,
+        out_length: usize,
+    ) -> Answer;
+    pub fn smith_wat_shaped(
+        config: *const Kept,
+        shapes: *const ShapeBytes,
+        input: *const u8,
+        input_length: usize,
+        out: *mut u8,
+        out_length: usize,
+    ) -> Answer;
+    fn smith_refusal_shaped(
+        config: *const Kept,
+        shapes: *const ShapeBytes,
+        input: *const u8,
+        input_length: usize,
+        out: *mut u8,
+        out_length: usize,
+    ) -> Answer;
     fn smith_check(
         config: *const u8,
         config_length: usize,
@@ -46,7 +98,6 @@ extern "C" {
         out: *mut u8,
         out_length: usize,
     ) -> Answer;
-    fn smith_refusal_with(config: *const Kept, input: *const u8, input_length: usize, out: *mut u8, out_length: usize) -> Answer;
 }
 
 /// Returns the status and the output of `call`, which fills a buffer, from one that is enlarged once if necessary.
@@ -73,6 +124,22 @@ pub fn utf8(text: Vec<u8>) -> String {
     String::from_utf8(text).expect("the library should write UTF-8")
 }
 
+impl Bytes {
+    fn of(bytes: &[u8]) -> Bytes {
+        Bytes { at: bytes.as_ptr(), length: bytes.len() }
+    }
+}
+
+impl Shapes {
+    fn bytes(&self) -> ShapeBytes {
+        ShapeBytes {
+            available_imports: Bytes::of(&self.available_imports),
+            exports: Bytes::of(&self.exports),
+            module_shape: Bytes::of(&self.module_shape),
+        }
+    }
+}
+
 impl Kept {
     /// Reads the JSON object in `text`. An empty text is the default configuration.
     pub fn read(text: &str) -> Result<Kept, Refused> {
@@ -88,13 +155,14 @@ impl Kept {
         }))
     }
 
-    /// Returns the output of `call` for `input`.
-    pub fn made(&self, call: Call, input: &[u8]) -> Result<Vec<u8>, Refused> {
+    /// Returns the output of `call` for `shapes` and `input`.
+    pub fn made(&self, call: Call, shapes: &Shapes, input: &[u8]) -> Result<Vec<u8>, Refused> {
+        let shapes = shapes.bytes();
         // SAFETY: `self` was read, each other pointer is that of a slice with its length, and `out` is borrowed exclusively.
-        let with = |call: Call, out: &mut [u8]| unsafe { call(self, input.as_ptr(), input.len(), out.as_mut_ptr(), out.len()) };
+        let with = |call: Call, out: &mut [u8]| unsafe { call(self, &shapes, input.as_ptr(), input.len(), out.as_mut_ptr(), out.len()) };
         match output(|out| with(call, out)) {
             (MADE, bytes) => Ok(bytes),
-            (status, _) => Err(refused(status, |out| with(smith_refusal_with, out))),
+            (status, _) => Err(refused(status, |out| with(smith_refusal_shaped, out))),
         }
     }
 }

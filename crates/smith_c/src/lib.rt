@@ -7,6 +7,8 @@ ghost use Rattle.smith_c.specs.KeptConfigs.{IsRead, request_of};
 ghost use Rattle.smith_request.specs.Requests.{IsBinary, HasBinary, IsTextOf};
 ghost use Rattle.smith_request.specs.Requests.{IsBinaryFor, HasBinaryFor, IsTextFor};
 ghost use Rattle.smith_request.specs.Refusals.{IsRefusal, IsRefusalFor};
+ghost use Rattle.smith_request.specs.Shaped.{IsShapedBinary, IsShapedRefusal, IsShapedText};
+ghost use Rattle.smith_request.specs.Shaped.{HasShapedBinary};
 ghost use Rattle.smith_request.specs.declared.manner.Form.TheVariants.{Binary, Text};
 ghost use Rattle.smith_text.specs.declared.module.Layout.TheVariants.{Notes, Signatures};
 
@@ -22,6 +24,7 @@ use crate::explanation::explain;
 use crate::judged::check;
 pub use crate::kept::KeptConfig;
 pub use smith_judge::Verdict;
+pub use smith_request::ShapeFiles;
 use smith_request::{Form, Layout, Request};
 use std::alloc::Global;
 
@@ -169,6 +172,90 @@ pub extern "C" fn smith_refusal_with(
         (IsRefusalFor Binary (request_of config.now) input.now) out.old out.new result }
 {
     match config.request().write(alloc, input, Form::Binary) {
+        Ok(_) => Answer::without_output(answer::MADE),
+        Err(refusal) => explain(alloc, &refusal, out),
+    }
+}
+
+/// Does what [`smith_binary_with`] does, with the shapes that `shapes` are. An empty one is none.
+#[unsafe(no_mangle)]
+pub extern "C" fn smith_binary_shaped(
+    alloc: Global,
+    config: &KeptConfig,
+    shapes: &ShapeFiles<'_>,
+    input: &[u8],
+    out: &mut [u8],
+) -> Answer
+    ensures { IsAnswered (IsShapedBinary shapes.now (request_of config.now) input.now)
+        (IsShapedRefusal Binary shapes.now (request_of config.now) input.now) out.old out.new result }
+{
+    match config
+        .request()
+        .write_shaped(alloc, shapes, input, Form::Binary)
+    {
+        Ok(bytes) => put(answer::MADE, bytes.as_slice(), out),
+        Err(refusal) => Answer::without_output(refusal.status()),
+    }
+}
+
+/// Does what [`smith_text_with`] does, with the shapes that `shapes` are.
+#[unsafe(no_mangle)]
+pub extern "C" fn smith_text_shaped(
+    alloc: Global,
+    config: &KeptConfig,
+    shapes: &ShapeFiles<'_>,
+    input: &[u8],
+    out: &mut [u8],
+) -> Answer
+    ensures { IsAnswered (IsShapedText shapes.now (request_of config.now) input.now)
+        (IsShapedRefusal (Text Notes) shapes.now (request_of config.now) input.now) out.old out.new result }
+{
+    match config
+        .request()
+        .write_shaped(alloc, shapes, input, Form::Text(Layout::Notes))
+    {
+        Ok(text) => put(answer::MADE, text.as_slice(), out),
+        Err(refusal) => Answer::without_output(refusal.status()),
+    }
+}
+
+/// Does what [`smith_wat_with`] does, with the shapes that `shapes` are.
+#[unsafe(no_mangle)]
+pub extern "C" fn smith_wat_shaped(
+    alloc: Global,
+    config: &KeptConfig,
+    shapes: &ShapeFiles<'_>,
+    input: &[u8],
+    out: &mut [u8],
+) -> Answer
+    ensures { IsAnswered (IsShapedText shapes.now (request_of config.now) input.now)
+        (IsShapedRefusal (Text Signatures) shapes.now (request_of config.now) input.now) out.old out.new result }
+{
+    match config
+        .request()
+        .write_shaped(alloc, shapes, input, Form::Text(Layout::Signatures))
+    {
+        Ok(text) => put(answer::MADE, text.as_slice(), out),
+        Err(refusal) => Answer::without_output(refusal.status()),
+    }
+}
+
+/// Does what [`smith_refusal_with`] does, with the shapes that `shapes` are.
+#[unsafe(no_mangle)]
+pub extern "C" fn smith_refusal_shaped(
+    alloc: Global,
+    config: &KeptConfig,
+    shapes: &ShapeFiles<'_>,
+    input: &[u8],
+    out: &mut [u8],
+) -> Answer
+    ensures { IsExplained (HasShapedBinary shapes.now (request_of config.now) input.now)
+        (IsShapedRefusal Binary shapes.now (request_of config.now) input.now) out.old out.new result }
+{
+    match config
+        .request()
+        .write_shaped(alloc, shapes, input, Form::Binary)
+    {
         Ok(_) => Answer::without_output(answer::MADE),
         Err(refusal) => explain(alloc, &refusal, out),
     }

@@ -1,4 +1,5 @@
 pub mod Output
 pub mod Refusals
 pub mod Requests
+pub mod Shaped
 pub mod ValidFiles

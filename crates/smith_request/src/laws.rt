@@ -3,15 +3,19 @@ ghost use Rattle.smith_config.specs.declared.config.Config.{Config};
 ghost use Rattle.smith_binary_program.specs.Valid.{IsValidBinary};
 ghost use Rattle.smith_request.specs.Output.{IsBinaryOf};
 ghost use Rattle.smith_request.specs.Requests.{IsBinary};
+ghost use Rattle.smith_request.specs.Shaped.{IsShapedBinary};
 ghost use Rattle.smith_request.specs.ValidFiles.{IsValidFile};
 ghost use Rattle.smith_request.specs.declared.manner.Fuel.{Fuel};
+ghost use Rattle.smith_request.specs.declared.request.Request.{Request};
+ghost use Rattle.smith_request.specs.declared.shaped.ShapeFiles.{ShapeFiles};
 
-/// States that the bytes that [`output`] and [`binary`] write in the binary format are a valid
-/// program, and no other one: without their custom sections, which they have only if the
-/// configuration has them.
+/// States that the bytes that [`output`], [`binary`] and [`Request::write_shaped`] write in the binary
+/// format are a valid program, and no other one: without their custom sections, which they have only if
+/// the configuration has them.
 ///
 /// [`output`]: crate::output
 /// [`binary`]: crate::binary
+/// [`Request::write_shaped`]: crate::Request::write_shaped
 pub fn binaries_are_valid()
     ensures of_a_configuration { (config : Config) (fuel : Option Fuel) (input bytes left : List ℕ)
         → IsBinaryOf config fuel input bytes left → IsValidFile bytes }
@@ -23,4 +27,6 @@ pub fn binaries_are_valid()
     ensures of_a_text_without_customs { (text input bytes : List ℕ)
         → (h : IsBinary text input bytes) → h.config.generate_custom_sections ≡ false
         → IsValidBinary bytes }
+    ensures of_shapes { (files : ShapeFiles) (request : Request) (input bytes : List ℕ)
+        → IsShapedBinary files request input bytes → IsValidFile bytes }
 {}

@@ -2,7 +2,8 @@
 //! bodies of instructions. It is written in the binary format or in the text format of the
 //! WebAssembly Core Specification 3.0.
 //!
-//! The text of a configuration is a JSON object in UTF-8, or empty for the default configuration.
+//! The text of a configuration is a JSON object in UTF-8, or empty for the default configuration. Its
+//! shapes are given apart from it, as bytes.
 #![tactic(auto)]
 
 mod customs;
@@ -11,9 +12,11 @@ pub mod laws;
 mod manner;
 mod refusal;
 mod request;
+mod shaped;
 mod writers;
 
 pub use manner::{Form, Fuel, Manner, output, write_program};
 pub use refusal::Refusal;
 pub use request::{Request, binary, text, wat};
+pub use shaped::ShapeFiles;
 pub use smith_text_program::Layout;

@@ -2,8 +2,9 @@ ghost use Rattle.std.specs.Prelude.{◌≡◌};
 ghost use Rattle.smith_request.specs.Refusals.{fault_status, error_status, status_of};
 
 use smith_binary::EncodeError;
-use smith_bytes::{Count, Error, Why};
+use smith_bytes::{Count, Error, Which, Why};
 use smith_config_json::{ConfigRefusal, Fault};
+use smith_shape_file::ShapeFileFault;
 use std::fmt;
 
 /// The reason why there is no program.
@@ -17,6 +18,8 @@ pub enum Refusal {
     Module(Error),
     /// The program cannot be written, for this reason.
     Encoding(EncodeError),
+    /// The bytes of the shape for this use are no module, for this reason.
+    Shape(Which, ShapeFileFault),
 }
 
 impl Refusal {
@@ -30,6 +33,7 @@ impl Refusal {
             Refusal::Module(error) => error_status(error),
             Refusal::Encoding(EncodeError::Memory) => 2,
             Refusal::Encoding(EncodeError::TooLong) => 7,
+            Refusal::Shape(_, _) => 8,
         }
     }
 }
@@ -97,6 +101,7 @@ impl fmt::Display for Refusal {
             Refusal::Module(Error::IncorrectFormat(why)) => write!(f, "{why}"),
             Refusal::Module(error) => write!(f, "{error}"),
             Refusal::Encoding(error) => write!(f, "{error}"),
+            Refusal::Shape(which, fault) => write!(f, "shape of {which}: {fault}"),
         }
     }
 }

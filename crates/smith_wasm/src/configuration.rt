@@ -1,13 +1,12 @@
 use crate::failure::Failure;
 use crate::fields::fields;
 use crate::request::Request;
-use crate::shapes::{NO_SHAPES, check_shapes};
+use crate::shapes::check_shapes;
 use crate::words::{ARBITRARY, CONFIG, PRESET};
 use clap::ArgMatches;
 use smith_bytes::{Error, Unstructured};
 use smith_config::{Config, MemoryOffsetChoices};
 use smith_config_json::{Fault, FieldKind, Preset, kind_of, preset_named, read_text};
-use smith_request::{Form, Manner};
 use smith_types::{InstructionKinds, WasmFeatures};
 use std::alloc::Global;
 use std::str::FromStr;
@@ -42,25 +41,19 @@ pub(crate) fn set_default(alloc: Global, asked: &Request<'_, '_>) -> Result<Conf
 }
 
 /// Returns the features by which files are judged: all that are known, changed by the preset that is a
-/// word, the configuration file `config` if there is one, and the fields that are words.
+/// word, `text`, that of the configuration file if there is one, and the fields that are words.
 pub(crate) fn check_features(
     alloc: Global,
     matches: &ArgMatches<'_>,
-    config: Option<String>,
+    text: Option<String>,
 ) -> Result<WasmFeatures, Failure> {
-    let asked = Request {
-        matches,
-        config,
-        manner: Manner {
-            form: Form::Binary,
-            fuel: None,
-        },
-        shapes: NO_SHAPES,
-    };
     let mut config = Config::default();
     Preset::Proposals.apply(&mut config);
-    set_fields(alloc, &asked, &mut config)?;
-    Ok(config.features())
+    let set = set_members(alloc, matches, &text, &mut config);
+    drop(text);
+    let features = config.features();
+    drop(config);
+    set.and(Ok(features))
 }
 
 /// Checks the configuration that `asked` requests. Of a drawn configuration, which depends on the
@@ -88,18 +81,28 @@ fn set_and_check(
     }
 }
 
-/// Applies the preset that is a word, sets what the configuration file names, and then the fields
-/// that are words, and the shapes.
+/// Sets what the words and the configuration file name, and the shapes.
 fn set_fields(alloc: Global, asked: &Request<'_, '_>, config: &mut Config) -> Result<(), Failure> {
-    set_preset(alloc, asked, config)?;
-    set_from_file(alloc, asked, config)?;
-    set_from_words(alloc, asked, config)?;
+    set_members(alloc, asked.matches, &asked.config, config)?;
     asked.shapes.set(alloc, config)
 }
 
+/// Applies the preset that is a word, sets what `text`, that of the configuration file, names, and then
+/// the fields that are words.
+fn set_members(
+    alloc: Global,
+    matches: &ArgMatches<'_>,
+    text: &Option<String>,
+    config: &mut Config,
+) -> Result<(), Failure> {
+    set_preset(alloc, matches, config)?;
+    set_from_file(alloc, matches, text, config)?;
+    set_from_words(alloc, matches, config)
+}
+
 /// Applies the preset that is a word, if there is one.
-fn set_preset(alloc: Global, asked: &Request<'_, '_>, config: &mut Config) -> Result<(), Failure> {
-    let Some(name) = asked.matches.get_str(PRESET) else {
+fn set_preset(alloc: Global, matches: &ArgMatches<'_>, config: &mut Config) -> Result<(), Failure> {
+    let Some(name) = matches.get_str(PRESET) else {
         return Ok(());
     };
     match preset_named(name) {
@@ -114,10 +117,11 @@ fn set_preset(alloc: Global, asked: &Request<'_, '_>, config: &mut Config) -> Re
 /// Sets the fields that the configuration file names.
 fn set_from_file(
     alloc: Global,
-    asked: &Request<'_, '_>,
+    matches: &ArgMatches<'_>,
+    text: &Option<String>,
     config: &mut Config,
 ) -> Result<(), Failure> {
-    let Some(text) = &asked.config else {
+    let Some(text) = text else {
         return Ok(());
     };
     match read_text(alloc, text.as_str(), config) {
@@ -126,7 +130,7 @@ fn set_from_file(
             if refusal.fault == Fault::OutOfMemory {
                 return Err(Failure::from(Error::Memory));
             }
-            let path = String::from_str(alloc, asked.matches.get_str(CONFIG).unwrap_or(""))?;
+            let path = String::from_str(alloc, matches.get_str(CONFIG).unwrap_or(""))?;
             Err(Failure::Config(path, refusal.in_text(text.as_str())))
         }
     }
@@ -135,11 +139,11 @@ fn set_from_file(
 /// Sets the fields that are words.
 fn set_from_words(
     alloc: Global,
-    asked: &Request<'_, '_>,
+    matches: &ArgMatches<'_>,
     config: &mut Config,
 ) -> Result<(), Failure> {
     for field in fields() {
-        match asked.matches.get_str(field.name) {
+        match matches.get_str(field.name) {
             Some(value) if !is_file(field.name) => set_from_word(alloc, field.name, value, config)?,
             _ => {}
         }

@@ -16,8 +16,8 @@ pub(crate) struct Shapes {
     module_shape: Option<Shape>,
 }
 
-/// No shape.
-pub(crate) const NO_SHAPES: Shapes = Shapes {
+// No shape.
+const NO_SHAPES: Shapes = Shapes {
     available_imports: None,
     exports: None,
     module_shape: None,
@@ -30,53 +30,81 @@ impl Shapes {
         matches: &ArgMatches<'_>,
         paths: &Paths,
     ) -> Result<Shapes, Failure> {
-        let available_imports = shape_in(
+        let mut shapes = NO_SHAPES;
+        shapes.fill(rt, matches, paths).and(Ok(shapes))
+    }
+
+    fn fill(
+        &mut self,
+        rt: &HostRuntime,
+        matches: &ArgMatches<'_>,
+        paths: &Paths,
+    ) -> Result<(), Failure> {
+        read_named(
             rt,
             matches.get_str(AVAILABLE_IMPORTS),
             &paths.available_imports,
+            &mut self.available_imports,
         )?;
-        let exports = shape_in(rt, matches.get_str(EXPORTS), &paths.exports)?;
-        let module_shape = shape_in(rt, matches.get_str(MODULE_SHAPE), &paths.module_shape)?;
-        Ok(Shapes {
-            available_imports,
-            exports,
-            module_shape,
-        })
+        read_named(
+            rt,
+            matches.get_str(EXPORTS),
+            &paths.exports,
+            &mut self.exports,
+        )?;
+        read_named(
+            rt,
+            matches.get_str(MODULE_SHAPE),
+            &paths.module_shape,
+            &mut self.module_shape,
+        )
     }
 
     /// Sets the shapes of `config` to copies of these.
     pub(crate) fn set(&self, alloc: Global, config: &mut Config) -> Result<(), Failure> {
-        config.available_imports = copy_of(alloc, &self.available_imports)?;
-        config.exports = copy_of(alloc, &self.exports)?;
-        config.module_shape = copy_of(alloc, &self.module_shape)?;
-        Ok(())
+        copy_to(
+            alloc,
+            &self.available_imports,
+            &mut config.available_imports,
+        )?;
+        copy_to(alloc, &self.exports, &mut config.exports)?;
+        copy_to(alloc, &self.module_shape, &mut config.module_shape)
     }
 }
 
-fn copy_of(alloc: Global, shape: &Option<Shape>) -> Result<Option<Shape>, Failure> {
-    match shape {
-        Some(shape) => Ok(Some(shape.clone(alloc)?)),
-        None => Ok(None),
-    }
+// Sets `to` to a copy of `from`, if that is a shape.
+fn copy_to(alloc: Global, from: &Option<Shape>, to: &mut Option<Shape>) -> Result<(), Failure> {
+    let Some(shape) = from else {
+        return Ok(());
+    };
+    let copy = shape.clone(alloc)?;
+    drop(to.replace(copy));
+    Ok(())
 }
 
-// Reads the shape of the file that the word `word` is, or else of the file at `path`, if there is one.
-fn shape_in(
+// Reads the file that the word `word` is, or else the file at `path`, if there is one, to `shape`.
+fn read_named(
     rt: &HostRuntime,
     word: Option<&str>,
     path: &Option<String>,
-) -> Result<Option<Shape>, Failure> {
+    shape: &mut Option<Shape>,
+) -> Result<(), Failure> {
     match (word, path) {
-        (Some(word), _) => read_shape(rt, word),
-        (None, Some(path)) => read_shape(rt, path.as_str()),
-        (None, None) => Ok(None),
+        (Some(word), _) => read_path(rt, word, shape),
+        (None, Some(path)) => read_path(rt, path.as_str(), shape),
+        (None, None) => Ok(()),
     }
 }
 
-fn read_shape(rt: &HostRuntime, path: &str) -> Result<Option<Shape>, Failure> {
+fn read_path(rt: &HostRuntime, path: &str, shape: &mut Option<Shape>) -> Result<(), Failure> {
     let bytes = read_from(rt, Some(path))?;
-    match read_shape_file(rt.alloc(), bytes.as_slice()) {
-        Ok(shape) => Ok(Some(shape)),
+    let read = read_shape_file(rt.alloc(), bytes.as_slice());
+    drop(bytes);
+    match read {
+        Ok(read) => {
+            drop(shape.replace(read));
+            Ok(())
+        }
         Err(fault) if fault.is_memory() => Err(Failure::from(Error::Memory)),
         Err(fault) => Err(Failure::Shape(String::from_str(rt.alloc(), path)?, fault)),
     }

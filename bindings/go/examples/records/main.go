@@ -1,5 +1,6 @@
 // Records reads a configuration and inputs from standard input, each as its length in four bytes, least significant first, and then its
-// bytes. It writes for each input a status and the module, or the reason in words, in the same form.
+// bytes. It writes for each input a status and the module, or the reason in words, in the same form. An argument is the file of a shape for
+// exports.
 package main
 
 import (
@@ -24,8 +25,13 @@ func record(from io.Reader) ([]byte, error) {
 	return bytes, err
 }
 
-func answer(config string, input []byte) (uint32, []byte) {
-	module, err := smith.Module(config, input)
+func answer(text string, exports, input []byte) (uint32, []byte) {
+	config, err := smith.NewConfig(text)
+	var module []byte
+	if err == nil {
+		config.Shapes.Exports = exports
+		module, err = config.Module(input)
+	}
 	var refused *smith.Refused
 	if errors.As(err, &refused) {
 		return refused.Status, []byte(refused.Words)
@@ -35,11 +41,18 @@ func answer(config string, input []byte) (uint32, []byte) {
 
 func main() {
 	from, to := bufio.NewReader(os.Stdin), bufio.NewWriter(os.Stdout)
+	var exports []byte
+	if len(os.Args) > 1 {
+		var err error
+		if exports, err = os.ReadFile(os.Args[1]); err != nil {
+			log.Fatal(err)
+		}
+	}
 	config, err := record(from)
 	for err == nil {
 		var input []byte
 		if input, err = record(from); err == nil {
-			status, bytes := answer(string(config), input)
+			status, bytes := answer(string(config), exports, input)
 			binary.Write(to, binary.LittleEndian, [2]uint32{status, uint32(len(bytes))})
 			to.Write(bytes)
 		}

@@ -43,9 +43,20 @@ fn a_minimum_above_its_maximum_panics() {
 }
 
 #[test]
-#[should_panic(expected = "no shape is read")]
-fn a_shape_panics() {
-    let _ = module(Config { exports: Some(Vec::new()), ..Config::default() }, 4);
+fn a_shape_determines_the_exports() {
+    let exporting = |shape: &str| {
+        let config = Config { exports: Some(shape.into()), min_exports: 0, ..Config::default() };
+        module(config, 4).unwrap().to_bytes()
+    };
+    let module = exporting("(module (func (export \"run\")))");
+    assert!(module.windows(6).any(|bytes| bytes == b"\x01\x03run\x00"));
+    assert_eq!(exporting(""), exporting("(module)"));
+}
+
+#[test]
+#[should_panic(expected = "shape of exports")]
+fn a_shape_that_is_no_module_panics() {
+    let _ = module(Config { exports: Some("(modul)".into()), ..Config::default() }, 4);
 }
 
 #[test]

@@ -6,12 +6,10 @@ use Rattle.smith_bytes.specs.declared.error.Error.TheVariants as errors
 use Rattle.smith_config_json.specs.declared.fault.Fault.{Fault}
 use Rattle.smith_config_json.specs.declared.fault.Fault.TheVariants as faults
 use Rattle.smith_binary_program.specs.Valid.{IsValidBinary}
-use Rattle.smith_request.specs.Refusals.{IsRefusal, error_status, fault_status, status_of}
-use Rattle.smith_request.specs.Requests.{IsBinary}
+use Rattle.smith_request.specs.Refusals.{error_status, fault_status, status_of}
 use Rattle.smith_request.specs.ValidFiles.{IsValidFile}
-use Rattle.smith_request.specs.declared.manner.Form.TheVariants.{Binary}
 use Rattle.smith_request.specs.declared.refusal.Refusal.{Refusal}
-use Rattle.smith_request.specs.declared.refusal.Refusal.TheVariants.{NotUtf8, Config, Module, Encoding}
+use Rattle.smith_request.specs.declared.refusal.Refusal.TheVariants.{NotUtf8, Config, Module, Encoding, Shape}
 use Rattle.smith_request.proofs.ValidLemmas.{binary_valid, plain_valid}
 use Rattle.smith_request.specs.Requests.{fuel_of}
 use Rattle.smith_c.specs.CallAnswers.{IsAnswered, IsPut}
@@ -33,6 +31,7 @@ numbered (Config refusal) none = fault_numbered refusal.fault none
 numbered (Module e) none = error_numbered e none
 numbered (Encoding encoding.Memory) none = omega (arith, none)
 numbered (Encoding encoding.TooLong) none = omega (arith, none)
+numbered (Shape which fault) none = omega (arith, none)
 
 -- the front of a buffer is what was written to it
 front : (bytes rest : List ℕ) → take (length bytes) (bytes ++ rest) ≡ bytes
@@ -47,21 +46,24 @@ put_holds P bytes before after answer holds (IsPut.written fits is same) done =
 put_holds P bytes before after answer holds (IsPut.short long is same) done =
     absurd (omega (arith, sym (ap (λ (a : Answer). a.status) same) ∙ done))
 
-answered_holds : (P : List ℕ → Type 0) (config input before after : List ℕ) (answer : Answer)
-    → ((bytes : List ℕ) → IsBinary config input bytes → P bytes)
-    → IsAnswered (IsBinary config input) (IsRefusal Binary config input) before after answer → answer.status ≡ 0
-    → P (take answer.length after)
-answered_holds P config input before after answer holds (IsAnswered.made {bytes = bytes} h put) done =
+answered_holds : {IsOutput : List ℕ → Type 0} {MayRefuse : Refusal → Type 0} (P : List ℕ → Type 0) (before after : List ℕ)
+    (answer : Answer) → ((bytes : List ℕ) → IsOutput bytes → P bytes) → IsAnswered IsOutput MayRefuse before after answer
+    → answer.status ≡ 0 → P (take answer.length after)
+answered_holds P before after answer holds (IsAnswered.made {bytes = bytes} h put) done =
     put_holds P bytes before after answer (holds bytes h) put done
-answered_holds P config input before after answer holds (IsAnswered.refused {refusal = refusal} may kept is) done =
+answered_holds P before after answer holds (IsAnswered.refused {refusal = refusal} may kept is) done =
     absurd (numbered refusal (sym (ap (λ (a : Answer). a.status) is) ∙ done))
 
 pub returns-clause-valid : goal.returns-clause-valid
 returns-clause-valid c =
-    λ config input before after answer. answered_holds IsValidFile config input before after answer
+    λ config input before after answer. answered_holds IsValidFile before after answer
     (λ bytes h. binary_valid h.config (fuel_of config) input bytes h.left h.binary)
 
 pub returns-clause-without_customs : goal.returns-clause-without_customs
 returns-clause-without_customs c =
-    λ config input before after answer off. answered_holds IsValidBinary config input before after answer
+    λ config input before after answer off. answered_holds IsValidBinary before after answer
     (λ bytes h. plain_valid h.config (fuel_of config) input bytes h.left (off h.config h.configured) h.binary)
+
+pub returns-clause-shaped : goal.returns-clause-shaped
+returns-clause-shaped c = λ shapes config input before after answer. answered_holds IsValidFile before after answer
+    (λ bytes h. binary_valid h.shaped.config h.shaped.fuel input bytes h.binary.left h.binary.binary)

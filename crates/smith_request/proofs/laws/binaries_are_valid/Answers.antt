@@ -13,3 +13,7 @@ returns-clause-of_a_text c = λ text input bytes h. binary_valid h.config (fuel_
 
 pub returns-clause-of_a_text_without_customs : goal.returns-clause-of_a_text_without_customs
 returns-clause-of_a_text_without_customs c = λ text input bytes h off. plain_valid h.config (fuel_of text) input bytes h.left off h.binary
+
+pub returns-clause-of_shapes : goal.returns-clause-of_shapes
+returns-clause-of_shapes c =
+    λ files request input bytes h. binary_valid h.shaped.config h.shaped.fuel input bytes h.binary.left h.binary.binary

@@ -1,5 +1,5 @@
 //! The configuration of a module, and its JSON.
-use crate::kinds::{InstructionKind, InstructionKinds};
+use super::kinds::{InstructionKind, InstructionKinds};
 use arbitrary::{Arbitrary, Result, Unstructured};
 use std::cell::RefCell;
 use std::fmt::{self, Write};
@@ -45,11 +45,19 @@ impl Json for MemoryOffsetChoices {
     }
 }
 
-/// A shape, which must be `None`.
+/// A shape, whose bytes are given apart from the text.
 impl Json for Option<Vec<u8>> {
     fn write_json(&self, out: &mut String) -> fmt::Result {
-        assert!(self.is_none(), "no shape is read: available_imports, exports and module_shape must be `None`");
         out.write_str("null")
+    }
+}
+
+/// Returns the bytes of a shape for `smith`, which takes no bytes for no shape, where here they are an empty text, which is a module.
+fn bytes_of(shape: &Option<Vec<u8>>) -> &[u8] {
+    match shape.as_deref() {
+        None => b"",
+        Some(b"") => b"(module)",
+        Some(bytes) => bytes,
     }
 }
 
@@ -224,33 +232,36 @@ define_config! {
     max_nesting_depth: usize = 10,
     /// Ignored: the maximum number of values of a component. Defaults to `10`.
     max_values: usize = 10,
-    /// The imports to choose from. Must be `None`: shapes are not read.
+    /// The imports to choose from: those of a module in the binary or the text format. Defaults to `None`.
     available_imports: Option<Vec<u8>> = None,
-    /// The exports of a module. Must be `None`.
+    /// The exports: those of a module in the binary or the text format. Defaults to `None`.
     exports: Option<Vec<u8>> = None,
-    /// The imports and the exports of a module. Must be `None`.
+    /// The first types, and all imports and exports: those of a module in the binary or the text format. Defaults to `None`.
     module_shape: Option<Vec<u8>> = None,
 }
 
 thread_local! {
     /// The configuration that this thread used last, and its handle.
-    static LAST: RefCell<Option<(Config, Rc<smith::Config>)>> = const { RefCell::new(None) };
+    static LAST: RefCell<Option<(Config, Rc<crate::Config>)>> = const { RefCell::new(None) };
 }
 
 impl Config {
-    /// Returns the JSON object, with `more` as its last members.
-    fn json(&self, more: &str) -> smith::Config {
+    /// Reads the JSON object, with `more` as its last members, and the shapes.
+    fn read(&self, more: &str) -> crate::Config {
         let mut text = String::from("{");
         self.write_members(&mut text).expect("a string should take all text");
-        smith::Config::from_json(format!("{text}{more}}}"))
+        crate::Config::from_json(format!("{text}{more}}}"))
+            .with_available_imports(bytes_of(&self.available_imports))
+            .with_exports(bytes_of(&self.exports))
+            .with_module_shape(bytes_of(&self.module_shape))
     }
 
     /// Returns the handle of the configuration, which is made once while the thread uses no other.
-    pub(crate) fn kept(&self) -> Rc<smith::Config> {
+    pub(crate) fn kept(&self) -> Rc<crate::Config> {
         LAST.with_borrow_mut(|last| match last {
             Some((config, kept)) if config == self => kept.clone(),
             _ => {
-                let kept = Rc::new(self.json("\"fuel\": null"));
+                let kept = Rc::new(self.read("\"fuel\": null"));
                 *last = Some((self.clone(), kept.clone()));
                 kept
             }
@@ -258,8 +269,8 @@ impl Config {
     }
 
     /// Returns the handle of the configuration with a global that counts `fuel` down, and is exported.
-    pub(crate) fn with_fuel(&self, fuel: u32) -> smith::Config {
-        self.json(&format!("\"fuel\": {fuel}, \"fuel-export\": true"))
+    pub(crate) fn with_fuel(&self, fuel: u32) -> crate::Config {
+        self.read(&format!("\"fuel\": {fuel}, \"fuel-export\": true"))
     }
 
     /// Turns features off that lack others that they need.

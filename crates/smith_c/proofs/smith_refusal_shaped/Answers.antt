@@ -1,0 +1,9 @@
+use Rattle.std.proofs.Common.{refl}
+use Rattle.smith_c.specs.CallAnswers.{explained, given}
+use Rattle.smith_c.proofs.smith_refusal_shaped.Goals as goal
+
+pub returns-in-Ok : goal.returns-in-Ok
+returns-in-Ok c = given (c.in-Ok.field-0.items, rw c.request.ensures at (c.in-Ok.ensures.binary refl)) refl c.without_output.ensures
+
+pub returns : goal.returns
+returns c = explained (rw c.request.ensures at c.in-Err.ensures.refused) c.explain.ensures
