@@ -44,6 +44,7 @@ struct Corpus {
 
 /// Writes the invalid file, or the corpus of invalid files, that `matches` requests.
 pub(crate) fn make_invalid(rt: &HostRuntime, matches: &ArgMatches<'_>) -> Result<(), Failure> {
+    let families = families_of(rt.alloc(), matches)?;
     let (config, paths) = config_text(rt, matches)?;
     let shapes = Shapes::read(rt, matches, &paths)?;
     let request = Request {
@@ -55,15 +56,19 @@ pub(crate) fn make_invalid(rt: &HostRuntime, matches: &ArgMatches<'_>) -> Result
         },
         shapes,
     };
-    let families = families_of(rt.alloc(), matches)?;
     let asked = InvalidRequest {
         request: &request,
         families: families.as_slice(),
     };
-    warn(rt, &request)?;
-    match matches.get_str(OUTPUT_DIR) {
-        Some(folder) => make_corpus(rt, &asked, folder),
-        None => make_one(rt, &asked),
+    make(rt, &asked)
+}
+
+/// Makes the file or the corpus that `asked` requests, after the warnings.
+fn make(rt: &HostRuntime, asked: &InvalidRequest<'_, '_, '_>) -> Result<(), Failure> {
+    warn(rt, asked.request)?;
+    match asked.request.matches.get_str(OUTPUT_DIR) {
+        Some(folder) => make_corpus(rt, asked, folder),
+        None => make_one(rt, asked),
     }
 }
 

@@ -4,21 +4,22 @@ use Rattle.smith_decode.specs.Modules.{IsModuleBinary, syntax_of}
 use Rattle.smith_decode.specs.declared.locations.Place.{Place}
 use Rattle.smith_decode.specs.declared.modules.Module.{Module}
 use Rattle.smith_judge.specs.Files.{IsModuleFile}
-use Rattle.smith_wrong_module.specs.Changes.{IsChangedAt}
+use Rattle.smith_wrong_module.specs.Changes.{IsChangedAt, IsDrawn}
 use Rattle.smith_wrong_module.specs.declared.family.ModuleFamily.{ModuleFamily}
 use Rattle.smith_wrong.specs.Changes.{IsChangeOf}
 use Rattle.smith_wrong.specs.declared.changes.Change.{Change}
 use Rattle.smith_wrong.specs.declared.changes.Change.TheVariants as change
-use Rattle.smith_wrong.specs.declared.changes.Changed.{Changed}
+use Rattle.smith_wrong.specs.declared.changes.ChangedFile.{ChangedFile}
 use Rattle.smith_wrong.specs.declared.refusal.WrongRefusal.{WrongRefusal}
 
-pub item_changed : (one : ModuleFamily) (at : Place) (twin : List ℕ) (m changed : Module) (written : Result (Option Changed) WrongRefusal)
-    → IsModuleFile twin m → IsChangedAt at m changed
-    → IfOk written (λ found. IfSome found (λ file. IsModuleBinary (syntax_of changed) file.file.items))
-    → IfOk written (λ found. IfSome found (λ file. file.change ≡ change.Item one at))
-    → IfOk written (λ found. IfSome found (λ file. IsChangeOf file.change twin file.file.items))
-item_changed one at twin m changed (Ok (Some file)) read differs spelled same =
-    subst (λ (made : Change). IsChangeOf made twin file.file.items) (sym same)
-    (record { m = m; read = read; changed = changed; differs = differs; spelled = spelled })
-item_changed one at twin m changed (Ok None) read differs spelled same = tt
-item_changed one at twin m changed (Err e) read differs spelled same = tt
+pub item_change : (one : ModuleFamily) (found : Option Place) (at : Place) (twin : List ℕ) (m n : Module)
+    (written : Result (Option ChangedFile) WrongRefusal) → found ≡ Some at → IsModuleFile twin m → IsDrawn found m n
+    → IfOk written (λ made. IfSome made (λ file. IsModuleBinary (syntax_of n) file.bytes.items))
+    → IfOk written (λ made. IfSome made (λ file. file.change ≡ change.Item one at))
+    → IfOk written (λ made. IfSome made (λ file. IsChangeOf file.change twin file.bytes.items))
+item_change one found at twin m n (Ok (Some file)) is read drawn spelled same =
+    let differs : IsChangedAt at m n = subst (λ (place : Option Place). IsDrawn place m n) is drawn in
+    subst (λ (made : Change). IsChangeOf made twin file.bytes.items) (sym same)
+    (record { m = m; read = read; n = n; differs = differs; spelled = spelled })
+item_change one found at twin m n (Ok None) is read drawn spelled same = tt
+item_change one found at twin m n (Err e) is read drawn spelled same = tt

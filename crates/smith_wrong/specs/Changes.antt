@@ -15,9 +15,9 @@ use Rattle.smith_wrong.specs.declared.families.Family.TheVariants as family
 pub record HasChangedItem (at : Place) (twin file : List ℕ) : Type 0 where
   pub m : Module
   pub read : IsModuleFile twin m
-  pub changed : Module
-  pub differs : IsChangedAt at m changed
-  pub spelled : IsModuleBinary (syntax_of changed) file
+  pub n : Module
+  pub differs : IsChangedAt at m n
+  pub spelled : IsModuleBinary (syntax_of n) file
 
 -- a file is another one, its twin, with this one change (own rule)
 abbrev pub IsChangeOf : Change → List ℕ → List ℕ → Type 0

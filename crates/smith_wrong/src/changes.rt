@@ -37,23 +37,23 @@ impl Change {
 
 /// A file with one change, of which it is not known yet whether it breaks a rule.
 #[derive(Drop)]
-pub(crate) struct Changed {
+pub(crate) struct ChangedFile {
     /// The bytes of the file.
-    pub(crate) file: Vec<u8>,
+    pub(crate) bytes: Vec<u8>,
     /// What is changed.
     pub(crate) change: Change,
 }
 
 /// Draws one change of `family` from the bytes of `u`, and makes it in `twin`. Returns `None` if there is
 /// nothing to change, or the change has no spelling. Fails for lack of memory alone.
-pub(crate) fn draw_changed(
+pub(crate) fn draw_file(
     alloc: Global,
     twin: &[u8],
     family: Family,
     u: &mut Unstructured<'_>,
-) -> Result<Option<Changed>, WrongRefusal>
+) -> Result<Option<ChangedFile>, WrongRefusal>
     ensures change { IfOk result (λ drawn. IfSome drawn (λ one.
-        IsChangeOf one.change twin.now one.file.items)) }
+        IsChangeOf one.change twin.now one.bytes.items)) }
     ensures family { IfOk result (λ drawn. IfSome drawn (λ one. family_of one.change ≡ family)) }
     ensures memory { IfErr result (λ e. e ≡ refusal.Memory) }
 {
@@ -69,9 +69,9 @@ fn draw_item(
     twin: &[u8],
     family: ModuleFamily,
     u: &mut Unstructured<'_>,
-) -> Result<Option<Changed>, WrongRefusal>
+) -> Result<Option<ChangedFile>, WrongRefusal>
     ensures change { IfOk result (λ drawn. IfSome drawn (λ one.
-        IsChangeOf one.change twin.now one.file.items)) }
+        IsChangeOf one.change twin.now one.bytes.items)) }
     ensures family { IfOk result (λ drawn. IfSome drawn (λ one. family_of one.change ≡ families.Module family)) }
     ensures memory { IfErr result (λ e. e ≡ refusal.Memory) }
 {
@@ -81,25 +81,25 @@ fn draw_item(
         Err(_) => return Ok(None),
     };
     match draw_change(alloc, family, &mut module, u) {
-        Ok(Some(place)) => write_changed(alloc, &module, Change::Item(family, place)),
+        Ok(Some(place)) => write_file(alloc, &module, Change::Item(family, place)),
         Ok(None) => Ok(None),
         Err(_) => Err(WrongRefusal::Memory),
     }
 }
 
-// Writes `changed`, which has this `change`. Returns `None` if it has no spelling.
-fn write_changed(
+// Writes `module`, which has this `change`. Returns `None` if it has no spelling.
+fn write_file(
     alloc: Global,
-    changed: &Module,
+    module: &Module,
     change: Change,
-) -> Result<Option<Changed>, WrongRefusal>
+) -> Result<Option<ChangedFile>, WrongRefusal>
     ensures spelled { IfOk result (λ written. IfSome written (λ one.
-        IsModuleBinary (syntax_of changed.now) one.file.items)) }
+        IsModuleBinary (syntax_of «module».now) one.bytes.items)) }
     ensures same { IfOk result (λ written. IfSome written (λ one. one.change ≡ change)) }
     ensures memory { IfErr result (λ e. e ≡ refusal.Memory) }
 {
-    match encode(alloc, changed) {
-        Ok(file) => Ok(Some(Changed { file, change })),
+    match encode(alloc, module) {
+        Ok(bytes) => Ok(Some(ChangedFile { bytes, change })),
         Err(EncodeFault::Memory) => Err(WrongRefusal::Memory),
         Err(EncodeFault::TooLong | EncodeFault::NoSpelling) => Ok(None),
     }
@@ -111,16 +111,16 @@ fn draw_bytes(
     twin: &[u8],
     family: BytesFamily,
     u: &mut Unstructured<'_>,
-) -> Result<Option<Changed>, WrongRefusal>
+) -> Result<Option<ChangedFile>, WrongRefusal>
     ensures change { IfOk result (λ drawn. IfSome drawn (λ one.
-        IsChangeOf one.change twin.now one.file.items)) }
+        IsChangeOf one.change twin.now one.bytes.items)) }
     ensures family { IfOk result (λ drawn. IfSome drawn (λ one. family_of one.change ≡ families.Bytes family)) }
     ensures memory { IfErr result (λ e. e ≡ refusal.Memory) }
 {
     match draw_splice(alloc, family, twin, u) {
         Ok(Some(drawn)) => match splice(alloc, twin, &drawn) {
-            Ok(file) => Ok(Some(Changed {
-                file,
+            Ok(bytes) => Ok(Some(ChangedFile {
+                bytes,
                 change: Change::Bytes(family, drawn),
             })),
             Err(_) => Err(WrongRefusal::Memory),

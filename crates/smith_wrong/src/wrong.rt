@@ -7,7 +7,7 @@ ghost use Rattle.smith_wrong.specs.Changes.{IsChangeOf, family_of};
 ghost use Rattle.smith_wrong.specs.Wrong.{IsBroken, IsRefused, IsTwin, IsWrong, NamesRule};
 ghost use Rattle.smith_wrong.specs.declared.refusal.WrongRefusal.TheVariants as refusal;
 
-use crate::changes::{Change, Changed, draw_changed};
+use crate::changes::{Change, ChangedFile, draw_file};
 use crate::families::{Family, draw_family};
 use crate::refusal::WrongRefusal;
 use crate::seed::seed_of;
@@ -66,8 +66,8 @@ impl Wrong {
         let features = config.features();
         let twin = draw_twin(alloc, config, u)?;
         match draw_broken(alloc, features, twin.as_slice(), families, u)? {
-            Some((Changed { file, change }, answer)) => Ok(Wrong {
-                file,
+            Some((ChangedFile { bytes, change }, answer)) => Ok(Wrong {
+                file: bytes,
                 twin,
                 change,
                 answer,
@@ -109,11 +109,11 @@ fn draw_broken(
     twin: &[u8],
     families: &[Family],
     u: &Unstructured<'_>,
-) -> Result<Option<(Changed, Answer)>, WrongRefusal>
+) -> Result<Option<(ChangedFile, Answer)>, WrongRefusal>
     ensures change { IfOk result (λ found. IfSome found (λ one.
-        IsChangeOf one.0.change twin.now one.0.file.items)) }
+        IsChangeOf one.0.change twin.now one.0.bytes.items)) }
     ensures broken { IfOk result (λ found. IfSome found (λ one.
-        IsBroken (features_in features) one.0.file.items one.1)) }
+        IsBroken (features_in features) one.0.bytes.items one.1)) }
     ensures family { IfOk result (λ found. IfSome found (λ one.
         Contains families.now (family_of one.0.change))) }
     ensures memory { IfErr result (λ e. e ≡ refusal.Memory) }
@@ -138,11 +138,11 @@ fn try_change(
     twin: &[u8],
     families: &[Family],
     u: &mut Unstructured<'_>,
-) -> Result<Option<(Changed, Answer)>, WrongRefusal>
+) -> Result<Option<(ChangedFile, Answer)>, WrongRefusal>
     ensures change { IfOk result (λ found. IfSome found (λ one.
-        IsChangeOf one.0.change twin.now one.0.file.items)) }
+        IsChangeOf one.0.change twin.now one.0.bytes.items)) }
     ensures broken { IfOk result (λ found. IfSome found (λ one.
-        IsBroken (features_in features) one.0.file.items one.1)) }
+        IsBroken (features_in features) one.0.bytes.items one.1)) }
     ensures family { IfOk result (λ found. IfSome found (λ one.
         Contains families.now (family_of one.0.change))) }
     ensures memory { IfErr result (λ e. e ≡ refusal.Memory) }
@@ -150,25 +150,25 @@ fn try_change(
     let Some(family) = draw_family(families, u) else {
         return Ok(None);
     };
-    match draw_changed(alloc, twin, family, u)? {
-        Some(changed) => judge_change(alloc, features, changed),
+    match draw_file(alloc, twin, family, u)? {
+        Some(file) => judge_change(alloc, features, file),
         None => Ok(None),
     }
 }
 
-// Returns `changed` and what is said of it if that is a rule that it breaks.
+// Returns `file` and what is said of it if that is a rule that it breaks.
 fn judge_change(
     alloc: Global,
     features: WasmFeatures,
-    changed: Changed,
-) -> Result<Option<(Changed, Answer)>, WrongRefusal>
-    ensures same { IfOk result (λ found. IfSome found (λ one. one.0 ≡ changed)) }
+    file: ChangedFile,
+) -> Result<Option<(ChangedFile, Answer)>, WrongRefusal>
+    ensures same { IfOk result (λ found. IfSome found (λ one. one.0 ≡ file)) }
     ensures broken { IfOk result (λ found. IfSome found (λ one.
-        IsBroken (features_in features) changed.file.items one.1)) }
+        IsBroken (features_in features) file.bytes.items one.1)) }
     ensures memory { IfErr result (λ e. e ≡ refusal.Memory) }
 {
-    match judge(alloc, features, changed.file.as_slice()) {
-        Ok(answer) if names_rule(&answer) => Ok(Some((changed, answer))),
+    match judge(alloc, features, file.bytes.as_slice()) {
+        Ok(answer) if names_rule(&answer) => Ok(Some((file, answer))),
         Ok(_) => Ok(None),
         Err(_) => Err(WrongRefusal::Memory),
     }
