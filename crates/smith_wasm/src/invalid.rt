@@ -1,11 +1,12 @@
 use crate::configuration::{check_config, config_of};
+use crate::corpus::{NO_MEMORY, empty_input, word_failure, write_numbered};
 use crate::failure::Failure;
 use crate::files::{make_folder, read_from, shows_output, write_to, write_whole_file};
 use crate::index::{HEADER, index_line};
 use crate::request::{Request, config_text, path_of};
 use crate::shapes::Shapes;
 use crate::warnings::warn;
-use crate::words::{COUNT, FAMILIES, INPUT, OUTPUT, OUTPUT_DIR, SEED, SIZE, TWINS};
+use crate::words::{COUNT, FAMILIES, INPUT, OUTPUT, OUTPUT_DIR, SEED, TWINS};
 use clap::ArgMatches;
 use rand_core::{Rng, SeedableRng};
 use rand_xoshiro::Xoshiro256PlusPlus;
@@ -13,12 +14,6 @@ use smith_bytes::{Error, Unstructured};
 use smith_request::{Form, Manner, Refusal};
 use smith_wrong::{Family, Wrong, WrongRefusal};
 use std::alloc::Global;
-
-// The default length of an input.
-const DEFAULT_SIZE: u32 = 4096;
-
-// The number of a refusal for lack of memory.
-const NO_MEMORY: u32 = 2;
 
 /// What is requested of invalid files.
 #[derive(Clone, Copy)]
@@ -172,14 +167,6 @@ fn make_corpus(
     made
 }
 
-/// Returns the failure of words that do not fit together.
-fn word_failure(rt: &HostRuntime, sentence: &str) -> Failure {
-    match String::from_str(rt.alloc(), sentence) {
-        Ok(sentence) => Failure::Word(sentence),
-        Err(refused) => Failure::from(refused),
-    }
-}
-
 /// Creates the folder `folder`, and the one of the twins if they are requested.
 fn make_folders(
     rt: &HostRuntime,
@@ -201,11 +188,9 @@ fn make_each(
     count: u32,
     corpus: &mut Corpus,
 ) -> Result<(), Failure> {
-    let matches = asked.request.matches;
-    let seed = matches.get_one::<u32>(SEED).unwrap_or(0);
-    let size = matches.get_one::<u32>(SIZE).unwrap_or(DEFAULT_SIZE);
+    let seed = asked.request.matches.get_one::<u32>(SEED).unwrap_or(0);
     let mut random = Xoshiro256PlusPlus::seed_from_u64(u64::from(seed));
-    let mut input = vec![in rt.alloc(); 0; size as usize]?;
+    let mut input = empty_input(rt, asked.request)?;
     for number in 0..count {
         random.fill_bytes(input.as_mut_slice());
         make_next(rt, asked, folder, number, input.as_slice(), corpus)?;
@@ -254,12 +239,11 @@ fn write_wrong(
     wrong: &Wrong,
     corpus: &mut Corpus,
 ) -> Result<(), Failure> {
-    let path = format!(in rt.alloc(); "{folder}/{number}.wasm")?;
-    write_whole_file(rt, path.as_str(), wrong.file.as_slice())?;
+    write_numbered(rt, folder, number, "wasm", wrong.file.as_slice())?;
     let has_twin = asked.request.matches.get_flag(TWINS);
     if has_twin {
-        let path = format!(in rt.alloc(); "{folder}/twins/{number}.wasm")?;
-        write_whole_file(rt, path.as_str(), wrong.twin.as_slice())?;
+        let twins = format!(in rt.alloc(); "{folder}/twins")?;
+        write_numbered(rt, twins.as_str(), number, "wasm", wrong.twin.as_slice())?;
     }
     let line = index_line(rt.alloc(), number, wrong, has_twin)?;
     corpus.index.push_str(line.as_str())?;
