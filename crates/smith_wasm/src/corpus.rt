@@ -12,8 +12,8 @@ use std::io::IsTerminal;
 // The default length of an input.
 const DEFAULT_SIZE: u32 = 4096;
 
-// The number of a refusal for lack of memory.
-const NO_MEMORY: u32 = 2;
+/// The number of a refusal for lack of memory.
+pub(crate) const NO_MEMORY: u32 = 2;
 
 // The number of inputs from one bar of progress to the next.
 const STRIDE: u32 = 256;
@@ -92,7 +92,7 @@ pub(crate) fn make_corpus(
 }
 
 /// Returns the failure of words that do not fit together.
-fn word_failure(rt: &HostRuntime, sentence: &str) -> Failure {
+pub(crate) fn word_failure(rt: &HostRuntime, sentence: &str) -> Failure {
     match String::from_str(rt.alloc(), sentence) {
         Ok(sentence) => Failure::Word(sentence),
         Err(refused) => Failure::from(refused),
@@ -223,7 +223,7 @@ fn show_counts(rt: &HostRuntime, corpus: &Corpus) -> Result<(), Failure> {
 }
 
 /// Makes room for an input of the requested length.
-fn empty_input(rt: &HostRuntime, asked: &Request<'_, '_>) -> Result<Vec<u8>, Failure> {
+pub(crate) fn empty_input(rt: &HostRuntime, asked: &Request<'_, '_>) -> Result<Vec<u8>, Failure> {
     let size = asked.matches.get_one::<u32>(SIZE).unwrap_or(DEFAULT_SIZE);
     Ok(vec![in rt.alloc(); 0; size as usize]?)
 }
@@ -260,7 +260,7 @@ fn write_module(
 }
 
 /// Writes `bytes` as the file of the number `number` with the extension `ending`.
-fn write_numbered(
+pub(crate) fn write_numbered(
     rt: &HostRuntime,
     folder: &str,
     number: u32,

@@ -20,6 +20,8 @@ pub(crate) enum Failure {
     Word(String),
     /// The generator refused the input, or the module was not written.
     Refused(Refusal),
+    /// No change that was tried makes a file invalid.
+    NoChange,
     /// A binary is not written to a terminal.
     Terminal,
     /// A file is no module.
@@ -45,6 +47,9 @@ impl Failure {
 const TERMINAL: &str =
     "a binary is not written to a terminal: name a file with --output, or use --wat for text";
 
+// The refusal of an input of which no invalid file is made.
+const NO_CHANGE: &str = "no change of these families that was tried makes the file invalid";
+
 impl fmt::Display for Failure {
     fn fmt<W: fmt::Write>(&self, f: &mut fmt::Formatter<W>) -> fmt::Result {
         match self {
@@ -53,6 +58,7 @@ impl fmt::Display for Failure {
             Failure::Config(path, refusal) => write!(f, "{path}: {refusal}"),
             Failure::Word(sentence) => f.write_str(sentence.as_str()),
             Failure::Refused(refusal) => write!(f, "refused: {refusal}"),
+            Failure::NoChange => f.write_str(NO_CHANGE),
             Failure::Terminal => f.write_str(TERMINAL),
             Failure::Malformed(malformed) => write!(f, "{malformed}"),
             Failure::Locals(path) => write!(f, "{path}: it has more than {LOCALS} locals"),

@@ -1,7 +1,7 @@
 //! Makes a WebAssembly module from the bytes of a file or of standard input, and writes it in the
 //! binary or the text format. The command `print` writes the module of a binary file as text, the command
-//! `shape` only its types, imports, definitions and exports, and the command `check` says whether files are
-//! valid modules.
+//! `shape` only its types, imports, definitions and exports, the command `check` says whether files are
+//! valid modules, and the command `invalid` makes files that are no valid modules.
 //!
 //! `smith_wasm --help` lists the words. Each field of the configuration is a word of
 //! its own, named as in a configuration file.
@@ -15,6 +15,8 @@ mod failure;
 mod fields;
 mod files;
 mod help;
+mod index;
+mod invalid;
 mod lines;
 mod malformed;
 mod paths;
@@ -27,10 +29,11 @@ mod words;
 
 use crate::check::{NOT_CHECKED, check_files};
 use crate::failure::Failure;
+use crate::invalid::make_invalid;
 use crate::print::print_file;
 use crate::request::answer;
 use crate::shape::print_shape;
-use crate::words::{CHECK, PRINT, SHAPE, command};
+use crate::words::{CHECK, INVALID, PRINT, SHAPE, command};
 use clap::ArgMatches;
 use std::env;
 use std::process::ExitCode;
@@ -72,6 +75,9 @@ fn answer_command(rt: &HostRuntime, matches: &ArgMatches<'_>) -> Result<u8, Fail
     }
     if let Some(words) = matches.subcommand_matches(SHAPE) {
         return print_shape(rt, words).and(Ok(0));
+    }
+    if let Some(words) = matches.subcommand_matches(INVALID) {
+        return make_invalid(rt, words).and(Ok(0));
     }
     let answered = match matches.subcommand_matches(PRINT) {
         Some(words) => print_file(rt, words),

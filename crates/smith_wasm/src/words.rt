@@ -21,6 +21,12 @@ pub(crate) const JSON: &str = "json";
 pub(crate) const QUIET: &str = "quiet";
 /// The command that prints the shape of a file.
 pub(crate) const SHAPE: &str = "shape";
+/// The command that makes invalid files.
+pub(crate) const INVALID: &str = "invalid";
+/// The word of the families of changes.
+pub(crate) const FAMILIES: &str = "families";
+/// The word of the valid files beside invalid ones.
+pub(crate) const TWINS: &str = "twins";
 /// The word of the imports to choose from.
 pub(crate) const AVAILABLE_IMPORTS: &str = "available-imports";
 /// The word of the exports of a module.
@@ -108,6 +114,39 @@ All features are on unless a preset, the configuration file or a word turns them
 
 /// What the configuration file is.
 const CONFIG_ABOUT: &str = "Reads the configuration from this file, a JSON object.";
+
+/// What the command of invalid files makes.
+const INVALID_ABOUT: &str =
+    "Makes a file that is no valid module: a module of the input with one change that breaks a rule.";
+
+/// What a corpus of invalid files has.
+const INVALID_INDEX: &str =
+    "A corpus has a line for each file in index.tsv: its name, the answer of `check`, the offset of the first fault, its rule, the family, and the twin.";
+
+/// The words of the command that makes invalid files which are those of valid ones, too.
+const SHARED_WORDS: [&str; 8] = [
+    OUTPUT, CONFIG, PRESET, ARBITRARY, COUNT, SEED, SIZE, OUTPUT_DIR,
+];
+
+/// Its other words, its input and the fields aside.
+static INVALID_WORDS: [Word; 2] = [
+    Word {
+        name: FAMILIES,
+        short: None,
+        takes: Takes::Text("NAMES"),
+        needs: None,
+        excludes: &[],
+        about: "The families of changes that are drawn, with commas between them. The default is all; a wrong name lists them.",
+    },
+    Word {
+        name: TWINS,
+        short: None,
+        takes: Takes::Nothing,
+        needs: Some(OUTPUT_DIR),
+        excludes: &[],
+        about: "Writes the valid file from which each file of a corpus differs, too, into the folder twins.",
+    },
+];
 
 /// The words of the command that judges files, its files and the fields aside.
 static CHECK_WORDS: [Word; 4] = [
@@ -297,6 +336,7 @@ const EXAMPLES: &str = "Examples:
   smith_wasm --output-dir corpus --until 1000 --preset wabt --seed 7
   smith_wasm print module.wasm
   smith_wasm check module.wasm
+  smith_wasm invalid --output-dir wrong --count 1000 --twins
   smith_wasm shape library.wasm -o library.wat
   smith_wasm input.bin -o module.wasm --module-shape library.wat";
 
@@ -309,11 +349,16 @@ pub(crate) fn command<'a>(alloc: Global) -> Result<Command<'a>, Failure> {
         .after_help(EXAMPLES)
         .args_conflicts_with_subcommands(true)
         .disable_help_subcommand(true);
-    let input = Arg::new(alloc, INPUT)
+    let command = with_fields(alloc, with_words(alloc, command.arg(input_arg(alloc))?)?)?;
+    let command = with_check(alloc, with_shape(alloc, with_print(alloc, command)?)?)?;
+    with_invalid(alloc, command)
+}
+
+/// Returns the word of the input.
+fn input_arg<'a>(alloc: Global) -> Arg<'a> {
+    Arg::new(alloc, INPUT)
         .value_name("INPUT")
-        .help("The input file; standard input if it is - or omitted.");
-    let command = with_fields(alloc, with_words(alloc, command.arg(input)?)?)?;
-    with_check(alloc, with_shape(alloc, with_print(alloc, command)?)?)
+        .help("The input file; standard input if it is - or omitted.")
 }
 
 /// Adds the command that prints a file.
@@ -385,6 +430,39 @@ fn check_command<'a>(alloc: Global) -> Result<Command<'a>, Failure> {
         command = with_word(alloc, command, word)?;
     }
     with_features(alloc, command)
+}
+
+/// Adds the command that makes invalid files.
+fn with_invalid<'a>(alloc: Global, command: Command<'a>) -> Result<Command<'a>, Failure> {
+    match invalid_command(alloc) {
+        Ok(invalid) => Ok(command.subcommand(invalid)?),
+        Err(failure) => {
+            drop(command);
+            Err(failure)
+        }
+    }
+}
+
+/// Creates the command that makes invalid files.
+fn invalid_command<'a>(alloc: Global) -> Result<Command<'a>, Failure> {
+    let mut command = Command::new(alloc, INVALID)
+        .about(INVALID_ABOUT)
+        .after_help(INVALID_INDEX)
+        .arg(input_arg(alloc))?;
+    for word in &WORDS {
+        if SHARED_WORDS.contains(&word.name) {
+            command = with_word(alloc, command, word)?;
+        }
+    }
+    with_fields(alloc, with_invalid_words(alloc, command)?)
+}
+
+/// Adds the words that only the command of invalid files has.
+fn with_invalid_words<'a>(alloc: Global, mut command: Command<'a>) -> Result<Command<'a>, Failure> {
+    for word in &INVALID_WORDS {
+        command = with_word(alloc, command, word)?;
+    }
+    Ok(command)
 }
 
 /// Adds a word for each field of the configuration that turns features on and off.

@@ -1,0 +1,21 @@
+ghost use Rattle.std.specs.Prelude.{[], ◌∷◌, ◌≡◌};
+ghost use Rattle.smith_binary_read.specs.declared.error.Reason.TheVariants as reason;
+ghost use Rattle.smith_judge.specs.declared.answer.Answer.TheVariants as answer;
+ghost use Rattle.smith_wrong.specs.Changes.{IsChangeOf, family_of};
+ghost use Rattle.smith_wrong.specs.ExampleChanges.{second_byte};
+ghost use Rattle.smith_wrong.specs.Wrong.{NamesRule};
+ghost use Rattle.smith_wrong.specs.declared.families.Family.TheVariants as family;
+ghost use Rattle.smith_wrong_bytes.specs.declared.family.BytesFamily.TheVariants as bytes;
+
+fn changes()
+    ensures replaced { IsChangeOf (second_byte 9) (5 ∷ 6 ∷ 7 ∷ []) (5 ∷ 9 ∷ 7 ∷ []) }
+    ensures kept { IsChangeOf (second_byte 9) (5 ∷ 6 ∷ 7 ∷ []) (5 ∷ 6 ∷ 7 ∷ []) → ⊥ }
+    ensures another { IsChangeOf (second_byte 9) (5 ∷ 6 ∷ 7 ∷ []) (4 ∷ 9 ∷ 7 ∷ []) → ⊥ }
+    ensures family { family_of (second_byte 9) ≡ family.Bytes bytes.Preamble }
+{}
+
+fn rules()
+    ensures malformed { NamesRule (answer.Malformed 3 reason.UnexpectedEnd) }
+    ensures valid { NamesRule answer.Valid → ⊥ }
+    ensures feature_off { NamesRule (answer.FeatureOff 3) → ⊥ }
+{}
