@@ -1,5 +1,6 @@
 -- Modules as they are written.
-use Rattle.std.proofs.Common.{◌≡◌, ℕ, inl, inr, Bool, true, false, eqb, ◌||◌, List, [], ◌∷◌, ◌++◌, length, map, Option, Some, None, Result, Ok, Err}
+use Rattle.std.proofs.Common.{◌≡◌, ℕ, inl, inr, Bool, true, false, eqb, ◌||◌, List, [], ◌∷◌, ◌++◌, length, map, Option, Some, None}
+use Rattle.std.proofs.Common.{Result, Ok, Err}
 use Rattle.std.proofs.Common.{refl, sym, ap, subst, ◌∙◌, append_assoc, append-nil}
 use Rattle.std.specs.Prelude.{Any, IfOk, IfErr, IfSome, IsErrAnd}
 use Rattle.std.specs.List.{list_any}
@@ -29,7 +30,8 @@ use Rattle.smith_encode.proofs.SectionLemmas.{passes_of}
 
 -- sections that were written, then more, whatever number of data segments is stated
 pub sections_on : {A E : Type 0} {ids : List ℕ} {Whole Tail : Option ℕ → List ℕ → Type 0} {a b : Option ℕ × List Custom}
-    {first second : Output} (others : List ℕ) (More : Option ℕ → List ℕ → Type 0) (third : Output) (place_of : A → Option ℕ × List Custom) (r : Result A E)
+    {first second : Output} (others : List ℕ) (More : Option ℕ → List ℕ → Type 0) (third : Output)
+    (place_of : A → Option ℕ × List Custom) (r : Result A E)
     → ((count : Option ℕ) → WritesBefore ids (Tail count) (Whole count) a b first second)
     → IfOk r (λ (next : A). (count : Option ℕ) → WritesBefore others (More count) (Tail count) b (place_of next) second third)
     → IfOk r (λ (next : A). (count : Option ℕ) → WritesBefore (ids ++ others) (More count) (Whole count) a (place_of next) first third)
@@ -38,7 +40,8 @@ sections_on others More third place_of (Err e) one h = tt
 
 -- the same with the number of data segments
 pub back_on : {A E : Type 0} {ids : List ℕ} {Tail : List ℕ → Type 0} {a b : Option ℕ × List Custom} {first second : Output}
-    (others : List ℕ) (More : List ℕ → Type 0) (third : Output) (m : Module) (count : Option ℕ) (place_of : A → Option ℕ × List Custom) (r : Result A E)
+    (others : List ℕ) (More : List ℕ → Type 0) (third : Output) (m : Module) (count : Option ℕ)
+    (place_of : A → Option ℕ × List Custom) (r : Result A E)
     → IsCount m count → WritesBefore ids Tail (FromElements (syntax_of m) count) a b first second
     → IfOk r (λ (next : A). WritesBefore others More Tail b (place_of next) second third)
     → IfOk r (λ (next : A). (count : Option ℕ) × IsCount m count
@@ -47,7 +50,8 @@ back_on others More third m count place_of (Ok next) counts one h = (count, coun
 back_on others More third m count place_of (Err e) counts one h = tt
 
 pub counted_on : {A E : Type 0} {ids : List ℕ} {Whole Tail : Option ℕ → List ℕ → Type 0} {a b : Option ℕ × List Custom}
-    {first second : Output} (others : List ℕ) (More : List ℕ → Type 0) (third : Output) (m : Module) (place_of : A → Option ℕ × List Custom) (r : Result A E)
+    {first second : Output} (others : List ℕ) (More : List ℕ → Type 0) (third : Output) (m : Module)
+    (place_of : A → Option ℕ × List Custom) (r : Result A E)
     → ((count : Option ℕ) → WritesBefore ids (Tail count) (Whole count) a b first second)
     → IfOk r (λ (next : A). (count : Option ℕ) × IsCount m count × WritesBefore others More (Tail count) b (place_of next) second third)
     → IfOk r (λ (next : A). (count : Option ℕ) × IsCount m count

@@ -64,7 +64,8 @@ from_id : {Content : List ℕ → Type 0} {id : ℕ} {piece : List ℕ} (rest : 
     → piece ++ rest ≡ id ∷ (h.second ++ rest)
 from_id rest h = ap (λ (p : List ℕ). p ++ rest) (h.whole ∙ ap (λ (p : List ℕ). p ++ h.second) h.is_first)
 
-exactly : {Content : List ℕ → Type 0} {id : ℕ} {piece : List ℕ} → (h : IsSection id Content piece) → IsSection id (Is h.is_second.content) piece
+exactly : {Content : List ℕ → Type 0} {id : ℕ} {piece : List ℕ} → (h : IsSection id Content piece)
+    → IsSection id (Is h.is_second.content) piece
 exactly h = record {
   first = h.first;
   second = h.second;
@@ -168,10 +169,12 @@ later_ordered : {S : Type 0} {Content More : List ℕ → Type 0} (id : ℕ) (id
     → HasCustomsAfter after customs (section ++ more) → left_after ids (skipped (Some id) (skipped after customs)) ≡ []
 later_ordered id ids nonzero others after customs section more (IsOptionalSection.present h) rest placed =
     let parts = split id section more placed.0 h placed.1 in
-    let among = other_among parts.others nonzero (subst (λ (sections : List (ℕ × List ℕ)). AreAmong after sections customs) parts.is placed.2) in
+    let among = other_among parts.others nonzero
+    (subst (λ (sections : List (ℕ × List ℕ)). AreAmong after sections customs) parts.is placed.2) in
     let those = front_of after customs in
     let left = others.one (Some id) customs more rest (parts.others, parts.each, among) in
-    end_left (id ∷ ids) those.0 (skipped after customs) (ap (λ (all : List Custom). left_after ids (skipped (Some id) all)) (sym those.1) ∙ left)
+    end_left (id ∷ ids) those.0 (skipped after customs)
+    (ap (λ (all : List Custom). left_after ids (skipped (Some id) all)) (sym those.1) ∙ left)
 later_ordered id ids nonzero others after customs section more (IsOptionalSection.absent says empty) rest placed =
     let those = front_of (Some id) (skipped after customs) in
     let left = others.one after customs more rest

@@ -1,5 +1,6 @@
 -- Custom sections that are written at their places.
-use Rattle.std.proofs.Common.{◌≡◌, ℕ, suc, ◌+◌, ◌<◌, Bool, true, false, eqb, ◌||◌, List, [], ◌∷◌, ◌++◌, length, Option, Some, None, Result, Ok, Err, refl}
+use Rattle.std.proofs.Common.{◌≡◌, ℕ, suc, ◌+◌, ◌<◌, Bool, true, false, eqb, ◌||◌, List, [], ◌∷◌, ◌++◌, length, Option, Some, None}
+use Rattle.std.proofs.Common.{Result, Ok, Err, refl}
 use Rattle.std.proofs.Common.{sym, ap, subst, ◌∙◌, append_assoc, append-nil, arith, add-one}
 use Rattle.std.specs.Prelude.{Any, IfOk, not}
 use Rattle.std.proofs.lemmas.Bool.{eqb-true, eq-eqb, ne_eqb, or_parts}
@@ -283,7 +284,8 @@ pub before_on : {ids others : List ℕ} {Whole Tail More : List ℕ → Type 0} 
     → WritesBefore (ids ++ others) More Whole a c first third
 before_on {Whole = Whole} {first = first} one other = record {
   piece = one.piece ++ other.piece;
-  spelled = λ tail h. subst Whole (sym (append_assoc one.piece other.piece tail)) (one.spelled (other.piece ++ tail) (other.spelled tail h));
+  spelled = λ tail h. subst Whole (sym (append_assoc one.piece other.piece tail))
+      (one.spelled (other.piece ++ tail) (other.spelled tail h));
   leads = leads_on one.leads other.leads;
   whole = other.whole ∙ ap (λ (bytes : List ℕ). bytes ++ other.piece) one.whole ∙ append_assoc first.bytes one.piece other.piece;
 }

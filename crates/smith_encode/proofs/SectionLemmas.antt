@@ -1,5 +1,6 @@
 -- Sections as they are written.
-use Rattle.std.proofs.Common.{◌≡◌, ℕ, ◌≤◌, ◌^◌, ◌⊎◌, inl, inr, Bool, true, false, eqb, List, [], ◌∷◌, length, Option, Some, None, Result, Ok}
+use Rattle.std.proofs.Common.{◌≡◌, ℕ, ◌≤◌, ◌^◌, ◌⊎◌, inl, inr, Bool, true, false, eqb, List, [], ◌∷◌, length, Option, Some, None}
+use Rattle.std.proofs.Common.{Result, Ok}
 use Rattle.std.proofs.Common.{Err, refl, sym, ap, subst, arith}
 use Rattle.std.specs.Prelude.{IfOk}
 use Rattle.std.specs.List.{list_all}
@@ -50,8 +51,8 @@ pub start_written : {A E : Type 0} (old : Option ℕ × List Custom) (before aft
     → IfOk r (λ (next : A). (count : Option ℕ)
     → WritesBefore (start_ids start) (Tail count) (IsThen 8 (start ≡ None) (IsStated start) (Tail count)) old (place_of next) before after)
 start_written old before after place_of (Ok next) Tail start index is h = λ count.
-    subst (λ (ids : List ℕ). WritesBefore ids (Tail count) (IsThen 8 (start ≡ None) (IsStated start) (Tail count)) old (place_of next) before
-    after) (sym (ap start_ids is))
+    subst (λ (ids : List ℕ). WritesBefore ids (Tail count) (IsThen 8 (start ≡ None) (IsStated start) (Tail count)) old
+    (place_of next) before after) (sym (ap start_ids is))
     (next_before {S = true ≡ false} {T = start ≡ None} {Content = IsUnsigned 32 index} {Other = IsStated start} (Tail count)
     (λ never. absurd cc) (λ piece one. record { number = index; is = is; form = one }) h)
 start_written old before after place_of (Err e) Tail start index is h = tt
@@ -62,8 +63,8 @@ pub no_start_written : {A E : Type 0} (old : Option ℕ × List Custom) (before 
     → IfOk r (λ (next : A). (count : Option ℕ)
     → WritesBefore (start_ids start) (Tail count) (IsThen 8 (start ≡ None) (IsStated start) (Tail count)) old (place_of next) before after)
 no_start_written old before after place_of (Ok next) Tail start none h = λ count.
-    subst (λ (ids : List ℕ). WritesBefore ids (Tail count) (IsThen 8 (start ≡ None) (IsStated start) (Tail count)) old (place_of next) before
-    after) (sym (ap start_ids none)) (customs_before {T = start ≡ None} {Other = IsStated start} (Tail count) none h)
+    subst (λ (ids : List ℕ). WritesBefore ids (Tail count) (IsThen 8 (start ≡ None) (IsStated start) (Tail count)) old
+    (place_of next) before after) (sym (ap start_ids none)) (customs_before {T = start ≡ None} {Other = IsStated start} (Tail count) none h)
 no_start_written old before after place_of (Err e) Tail start none h = tt
 
 -- the number of data segments, which is stated or not

@@ -63,7 +63,8 @@ pub record WritesNext (id : ℕ) (SaysNothing : Type 0) (Content : List ℕ → 
   pub whole : after.bytes ≡ before.bytes ++ (customs ++ section)
 
 -- what was written makes a whole of each tail of this kind
-pub record WritesBefore (ids : List ℕ) (Tail Whole : List ℕ → Type 0) (old new : Option ℕ × List Custom) (before after : Output) : Type 0 where
+pub record WritesBefore (ids : List ℕ) (Tail Whole : List ℕ → Type 0) (old new : Option ℕ × List Custom)
+    (before after : Output) : Type 0 where
   pub piece : List ℕ
   pub spelled : (tail : List ℕ) → Tail tail → Whole (piece ++ tail)
   pub leads : Leads ids old new piece

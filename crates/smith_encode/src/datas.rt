@@ -1,4 +1,4 @@
-ghost use Rattle.std.specs.Prelude.{◌≡◌, ◌≤◌, ◌^◌, ◌⊎◌, true, length, OnOk, IfErr};
+ghost use Rattle.std.specs.Prelude.{◌≡◌, ◌⊎◌, true, OnOk, IfErr};
 ghost use Rattle.smith_binary.specs.Faults.{IsFault};
 ghost use Rattle.smith_binary.specs.Pieces.{IsByte, IsList, Writes};
 ghost use Rattle.smith_binary_sections.specs.Long.{IsLongText};

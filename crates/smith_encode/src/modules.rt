@@ -116,13 +116,17 @@ fn write_module(module: &Module, sink: &mut Sink) -> Result<bool, EncodeError>
 /// Custom sections are written at their places. A section is written if it isn't empty, or if a custom
 /// section comes right after it. The number of data segments is written if `module` states one, if an
 /// instruction needs it, or if a custom section comes right after it; it is that of the segments, whatever
-/// `module` states. Imports keep their groups, and locals their runs. Integers have as few bytes as possible.
+/// `module` states.
+///
+/// Imports keep their groups, and locals their runs. A table whose elements are null at first is written
+/// without its initialiser. An active segment names its table or memory only if that is not the first, or if
+/// its items have a type that the short form can't state. Integers have as few bytes as possible.
 ///
 /// # Errors
 ///
 /// Returns [`EncodeFault::NoSpelling`] if no bytes are the module, [`EncodeFault::TooLong`] if a list has
-/// 2^32 items or more, or a section or a body 2^32 bytes or more, and [`EncodeFault::Memory`] if an
-/// allocation fails.
+/// 2^32 items or more, a section or a body 2^32 bytes or more, or an instruction an alignment or a lane that
+/// the format has no number for, and [`EncodeFault::Memory`] if an allocation fails.
 pub fn encode(alloc: Global, module: &Module) -> Result<Vec<u8>, EncodeFault>
     // The bytes are the module, with its custom sections at their places.
     ensures spelled { IfOk result (λ bytes. IsModuleBinary (syntax_of «module».now) bytes.items) }

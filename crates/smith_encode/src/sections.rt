@@ -24,7 +24,8 @@ pub(crate) fn write_types<'a>(
     place: Place<'a>,
     sink: &mut Sink,
 ) -> Result<Place<'a>, EncodeError>
-    ensures writes { IfOk result (λ next. (count : Option ℕ) → WritesBefore (1 ∷ []) (FromImports (syntax_of «module».now) count) (FromTypes (syntax_of «module».now) count)
+    ensures writes { IfOk result (λ next. (count : Option ℕ)
+        → WritesBefore (1 ∷ []) (FromImports (syntax_of «module».now) count) (FromTypes (syntax_of «module».now) count)
         (place.entry.after, place.entry.customs.now) (next.after, next.customs.now) sink.old sink.new) }
     ensures fault { IfErr result (IsFault (IsLongFrom «module».now place.entry.customs.now)) }
 {
@@ -37,7 +38,8 @@ pub(crate) fn write_imports<'a>(
     place: Place<'a>,
     sink: &mut Sink,
 ) -> Result<Place<'a>, EncodeError>
-    ensures writes { IfOk result (λ next. (count : Option ℕ) → WritesBefore (2 ∷ []) (FromFunctions (syntax_of «module».now) count) (FromImports (syntax_of «module».now) count)
+    ensures writes { IfOk result (λ next. (count : Option ℕ)
+        → WritesBefore (2 ∷ []) (FromFunctions (syntax_of «module».now) count) (FromImports (syntax_of «module».now) count)
         (place.entry.after, place.entry.customs.now) (next.after, next.customs.now) sink.old sink.new) }
     ensures fault { IfErr result (IsFault (IsLongFrom «module».now place.entry.customs.now)) }
 {
@@ -50,7 +52,8 @@ pub(crate) fn write_functions<'a>(
     place: Place<'a>,
     sink: &mut Sink,
 ) -> Result<Place<'a>, EncodeError>
-    ensures writes { IfOk result (λ next. (count : Option ℕ) → WritesBefore (3 ∷ []) (FromTables (syntax_of «module».now) count) (FromFunctions (syntax_of «module».now) count)
+    ensures writes { IfOk result (λ next. (count : Option ℕ)
+        → WritesBefore (3 ∷ []) (FromTables (syntax_of «module».now) count) (FromFunctions (syntax_of «module».now) count)
         (place.entry.after, place.entry.customs.now) (next.after, next.customs.now) sink.old sink.new) }
     ensures fault { IfErr result (IsFault (IsLongFrom «module».now place.entry.customs.now)) }
 {
@@ -64,7 +67,8 @@ pub(crate) fn write_tables<'a>(
     sink: &mut Sink,
 ) -> Result<Place<'a>, EncodeError>
     requires { are_parts_spelled «module».now ≡ true }
-    ensures writes { IfOk result (λ next. (count : Option ℕ) → WritesBefore (4 ∷ []) (FromMemories (syntax_of «module».now) count) (FromTables (syntax_of «module».now) count)
+    ensures writes { IfOk result (λ next. (count : Option ℕ)
+        → WritesBefore (4 ∷ []) (FromMemories (syntax_of «module».now) count) (FromTables (syntax_of «module».now) count)
         (place.entry.after, place.entry.customs.now) (next.after, next.customs.now) sink.old sink.new) }
     ensures fault { IfErr result (IsFault (IsLongFrom «module».now place.entry.customs.now)) }
 {
@@ -77,7 +81,8 @@ pub(crate) fn write_memories<'a>(
     place: Place<'a>,
     sink: &mut Sink,
 ) -> Result<Place<'a>, EncodeError>
-    ensures writes { IfOk result (λ next. (count : Option ℕ) → WritesBefore (5 ∷ []) (FromTags (syntax_of «module».now) count) (FromMemories (syntax_of «module».now) count)
+    ensures writes { IfOk result (λ next. (count : Option ℕ)
+        → WritesBefore (5 ∷ []) (FromTags (syntax_of «module».now) count) (FromMemories (syntax_of «module».now) count)
         (place.entry.after, place.entry.customs.now) (next.after, next.customs.now) sink.old sink.new) }
     ensures fault { IfErr result (IsFault (IsLongFrom «module».now place.entry.customs.now)) }
 {
@@ -90,7 +95,8 @@ pub(crate) fn write_tags<'a>(
     place: Place<'a>,
     sink: &mut Sink,
 ) -> Result<Place<'a>, EncodeError>
-    ensures writes { IfOk result (λ next. (count : Option ℕ) → WritesBefore (13 ∷ []) (FromGlobals (syntax_of «module».now) count) (FromTags (syntax_of «module».now) count)
+    ensures writes { IfOk result (λ next. (count : Option ℕ)
+        → WritesBefore (13 ∷ []) (FromGlobals (syntax_of «module».now) count) (FromTags (syntax_of «module».now) count)
         (place.entry.after, place.entry.customs.now) (next.after, next.customs.now) sink.old sink.new) }
     ensures fault { IfErr result (IsFault (IsLongFrom «module».now place.entry.customs.now)) }
 {
@@ -104,7 +110,8 @@ pub(crate) fn write_globals<'a>(
     sink: &mut Sink,
 ) -> Result<Place<'a>, EncodeError>
     requires { are_parts_spelled «module».now ≡ true }
-    ensures writes { IfOk result (λ next. (count : Option ℕ) → WritesBefore (6 ∷ []) (FromExports (syntax_of «module».now) count) (FromGlobals (syntax_of «module».now) count)
+    ensures writes { IfOk result (λ next. (count : Option ℕ)
+        → WritesBefore (6 ∷ []) (FromExports (syntax_of «module».now) count) (FromGlobals (syntax_of «module».now) count)
         (place.entry.after, place.entry.customs.now) (next.after, next.customs.now) sink.old sink.new) }
     ensures fault { IfErr result (IsFault (IsLongFrom «module».now place.entry.customs.now)) }
 {
@@ -117,7 +124,8 @@ pub(crate) fn write_exports<'a>(
     place: Place<'a>,
     sink: &mut Sink,
 ) -> Result<Place<'a>, EncodeError>
-    ensures writes { IfOk result (λ next. (count : Option ℕ) → WritesBefore (7 ∷ []) (FromStart (syntax_of «module».now) count) (FromExports (syntax_of «module».now) count)
+    ensures writes { IfOk result (λ next. (count : Option ℕ)
+        → WritesBefore (7 ∷ []) (FromStart (syntax_of «module».now) count) (FromExports (syntax_of «module».now) count)
         (place.entry.after, place.entry.customs.now) (next.after, next.customs.now) sink.old sink.new) }
     ensures fault { IfErr result (IsFault (IsLongFrom «module».now place.entry.customs.now)) }
 {
@@ -130,7 +138,9 @@ pub(crate) fn write_start<'a>(
     place: Place<'a>,
     sink: &mut Sink,
 ) -> Result<Place<'a>, EncodeError>
-    ensures writes { IfOk result (λ next. (count : Option ℕ) → WritesBefore (start_ids «module».now.start) (FromElements (syntax_of «module».now) count) (FromStart (syntax_of «module».now) count)
+    ensures writes { IfOk result (λ next. (count : Option ℕ)
+        → WritesBefore (start_ids «module».now.start) (FromElements (syntax_of «module».now) count)
+        (FromStart (syntax_of «module».now) count)
         (place.entry.after, place.entry.customs.now) (next.after, next.customs.now) sink.old sink.new) }
     ensures fault { IfErr result (IsFault (IsLongFrom «module».now place.entry.customs.now)) }
 {
@@ -147,7 +157,8 @@ pub(crate) fn write_elements<'a>(
     sink: &mut Sink,
 ) -> Result<Place<'a>, EncodeError>
     requires { are_parts_spelled «module».now ≡ true }
-    ensures writes { IfOk result (λ next. (count : Option ℕ) → WritesBefore (9 ∷ []) (FromCount (syntax_of «module».now) count) (FromElements (syntax_of «module».now) count)
+    ensures writes { IfOk result (λ next. (count : Option ℕ)
+        → WritesBefore (9 ∷ []) (FromCount (syntax_of «module».now) count) (FromElements (syntax_of «module».now) count)
         (place.entry.after, place.entry.customs.now) (next.after, next.customs.now) sink.old sink.new) }
     ensures fault { IfErr result (IsFault (IsLongFrom «module».now place.entry.customs.now)) }
 {

@@ -7,9 +7,12 @@ use Rattle.smith_encode.proofs.sections.write_functions.Goals as goal
 
 pub returns-clause-writes : goal.returns-clause-writes
 returns-clause-writes c =
-    section_written _ _ _ _ (λ next. (next.after, next.customs.now)) c.write_list.result (FromTables (syntax_of c.args.module.now)) (λ none. none)
-    (λ piece h. h) (rw c.as_slice.ensures at c.write_list.ensures.writes)
+    section_written _ _ _ _ (λ next. (next.after, next.customs.now)) c.write_list.result (FromTables (syntax_of c.args.module.now))
+    (λ none. none)
+    (λ piece h. h)
+    (rw c.as_slice.ensures at c.write_list.ensures.writes)
 
 pub returns-clause-fault : goal.returns-clause-fault
 returns-clause-fault c =
-    fault_weaker c.write_list.result (long_section IsTooLong.functions) (rw c.as_slice.ensures at c.write_list.ensures.fault)
+    fault_weaker c.write_list.result (long_section IsTooLong.functions)
+    (rw c.as_slice.ensures at c.write_list.ensures.fault)

@@ -11,9 +11,12 @@ use Rattle.smith_encode.proofs.sections.write_imports.Goals as goal
 pub returns-clause-writes : goal.returns-clause-writes
 returns-clause-writes c =
     let m = c.args.module.now in
-    section_written _ _ _ _ (λ next. (next.after, next.customs.now)) c.write_list.result (FromFunctions (syntax_of c.args.module.now)) (λ none. ap flattened none)
-    (imports_viewed.forth m.imports) (rw c.as_slice.ensures at c.write_list.ensures.writes)
+    section_written _ _ _ _ (λ next. (next.after, next.customs.now)) c.write_list.result (FromFunctions (syntax_of m))
+    (λ none. ap flattened none)
+    (imports_viewed.forth m.imports)
+    (rw c.as_slice.ensures at c.write_list.ensures.writes)
 
 pub returns-clause-fault : goal.returns-clause-fault
 returns-clause-fault c =
-    fault_weaker c.write_list.result (long_section IsTooLong.imports) (rw c.as_slice.ensures at c.write_list.ensures.fault)
+    fault_weaker c.write_list.result (long_section IsTooLong.imports)
+    (rw c.as_slice.ensures at c.write_list.ensures.fault)

@@ -16,11 +16,17 @@ pub returns-clause-writes : goal.returns-clause-writes
 returns-clause-writes c =
     let m = c.args.module.now in
     let passes = passes_of m c.requires in
-    section_written _ _ _ _ (λ next. (next.after, next.customs.now)) c.write_list.result (FromMemories (syntax_of c.args.module.now)) (λ none. ap (map table_pair) none)
-    (λ piece h. (list_viewed table_viewed).forth m.tables piece (list_passes is_table_nested IsTableDefinition m.tables piece passes.tables h)) (rw c.as_slice.ensures at c.write_list.ensures.writes)
+    section_written _ _ _ _ (λ next. (next.after, next.customs.now)) c.write_list.result (FromMemories (syntax_of m))
+    (λ none. ap (map table_pair) none)
+    (λ piece h. (list_viewed table_viewed).forth m.tables piece
+    (list_passes is_table_nested IsTableDefinition m.tables piece passes.tables h))
+    (rw c.as_slice.ensures at c.write_list.ensures.writes)
 
 pub returns-clause-fault : goal.returns-clause-fault
 returns-clause-fault c =
     let m = c.args.module.now in
     let passes = passes_of m c.requires in
-    fault_weaker c.write_list.result (long_section (λ long. IsTooLong.tables (long_passes is_table_nested IsTableDefinition m.tables passes.tables long))) (rw c.as_slice.ensures at c.write_list.ensures.fault)
+    fault_weaker c.write_list.result
+    (long_section (λ long. IsTooLong.tables
+    (long_passes is_table_nested IsTableDefinition m.tables passes.tables long)))
+    (rw c.as_slice.ensures at c.write_list.ensures.fault)

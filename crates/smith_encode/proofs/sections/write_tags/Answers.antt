@@ -12,9 +12,12 @@ use Rattle.smith_encode.proofs.sections.write_tags.Goals as goal
 pub returns-clause-writes : goal.returns-clause-writes
 returns-clause-writes c =
     let m = c.args.module.now in
-    section_written _ _ _ _ (λ next. (next.after, next.customs.now)) c.write_list.result (FromGlobals (syntax_of c.args.module.now)) (λ none. ap (map tag_index) none)
-    ((list_viewed tag_viewed).forth m.tags) (rw c.as_slice.ensures at c.write_list.ensures.writes)
+    section_written _ _ _ _ (λ next. (next.after, next.customs.now)) c.write_list.result (FromGlobals (syntax_of m))
+    (λ none. ap (map tag_index) none)
+    ((list_viewed tag_viewed).forth m.tags)
+    (rw c.as_slice.ensures at c.write_list.ensures.writes)
 
 pub returns-clause-fault : goal.returns-clause-fault
 returns-clause-fault c =
-    fault_weaker c.write_list.result (long_section IsTooLong.tags) (rw c.as_slice.ensures at c.write_list.ensures.fault)
+    fault_weaker c.write_list.result (long_section IsTooLong.tags)
+    (rw c.as_slice.ensures at c.write_list.ensures.fault)

@@ -7,5 +7,6 @@ pub returns-clause-writes : goal.returns-clause-writes
 returns-clause-writes c =
     on_ok_weaker c.write_sized.result
     (λ sized. body_written c.args.item.now (content_written c.fresh-content.ensures
-    (joined_written (rw c.as_slice.ensures at c.in_ok-encode.ensures.writes) (rw c.as_slice-2.ensures at c.in_ok-encode_expr.ensures.writes))
+    (joined_written (rw c.as_slice.ensures at c.in_ok-encode.ensures.writes)
+    (rw c.as_slice-2.ensures at c.in_ok-encode_expr.ensures.writes))
     sized)) (rw c.as_slice-3.ensures at c.write_sized.ensures.writes)
