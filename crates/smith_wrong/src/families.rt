@@ -133,16 +133,35 @@ fn family_at(families: &[Family], place: u32) -> Option<Family>
     None
 }
 
+// Families of which few modules have a place have greater weights, so that each is drawn.
 fn module_weight(family: ModuleFamily) -> u32 {
     match family {
-        ModuleFamily::OperandType => 4,
+        ModuleFamily::OperandType
+        | ModuleFamily::MissingOperand
+        | ModuleFamily::ExtraOperand
+        | ModuleFamily::BlockType
+        | ModuleFamily::FunctionResult
+        | ModuleFamily::IndexPastEnd
+        | ModuleFamily::OtherEntity
+        | ModuleFamily::Label => 3,
+        ModuleFamily::CastHierarchy
+        | ModuleFamily::UnsetLocal
+        | ModuleFamily::ImmutableField
+        | ModuleFamily::PackedField
+        | ModuleFamily::Offset
+        | ModuleFamily::Lane
+        | ModuleFamily::LaterGlobal
+        | ModuleFamily::TagType => 8,
         _ => 4,
     }
 }
 
 fn bytes_weight(family: BytesFamily) -> u32 {
     match family {
-        BytesFamily::LongInteger => 4,
-        _ => 4,
+        BytesFamily::BodySize
+        | BytesFamily::FunctionCount
+        | BytesFamily::DataCount
+        | BytesFamily::NotUtf8 => 3,
+        _ => 2,
     }
 }
