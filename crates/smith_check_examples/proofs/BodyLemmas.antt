@@ -1,6 +1,6 @@
 -- Bodies of the examples.
-use Rattle.std.proofs.Common.{◌≡◌, ◌∙◌, ◌<◌, ◌≤◌, ◌++◌, ◌+◌, ℕ, List, [], ◌∷◌, length, length-append, ap, arith, refl, sym, subst}
-use Rattle.std.specs.Prelude.{map, replicate}
+use Rattle.std.proofs.Common.{◌≡◌, ◌∙◌, ◌++◌, ℕ, List, [], ◌∷◌, length, length-append, ap, arith, refl, sym, subst}
+use Rattle.std.specs.Prelude.{map}
 use Rattle.std.proofs.lemmas.List.Elements.{All-nil}
 use Rattle.std.proofs.lemmas.Option.{same_Some}
 use Rattle.smith_syntax.specs.declared.composite_type.FuncType.{FuncType}
@@ -10,7 +10,6 @@ use Rattle.smith_types.specs.ExampleFeatures.{usual_features}
 use Rattle.smith_instr.specs.Contexts.{BodyContext}
 use Rattle.smith_instr.specs.declared.instr.Instr.{Instr}
 use Rattle.smith_instr.specs.declared.instr.Instr.TheVariants as instr
-use Rattle.smith_decode.specs.Modules.{Syntax}
 use Rattle.smith_check_renamed.specs.RenamedInstructions.{renamed_body}
 use Rattle.smith_check_types.specs.Renamed.{renamed_val}
 use Rattle.smith_check_types.specs.TypeSections.{canonical_index}

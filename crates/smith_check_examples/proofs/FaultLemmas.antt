@@ -1,5 +1,5 @@
 -- First faults of the examples.
-use Rattle.std.proofs.Common.{◌≡◌, ◌∙◌, ◌<◌, ◌++◌, ◌+◌, ◌^◌, ◌≤◌, ℕ, zero, suc, List, [], ◌∷◌, Some, length, length-append, ap, arith, inl, inr, refl, sym, subst}
+use Rattle.std.proofs.Common.{◌≡◌, ◌∙◌, ◌<◌, ◌++◌, ℕ, zero, suc, List, [], ◌∷◌, length, length-append, ap, arith, inl, inr, refl, sym, subst}
 use Rattle.std.specs.Prelude.{drop, map, replicate}
 use Rattle.std.specs.List.{All}
 use Rattle.std.proofs.lemmas.List.{length-map}
@@ -8,7 +8,6 @@ use Rattle.std.proofs.lemmas.Option.{same_Some}
 use Rattle.smith_syntax.specs.declared.composite_type.FuncType.{FuncType}
 use Rattle.smith_syntax.specs.declared.value_type.ValType.{ValType}
 use Rattle.smith_syntax.specs.declared.value_type.ValType.TheVariants.{I32}
-use Rattle.smith_types.specs.Entities.{IsFuncTypeIndex}
 use Rattle.smith_types.specs.ExampleFeatures.{usual_features}
 use Rattle.smith_instr.specs.declared.instr.Instr.{Instr}
 use Rattle.smith_instr.specs.declared.instr.Instr.TheVariants as instr
@@ -22,7 +21,7 @@ use Rattle.smith_check_module.specs.SectionFaults.{IsItemRight, parts}
 use Rattle.smith_check_module.specs.declared.faults.Part.{Part}
 use Rattle.smith_check_module.specs.declared.faults.Part.TheVariants as part
 use Rattle.smith_check.specs.ExamplePrograms.{does_nothing}
-use Rattle.smith_check.specs.Faults.{AreTypesRight, HasManyLocals, IsFirstFault, IsUnpaired}
+use Rattle.smith_check.specs.Faults.{HasManyLocals, IsFirstFault}
 use Rattle.smith_check.specs.declared.judgement.Fault.TheVariants as fault
 use Rattle.smith_check.proofs.ExampleLemmas.{does_nothing_valid}
 use Rattle.smith_check.proofs.GroupLemmas.{none_canonical, none_valid}

@@ -1,6 +1,5 @@
 -- Programs of the examples that are valid, but for one part of some.
-use Rattle.std.proofs.Common.{◌≡◌, ◌≤◌, ℕ, List, [], ◌∷◌, Some, arith, refl, rules, true}
-use Rattle.std.specs.Prelude.{length}
+use Rattle.std.proofs.Common.{ℕ, List, [], arith, refl, rules}
 use Rattle.std.proofs.lemmas.List.Elements.{All-cons, All-head, All-nil}
 use Rattle.smith_syntax.specs.declared.entity_type.EntityType.{EntityType}
 use Rattle.smith_syntax.specs.declared.entity_type.EntityType.TheVariants as entity
@@ -14,17 +13,13 @@ use Rattle.smith_types.specs.Expressions.{seeing, seen_by_segments}
 use Rattle.smith_types.specs.ExampleTypes.{nullable}
 use Rattle.smith_syntax.specs.declared.value_type.HeapType.TheVariants.{Concrete}
 use Rattle.smith_decode.specs.Data.{Data}
-use Rattle.smith_check_types.specs.ExampleGroups.{struct_of}
 use Rattle.smith_check_types.specs.TypeSections.{IsInScope, canonical_index}
 use Rattle.smith_check_module.specs.Contexts.{context_in, spaces_in, types_in}
-use Rattle.smith_check_module.specs.ExampleSyntax.{nothing}
 use Rattle.smith_check_module.specs.ValidModules.{AreSectionsValid, IsDataModeValid, IsElementValid}
 use Rattle.smith_check.specs.ValidPrograms.{IsValidProgram}
-use Rattle.smith_check.proofs.ExampleLemmas.{nothing_valid}
 use Rattle.smith_check.proofs.GroupLemmas.{none_canonical, no_types}
-use Rattle.smith_check_examples.specs.ExampleSyntax.{copied_bytes, copied_functions, crossed_limits, exports, exports_twice, imported_memory}
+use Rattle.smith_check_examples.specs.ExampleSyntax.{copied_bytes, copied_functions, crossed_limits, exports, imported_memory}
 use Rattle.smith_check_examples.specs.ExampleSyntax.{imports, passive_bytes, refers_to_a_later_group, small_memory}
-use Rattle.smith_check_examples.proofs.TypeLemmas.{none_below_final}
 
 -- an imported memory, and a passive segment
 small_valid : IsMemoryValid usual_features small_memory

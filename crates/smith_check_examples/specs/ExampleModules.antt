@@ -1,5 +1,5 @@
 -- Modules of the examples, as they are decoded.
-use Rattle.std.specs.Prelude.{ℕ, List, [], ◌∷◌, Some}
+use Rattle.std.specs.Prelude.{List, [], ◌∷◌, Some}
 use Rattle.smith_syntax.specs.declared.value_type.HeapType.TheVariants.{Concrete}
 use Rattle.smith_syntax.specs.declared.value_type.ValType.{ValType}
 use Rattle.smith_syntax.specs.declared.value_type.ValType.TheVariants.{I32, Ref}

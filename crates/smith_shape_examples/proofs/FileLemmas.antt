@@ -4,6 +4,8 @@ use Rattle.smith_config.specs.declared.shape.Shape.{Shape}
 use Rattle.smith_binary_read.specs.Readings.{each_at}
 use Rattle.smith_binary_read.specs.Numbers.{unsigned_at}
 use Rattle.smith_binary_read.specs.Contents.{content_at, name_at, list_at, sized_at}
+use Rattle.smith_binary_read.specs.declared.error.Fault.{Fault}
+use Rattle.smith_binary_read.specs.declared.error.Reason.{Reason}
 use Rattle.smith_binary_read.specs.declared.error.Reason.TheVariants as reason
 use Rattle.smith_decode.specs.CustomReadings.{custom_whole, skip_customs, customs_at, section_at, end_at}
 use Rattle.smith_decode.specs.CustomReadings.{custom_at, next_section_at, gathered_at, kept_at}
@@ -32,6 +34,15 @@ unfolding kept_at gathered_at next_section_at custom_at checked_at module_at pre
     end_at sections_at parts_at functions_at memories_at globals_at starts_at counts_at bodies_at index_whole each_at unsigned_at
     content_at name_at list_at sized_at
 magic_read = refl
+
+-- so the fault is at its end
+pub magic_left : (left : ℕ) (why : Reason) → module_at magic ≡ Err (record { left = left; reason = why }) → 0 ≡ left
+magic_left left why read =
+    let first : Fault = record { left = 0; reason = reason.UnexpectedEnd } in
+    let fault : Fault = record { left = left; reason = why } in
+    let e = sym magic_read ∙ read in
+    let same : first ≡ fault = cc in
+    ap (λ (f : Fault). f.left) same
 
 pub empty_shape : IsShapeBinary (after_preamble []) no_shape
 empty_shape =

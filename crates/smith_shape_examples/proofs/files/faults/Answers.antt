@@ -1,15 +1,15 @@
 use Rattle.std.proofs.Common.{◌∙◌, arith, refl, sym}
-use Rattle.smith_shape_examples.proofs.FileLemmas.{empty_read, magic_read}
+use Rattle.smith_shape_examples.proofs.FileLemmas.{empty_read, magic_left, magic_read}
 use Rattle.smith_shape_examples.proofs.files.faults.Goals as goal
 
 pub returns-clause-cut_module : goal.returns-clause-cut_module
-returns-clause-cut_module c = (refl, 0, magic_read, refl)
+returns-clause-cut_module c = (refl, (0, magic_read, refl))
 
 pub returns-clause-at_another_byte : goal.returns-clause-at_another_byte
-returns-clause-at_another_byte c = λ (binary, left, read, at). let e = sym magic_read ∙ read in let zero : left ≡ 0 = cc in omega (arith, at, zero)
+returns-clause-at_another_byte c = λ (binary, (left, read, at)). let last = magic_left left _ read in omega (arith, at, last)
 
 pub returns-clause-of_a_module : goal.returns-clause-of_a_module
-returns-clause-of_a_module c = λ (binary, left, read, at). let e = sym empty_read ∙ read in cc
+returns-clause-of_a_module c = λ (binary, (left, read, at)). let e = sym empty_read ∙ read in cc
 
 pub returns-clause-in_a_text : goal.returns-clause-in_a_text
 returns-clause-in_a_text c = (refl, omega arith)
