@@ -119,13 +119,6 @@ skipped_here : (after : Option ℕ) (custom : Custom) (more : List Custom) → i
     → skipped after (custom ∷ more) ≡ skipped after more
 skipped_here after custom more here = rw here refl
 
-pub skipped_none : (after : Option ℕ) (customs : List Custom) → customs ≡ [] → skipped after customs ≡ customs
-skipped_none after customs none = rw none refl
-
-pub skipped_elsewhere : (after : Option ℕ) (customs more : List Custom) (custom : Custom) → customs ≡ custom ∷ more
-    → is_same_section custom.after after ≡ false → skipped after customs ≡ customs
-skipped_elsewhere after customs more custom is elsewhere = rw (is, elsewhere) refl
-
 not_due : (id : ℕ) (customs : List Custom) → is_due id customs ≡ false → skipped (Some id) customs ≡ customs
 not_due id [] elsewhere = refl
 not_due id (custom ∷ customs) elsewhere = rw elsewhere refl

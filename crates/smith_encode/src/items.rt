@@ -22,8 +22,8 @@ use smith_decode::{Body, GlobalDefinition, LocalRun, TableDefinition};
 use smith_instr::{Instr, ReferenceInstr};
 use smith_types::{ExportKind, Items, SubType, is_same};
 
-/// A writer of the items of a decoded module. An item whose blocks don't all end, and a body of 2^32 locals
-/// or more, has no spelling; what is written of it is nothing in particular.
+/// A writer of the items of a decoded module. What it writes of an item that has no spelling, as an expression
+/// in which a block doesn't end, means nothing: callers check before.
 #[derive(Clone, Copy)]
 pub(crate) struct Decoded;
 
