@@ -26,10 +26,10 @@
 //!   answer.
 //!
 //! An answer is text: the text of a module as `smith_text` writes it, of a program as
-//! `smith_text_program` does, or of a decoded file as `smith_text_file` does; for encoded ones the line `8 bytes, SHA-256 93a4..`, and the bytes
-//! after the word `binary` if there are at most 200; else a line for each value. A refusal is a
-//! line such as `refused: IncorrectFormat(TypeSize)`. After a draw, `left 2` is the number of bytes
-//! left, and `next 0102` the first of them.
+//! `smith_text_program` does, or of a decoded file as `smith_text_file` does; for encoded ones the
+//! line `8 bytes, SHA-256 93a4..`, and the bytes after the word `binary` if there are at most 200;
+//! else a line for each value. A refusal is a line such as `refused: IncorrectFormat(TypeSize)`.
+//! After a draw, `left 2` is the number of bytes left, and `next 0102` the first of them.
 //!
 //! A case wants at least one of the first four of these, none of them empty. Blanks around lines do
 //! not count.

@@ -114,7 +114,8 @@ pub drop_not_valid : IsValidProgram usual_features (record does_nothing { bodies
 drop_not_valid program =
     let valid = program.functions 0 (omega arith) in
     let code : ([], instr.Drop ∷ []) ≡ valid.there.code = same_Some ([], instr.Drop ∷ []) valid.there.code valid.there.held in
-    let body = valid.there.body_is ∙ sym (ap (λ (c : List ValType × List Instr). renamed_body (canonical_index program.indices) c.1) code) in
+    let renamed_code : List ValType × List Instr → List Instr = λ c. renamed_body (canonical_index program.indices) c.1 in
+    let body = valid.there.body_is ∙ sym (ap renamed_code code) in
     drop_untyped _ valid.body [] body valid.body_typed
 
 -- no instructions are not refused where a function returns nothing

@@ -1,5 +1,6 @@
 -- First faults of the examples.
-use Rattle.std.proofs.Common.{◌≡◌, ◌∙◌, ◌<◌, ◌++◌, ℕ, zero, suc, List, [], ◌∷◌, length, length-append, ap, arith, inl, inr, refl, sym, subst}
+use Rattle.std.proofs.Common.{◌≡◌, ◌∙◌, ◌<◌, ◌++◌, ℕ, zero, suc, List, [], ◌∷◌, length, length-append}
+use Rattle.std.proofs.Common.{ap, arith, inl, inr, refl, sym, subst}
 use Rattle.std.specs.Prelude.{drop, map, replicate}
 use Rattle.std.specs.List.{All}
 use Rattle.std.proofs.lemmas.List.{length-map}
@@ -99,7 +100,8 @@ tags_before P (kind ∷ kinds) after order each =
 pub functions_not_first : IsFirstFault usual_features two_faults (fault.Section (record { part = part.Functions; index = 0 })) → ⊥
 functions_not_first (indices, types, first) =
     let m = syntax_of two_faults in
-    let P : Part → Type 0 = λ kind. (index : ℕ) → IsItemRight (context_in usual_features indices m) indices (spaces_in indices m) m kind index in
+    let context = context_in usual_features indices m in
+    let P : Part → Type 0 = λ kind. (index : ℕ) → IsItemRight context indices (spaces_in indices m) m kind index in
     tag_wrong indices (tags_before P first.before first.after first.order first.earlier 0)
 
 pub second_tag_not_first : IsFirstFault usual_features two_faults (fault.Section (record { part = part.Tags; index = 1 })) → ⊥

@@ -1,6 +1,7 @@
 -- Programs of the examples that are valid, but for one part of some.
-use Rattle.std.proofs.Common.{ℕ, List, [], arith, refl, rules}
+use Rattle.std.proofs.Common.{◌≡◌, ◌∙◌, ◌<◌, ℕ, List, [], length, ap, arith, refl, rules, subst, sym}
 use Rattle.std.proofs.lemmas.List.Elements.{All-cons, All-head, All-nil}
+use Rattle.smith_syntax.specs.declared.composite_type.SubType.{SubType}
 use Rattle.smith_syntax.specs.declared.entity_type.EntityType.{EntityType}
 use Rattle.smith_syntax.specs.declared.entity_type.EntityType.TheVariants as entity
 use Rattle.smith_syntax.specs.declared.entity_type.ExportKind.{ExportKind}
@@ -11,80 +12,85 @@ use Rattle.smith_types.specs.ExampleFeatures.{usual_features}
 use Rattle.smith_types.specs.Exports.{IsEntityAt}
 use Rattle.smith_types.specs.Expressions.{seeing, seen_by_segments}
 use Rattle.smith_types.specs.ExampleTypes.{nullable}
+use Rattle.smith_types.specs.Groups.{space_of}
+use Rattle.smith_types.specs.ValidTypes.{AreTypesValid}
 use Rattle.smith_syntax.specs.declared.value_type.HeapType.TheVariants.{Concrete}
 use Rattle.smith_decode.specs.Data.{Data}
-use Rattle.smith_check_types.specs.TypeSections.{IsInScope, canonical_index}
+use Rattle.smith_decode.specs.Modules.{Syntax}
+use Rattle.smith_check_types.specs.Canonical.{AreCanonical}
+use Rattle.smith_check_types.specs.TypeSections.{AreGroupsInScope, IsInScope, canonical_groups, canonical_index}
 use Rattle.smith_check_module.specs.Contexts.{context_in, spaces_in, types_in}
+use Rattle.smith_check_module.specs.ExampleSyntax.{nothing}
 use Rattle.smith_check_module.specs.ValidModules.{AreSectionsValid, IsDataModeValid, IsElementValid}
 use Rattle.smith_check.specs.ValidPrograms.{IsValidProgram}
-use Rattle.smith_check.proofs.GroupLemmas.{none_canonical, no_types}
+use Rattle.smith_check.proofs.ExampleLemmas.{nothing_valid}
 use Rattle.smith_check_examples.specs.ExampleSyntax.{copied_bytes, copied_functions, crossed_limits, exports, imported_memory}
 use Rattle.smith_check_examples.specs.ExampleSyntax.{imports, passive_bytes, refers_to_a_later_group, small_memory}
 
--- an imported memory, and a passive segment
+-- an imported memory, and a passive segment, in a module that has nothing else
+abbrev indices : List ℕ
+indices = nothing_valid.indices
+
+abbrev none : AreSectionsValid usual_features indices nothing
+none = nothing_valid.sections
+
 small_valid : IsMemoryValid usual_features small_memory
 small_valid = search rules
 
-memory_sections : AreSectionsValid usual_features [] imported_memory
+memory_sections : AreSectionsValid usual_features indices imported_memory
 memory_sections = record {
   entities = record {
-    tags = All-nil _;
-    funcs = All-nil _;
-    tables = All-nil _;
+    tags = none.entities.tags;
+    funcs = none.entities.funcs;
+    tables = none.entities.tables;
     memories = All-cons (IsMemoryValid usual_features) small_memory [] small_valid (All-nil _);
-    globals = All-nil _;
+    globals = none.entities.globals;
   };
   counts = record {
-    tags = λ some. absurd (omega (arith, some));
-    several_tables = λ some. absurd (omega (arith, some));
+    tags = none.counts.tags;
+    several_tables = none.counts.several_tables;
     several_memories = λ some. absurd (omega (arith, some));
   };
-  definitions = record { tables = All-nil _; globals = tt };
-  exports = record { stand = All-nil _; distinct = record { once = λ i j item at there. absurd (cc at) } };
-  start = tt;
+  definitions = record { tables = none.definitions.tables; globals = none.definitions.globals };
+  exports = record { stand = All-nil _; distinct = none.exports.distinct };
+  start = none.start;
   segments = record { elements = All-nil _; datas = All-nil _ };
 }
 
-pub imported_memory_valid : IsValidProgram usual_features imported_memory
-imported_memory_valid = record {
-  scope = tt;
-  indices = [];
-  canonical = none_canonical;
-  types = no_types usual_features;
-  sections = memory_sections;
-  bodies = refl;
-  functions = λ place inside. absurd (omega (arith, inside));
+passive_sections : AreSectionsValid usual_features indices passive_bytes
+passive_sections = record {
+  entities = none.entities;
+  counts = none.counts;
+  definitions = record { tables = none.definitions.tables; globals = none.definitions.globals };
+  exports = none.exports;
+  start = none.start;
+  segments = record {
+    elements = none.segments.elements;
+    datas = All-cons (λ (segment : Data). IsDataModeValid (seeing (context_in usual_features indices passive_bytes)
+        (seen_by_segments (context_in usual_features indices passive_bytes))) indices (spaces_in indices passive_bytes) segment.mode) _ []
+        refl (All-nil _);
+  };
 }
 
-passive_sections : AreSectionsValid usual_features [] passive_bytes
-passive_sections = record {
-  entities = record { tags = All-nil _; funcs = All-nil _; tables = All-nil _; memories = All-nil _; globals = All-nil _ };
-  counts = record {
-    tags = λ some. absurd (omega (arith, some));
-    several_tables = λ some. absurd (omega (arith, some));
-    several_memories = λ some. absurd (omega (arith, some));
-  };
-  definitions = record { tables = All-nil _; globals = tt };
-  exports = record { stand = All-nil _; distinct = record { once = λ i j item at there. absurd (cc at) } };
-  start = tt;
-  segments = record {
-    elements = All-nil _;
-    datas = All-cons (λ (segment : Data). IsDataModeValid (seeing (context_in usual_features [] passive_bytes)
-        (seen_by_segments (context_in usual_features [] passive_bytes))) [] (spaces_in [] passive_bytes) segment.mode) _ [] refl
-        (All-nil _);
-  };
+-- a module is valid if all its sections are, and it has neither types nor functions
+with_sections : (m : Syntax) → m.types ≡ [] → m.functions ≡ [] → m.bodies ≡ [] → AreSectionsValid usual_features indices m
+    → IsValidProgram usual_features m
+with_sections m untyped empty bodiless sections = record {
+  scope = subst (AreGroupsInScope 0) (sym untyped) nothing_valid.scope;
+  indices = indices;
+  canonical = subst (λ (groups : List (List SubType)). AreCanonical groups indices) (sym untyped) nothing_valid.canonical;
+  types = subst (λ (groups : List (List SubType)). AreTypesValid usual_features (space_of (canonical_groups indices groups))) (sym untyped)
+      nothing_valid.types;
+  sections = sections;
+  bodies = ap length empty ∙ sym (ap length bodiless);
+  functions = λ place inside. absurd (omega (arith, inside, ap length empty));
 }
+
+pub imported_memory_valid : IsValidProgram usual_features imported_memory
+imported_memory_valid = with_sections imported_memory refl refl refl memory_sections
 
 pub passive_valid : IsValidProgram usual_features passive_bytes
-passive_valid = record {
-  scope = tt;
-  indices = [];
-  canonical = none_canonical;
-  types = no_types usual_features;
-  sections = passive_sections;
-  bodies = refl;
-  functions = λ place inside. absurd (omega (arith, inside));
-}
+passive_valid = with_sections passive_bytes refl refl refl passive_sections
 
 -- imports
 pub no_function_type : IsValidProgram usual_features (imports (entity.Func 0)) → ⊥

@@ -1,5 +1,5 @@
 -- How the files of the examples are read.
-use Rattle.std.proofs.Common.{◌≡◌, ◌∙◌, ℕ, List, [], ◌∷◌, Err, Ok, ap, refl, sym}
+use Rattle.std.proofs.Common.{◌≡◌, ◌∙◌, ℕ, [], ◌∷◌, Err, Ok, ap, refl, sym}
 use Rattle.smith_config.specs.declared.shape.Shape.{Shape}
 use Rattle.smith_binary_read.specs.Readings.{each_at}
 use Rattle.smith_binary_read.specs.Numbers.{unsigned_at}
@@ -12,7 +12,7 @@ use Rattle.smith_decode.specs.CustomReadings.{custom_at, next_section_at, gather
 use Rattle.smith_decode.specs.ModuleReadings.{preamble_at, index_whole, bodies_at, counts_at, starts_at, globals_at, memories_at}
 use Rattle.smith_decode.specs.ModuleReadings.{functions_at, parts_at, sections_at, checked_at, module_at}
 use Rattle.smith_decode.specs.ExampleModules.{after_preamble, no_item}
-use Rattle.smith_decode.specs.Modules.{IsModuleBinary, Syntax, syntax_of}
+use Rattle.smith_decode.specs.Modules.{Syntax, syntax_of}
 use Rattle.smith_decode.proofs.ContentsLemmas.{module_back, module_forth}
 use Rattle.smith_decode.proofs.EncoderLemmas.{no_module}
 use Rattle.smith_decode.proofs.ModuleLemmas.{module_decodes}
