@@ -1,4 +1,4 @@
-use Rattle.std.proofs.Common.{◌≡◌, ◌≤◌, ◌<◌, ℕ, zero, suc, List, [], ◌∷◌, ◌++◌, length, take, drop, set, insert, remove, get_or, refl, sym, ap, subst, ◌∙◌, arith}
+use Rattle.std.proofs.Common.{◌≡◌, Bool, true, false, MatchBool, ◌≤◌, ◌<◌, ℕ, zero, suc, List, [], ◌∷◌, ◌++◌, length, take, drop, set, insert, remove, get_or, refl, sym, ap, subst, ◌∙◌, arith}
 use Rattle.std.proofs.lemmas.List.{take-append-drop, length-take-le}
 use Rattle.std.proofs.Math.Seq.{split_at, set_split, take-append_seam, drop-append_seam}
 use Rattle.smith_wrong_module.specs.Splices.{DifferAt, AtMostOne, OneItem}
@@ -48,25 +48,36 @@ insert-remove [] i y within = absurd (omega (arith, within))
 insert-remove (x ∷ xs) zero y within = refl
 insert-remove (x ∷ xs) (suc i) y within = ap (λ l. x ∷ l) (insert-remove xs i y (omega (arith, within)))
 
--- a list with one item changed
-pub changes : {A : Type 0} (xs : List A) (i : ℕ) (y : A) → i < length xs → DifferAt AtMostOne i xs (insert (remove xs i) i y)
-changes xs i y within = subst (λ l. DifferAt AtMostOne i xs l) (sym (insert-remove xs i y within)) (replaces xs i y within)
+-- a list where an item was taken out and another one put
+pub changes : {A : Type 0} (xs rest ys : List A) (i : ℕ) (y : A) → i < length xs → rest ≡ remove xs i → ys ≡ insert rest i y
+    → DifferAt AtMostOne i xs ys
+changes xs rest ys i y within taken put = subst (λ l. DifferAt AtMostOne i xs l)
+    (sym (put ∙ ap (λ l. insert l i y) taken ∙ insert-remove xs i y within))
+    (replaces xs i y within)
 
--- a list with an item that differs by a relation
-pub differs : {A : Type 0} (R : A → A → Type 0) (xs : List A) (i : ℕ) (x y : A) → i < length xs → x ≡ get_or xs i x
-    → R x y → DifferAt (OneItem R) i xs (insert (remove xs i) i y)
-differs R xs i x y within is differ = record {
+-- a list where an item was taken out and put in again, after a change by a relation
+pub differs : {A : Type 0} (R : A → A → Type 0) (xs rest ys : List A) (i : ℕ) (x y : A) → i < length xs → x ≡ get_or xs i x
+    → rest ≡ remove xs i → ys ≡ insert rest i y → R x y → DifferAt (OneItem R) i xs ys
+differs R xs rest ys i x y within is taken put differ = record {
   before = take i xs;
   piece = get_or xs i x ∷ [];
   changed = y ∷ [];
   after = drop (suc i) xs;
   old_parts = split_at xs i x within;
-  new_parts = insert-remove xs i y within ∙ set_split xs i y within;
+  new_parts = put ∙ ap (λ l. insert l i y) taken ∙ insert-remove xs i y within ∙ set_split xs i y within;
   place = length-take-le i xs (omega (arith, within));
   differ = subst (λ z. R z y) is differ;
 }
 
--- an item that is put back
-pub put_back_same : {A : Type 0} (xs : List A) (i : ℕ) (x : A) → i < length xs → x ≡ get_or xs i x
-    → insert (remove xs i) i x ≡ xs
-put_back_same xs i x within is = grind (arith, insert-remove xs i x within, split_at xs i x within, set_split xs i x within, is)
+-- a list where an item was taken out and put in again
+pub stays : {A : Type 0} (xs rest ys : List A) (i : ℕ) (x y : A) → i < length xs → x ≡ get_or xs i x → rest ≡ remove xs i
+    → y ≡ x → ys ≡ insert rest i y → ys ≡ xs
+stays xs rest ys i x y within is taken same put = put ∙ ap (λ l. insert l i y) taken ∙ insert-remove xs i y within
+    ∙ set_split xs i y within ∙ ap (λ z. take i xs ++ z ∷ drop (suc i) xs) (same ∙ is) ∙ sym (split_at xs i x within)
+
+-- what holds of an edit that was made, and of one that wasn't
+pub made : (P Q : Type 0) (done : Bool) → done ≡ true → MatchBool done P Q → P
+made P Q done is fact = subst (λ b. MatchBool b P Q) is fact
+
+pub not_made : (P Q : Type 0) (done : Bool) → done ≡ false → MatchBool done P Q → Q
+not_made P Q done is fact = subst (λ b. MatchBool b P Q) is fact

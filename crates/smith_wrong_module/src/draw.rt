@@ -1,12 +1,32 @@
 ghost use Rattle.std.specs.Prelude.{◌≡◌, IfErr, IfOk};
 ghost use Rattle.smith_wrong_module.specs.Changes.{IsDrawn};
 
+use crate::bodies::{break_body, end_body};
 use crate::change::{Change, make_change};
+use crate::constants::break_constant;
+use crate::entity_types::{break_data, break_element, break_function, break_import, break_tag};
+use crate::exports::{break_start, export_past_end, repeat_export};
 use crate::family::ModuleFamily;
+use crate::groups::{break_supertype, finish_type, refer_forward};
 use crate::limits::break_limits;
+use crate::variables::freeze_global;
 use smith_bytes::{Error, Unstructured};
 use smith_decode::{Module, Place};
 use std::alloc::Global;
+
+// Draws a write to an immutable global, or makes a mutable global immutable.
+fn find_immutable(
+    alloc: Global,
+    module: &Module,
+    u: &mut Unstructured<'_>,
+) -> Result<Option<Change>, Error>
+    ensures memory { IfErr result (λ e. e ≡ Error.Memory) }
+{
+    match break_body(alloc, ModuleFamily::ImmutableGlobal, module, u)? {
+        Some(change) => Ok(Some(change)),
+        None => Ok(freeze_global(module, u)),
+    }
+}
 
 // Draws a change of `module` of the family `family`, if one fits.
 fn find_change(
@@ -18,8 +38,24 @@ fn find_change(
     ensures memory { IfErr result (λ e. e ≡ Error.Memory) }
 {
     match family {
+        ModuleFamily::FunctionResult => Ok(end_body(module, u)),
+        ModuleFamily::ImmutableGlobal => find_immutable(alloc, module, u),
+        ModuleFamily::Supertype => break_supertype(alloc, module, u),
+        ModuleFamily::FinalType => finish_type(alloc, module, u),
+        ModuleFamily::ForwardReference => refer_forward(alloc, module, u),
         ModuleFamily::Limits => Ok(break_limits(module, u)),
-        _ => Ok(None),
+        ModuleFamily::DuplicateExport => repeat_export(alloc, module, u),
+        ModuleFamily::ExportIndex => export_past_end(alloc, module, u),
+        ModuleFamily::StartFunction => break_start(alloc, module, u),
+        ModuleFamily::ConstantType | ModuleFamily::NonConstant | ModuleFamily::LaterGlobal => {
+            break_constant(alloc, family, module, u)
+        }
+        ModuleFamily::FunctionType => break_function(alloc, module, u),
+        ModuleFamily::TagType => break_tag(alloc, module, u),
+        ModuleFamily::ImportType => break_import(alloc, module, u),
+        ModuleFamily::ElementSegment => break_element(alloc, module, u),
+        ModuleFamily::DataSegment => break_data(alloc, module, u),
+        _ => break_body(alloc, family, module, u),
     }
 }
 

@@ -24,7 +24,7 @@ pub enum ModuleFamily {
     Label,
     /// A test or a cast to a type of another hierarchy (Heap Types).
     CastHierarchy,
-    /// A tail call in place of a call, or of another function (Control Instructions).
+    /// A tail call in place of a call, of another type than the function (Control Instructions).
     TailCall,
     /// An instruction after one that leaves, where it is typed too (Control Instructions).
     DeadCode,

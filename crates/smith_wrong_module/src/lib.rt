@@ -3,14 +3,31 @@
 //! Validation.
 #![tactic(auto)]
 
+mod aggregates;
+mod bodies;
 mod change;
+mod constants;
+mod control;
 mod draw;
 mod edit;
 mod entities;
+mod entity_indices;
+mod entity_types;
+mod exports;
 mod expressions;
+mod facts;
 mod family;
+mod groups;
+mod indices;
 mod limits;
+mod memory;
+mod operands;
+mod picks;
+mod references;
+mod rotation;
 mod segments;
+mod type_indices;
+mod variables;
 
 pub use draw::draw_change;
 pub use family::ModuleFamily;

@@ -3,18 +3,23 @@ use smith_bytes::Unstructured;
 use smith_decode::Module;
 use smith_types::{MemoryType, TableType};
 
-// Returns limits whose minimum is above the maximum `most`, if there is a number above it.
-fn above(most: u64, u: &mut Unstructured<'_>) -> Option<u64> {
-    if most == u64::MAX {
+// Draws a minimum above the maximum `most`, of 64 bits or of 32, if there is one.
+fn above(most: u64, is_64_bit: bool, u: &mut Unstructured<'_>) -> Option<u64> {
+    let greatest = if is_64_bit {
+        u64::MAX
+    } else {
+        u64::from(u32::MAX)
+    };
+    if most >= greatest {
         return None;
     }
-    Some(u.int_in_range(most + 1..=u64::MAX))
+    Some(u.int_in_range(most + 1..=greatest))
 }
 
-// Returns a type with a minimum above its maximum.
-fn disordered_table(table: TableType, u: &mut Unstructured<'_>) -> Option<TableType> {
+/// Returns a type with a minimum above its maximum.
+pub(crate) fn disordered_table(table: TableType, u: &mut Unstructured<'_>) -> Option<TableType> {
     let most = table.maximum.unwrap_or(table.minimum);
-    let minimum = above(most, u)?;
+    let minimum = above(most, table.table64, u)?;
     Some(TableType {
         element_type: table.element_type,
         minimum,
@@ -24,10 +29,13 @@ fn disordered_table(table: TableType, u: &mut Unstructured<'_>) -> Option<TableT
     })
 }
 
-// Returns a type with a minimum above its maximum.
-fn disordered_memory(memory: MemoryType, u: &mut Unstructured<'_>) -> Option<MemoryType> {
+/// Returns a type with a minimum above its maximum.
+pub(crate) fn disordered_memory(
+    memory: MemoryType,
+    u: &mut Unstructured<'_>,
+) -> Option<MemoryType> {
     let most = memory.maximum.unwrap_or(memory.minimum);
-    let minimum = above(most, u)?;
+    let minimum = above(most, memory.memory64, u)?;
     Some(MemoryType {
         minimum,
         maximum: Some(most),
