@@ -136,32 +136,25 @@ fn family_at(families: &[Family], place: u32) -> Option<Family>
 // Families of which few modules have a place have greater weights, so that each is drawn.
 fn module_weight(family: ModuleFamily) -> u32 {
     match family {
-        ModuleFamily::OperandType
-        | ModuleFamily::MissingOperand
-        | ModuleFamily::ExtraOperand
-        | ModuleFamily::BlockType
-        | ModuleFamily::FunctionResult
-        | ModuleFamily::IndexPastEnd
-        | ModuleFamily::OtherEntity
-        | ModuleFamily::Label => 3,
-        ModuleFamily::CastHierarchy
-        | ModuleFamily::UnsetLocal
-        | ModuleFamily::ImmutableField
+        ModuleFamily::Offset | ModuleFamily::ImmutableGlobal => 24,
+        ModuleFamily::DeadCode => 16,
+        ModuleFamily::TailCall | ModuleFamily::UndeclaredFunction | ModuleFamily::ElementSegment =>
+            12,
+        ModuleFamily::ImmutableField
         | ModuleFamily::PackedField
-        | ModuleFamily::Offset
-        | ModuleFamily::Lane
-        | ModuleFamily::LaterGlobal
+        | ModuleFamily::Alignment
+        | ModuleFamily::ImportType
         | ModuleFamily::TagType => 8,
+        // No drawn module has a local without a default value.
+        ModuleFamily::UnsetLocal => 1,
         _ => 4,
     }
 }
 
 fn bytes_weight(family: BytesFamily) -> u32 {
     match family {
-        BytesFamily::BodySize
-        | BytesFamily::FunctionCount
-        | BytesFamily::DataCount
-        | BytesFamily::NotUtf8 => 3,
+        BytesFamily::DataCount => 4,
+        BytesFamily::FunctionCount | BytesFamily::BodySize | BytesFamily::NotUtf8 => 3,
         _ => 2,
     }
 }
