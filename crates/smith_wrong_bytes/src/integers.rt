@@ -1,3 +1,5 @@
+ghost use Rattle.std.specs.Prelude.{◌≤◌};
+
 use crate::edit::{Edit, Picks, bytes_at, replace};
 use crate::places::Kind;
 use crate::stop::Stop;
@@ -5,7 +7,9 @@ use crate::walk::pick_place;
 use std::alloc::Global;
 
 // Returns the greatest number of bytes of an integer of `bits` bits (Integers).
-fn most_bytes(bits: u32) -> usize {
+fn most_bytes(bits: u32) -> usize
+    ensures { result ≤ 10 }
+{
     match bits {
         32 | 33 => 5,
         _ => 10,
