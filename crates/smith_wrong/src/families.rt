@@ -136,7 +136,8 @@ fn family_at(families: &[Family], place: u32) -> Option<Family>
 // Families of which few modules have a place have greater weights, so that each is drawn.
 fn module_weight(family: ModuleFamily) -> u32 {
     match family {
-        ModuleFamily::Offset | ModuleFamily::ImmutableGlobal => 24,
+        ModuleFamily::ImmutableGlobal => 32,
+        ModuleFamily::Offset => 24,
         ModuleFamily::DeadCode => 16,
         ModuleFamily::TailCall | ModuleFamily::UndeclaredFunction | ModuleFamily::ElementSegment =>
             12,
