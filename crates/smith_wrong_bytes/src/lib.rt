@@ -20,8 +20,6 @@ mod part;
 mod places;
 mod sections;
 mod stop;
-#[cfg(test)]
-mod tests;
 mod types;
 mod walk;
 
