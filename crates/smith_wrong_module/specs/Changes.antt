@@ -12,6 +12,10 @@ abbrev pub DifferInInstruction : ℕ → Body → Body → Type 0
 DifferInInstruction index old new =
     DifferAt AtMostOne index old.instructions new.instructions × (new ≡ record old { instructions = new.instructions })
 
+-- bodies that differ in one run of locals
+abbrev pub DifferInLocals : Body → Body → Type 0
+DifferInLocals old new = AreSpliced old.locals new.locals × (new ≡ record old { locals = new.locals })
+
 -- globals whose initialisers differ in one instruction
 abbrev pub DifferInInitial : GlobalDefinition → GlobalDefinition → Type 0
 DifferInInitial old new = AreSpliced old.initial new.initial × (new ≡ record old { initial = new.initial })
@@ -35,7 +39,8 @@ IsChangedAt place.Start m n = n ≡ record m { start = n.start }
 IsChangedAt (place.Element index) m n =
     DifferAt AtMostOne index m.elements n.elements × (n ≡ record m { elements = n.elements })
 IsChangedAt place.DataCount m n = n ≡ record m { data_count = n.data_count }
-IsChangedAt (place.Body index) m n = DifferAt AtMostOne index m.bodies n.bodies × (n ≡ record m { bodies = n.bodies })
+IsChangedAt (place.Body index) m n =
+    DifferAt (OneItem DifferInLocals) index m.bodies n.bodies × (n ≡ record m { bodies = n.bodies })
 IsChangedAt (place.Instruction body index) m n =
     DifferAt (OneItem (DifferInInstruction index)) body m.bodies n.bodies × (n ≡ record m { bodies = n.bodies })
 IsChangedAt (place.Data index) m n = DifferAt AtMostOne index m.datas n.datas × (n ≡ record m { datas = n.datas })

@@ -6,13 +6,13 @@ use crate::entities::{
     change_function, change_global, change_import, change_memory, change_start, change_table,
     change_tag, edit_exports, edit_group,
 };
-use crate::expressions::{Site, edit_expression};
+use crate::expressions::{Site, change_locals, edit_expression};
 use crate::segments::{
-    change_data_memory, change_element_function, change_element_table, change_element_type,
+    change_data_mode, change_element_function, change_element_table, change_element_type,
 };
 use smith_binary_read::Export;
 use smith_bytes::Error;
-use smith_decode::{Module, Place};
+use smith_decode::{DataMode, LocalRun, Module, Place};
 use smith_instr::Instr;
 use smith_types::{EntityType, GlobalType, MemoryType, RefType, SubType, TableType};
 use std::alloc::Global;
@@ -85,10 +85,16 @@ pub(crate) enum Change {
         item: usize,
         function: u32,
     },
-    /// Another memory of an active data segment.
-    DataMemory {
+    /// Another mode of a data segment.
+    DataMode {
         index: usize,
-        memory: u32,
+        mode: DataMode,
+    },
+    /// Another run of locals of a body.
+    Locals {
+        body: usize,
+        run: usize,
+        locals: LocalRun,
     },
 }
 
@@ -122,6 +128,7 @@ pub(crate) fn make_change(
             item,
             function,
         } => change_element_function(alloc, module, index, item, function),
-        Change::DataMemory { index, memory } => change_data_memory(alloc, module, index, memory),
+        Change::DataMode { index, mode } => change_data_mode(alloc, module, index, mode),
+        Change::Locals { body, run, locals } => change_locals(alloc, module, body, run, locals),
     }
 }

@@ -9,6 +9,7 @@ use crate::exports::{break_start, export_past_end, repeat_export};
 use crate::family::ModuleFamily;
 use crate::groups::{break_supertype, finish_type, refer_forward};
 use crate::limits::break_limits;
+use crate::unset::unset_locals;
 use crate::variables::freeze_global;
 use smith_bytes::{Error, Unstructured};
 use smith_decode::{Module, Place};
@@ -28,6 +29,20 @@ fn find_immutable(
     }
 }
 
+// Drops a value that sets a local without a default value, or makes locals such ones.
+fn find_unset(
+    alloc: Global,
+    module: &Module,
+    u: &mut Unstructured<'_>,
+) -> Result<Option<Change>, Error>
+    ensures memory { IfErr result (λ e. e ≡ Error.Memory) }
+{
+    match break_body(alloc, ModuleFamily::UnsetLocal, module, u)? {
+        Some(change) => Ok(Some(change)),
+        None => unset_locals(alloc, module, u),
+    }
+}
+
 // Draws a change of `module` of the family `family`, if one fits.
 fn find_change(
     alloc: Global,
@@ -39,6 +54,7 @@ fn find_change(
 {
     match family {
         ModuleFamily::FunctionResult => Ok(end_body(module, u)),
+        ModuleFamily::UnsetLocal => find_unset(alloc, module, u),
         ModuleFamily::ImmutableGlobal => find_immutable(alloc, module, u),
         ModuleFamily::Supertype => break_supertype(alloc, module, u),
         ModuleFamily::FinalType => finish_type(alloc, module, u),
@@ -50,9 +66,9 @@ fn find_change(
         ModuleFamily::ConstantType | ModuleFamily::NonConstant | ModuleFamily::LaterGlobal => {
             break_constant(alloc, family, module, u)
         }
-        ModuleFamily::FunctionType => break_function(alloc, module, u),
-        ModuleFamily::TagType => break_tag(alloc, module, u),
-        ModuleFamily::ImportType => break_import(alloc, module, u),
+        ModuleFamily::FunctionType => Ok(break_function(module, u)),
+        ModuleFamily::TagType => Ok(break_tag(module, u)),
+        ModuleFamily::ImportType => Ok(break_import(module, u)),
         ModuleFamily::ElementSegment => break_element(alloc, module, u),
         ModuleFamily::DataSegment => break_data(alloc, module, u),
         _ => break_body(alloc, family, module, u),

@@ -2,13 +2,15 @@ ghost use Rattle.std.specs.Prelude.{◌≡◌, IfErr};
 
 use crate::change::Change;
 use crate::facts::Facts;
+use crate::groups::count_types;
 use crate::indices::Pick;
 use crate::limits::{disordered_memory, disordered_table};
 use crate::references::draw_heap_type;
 use crate::rotation::rotated;
 use smith_bytes::{Error, Unstructured};
 use smith_decode::{DataMode, ElementItems, ElementMode, Module};
-use smith_types::{EntityType, GlobalType, HeapType, Imports, RefType, ValType};
+use smith_instr::Instr;
+use smith_types::{EntityType, GlobalType, HeapType, Imports, Items, RefType, ValType};
 use std::alloc::Global;
 
 // Draws another index in place of `own`, of `count`, or one past the end.
@@ -22,45 +24,27 @@ fn draw_index(own: u32, count: usize, u: &mut Unstructured<'_>) -> Option<u32> {
 }
 
 /// Draws a function and another type for it.
-pub(crate) fn break_function(
-    alloc: Global,
-    module: &Module,
-    u: &mut Unstructured<'_>,
-) -> Result<Option<Change>, Error>
-    ensures memory { IfErr result (λ e. e ≡ Error.Memory) }
-{
-    let facts = Facts::new(alloc, module)?;
+pub(crate) fn break_function(module: &Module, u: &mut Unstructured<'_>) -> Option<Change> {
     let count = module.functions.len();
     if count == 0 {
-        return Ok(None);
+        return None;
     }
     let index = u.int_in_range(0..=count - 1);
     let own = module.functions[index];
-    match draw_index(own, facts.types.len(), u) {
-        None => Ok(None),
-        Some(ty) => Ok(Some(Change::Function { index, ty })),
-    }
+    let ty = draw_index(own, count_types(module), u)?;
+    Some(Change::Function { index, ty })
 }
 
 /// Draws a tag and another type for it.
-pub(crate) fn break_tag(
-    alloc: Global,
-    module: &Module,
-    u: &mut Unstructured<'_>,
-) -> Result<Option<Change>, Error>
-    ensures memory { IfErr result (λ e. e ≡ Error.Memory) }
-{
-    let facts = Facts::new(alloc, module)?;
+pub(crate) fn break_tag(module: &Module, u: &mut Unstructured<'_>) -> Option<Change> {
     let count = module.tags.len();
     if count == 0 {
-        return Ok(None);
+        return None;
     }
     let index = u.int_in_range(0..=count - 1);
     let own = module.tags[index].0;
-    match draw_index(own, facts.types.len(), u) {
-        None => Ok(None),
-        Some(ty) => Ok(Some(Change::Tag { index, ty })),
-    }
+    let ty = draw_index(own, count_types(module), u)?;
+    Some(Change::Tag { index, ty })
 }
 
 // Draws another type of an import.
@@ -82,25 +66,18 @@ fn other_entity(ty: EntityType, count: usize, u: &mut Unstructured<'_>) -> Optio
 }
 
 /// Draws another type for the first single import from a drawn group on.
-pub(crate) fn break_import(
-    alloc: Global,
-    module: &Module,
-    u: &mut Unstructured<'_>,
-) -> Result<Option<Change>, Error>
-    ensures memory { IfErr result (λ e. e ≡ Error.Memory) }
-{
-    let facts = Facts::new(alloc, module)?;
+pub(crate) fn break_import(module: &Module, u: &mut Unstructured<'_>) -> Option<Change> {
+    let types = count_types(module);
     let from = usize::from(u.arbitrary::<u16>());
     let groups = module.imports.as_slice();
     for step in 0..groups.len() {
         let index = rotated(from, step, groups.len());
         if let Imports::Single(import) = &groups[index] {
-            if let Some(ty) = other_entity(import.entity_type, facts.types.len(), u) {
-                return Ok(Some(Change::Import { index, ty }));
-            }
+            let ty = other_entity(import.entity_type, types, u)?;
+            return Some(Change::Import { index, ty });
         }
     }
-    Ok(None)
+    None
 }
 
 // Draws a function past the end for a segment of functions, or else another type.
@@ -168,7 +145,7 @@ pub(crate) fn break_element(
     Ok(break_items(&facts, &segment.items, index, u))
 }
 
-/// Copies the first active data segment from a drawn one on into a memory past the end.
+/// Makes a data segment active, in a memory past the end.
 pub(crate) fn break_data(
     alloc: Global,
     module: &Module,
@@ -177,14 +154,14 @@ pub(crate) fn break_data(
     ensures memory { IfErr result (λ e. e ≡ Error.Memory) }
 {
     let facts = Facts::new(alloc, module)?;
-    let from = usize::from(u.arbitrary::<u16>());
-    let segments = module.datas.as_slice();
-    let memory = u32::try_from(facts.spaces.memories.len()).unwrap_or(u32::MAX);
-    for step in 0..segments.len() {
-        let index = rotated(from, step, segments.len());
-        if let DataMode::Active { .. } = &segments[index].mode {
-            return Ok(Some(Change::DataMemory { index, memory }));
-        }
+    let count = module.datas.len();
+    if count == 0 {
+        return Ok(None);
     }
-    Ok(None)
+    let index = u.int_in_range(0..=count - 1);
+    let memory = u32::try_from(facts.spaces.memories.len()).unwrap_or(u32::MAX);
+    let mut offset = Items::new(alloc);
+    offset.push(Instr::I32Const(0))?;
+    let mode = DataMode::Active { memory, offset };
+    Ok(Some(Change::DataMode { index, mode }))
 }

@@ -3,7 +3,7 @@ ghost use Rattle.smith_wrong_module.specs.Changes.{IsDrawn};
 
 use crate::edit::{Edit, edit_items, put_back, take_out};
 use smith_bytes::Error;
-use smith_decode::{DataMode, ElementItems, ElementMode, Module, Place};
+use smith_decode::{DataMode, ElementItems, ElementMode, LocalRun, Module, Place};
 use smith_instr::Instr;
 use smith_types::Items;
 use std::alloc::Global;
@@ -68,6 +68,30 @@ fn edit_body(
         return Ok(None);
     }
     Ok(Some(Place::Instruction { body, index }))
+}
+
+/// Puts `locals` in place of the run at `run` of the locals of the body at `body`, and returns its place, if
+/// there is one.
+pub(crate) fn change_locals(
+    alloc: Global,
+    module: &mut Module,
+    body: usize,
+    run: usize,
+    locals: LocalRun,
+) -> Result<Option<Place>, Error>
+    ensures ok { IfOk result (λ found. IsDrawn found «module».old «module».new) }
+    ensures memory { IfErr result (λ e. e ≡ Error.Memory) }
+{
+    if body >= module.bodies.len() {
+        return Ok(None);
+    }
+    let mut changed = take_out(alloc, &mut module.bodies, body);
+    let done = edit_items(alloc, &mut changed.locals, run, Edit::Replace(locals))?;
+    put_back(alloc, &mut module.bodies, body, changed)?;
+    if !done {
+        return Ok(None);
+    }
+    Ok(Some(Place::Body(body)))
 }
 
 fn edit_global(

@@ -20,8 +20,8 @@ struct TypePlace {
     end: usize,
 }
 
-// Returns the number of types.
-fn count_types(module: &Module) -> usize {
+/// Returns the number of types.
+pub(crate) fn count_types(module: &Module) -> usize {
     let mut count: usize = 0;
     for group in module.types.as_slice() {
         count = count.saturating_add(group.len());

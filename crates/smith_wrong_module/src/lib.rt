@@ -13,6 +13,7 @@ mod edit;
 mod entities;
 mod entity_indices;
 mod entity_types;
+mod examples;
 mod exports;
 mod expressions;
 mod facts;
@@ -27,6 +28,7 @@ mod references;
 mod rotation;
 mod segments;
 mod type_indices;
+mod unset;
 mod variables;
 
 pub use draw::draw_change;

@@ -73,12 +73,12 @@ pub(crate) fn change_element_function(
     Ok(Some(Place::Element(index)))
 }
 
-/// Copies the data segment at `index`, if it is active, into `memory`.
-pub(crate) fn change_data_memory(
+/// Gives the data segment at `index` the mode `mode`.
+pub(crate) fn change_data_mode(
     alloc: Global,
     module: &mut Module,
     index: usize,
-    memory: u32,
+    mode: DataMode,
 ) -> Result<Option<Place>, Error>
     ensures ok { IfOk result (λ found. IsDrawn found «module».old «module».new) }
     ensures memory { IfErr result (λ e. e ≡ Error.Memory) }
@@ -87,13 +87,7 @@ pub(crate) fn change_data_memory(
         return Ok(None);
     }
     let mut changed = take_out(alloc, &mut module.datas, index);
-    if let DataMode::Active {
-        memory: old,
-        offset: _,
-    } = &mut changed.mode
-    {
-        *old = memory;
-    }
+    changed.mode = mode;
     put_back(alloc, &mut module.datas, index, changed)?;
     Ok(Some(Place::Data(index)))
 }
