@@ -1,3 +1,5 @@
+ghost use Rattle.smith_bytes.specs.Source.{KeepsPieces};
+
 use crate::places::{Frame, Frames, Place};
 use crate::stop::Stop;
 use smith_binary::Sink;
@@ -85,7 +87,9 @@ pub(crate) fn replace(
 }
 
 /// Draws picks from eight bytes.
-pub(crate) fn draw_picks(u: &mut Unstructured<'_>) -> Picks {
+pub(crate) fn draw_picks(u: &mut Unstructured<'_>) -> Picks
+    ensures { KeepsPieces u.old u.new }
+{
     Picks {
         place: u.arbitrary(),
         form: u.arbitrary(),
