@@ -1,6 +1,6 @@
 use Rattle.std.proofs.Common.{◌≡◌, Bool, true, false, MatchBool, ◌≤◌, ◌<◌, ℕ, zero, suc, List, [], ◌∷◌, ◌++◌, length, take, drop, set, insert, remove, get_or, refl, sym, ap, subst, ◌∙◌, arith}
 use Rattle.std.proofs.lemmas.List.{take-append-drop, length-take-le}
-use Rattle.std.proofs.Math.Seq.{split_at, set_split, take-append_seam, drop-append_seam}
+use Rattle.std.proofs.Math.Seq.{split_at, set_split}
 use Rattle.smith_wrong_module.specs.Splices.{DifferAt, AtMostOne, OneItem}
 
 -- a list with one item more

@@ -1,4 +1,4 @@
-use Rattle.std.proofs.Common.{[], ◌∷◌, length, ap, arith, length-append}
+use Rattle.std.proofs.Common.{[], ◌∷◌, ◌++◌, length, ap, arith, length-append}
 use Rattle.smith_wrong_module.proofs.SpliceLemmas.{inserts, removes, replaces}
 use Rattle.smith_wrong_module.proofs.examples.lists.Goals as goal
 
@@ -16,8 +16,8 @@ returns-clause-two_more c differ = omega (
   arith,
   ap length differ.old_parts,
   ap length differ.new_parts,
-  length-append differ.before _,
-  length-append differ.before _,
+  length-append differ.before (differ.piece ++ differ.after),
+  length-append differ.before (differ.changed ++ differ.after),
   length-append differ.piece differ.after,
   length-append differ.changed differ.after,
   differ.differ.0,

@@ -1,4 +1,4 @@
-use Rattle.std.proofs.Common.{[], ◌∷◌, Option, Some, None, ap, refl, arith}
+use Rattle.std.proofs.Common.{[], ◌∷◌, ap, refl, arith}
 use Rattle.std.specs.Prelude.{unwrap_or}
 use Rattle.smith_instr.specs.declared.instr.Instr.TheVariants as instr
 use Rattle.smith_instr.specs.declared.memory.MemoryInstr.TheVariants.{DataDrop}
