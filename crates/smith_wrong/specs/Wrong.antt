@@ -1,6 +1,6 @@
 -- Invalid files, and their valid twins: the sections Binary Format, Modules, and Validation, Modules, of the
 -- WebAssembly Core Specification 3.0.
-use Rattle.std.specs.Prelude.{ℕ, List, Ok, Err}
+use Rattle.std.specs.Prelude.{◌≡◌, ℕ, List, Ok, Err}
 use Rattle.smith_binary.specs.Faults.{IsFault}
 use Rattle.smith_binary.specs.declared.error.EncodeError.{EncodeError}
 use Rattle.smith_config.specs.Features.{features_of}
@@ -39,6 +39,12 @@ pub record IsBroken (features : Features) (file : List ℕ) (said : Answer) : Ty
   pub invalid : IsValidFile features file → ⊥
   pub answer : IsAnswer features file said
   pub rule : NamesRule said
+
+-- a file is a twin with one change, by which it breaks a rule
+pub record IsBrokenTwin (features : Features) (twin : List ℕ) (wrong : Wrong) : Type 0 where
+  pub same : wrong.twin.items ≡ twin
+  pub change : IsChangeOf wrong.change twin wrong.file.items
+  pub broken : IsBroken features wrong.file.items wrong.answer
 
 -- a file is drawn for a configuration and an input, with these bytes of the input left: from a valid
 -- twin, by one change, and it breaks a rule

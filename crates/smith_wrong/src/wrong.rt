@@ -1,10 +1,10 @@
-ghost use Rattle.std.specs.Prelude.{◌≡◌, IsTrue, IfOk, IfErr, IfSome};
+ghost use Rattle.std.specs.Prelude.{◌≡◌, ◌⊎◌, IsTrue, IfOk, IfErr, IfSome};
 ghost use Rattle.std.specs.List.{Contains};
 ghost use Rattle.smith_config.specs.Features.{features_of};
 ghost use Rattle.smith_judge.specs.Files.{IsValidFile};
 ghost use Rattle.smith_syntax.specs.FeatureBits.{features_in};
 ghost use Rattle.smith_wrong.specs.Changes.{IsChangeOf, family_of};
-ghost use Rattle.smith_wrong.specs.Wrong.{IsBroken, IsRefused, IsTwin, IsWrong, NamesRule};
+ghost use Rattle.smith_wrong.specs.Wrong.{IsBroken, IsBrokenTwin, IsRefused, IsTwin, IsWrong, NamesRule};
 ghost use Rattle.smith_wrong.specs.declared.refusal.WrongRefusal.TheVariants as refusal;
 
 use crate::changes::{Change, ChangedFile, draw_file};
@@ -64,15 +64,9 @@ impl Wrong {
         ensures refused { IfErr result (IsRefused config u.old u.new) }
     {
         let features = config.features();
-        let twin = draw_twin(alloc, config, u)?;
-        match draw_broken(alloc, features, twin.as_slice(), families, u)? {
-            Some((ChangedFile { bytes, change }, answer)) => Ok(Wrong {
-                file: bytes,
-                twin,
-                change,
-                answer,
-            }),
-            None => Err(WrongRefusal::NoChange),
+        match draw_twin(alloc, config, u) {
+            Ok(twin) => break_twin(alloc, features, twin, families, u),
+            Err(refusal) => Err(refusal),
         }
     }
 
@@ -99,6 +93,33 @@ fn draw_twin(
             Err(fault) => Err(WrongRefusal::Encoding(fault)),
         },
         Err(refusal) => Err(WrongRefusal::Module(refusal)),
+    }
+}
+
+// Returns `twin` with one change, drawn from the bytes that are left in `u`, that breaks a rule.
+fn break_twin(
+    alloc: Global,
+    features: WasmFeatures,
+    twin: Vec<u8>,
+    families: &[Family],
+    u: &Unstructured<'_>,
+) -> Result<Wrong, WrongRefusal>
+    ensures broken { IfOk result (IsBrokenTwin (features_in features) twin.items) }
+    ensures family { IfOk result (λ wrong. Contains families.now (family_of wrong.change)) }
+    ensures refused { IfErr result (λ e. (e ≡ refusal.Memory) ⊎ (e ≡ refusal.NoChange)) }
+{
+    match draw_broken(alloc, features, twin.as_slice(), families, u) {
+        Ok(Some((file, answer))) => {
+            let ChangedFile { bytes, change } = file;
+            Ok(Wrong {
+                file: bytes,
+                twin,
+                change,
+                answer,
+            })
+        }
+        Ok(None) => Err(WrongRefusal::NoChange),
+        Err(_) => Err(WrongRefusal::Memory),
     }
 }
 
