@@ -19,7 +19,7 @@ use Rattle.smith_binary_read.specs.Contents.{name_at}
 use Rattle.smith_binary_read.specs.Choices.{coded_at}
 use Rattle.smith_binary_read.specs.TypeReadings.{ref_type_at, val_type_at}
 
--- the index spaces of exports
+-- the kinds of exports, and an export
 abbrev pub kind_rows : List (ℕ × ExportKind)
 kind_rows = (0x00, kind.Func) ∷ (0x01, kind.Table) ∷ (0x02, kind.Memory) ∷ (0x03, kind.Global) ∷ (0x04, kind.Tag) ∷ []
 
@@ -35,7 +35,7 @@ export_of name item = record { name = name; kind = item.0; index = item.1 }
 unfoldable pub export_at : List ℕ → Reading Export
 export_at bytes = joined_at export_of name_at (joined_at (λ kind index. (kind, index)) kind_at (unsigned_at 32)) bytes
 
--- the flags of limits
+-- the flags of limits, by their byte
 abbrev pub flags : Bool → Bool → Bool → Bool → Flags
 flags bounded shared wide paged = record { bounded = bounded; shared = shared; wide = wide; paged = paged }
 
@@ -53,7 +53,7 @@ flag_rows =
 unfoldable pub flags_at : List ℕ → Reading Flags
 flags_at bytes = coded_at flag_rows bytes
 
--- a number, if there is one
+-- reads a number if a flag is set
 abbrev pub optional_at : Bool → ℕ → List ℕ → Reading (Option ℕ)
 optional_at true bits bytes = mapped_at (λ n. Some n) (unsigned_at bits) bytes
 optional_at false bits bytes = Ok (None, bytes)
@@ -81,7 +81,7 @@ table_type_at bytes = ref_type_at bytes >>= (λ element. flags_at element.1 >>= 
     else (unsigned_at 64 f.1 >>= (λ minimum. optional_at f.0.bounded 64 minimum.1 >>= (λ maximum.
     Ok (table_type element.0 f.0 minimum.0 maximum.0, maximum.1))))))
 
--- whether a global is mutable and shared
+-- the mutability and sharedness of a global, by its byte
 abbrev pub global_rows : List (ℕ × (Bool × Bool))
 global_rows = (0, (false, false)) ∷ (1, (true, false)) ∷ (2, (false, true)) ∷ (3, (true, true)) ∷ []
 

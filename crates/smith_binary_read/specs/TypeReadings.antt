@@ -22,7 +22,7 @@ use Rattle.smith_binary_read.specs.Numbers.{unsigned_at}
 use Rattle.smith_binary_read.specs.Contents.{list_at}
 use Rattle.smith_binary_read.specs.Choices.{item_of, or_at, coded_at, type_index_at}
 
--- abstract heap types
+-- abstract heap types, by their byte
 abbrev pub abstract_rows : List (ℕ × AbstractHeapType)
 abstract_rows =
     (0x69, abstract.Exn) ∷ (0x6A, abstract.Array) ∷ (0x6B, abstract.Struct) ∷ (0x6C, abstract.I31) ∷ (0x6D, abstract.Eq)
@@ -46,21 +46,21 @@ ref_type_at bytes = byte_at bytes >>= (λ byte.
     else (if byte.0 == 0x64 then mapped_at (λ heap. record { nullable = false; heap_type = heap }) heap_type_at byte.1
     else mapped_at (λ ty. record { nullable = true; heap_type = Abstract false ty }) abstract_at bytes))
 
--- number and vector types
+-- number and vector types, by their byte
 abbrev pub number_rows : List (ℕ × ValType)
 number_rows = (0x7F, I32) ∷ (0x7E, I64) ∷ (0x7D, F32) ∷ (0x7C, F64) ∷ (0x7B, V128) ∷ []
 
 unfoldable pub val_type_at : List ℕ → Reading ValType
 val_type_at bytes = byte_at bytes >>= (λ byte. or_at (item_of number_rows byte.0) byte.1 (mapped_at Ref ref_type_at bytes))
 
--- packed types
+-- packed types, by their byte
 abbrev pub packed_rows : List (ℕ × StorageType)
 packed_rows = (0x78, storage.I8) ∷ (0x77, storage.I16) ∷ []
 
 unfoldable pub storage_type_at : List ℕ → Reading StorageType
 storage_type_at bytes = byte_at bytes >>= (λ byte. or_at (item_of packed_rows byte.0) byte.1 (mapped_at storage.Val val_type_at bytes))
 
--- whether an entity is mutable
+-- mutability, by its byte
 abbrev pub flag_rows : List (ℕ × Bool)
 flag_rows = (0, false) ∷ (1, true) ∷ []
 
@@ -94,7 +94,7 @@ composite_type_at bytes = byte_at bytes >>= (λ byte.
     if byte.0 == 0x65 then mapped_at (composite_type true) inner_type_at byte.1
     else mapped_at (composite_type false) inner_type_at bytes)
 
--- a list of at most one supertype
+-- reads a list of at most one supertype
 unfoldable pub supertype_at : List ℕ → Reading (Option ℕ)
 supertype_at bytes = unsigned_at 32 bytes >>= (λ count.
     if count.0 == 0 then Ok (None, count.1)

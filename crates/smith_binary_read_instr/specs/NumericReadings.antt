@@ -1,6 +1,5 @@
 -- Readings of numeric instructions: the section Binary Format, Instructions, Numeric Instructions,
--- of the WebAssembly Core Specification 3.0. Wide arithmetic is that of the wide arithmetic
--- proposal.
+-- of the WebAssembly Core Specification 3.0. Wide arithmetic follows its proposal.
 use Rattle.std.specs.Prelude.{ℕ, ◌-◌, List, [], ◌∷◌, Option, nat_lt, ◌==◌, if◌then◌else◌}
 use Rattle.smith_binary_read.specs.Readings.{Reading, ◌>>=◌, byte_at, mapped_at}
 use Rattle.smith_binary_read.specs.Numbers.{signed_at, little_endian_at}
@@ -28,12 +27,12 @@ use Rattle.smith_instr.specs.declared.numeric.WideArithmetic.TheVariants as wide
 use Rattle.smith_instr.specs.declared.numeric.NumericInstr.{NumericInstr}
 use Rattle.smith_instr.specs.declared.numeric.NumericInstr.TheVariants as numeric
 
--- the item of a number, in a table, or else the last
+-- the item of a number in a table, or `last` if there is none
 abbrev pub item_or : {A : Type 0} → List (ℕ × A) → A → ℕ → A
 item_or [] last number = last
 item_or (row ∷ rows) last number = if number == row.0 then row.1 else item_or rows last number
 
--- operators of a type, by their place after the first opcode of their kind
+-- operators, by their distance from the first byte of their kind
 unfoldable pub int_unary_of : ℕ → IntUnary
 int_unary_of place = item_or ((0, int_unary.Clz) ∷ (1, int_unary.Ctz) ∷ []) int_unary.Popcnt place
 
@@ -77,7 +76,7 @@ float_compare_rows =
 unfoldable pub float_compare_of : ℕ → FloatCompare
 float_compare_of place = item_or float_compare_rows float_compare.Ge place
 
--- conversions to integers, and the others, by their opcodes
+-- conversions to integers, and other conversions, by their bytes
 abbrev pub truncation_rows : List (ℕ × Conversion)
 truncation_rows =
     (0xA7, convert.I32WrapI64) ∷ (0xA8, convert.I32TruncF32S) ∷ (0xA9, convert.I32TruncF32U) ∷ (0xAA, convert.I32TruncF64S) ∷
@@ -104,7 +103,7 @@ extension_rows = (0xC0, extend.I32From8) ∷ (0xC1, extend.I32From16) ∷ (0xC2,
 unfoldable pub extension_of : ℕ → SignExtension
 extension_of byte = item_or extension_rows extend.I64From32 byte
 
--- tests and comparisons, up to 0x66
+-- the test or comparison of a byte up to 0x66
 unfoldable pub compare_of : ℕ → NumericInstr
 compare_of byte =
     if nat_lt byte 0x46 then numeric.I32Eqz
@@ -114,7 +113,7 @@ compare_of byte =
     else (if nat_lt byte 0x61 then numeric.F32Compare (float_compare_of (byte - 0x5B))
     else numeric.F64Compare (float_compare_of (byte - 0x61))))))
 
--- operators on integers, from 0x67 up to 0x8A
+-- the operator on integers of a byte from 0x67 up to 0x8A
 unfoldable pub int_operator_of : ℕ → NumericInstr
 int_operator_of byte =
     if nat_lt byte 0x6A then numeric.I32Unary (int_unary_of (byte - 0x67))
@@ -122,7 +121,7 @@ int_operator_of byte =
     else (if nat_lt byte 0x7C then numeric.I64Unary (int_unary_of (byte - 0x79))
     else numeric.I64Binary (int_binary_of (byte - 0x7C))))
 
--- operators on floats, from 0x8B up to 0xA6
+-- the operator on floats of a byte from 0x8B up to 0xA6
 unfoldable pub float_operator_of : ℕ → NumericInstr
 float_operator_of byte =
     if nat_lt byte 0x92 then numeric.F32Unary (float_unary_of (byte - 0x8B))
@@ -130,7 +129,7 @@ float_operator_of byte =
     else (if nat_lt byte 0xA0 then numeric.F64Unary (float_unary_of (byte - 0x99))
     else numeric.F64Binary (float_binary_of (byte - 0xA0))))
 
--- an instruction of one byte, from 0x45 up to 0xC4
+-- the instruction of a byte from 0x45 up to 0xC4
 unfoldable pub numeric_of : ℕ → NumericInstr
 numeric_of byte =
     if nat_lt byte 0x67 then compare_of byte
@@ -143,7 +142,7 @@ numeric_of byte =
 unfoldable pub numeric_at : List ℕ → Reading Instr
 numeric_at bytes = mapped_at (λ byte. instr.Numeric (numeric_of byte)) byte_at bytes
 
--- instructions of a number, after the byte 0xFC
+-- the numeric instructions after the byte 0xFC, by their numbers
 abbrev pub saturating_rows : List (ℕ × NumericInstr)
 saturating_rows =
     (0, numeric.Saturate saturate.I32TruncSatF32S) ∷ (1, numeric.Saturate saturate.I32TruncSatF32U) ∷
@@ -156,7 +155,7 @@ saturating_rows =
 unfoldable pub saturating_of : ℕ → Option NumericInstr
 saturating_of number = item_of saturating_rows number
 
--- constants, from 0x41 up to 0x44
+-- reads a constant instruction, from 0x41 up to 0x44
 unfoldable pub const_at : List ℕ → Reading Instr
 const_at bytes = byte_at bytes >>= (λ byte.
     if byte.0 == 0x41 then mapped_at instr.I32Const (signed_at 32) byte.1

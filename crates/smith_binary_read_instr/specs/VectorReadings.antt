@@ -16,7 +16,7 @@ use Rattle.smith_binary_read_instr.specs.NumericReadings.{item_or}
 use Rattle.smith_binary_read_instr.specs.MemoryReadings.{mem_arg_at}
 use Rattle.smith_binary_read_instr.specs.VectorRows.{vector_of}
 
--- the lane of an instruction, from 21 up to 34
+-- the instructions on one lane, by their numbers from 21 up to 34
 abbrev pub lane_rows : List (ℕ × (ℕ → VectorInstr))
 lane_rows =
     (21, vector.ExtractLane extract.I8x16S) ∷ (22, vector.ExtractLane extract.I8x16U) ∷ (23, vector.ReplaceLane shape.I8x16) ∷
@@ -43,18 +43,18 @@ vector_load_of number = item_or vector_load_rows load.Zero64 number
 unfoldable pub vector_load_at : ℕ → List ℕ → Reading Instr
 vector_load_at number bytes = mapped_at (instr.VectorLoad (vector_load_of number)) mem_arg_at bytes
 
--- accesses to a lane, from 84 up to 91
+-- reads a load or a store of one lane, with a number from 84 up to 91
 unfoldable pub lane_access_at : ℕ → List ℕ → Reading Instr
 lane_access_at number bytes =
     if nat_lt number 88 then joined_at (instr.VectorLoadLane (number - 84)) mem_arg_at lane_at bytes
     else joined_at (instr.VectorStoreLane (number - 88)) mem_arg_at lane_at bytes
 
--- a vector instruction if there is one, else what is read
+-- the vector instruction, if there is one, or else the reading `other`
 abbrev pub vector_or : Option VectorInstr → List ℕ → Reading Instr → Reading Instr
 vector_or (Some op) rest other = Ok (instr.Vector op, rest)
 vector_or None rest other = other
 
--- instructions with immediates after a number, up to 34
+-- reads an instruction with immediates, with a number up to 34
 unfoldable pub low_vector_at : ℕ → List ℕ → Reading Instr
 low_vector_at number bytes =
     if nat_lt number 11 then vector_load_at number bytes
@@ -63,7 +63,7 @@ low_vector_at number bytes =
     else (if number == 13 then mapped_at (λ lanes. instr.Vector (vector.Shuffle lanes)) (bytes_at 16) bytes
     else lane_instr_at number bytes)))
 
--- instructions after the byte 0xFD
+-- reads an instruction after the byte 0xFD
 unfoldable pub vector_instr_at : List ℕ → Reading Instr
 vector_instr_at bytes = unsigned_at 32 bytes >>= (λ number. vector_or (vector_of number.0) number.1
     (if nat_lt number.0 35 then low_vector_at number.0 number.1

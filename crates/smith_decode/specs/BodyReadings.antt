@@ -18,19 +18,20 @@ use Rattle.smith_binary_read_instr.specs.ExpressionReadings.{expr_at}
 use Rattle.smith_decode.specs.declared.bodies.Body.{Body}
 use Rattle.smith_decode.specs.declared.bodies.LocalRun.{LocalRun}
 
--- a run in the abstract syntax (Code Section)
+-- a run of locals in the abstract syntax, and its bytes (Code Section)
 abbrev pub run_pair : LocalRun → ℕ × ValType
 run_pair run = (run.count, run.ty)
 
 abbrev pub IsLocalRun : LocalRun → List ℕ → Type 0
 IsLocalRun run = IsRun (run_pair run)
 
--- the number of locals in runs (Code Section)
+-- the number of locals in all runs (Code Section)
 abbrev pub total : List LocalRun → ℕ
 total [] = 0
 total (run ∷ runs) = run.count + total runs
 
--- a body after its size: fewer than 2^32 locals in runs, then its expression (Code Section)
+-- the content of a body: runs with fewer than 2^32 locals in total, then an expression (Code
+-- Section)
 abbrev pub IsRunContent : Body → List ℕ → Type 0
 IsRunContent body content =
     (total body.locals < 2 ^ 32) × Joined (IsList IsLocalRun body.locals) (IsNestedExpr body.instructions) content
@@ -42,7 +43,7 @@ IsRunBody body = IsSized (IsRunContent body)
 abbrev pub body_view : Body → List ValType × List Instr
 body_view body = (locals_of (map run_pair body.locals), body.instructions)
 
--- whether a body names a data segment, and whether one of several does
+-- whether a body, and whether one of several bodies, names a data segment
 abbrev pub names_data_in : Body → Bool
 names_data_in body = list_any names_data body.instructions
 

@@ -12,7 +12,7 @@ use Rattle.smith_decode.specs.declared.definitions.GlobalDefinition.{GlobalDefin
 use Rattle.smith_decode.specs.declared.definitions.TableDefinition.{TableDefinition}
 use Rattle.smith_decode.specs.Definitions.{null_of, IsTable, IsGlobal}
 
--- a global (Global Section)
+-- a global, and its reading (Global Section)
 abbrev pub IsGlobalDefinition : GlobalDefinition → List ℕ → Type 0
 IsGlobalDefinition global = IsGlobal (global.ty, global.initial)
 
@@ -22,7 +22,7 @@ global_of ty initial = record { ty = ty; initial = initial }
 unfoldable pub global_at : List ℕ → Reading GlobalDefinition
 global_at bytes = joined_at global_of global_type_at expr_at bytes
 
--- a table (Table Section)
+-- a table, and its reading (Table Section)
 abbrev pub IsTableDefinition : TableDefinition → List ℕ → Type 0
 IsTableDefinition table = IsTable (table.ty, table.initial)
 

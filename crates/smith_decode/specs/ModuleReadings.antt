@@ -28,26 +28,26 @@ use Rattle.smith_decode.specs.DataReadings as data_segment
 use Rattle.smith_decode.specs.DefinitionReadings.{global_at, table_at}
 use Rattle.smith_decode.specs.ElementReadings as element
 
--- these bytes
+-- reads exactly the bytes `literal`
 abbrev pub literal_at : List ℕ → List ℕ → Result (List ℕ) Fault
 literal_at [] bytes = Ok bytes
 literal_at (byte ∷ literal) bytes =
     byte_at bytes >>= (λ front. if front.0 == byte then literal_at literal front.1 else fault_at UnknownByte bytes)
 
--- the magic number and the version
+-- the magic number and the version, and their reading
 abbrev pub preamble : List ℕ
 preamble = 0x00 ∷ 0x61 ∷ 0x73 ∷ 0x6D ∷ 0x01 ∷ 0x00 ∷ 0x00 ∷ 0x00 ∷ []
 
 unfoldable pub preamble_at : List ℕ → Result (List ℕ) Fault
 preamble_at bytes = literal_at preamble bytes
 
--- a number that a section states (Start Section, Data Count Section)
+-- reads the content of a start or data count section, a number (Start Section, Data Count Section)
 unfoldable pub index_whole : List ℕ → Result (Option ℕ) Fault
 index_whole bytes = whole_at (mapped_at (λ n. Some n) (unsigned_at 32)) bytes
 
--- the parts of a module, from the last on: bodies and data segments; the number of data segments;
--- the start function and element segments; globals and exports; memories and tags; functions and tables; types and
--- imports
+-- the parts of a module, from the last to the first: bodies and data segments; data count; start
+-- function and element segments; globals and exports; memories and tags; functions and tables;
+-- types and imports
 abbrev pub Bodies : Type 0
 Bodies = List Body × (List DataSegment × Unit {0})
 
@@ -90,7 +90,7 @@ functions_at bytes = more_at 3 [] (whole_at (list_at (unsigned_at 32))) (more_at
 unfoldable pub parts_at : List ℕ → Result Parts Fault
 parts_at bytes = more_at 1 [] (whole_at (list_at group_at)) (more_at 2 [] (whole_at (list_at import_group_at)) functions_at) bytes
 
--- a module, by its parts, and with its custom sections
+-- a module with these parts and without custom sections
 abbrev pub module_of : Parts → Module
 module_of p = record {
   types = p.0;
@@ -115,8 +115,8 @@ with_customs m customs = record m { customs = customs }
 unfoldable pub sections_at : List ℕ → Result Module Fault
 sections_at bytes = parts_at bytes >>= (λ parts. Ok (module_of parts))
 
--- whether there is a body for each function, and as many data segments as are stated, if their number
--- is stated (Modules)
+-- whether the module has a body for each function, and as many data segments as its data count
+-- section states, if it has one (Modules)
 abbrev pub is_number : Option ℕ → ℕ → Bool
 is_number None n = true
 is_number (Some stated) n = stated == n
@@ -124,7 +124,7 @@ is_number (Some stated) n = stated == n
 abbrev pub counts_agree : Module → Bool
 counts_agree m = (length m.functions == length m.bodies) && is_number m.data_count (length m.datas)
 
--- whether the number of data segments is stated, if a body names one (Modules)
+-- whether the module has a data count section, if a body names a data segment (Modules)
 abbrev pub is_stated_if : Bool → Option ℕ → Bool
 is_stated_if named None = not named
 is_stated_if named (Some stated) = true
@@ -132,18 +132,18 @@ is_stated_if named (Some stated) = true
 abbrev pub count_suffices : Module → Bool
 count_suffices m = is_stated_if (name_data m.bodies) m.data_count
 
--- a module, if its numbers of items agree, and it states the number of data segments if it must: else
--- a fault at the end (Modules)
+-- the module, or a fault at the end of the bytes if the numbers of its items disagree or a data
+-- count section is missing (Modules)
 abbrev pub if_counts_agree : Module → Result Module Fault
 if_counts_agree m =
     if counts_agree m then (if count_suffices m then Ok m else Err (record { left = 0; reason = DataCountMissing }))
     else Err (record { left = 0; reason = CountMismatch })
 
--- a module after its preamble, without its custom sections (Modules)
+-- reads a module after its preamble, without its custom sections (Modules)
 unfoldable pub checked_at : List ℕ → Result Module Fault
 checked_at bytes = customs_at bytes >>= (λ settled. sections_at settled >>= (λ m. if_counts_agree m))
 
--- a module (Modules)
+-- reads a module (Modules)
 unfoldable pub module_at : List ℕ → Result Module Fault
 module_at bytes =
     preamble_at bytes >>= (λ rest. checked_at rest >>= (λ m. kept_at rest >>= (λ customs. Ok (with_customs m customs))))

@@ -8,14 +8,13 @@ use Rattle.smith_program.specs.Valid.{IsValidProgram}
 use Rattle.smith_program.specs.declared.program.Body.{Body}
 use Rattle.smith_program.specs.Parts.{ProgramParts}
 
--- two programs that are returned for the same configuration and bytes are equal, and so are the
--- bytes left
+-- a configuration and bytes determine the program and the bytes left
 abbrev pub ProgramsAreDetermined : Type 0
 ProgramsAreDetermined =
     (given : Config) (bytes left rest : List ℕ) (one other : ProgramParts)
     → IsProgram given bytes (Ok one) left → IsProgram given bytes (Ok other) rest → (one ≡ other) × (left ≡ rest)
 
--- a valid program stays valid with a counter of fuel
+-- a valid program with one more fuel counter is valid
 abbrev pub CountedProgramsAreValid : Type 0
 CountedProgramsAreValid =
     (fuel index : ℕ) (old new : ModuleParts) (bodies : List Body) → AddsCounter fuel index old new → IsValidProgram old bodies

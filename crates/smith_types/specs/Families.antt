@@ -18,8 +18,8 @@ is_directly_below index t = is_index index t.supertype
 abbrev pub direct_subtypes : List SubType → ℕ → List ℕ
 direct_subtypes types index = indices_from (is_directly_below index) 0 types
 
--- each family has the number of a type's direct subtypes and the last of them, and a direct
--- subtype's family has the direct subtype before it (own rule)
+-- each family has the number of a type's direct subtypes, the last of them and, for a direct
+-- subtype, the one before it; a type without a family has no direct subtypes (own rule)
 pub record AreFamilies (types : List SubType) (families : List Family) : Type 0 where
   pub count : (s : ℕ) (family : Family) → slice_get families s ≡ Some family → family.count ≡ length (direct_subtypes types s)
   pub last : (s k : ℕ) (family : Family) → slice_get families s ≡ Some family → suc k ≡ length (direct_subtypes types s)
