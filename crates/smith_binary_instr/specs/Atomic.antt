@@ -8,7 +8,7 @@ use Rattle.smith_instr.specs.declared.atomic.AtomicUpdate.TheVariants as update
 use Rattle.smith_instr.specs.declared.atomic.AtomicWidth.{AtomicWidth}
 use Rattle.smith_instr.specs.declared.atomic.AtomicWidth.TheVariants as width
 
--- the numbers of accesses of one kind follow one another, by their widths (own, of the proposal)
+-- the distance of an access from the first number of its kind, by its width (own, of the proposal)
 abbrev pub width_number : AtomicWidth → ℕ
 width_number width.I32 = 0
 width_number width.I64 = 1

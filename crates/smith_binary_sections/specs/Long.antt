@@ -1,5 +1,5 @@
--- Values that are too long for the numbers of the format: a list of 2^32 items or more, or a
--- content of 2^32 bytes or more.
+-- Values that are too long for the format: a list of 2^32 items or more, or a content of 2^32 bytes
+-- or more.
 use Rattle.std.specs.Prelude.{ℕ, ◌^◌, ◌≤◌, List, length, Any, ◌⊎◌}
 use Rattle.smith_binary.specs.Pieces.{Is, Joined, IsList}
 use Rattle.smith_syntax.specs.declared.value_type.ValType.{ValType}
@@ -17,11 +17,11 @@ use Rattle.smith_binary_sections.specs.Elements.{Elem}
 use Rattle.smith_binary_sections.specs.Codes.{IsLocalsWritten}
 use Rattle.smith_binary_sections.specs.Data.{Data}
 
--- a list has too many items, or an item of it is too long
+-- a list has 2^32 items or more, or one of its items is too long
 abbrev pub IsLongList : {A : Type 0} → (A → Type 0) → List A → Type 0
 IsLongList IsLong xs = (2 ^ 32 ≤ length xs) ⊎ Any IsLong xs
 
--- a content has a spelling of too many bytes
+-- a content has a spelling of 2^32 bytes or more
 pub record IsLongContent (Content : List ℕ → Type 0) : Type 0 where
   pub piece : List ℕ
   pub spelled : Content piece
@@ -31,7 +31,7 @@ pub record IsLongContent (Content : List ℕ → Type 0) : Type 0 where
 abbrev pub IsNeverLong : {A : Type 0} → A → Type 0
 IsNeverLong x = ⊥
 
--- a text of too many bytes
+-- a text of 2^32 bytes or more, and the parts that may be too long because of texts and lists
 abbrev pub IsLongText : List ℕ → Type 0
 IsLongText text = 2 ^ 32 ≤ length text
 
@@ -69,8 +69,8 @@ IsLongExport item = IsLongText item.0
 abbrev pub IsLongElem : Elem → Type 0
 IsLongElem e = IsLongList IsNeverLong e.items
 
--- a body has too many locals, or too many bytes where each local is a run of its own; if empty runs
--- counted, every body would be too long
+-- a body has 2^32 locals or more, or, with each local as a run of its own, 2^32 bytes or more; with
+-- empty runs, every body could be too long
 abbrev pub IsLongBody : List ValType × List ℕ → Type 0
 IsLongBody body = IsLongList IsNeverLong body.0 ⊎ IsLongContent (Joined (IsLocalsWritten body.0) (Is body.1))
 

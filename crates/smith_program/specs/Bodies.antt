@@ -55,8 +55,9 @@ pub record IsBodyAt (m : ModuleParts) (place : ℕ) (code : Code) (instructions 
   pub typed : IsBodyTyped (function_context m function code.locals) instructions
 
 -- `instructions` are such a body. They are enabled, and no longer than the budget of a body allows.
--- With `disallow_traps`, only `unreachable` may trap, and unless the budget is 0, it occurs only
--- where no other instructions outside the budget give a value of its type (own rules).
+-- With `disallow_traps`, only `unreachable` may trap. Unless the budget is 0, each operand has
+-- exactly its type, and with `disallow_traps` an `unreachable` gives only a value that no other
+-- instructions give without a budget (own rules).
 pub record IsDrawnAt (m : ModuleParts) (place : ℕ) (code : Code) (instructions : List Instr) : Type 0 where
   pub body : IsBodyAt m place code instructions
   pub enabled : All (IsEnabled (module_features m) (kinds_of_bodies m.config)) instructions
