@@ -54,7 +54,7 @@ abbrev pub IsStartSection : Option ℕ → List ℕ → Type 0
 IsStartSection = IsStartSectionIn any
 
 -- the data count section, which may be absent (Data Count Section); the standard requires it if a
--- body names a data segment, which `Valid` states
+-- body names a data segment, which `IsValidBinary` states
 abbrev pub IsDataCount : List Data → List ℕ → Type 0
 IsDataCount datas = IsOptionalSection 12 (Unit {0}) (IsUnsigned 32 (length datas))
 

@@ -144,8 +144,8 @@ pub record AreBodiesValid (m : ModuleParts) : Type 0 where
   pub counters : All (IsCounterGlobal m.globals (length (module_imports m).globals)) m.fuel_globals
 
 -- A module is valid under the features of its configuration, except for raw bytes in bodies
--- (Validation, Modules). Own rules govern features, shared types and exact types, and make types of
--- equal groups different.
+-- (Validation, Modules). Features, shared types and exact types follow own rules, and types of
+-- equal groups are different (own rule).
 pub record IsValid (m : ModuleParts) : Type 0 where
   pub types : AreTypesValid (module_features m) (module_types m)
   pub imports : All (IsImportsValid (module_features m)) m.imports

@@ -40,8 +40,8 @@ pub record CountsData (m : ModuleParts) : Type 0 where
   pub some : 0 < length m.datas
 
 -- A valid program: a valid module, and a valid body for each function that it defines, except that
--- raw bytes are not typed (Validation, Modules). Own rules: the features of each instruction are
--- enabled, and bodies are valid with the checks of the fuel counters too.
+-- raw bytes are not typed (Validation, Modules). The features of each instruction are enabled, and
+-- bodies are valid with the checks of the fuel counters too (own rules).
 pub record IsValidProgram (m : ModuleParts) (bodies : List Body) : Type 0 where
   pub valid : IsValid m
   pub typed : AreBodiesOf m bodies

@@ -30,8 +30,9 @@ is_abstract_step _ _ = false
 
 -- One heap type is directly below another (Validation, Matching, Heap Types). An abstract type is
 -- below as `is_abstract_step` states. A concrete type is below its declared supertype and the
--- abstract type of its kind, and above its bottom type. Own rules: both types are shared or neither
--- is; an exact type is below only the concrete type with its index, and above only its bottom type.
+-- abstract type of its kind, and above its bottom type. Both types are shared or neither is, and an
+-- exact type is directly below only the concrete type with its index, and above only its bottom
+-- type (own rules).
 abbrev pub IsStep : List SubType → HeapType → HeapType → Type 0
 IsStep types (Abstract s a) (Abstract r b) = (s ≡ r) × IsTrue (is_abstract_step a b)
 IsStep types (Abstract s a) (Concrete j) = (t : SubType) × (slice_get types j ≡ Some t) × (s ≡ shared t) × (a ≡ bottom t)
