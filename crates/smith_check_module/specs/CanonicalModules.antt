@@ -1,6 +1,6 @@
--- A module that refers to types by their canonical indices, so that equal types are one type: the
--- section Validation, Conventions, of the WebAssembly Core Specification 3.0. An index past all types
--- stays as it is.
+-- A module with canonical indices in place of its own type indices, so that equal types are one
+-- type: the section Validation, Conventions, of the WebAssembly Core Specification 3.0. An index
+-- above all types is unchanged.
 use Rattle.std.specs.Prelude.{ℕ, map}
 use Rattle.smith_syntax.specs.declared.const_instr.ConstInstr.{ConstInstr}
 use Rattle.smith_syntax.specs.declared.const_instr.ConstInstr.TheVariants as instr

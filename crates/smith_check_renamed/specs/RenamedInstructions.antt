@@ -1,7 +1,7 @@
--- Instructions with other indices in place of those of the types that they name. The standard compares
--- types once each index is replaced by the type that it names, so that equal types are one type: the
--- section Validation, Conventions, of the WebAssembly Core Specification 3.0. With the canonical index
--- in place of each index, types are compared by their indices.
+-- Instructions with each type index replaced. The standard replaces each index by its type before
+-- it compares types, so that equal types are one type: the section Validation, Conventions, of the
+-- WebAssembly Core Specification 3.0. With canonical indices, types can be compared by their
+-- indices.
 use Rattle.std.specs.Prelude.{ℕ, Bool, true, false, List, map}
 use Rattle.smith_instr.specs.declared.aggregate.AggregateInstr.{AggregateInstr}
 use Rattle.smith_instr.specs.declared.aggregate.AggregateInstr.TheVariants as aggregate
@@ -70,8 +70,8 @@ renamed_instr name instruction = instruction
 abbrev pub renamed_body : (ℕ → ℕ) → List Instr → List Instr
 renamed_body name body = map (renamed_instr name) body
 
--- instructions that are copied apart: on variables and numbers, on memories and vectors, and branches,
--- calls and exceptions (own rules)
+-- three groups of instructions that are copied by functions of their own: on variables and numbers;
+-- on memories and vectors; and branches, calls and exceptions (own rules)
 abbrev pub is_variable : Instr → Bool
 is_variable (instr.LocalGet index) = true
 is_variable (instr.LocalSet index) = true

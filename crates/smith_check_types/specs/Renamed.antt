@@ -1,4 +1,4 @@
--- Types with other indices in place of their own, by which types are rolled and canonical: the section
+-- Types with each type index replaced, as rolled groups and canonical types have them: the section
 -- Validation, Conventions, Rolling and Unrolling, of the WebAssembly Core Specification 3.0.
 use Rattle.std.specs.Prelude.{ℕ, Option, Some, None, map}
 use Rattle.smith_syntax.specs.declared.value_type.HeapType.{HeapType}

@@ -29,7 +29,7 @@ use Rattle.smith_decode.specs.Elements as element_segments
 use Rattle.smith_decode.specs.Elements.{Elem}
 use Rattle.smith_encode.specs.Segments.{IsSeenElem}
 
--- an expression with an instruction that the format cannot express
+-- an expression has an instruction that the format cannot express
 abbrev pub IsLongExpr : List Instr → Type 0
 IsLongExpr instructions = Any IsLongInstr instructions
 
@@ -42,7 +42,7 @@ IsLongGlobal global = IsLongExpr global.initial
 abbrev pub IsLongExport : Export → Type 0
 IsLongExport item = IsLongText item.name
 
--- an offset that is too long
+-- the offset of an active segment is too long
 abbrev pub IsLongMode : element_segments.Mode → Type 0
 IsLongMode (element_segments.Mode.active table offset) = IsLongExpr offset
 IsLongMode mode = ⊥
@@ -53,7 +53,8 @@ IsLongElem e = IsLongMode e.mode ⊎ IsLongList IsLongExpr e.items
 abbrev pub IsLongSegment : ElementSegment → Type 0
 IsLongSegment segment = IsLongElem (element_view segment)
 
--- a body with too many runs of locals, with such an expression, or with too many bytes
+-- a body has too many runs of locals, an instruction that the format cannot express, or too many
+-- bytes
 abbrev pub IsLongBody : Body → Type 0
 IsLongBody body =
     IsLongList IsNeverLong body.locals
@@ -66,12 +67,12 @@ IsLongDataMode mode = ⊥
 abbrev pub IsLongData : DataSegment → Type 0
 IsLongData segment = IsLongDataMode (segment_view segment).mode ⊎ IsLongText segment.bytes
 
--- a custom section with a name of too many bytes, or with too many bytes
+-- a custom section, or its name, has too many bytes
 abbrev pub IsLongCustom : Custom → Type 0
 IsLongCustom custom = IsLongText custom.name ⊎ IsLongContent (Joined (IsName custom.name) (Is custom.bytes))
 
--- a section is too long: a list in it has 2^32 items or more, it or a body of it has a spelling of
--- 2^32 bytes or more, or an instruction in it has a number that the format cannot express
+-- a section is too long: a list in it has 2^32 items or more, it or a body in it has a spelling of
+-- 2^32 bytes or more, or the format cannot express one of its instructions
 pub data IsTooLong (m : Module) : Type 0 where
   types : IsLongSection IsRecGroupWritten IsLongGroup m.types → IsTooLong m
   imports : IsLongSection IsImportGroup IsLongImportGroup m.imports → IsTooLong m
