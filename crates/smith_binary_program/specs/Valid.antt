@@ -35,8 +35,8 @@ pub record HasSection (id : ℕ) (bytes : List ℕ) : Type 0 where
   pub sections : HasSections ids bytes
   pub there : Contains ids id
 
--- the bytes are a valid program (Binary Format, Modules; Validation, Modules), with a data count
--- section if a body names a data segment (Data Count Section)
+-- the bytes are a valid program, and no other program (Binary Format, Modules; Validation,
+-- Modules), with a data count section if a body names a data segment (Data Count Section)
 pub record IsValidBinary (bytes : List ℕ) : Type 0 where
   pub m : ModuleParts
   pub bodies : List Body

@@ -108,7 +108,7 @@ with_flag NonNullableEnabled config b = record config { non_nullable_enabled = b
 with_flag CanonicalizeNans config b = record config { canonicalize_nans = b }
 with_flag GenerateCustomSections config b = record config { generate_custom_sections = b }
 
--- the configuration ends with the field at the place set to the last value of the reference
+-- when the borrow ends, the field of the configuration has the last value of the reference
 abbrev pub LendsSize : MutBor Config → Size → MutBor ℕ → Fml
 LendsSize config s r = Lends the_row usize config r (with_size s config.now)
 
@@ -133,7 +133,7 @@ with_number number.MinUlebSize = λ config n. record config { min_uleb_size = n 
 with_number number.MaxMemory64Bytes = λ config n. record config { max_memory64_bytes = n }
 with_number number.Fuel = λ config n. config
 
--- the greatest number that a field takes
+-- the greatest value of a field
 abbrev pub most_of : Number → ℕ
 most_of (number.Size s) = 2 ^ 64 - 1
 most_of (number.Word w) = 2 ^ 32 - 1

@@ -89,7 +89,7 @@ HasNoCounter m = m.fuel_globals ≡ []
 -- configuration requests it, everything is exported, unless a shape fixes the exports; there are no
 -- floats, unless there is a shape; there is no start function; and active segments are inside.
 -- References are nullable or grounded, except outside of locals if a shape in use has a
--- non-nullable one.
+-- non-nullable one. Sections with content are written, and there is no fuel counter.
 pub record KeepsPromises (distinct : Bool) (config : Config) (m : ModuleParts) : Type 0 where
   pub names : IsTrue distinct → (FixesImports config → ⊥) → HasDistinctImports m
   pub no_floats : config.allow_floats ≡ false → HasNoShapes config → HasNoFloats m
