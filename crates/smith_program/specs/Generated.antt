@@ -11,7 +11,7 @@ use Rattle.smith_program.specs.DrawnBodies.{bodies_at}
 use Rattle.smith_program.specs.Parts.{ProgramParts}
 use Rattle.smith_program.specs.Valid.{IsValidProgram}
 
--- `Module::new` returns `m` for these bytes, and `left` is the end of the bytes that `m` leaves
+-- `Module::new` returns `m` for these bytes, and `left` is a piece of the bytes that it leaves
 pub record IsModuleOf (given : Config) (bytes left : List ℕ) (m : ModuleParts) : Type 0 where
   pub after : List ℕ
   pub generated : IsGenerated false given bytes (Ok m) after
