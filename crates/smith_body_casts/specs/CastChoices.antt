@@ -1,5 +1,5 @@
--- The cast, test or conversion of a reference that the bytes choose, and the instruction on an i31.
--- The choices, their order and their weights are rules of this project.
+-- Drawn casts, tests and conversions of references, and drawn instructions on an i31. The choices,
+-- their order and their weights are rules of this project.
 use Rattle.std.specs.Prelude.{ℕ, Bool, true, false, ◌&&◌, not, Option, Some, None, is_some, List, [], ◌∷◌, length, slice_get, if◌then◌else◌}
 use Rattle.smith_bytes.specs.Draws.{choose_at}
 use Rattle.smith_types.specs.Expressions.{reference_to}
@@ -62,7 +62,7 @@ non_null_test_at context bytes =
     let to = reference_local_at context bytes in
     continued (λ (to : RefType) (bytes : List ℕ). tested_for context (without_null context.features to) bytes) to.0 to.1
 
--- a number from a reference; each way has the same weight
+-- the ways to get a number from a reference, each with the same weight
 abbrev pub scalars : List Scalar
 scalars = scalar.Length ∷ scalar.Signed ∷ scalar.Unsigned ∷ scalar.Test ∷ scalar.NonNullTest ∷ []
 
@@ -92,8 +92,8 @@ converted_to nullable (Abstract shared abstract.Any) = Some (aggregate_of (exter
 converted_to nullable (Abstract shared abstract.Extern) = Some (aggregate_of (internal shared nullable ∷ []) aggregate.ExternConvertAny)
 converted_to nullable _ = None
 
--- a reference from a number or another reference; the number of times that each way is listed is
--- its weight
+-- the ways to get a reference from a number or another reference, each listed as often as its
+-- weight
 abbrev pub conversions : List Conversion
 conversions = conversion.I31 ∷ conversion.Outside ∷ conversion.Cast ∷ conversion.NonNullCast ∷ conversion.Outside ∷ conversion.Outside
     ∷ conversion.Outside ∷ []

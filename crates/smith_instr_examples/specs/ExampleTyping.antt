@@ -12,15 +12,15 @@ use Rattle.smith_instr.specs.declared.instr.Instr.{Instr}
 use Rattle.smith_instr_examples.specs.ExampleBodies.{kinds_of}
 use Rattle.smith_instr_examples.specs.ExampleManaged.{managed}
 
--- the instruction takes these operands and leaves these results
+-- the instruction has this type
 abbrev pub HasType : Instr → List ValType → List ValType → Type 0
 HasType instruction operands results = HasInstrType (managed [] []) [] instruction operands results
 
--- the instruction does not take these operands, whatever its results
+-- the instruction does not have these operands, whatever its results
 abbrev pub TakesNot : Instr → List ValType → Type 0
 TakesNot instruction operands = (results : List ValType) → ¬ HasInstrType (managed [] []) [] instruction operands results
 
--- the instruction does not leave these results, whatever its operands
+-- the instruction does not have these results, whatever its operands
 abbrev pub LeavesNot : Instr → List ValType → Type 0
 LeavesNot instruction results = (operands : List ValType) → ¬ HasInstrType (managed [] []) [] instruction operands results
 
