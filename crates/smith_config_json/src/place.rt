@@ -82,7 +82,7 @@ pub(crate) enum Flag {
     GenerateCustomSections,
 }
 
-/// A field that is a whole number, or the fuel, which no field holds.
+/// A field that is a whole number, or the fuel, which is not a field.
 #[derive(Clone, Copy)]
 pub(crate) enum Number {
     Size(Size),
@@ -93,7 +93,7 @@ pub(crate) enum Number {
     Fuel,
 }
 
-/// A field of a configuration, or the preset or the export of the fuel, which no field holds.
+/// A field of a configuration, or the preset or the export of the fuel, which are not fields.
 #[derive(Clone, Copy)]
 pub(crate) enum Place {
     Number(Number),
