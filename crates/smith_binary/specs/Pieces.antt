@@ -39,6 +39,7 @@ pub record IsNameIn (spelling : Spelling) (name piece : List ℕ) : Type 0 where
   pub text : IsUtf8 name
   pub form : IsListIn spelling IsByte name piece
 
+-- a name in any spelling (Binary Format, Values, Names)
 abbrev pub IsName : List ℕ → List ℕ → Type 0
 IsName = IsNameIn any
 
@@ -48,6 +49,7 @@ pub record IsSizedIn (spelling : Spelling) (Content : List ℕ → Type 0) (piec
   pub is_content : Content content
   pub form : Joined (IsUnsignedIn spelling 32 (length content)) (Is content) piece
 
+-- the size of a content and the content, in any spelling (Binary Format, Modules, Sections)
 abbrev pub IsSized : (List ℕ → Type 0) → List ℕ → Type 0
 IsSized = IsSizedIn any
 
@@ -55,6 +57,7 @@ IsSized = IsSizedIn any
 abbrev pub IsSectionIn : Spelling → ℕ → (List ℕ → Type 0) → List ℕ → Type 0
 IsSectionIn spelling id Content = Joined (IsByte id) (IsSizedIn spelling Content)
 
+-- a section in any spelling (Binary Format, Modules, Sections)
 abbrev pub IsSection : ℕ → (List ℕ → Type 0) → List ℕ → Type 0
 IsSection id Content = IsSectionIn any id Content
 

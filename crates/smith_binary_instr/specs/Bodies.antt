@@ -22,6 +22,7 @@ IsFuncBody locals instructions = IsSized (IsFunc locals instructions)
 abbrev pub IsFuncWrittenIn : Spelling → List ValType → List Instr → List ℕ → Type 0
 IsFuncWrittenIn spelling locals instructions = Joined (IsLocalsWrittenIn spelling locals) (IsExprWrittenIn spelling instructions)
 
+-- the content of a body as it is written, with integers in any spelling
 abbrev pub IsFuncWritten : List ValType → List Instr → List ℕ → Type 0
 IsFuncWritten = IsFuncWrittenIn any
 

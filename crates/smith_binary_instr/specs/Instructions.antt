@@ -104,6 +104,7 @@ IsInstrs = IsInstrsIn any
 abbrev pub IsExprIn : Spelling → List Instr → List ℕ → Type 0
 IsExprIn spelling instructions = Joined (IsInstrsIn spelling instructions) (IsByte 0x0B)
 
+-- an expression in any spelling (Expressions)
 abbrev pub IsExpr : List Instr → List ℕ → Type 0
 IsExpr = IsExprIn any
 

@@ -5,6 +5,7 @@ use Rattle.smith_module_rules.specs.Module.{ModuleParts}
 use Rattle.smith_binary_sections.specs.Modules.{IsPreamble}
 use Rattle.smith_binary_module.specs.Contents.{defined}
 
+-- whether a list is not empty
 abbrev pub is_filled : {A : Type 0} → List A → Bool
 is_filled xs = nat_lt 0 (length xs)
 
@@ -13,11 +14,11 @@ abbrev pub id_if : Bool → ℕ → List ℕ
 id_if true id = id ∷ []
 id_if false id = []
 
--- whether the type section, and whether the import section is written: if the module requests it,
--- or the section is not empty
+-- whether the type section is written: if the module requests it, or the section is not empty
 abbrev pub writes_types : ModuleParts → Bool
 writes_types m = m.encodes_types || is_filled m.groups
 
+-- whether the import section is written: if the module requests it, or the section is not empty
 abbrev pub writes_imports : ModuleParts → Bool
 writes_imports m = m.encodes_imports || is_filled m.imports
 

@@ -64,6 +64,7 @@ abbrev pub IsWrittenIn : Spelling → ModuleParts → (List ℕ → Type 0) → 
 IsWrittenIn spelling m Bodies =
     Joined IsPreamble (Joined (IsFrontIn spelling m) (Joined (IsMiddleIn spelling m) (IsBackIn spelling m Bodies)))
 
+-- a module as it is written, with integers in any spelling
 abbrev pub IsWritten : ModuleParts → (List ℕ → Type 0) → List ℕ → Type 0
 IsWritten = IsWrittenIn any
 

@@ -40,5 +40,6 @@ IsBodyOf = IsBodyOfIn any
 abbrev pub AreBodiesOfIn : Spelling → List ℕ → List Code → List Body → List ℕ → Type 0
 AreBodiesOfIn spelling counters codes bodies = IsListIn spelling (IsBodyOfIn spelling counters) (zip codes bodies)
 
+-- the list of the bodies as they are written, with integers in any spelling (Code Section)
 abbrev pub AreBodiesOf : List ℕ → List Code → List Body → List ℕ → Type 0
 AreBodiesOf = AreBodiesOfIn any

@@ -9,9 +9,11 @@ use Rattle.smith_binary_read.specs.Readings.{Reading, ◌>>=◌, byte_at, joined
 use Rattle.smith_binary_read.specs.Contents.{list_at, name_at}
 use Rattle.smith_binary_read.specs.EntityReadings.{extern_type_at}
 
+-- an import in a group, with this name and this type
 abbrev pub import_item : List ℕ → EntityType → ImportItem
 import_item name ty = record { name = name; entity_type = ty }
 
+-- reads an import in a compact group
 unfoldable pub import_item_at : List ℕ → Reading ImportItem
 import_item_at bytes = joined_at import_item name_at extern_type_at bytes
 

@@ -28,10 +28,11 @@ unfoldable pub little_endian_at : ℕ → List ℕ → Reading ℕ
 little_endian_at zero bytes = Ok (0, bytes)
 little_endian_at (suc count) bytes = byte_at bytes >>= (λ low. little_endian_at count low.1 >>= (λ high. Ok (low.0 + 256 * high.0, high.1)))
 
--- the signed integer with these 128 bits, and its reading
+-- the signed integer with these 128 bits
 abbrev pub as_signed : ℕ → ℤ
 as_signed n = if nat_lt n (2 ^ 127) then pos n else negsuc (2 ^ 128 - 1 - n)
 
+-- reads 128 bits as a signed integer
 unfoldable pub vector_at : List ℕ → Reading ℤ
 vector_at bytes = mapped_at as_signed (little_endian_at 16) bytes
 

@@ -12,6 +12,7 @@ use Rattle.smith_binary_read.specs.declared.error.ReadError.TheVariants as error
 abbrev pub Reading : Type 0 → Type 0
 Reading A = Result (A × List ℕ) Fault
 
+-- a reading, then a reading of what it gives, or its fault
 infixl 10 ◌>>=◌
 abbrev pub ◌>>=◌ : {A B : Type 0} → Result A Fault → (A → Result B Fault) → Result B Fault
 (Ok x) >>= f = f x
@@ -78,6 +79,7 @@ each_at read (suc count) bytes = read bytes >>= (λ x. each_at read count x.1 >>
 abbrev pub at_end : {A : Type 0} → A → List ℕ → Result A Fault
 at_end x rest = if length rest == 0 then Ok x else fault_at TrailingBytes rest
 
+-- reads an item that ends at the end of the bytes
 abbrev pub whole_at : {A : Type 0} → (List ℕ → Reading A) → List ℕ → Result A Fault
 whole_at read bytes = read bytes >>= (λ x. at_end x.0 x.1)
 

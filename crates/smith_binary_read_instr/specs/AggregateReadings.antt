@@ -73,6 +73,7 @@ indexed_at number bytes =
     else (if nat_lt number 15 then array_at number bytes
     else elements_at number bytes))
 
+-- reads an instruction after the byte 0xFB
 unfoldable pub aggregate_at : List ℕ → Reading Instr
 aggregate_at bytes = unsigned_at 32 bytes >>= (λ number. or_at (item_of conversion_rows number.0) number.1
     (if nat_lt number.0 20 then mapped_at instr.Aggregate (indexed_at number.0) number.1

@@ -15,11 +15,12 @@ use Rattle.smith_instr.specs.declared.instr.Instr.TheVariants as instr
 use Rattle.smith_binary_read_instr.specs.NumericReadings.{item_or}
 use Rattle.smith_binary_read_instr.specs.MemoryReadings.{mem_arg_at}
 
--- the width of an access, by its distance from the first number of its kind
+-- the widths of accesses but the last, by the distance from the first number of a kind of accesses
 abbrev pub width_rows : List (ℕ × AtomicWidth)
 width_rows =
     (0, width.I32) ∷ (1, width.I64) ∷ (2, width.I32Of8) ∷ (3, width.I32Of16) ∷ (4, width.I64Of8) ∷ (5, width.I64Of16) ∷ []
 
+-- the width of an access, by the distance from the first number of its kind
 unfoldable pub width_of : ℕ → AtomicWidth
 width_of place = item_or width_rows width.I64Of32 place
 

@@ -38,16 +38,20 @@ catch_at bytes = byte_at bytes >>= (λ byte.
 abbrev pub cast_rows : List (ℕ × (Bool × Bool))
 cast_rows = (0, (false, false)) ∷ (1, (true, false)) ∷ (2, (false, true)) ∷ (3, (true, true)) ∷ []
 
+-- reads the nullability of the two types of a cast
 unfoldable pub cast_at : List ℕ → Reading (Bool × Bool)
 cast_at bytes = coded_at cast_rows bytes
 
--- reads the immediates of a branch on a cast
+-- reads the heap types of the two types of a cast
 abbrev pub heap_types_at : List ℕ → Reading (HeapType × HeapType)
 heap_types_at = joined_at (λ from to. (from, to)) heap_type_at heap_type_at
 
+-- reads the label of a branch on a cast, then the heap types of its types
 unfoldable pub targets_at : List ℕ → Reading (ℕ × (HeapType × HeapType))
 targets_at bytes = joined_at (λ label types. (label, types)) (unsigned_at 32) heap_types_at bytes
 
+-- the immediates of a branch on a cast, by the nullability of its types, its label and its heap
+-- types
 abbrev pub branch_cast : Bool × Bool → ℕ × (HeapType × HeapType) → BranchCast
 branch_cast nullable parts = record {
   label = parts.0;
@@ -55,14 +59,17 @@ branch_cast nullable parts = record {
   to = record { nullable = nullable.1; heap_type = parts.1.1 };
 }
 
+-- reads the immediates of a branch on a cast
 unfoldable pub branch_cast_at : List ℕ → Reading BranchCast
 branch_cast_at bytes = joined_at branch_cast cast_at targets_at bytes
 
--- the instructions up to 0x0B: blocks and their parts
+-- the instructions without immediates up to the byte 0x0B
 abbrev pub control_rows : List (ℕ × Instr)
 control_rows =
     (0x00, instr.Unreachable) ∷ (0x01, instr.Nop) ∷ (0x05, instr.Else) ∷ (0x0A, instr.ThrowRef) ∷ (0x0B, instr.End) ∷ []
 
+-- reads an instruction up to the byte 0x0B: the start, the `else` or the end of a block, or a
+-- throw, `unreachable` or `nop`
 unfoldable pub block_at : List ℕ → Reading Instr
 block_at bytes = byte_at bytes >>= (λ byte. or_at (item_of control_rows byte.0) byte.1
     (if byte.0 == 0x02 then mapped_at instr.Block block_type_at byte.1

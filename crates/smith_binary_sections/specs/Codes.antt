@@ -16,6 +16,7 @@ use Rattle.smith_binary_sections.specs.Types.{IsValTypeIn}
 abbrev pub IsRunIn : Spelling → ℕ × ValType → List ℕ → Type 0
 IsRunIn spelling run = Joined (IsUnsignedIn spelling 32 run.0) (IsValTypeIn spelling run.1)
 
+-- a run of locals in any spelling (Code Section)
 abbrev pub IsRun : ℕ × ValType → List ℕ → Type 0
 IsRun = IsRunIn any
 
@@ -34,6 +35,7 @@ pub record IsLocals (locals : List ValType) (piece : List ℕ) : Type 0 where
 abbrev pub IsLocalsWrittenIn : Spelling → List ValType → List ℕ → Type 0
 IsLocalsWrittenIn spelling locals = IsListIn spelling (λ (local : ValType). IsRunIn spelling (1, local)) locals
 
+-- locals as they are written, with integers in any spelling (Code Section)
 abbrev pub IsLocalsWritten : List ValType → List ℕ → Type 0
 IsLocalsWritten = IsLocalsWrittenIn any
 
@@ -46,6 +48,7 @@ IsBody body = IsSized (Joined (IsLocals body.0) (Is body.1))
 abbrev pub IsBodyWrittenIn : Spelling → List ValType × List ℕ → List ℕ → Type 0
 IsBodyWrittenIn spelling body = IsSizedIn spelling (Joined (IsLocalsWrittenIn spelling body.0) (Is body.1))
 
+-- a body as it is written, with integers in any spelling (Code Section)
 abbrev pub IsBodyWritten : List ValType × List ℕ → List ℕ → Type 0
 IsBodyWritten = IsBodyWrittenIn any
 

@@ -20,12 +20,13 @@ pub record Data : Type 0 where
   pub bytes : List ℕ
   pub mode : DataMode
 
--- the three forms of a data segment, and their numbers (Data Section)
+-- the three forms of a data segment (Data Section)
 pub data DataForm : Type 0 where
   first_memory : DataForm
   no_memory : DataForm
   named_memory : DataForm
 
+-- the number of a form of a data segment (Data Section)
 abbrev pub data_number : DataForm → ℕ
 data_number first_memory = 0
 data_number no_memory = 1
@@ -48,6 +49,7 @@ IsInDataForm = IsInDataFormIn any
 abbrev pub IsDataFormIn : Spelling → DataForm → Data → List ℕ → Type 0
 IsDataFormIn spelling form d = Joined (IsUnsignedIn spelling 32 (data_number form)) (IsInDataFormIn spelling form d)
 
+-- the number of a form, then a data segment in that form, in any spelling (Data Section)
 abbrev pub IsDataIn : DataForm → Data → List ℕ → Type 0
 IsDataIn = IsDataFormIn any
 
@@ -65,10 +67,11 @@ data_mode (Active memory offset) = active memory (offset_of offset)
 abbrev pub data_of : DataSegment → Data
 data_of segment = record { bytes = segment.init; mode = data_mode segment.kind }
 
--- the written form of a data segment, which does not name memory 0 (own rule)
+-- the written form of an active data segment: it does not name memory 0 (own rule)
 abbrev pub active_data_form : ℕ → DataForm
 active_data_form memory = if memory == 0 then first_memory else named_memory
 
+-- the written form of a data segment (Data Section)
 abbrev pub data_form : DataSegmentKind → DataForm
 data_form Passive = no_memory
 data_form (Active memory offset) = active_data_form memory

@@ -21,6 +21,7 @@ abbrev pub IsInitialisedTableIn : Spelling → TableType → List ConstInstr →
 IsInitialisedTableIn spelling ty initial =
     Joined (Is (0x40 ∷ 0x00 ∷ [])) (Joined (IsTableTypeIn spelling ty) (IsExpressionIn spelling initial))
 
+-- a table with its initialiser, in any spelling (Table Section)
 abbrev pub IsInitialisedTable : TableType → List ConstInstr → List ℕ → Type 0
 IsInitialisedTable = IsInitialisedTableIn any
 
@@ -33,6 +34,7 @@ pub data IsTable (table : TableType × List ConstInstr) (piece : List ℕ) : Typ
 abbrev pub IsGlobalIn : Spelling → GlobalType × List ConstInstr → List ℕ → Type 0
 IsGlobalIn spelling global = Joined (IsGlobalTypeIn spelling global.0) (IsExpressionIn spelling global.1)
 
+-- a global in any spelling (Global Section)
 abbrev pub IsGlobal : GlobalType × List ConstInstr → List ℕ → Type 0
 IsGlobal = IsGlobalIn any
 
@@ -53,6 +55,7 @@ IsTableAsIn spelling ty (Some initial) = IsInitialisedTableIn spelling ty initia
 abbrev pub IsTableAs : TableType → Option (List ConstInstr) → List ℕ → Type 0
 IsTableAs = IsTableAsIn any
 
+-- a table with its initialiser, if it has one, as it is written (Table Section)
 abbrev pub IsTableWrittenIn : Spelling → TableType × Option (List ConstInstr) → List ℕ → Type 0
 IsTableWrittenIn spelling table = IsTableAsIn spelling table.0 table.1
 

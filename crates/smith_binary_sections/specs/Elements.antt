@@ -39,7 +39,7 @@ func_ref nullable = record { nullable = nullable; heap_type = Abstract false abs
 abbrev pub func_items : List ℕ → List (List ConstInstr)
 func_items funcs = map (λ (index : ℕ). RefFunc index ∷ []) funcs
 
--- the eight forms of an element segment, and their numbers (Element Section)
+-- the eight forms of an element segment (Element Section)
 pub data Form : Type 0 where
   first_funcs : Form
   passive_funcs : Form
@@ -50,6 +50,7 @@ pub data Form : Type 0 where
   table_items : Form
   declared_items : Form
 
+-- the number of a form of an element segment (Element Section)
 abbrev pub form_number : Form → ℕ
 form_number first_funcs = 0
 form_number passive_funcs = 1
@@ -60,13 +61,15 @@ form_number passive_items = 5
 form_number table_items = 6
 form_number declared_items = 7
 
--- a list of function indices, and a list of expressions (Element Section)
+-- a list of function indices (Element Section)
 abbrev pub IsFuncsIn : Spelling → List ℕ → List ℕ → Type 0
 IsFuncsIn spelling = IsListIn spelling (IsIndexIn spelling)
 
+-- a list of function indices in any spelling (Element Section)
 abbrev pub IsFuncs : List ℕ → List ℕ → Type 0
 IsFuncs = IsFuncsIn any
 
+-- a list of expressions (Element Section)
 abbrev pub IsItemsIn : Spelling → List (List ConstInstr) → List ℕ → Type 0
 IsItemsIn spelling = IsListIn spelling (IsExpressionIn spelling)
 
@@ -77,6 +80,7 @@ IsItems = IsItemsIn any
 abbrev pub IsKindFuncsIn : Spelling → List ℕ → List ℕ → Type 0
 IsKindFuncsIn spelling funcs = Joined (IsByte 0x00) (IsFuncsIn spelling funcs)
 
+-- the element kind, then function indices, in any spelling (Element Section)
 abbrev pub IsKindFuncs : List ℕ → List ℕ → Type 0
 IsKindFuncs = IsKindFuncsIn any
 
@@ -110,6 +114,7 @@ IsInForm = IsInFormIn any
 abbrev pub IsElemFormIn : Spelling → Form → Elem → List ℕ → Type 0
 IsElemFormIn spelling form e = Joined (IsUnsignedIn spelling 32 (form_number form)) (IsInFormIn spelling form e)
 
+-- the number of a form, then an element segment in that form, in any spelling (Element Section)
 abbrev pub IsElemIn : Form → Elem → List ℕ → Type 0
 IsElemIn = IsElemFormIn any
 
@@ -118,16 +123,20 @@ pub record IsElem (e : Elem) (piece : List ℕ) : Type 0 where
   pub form : Form
   pub spelled : IsElemIn form e piece
 
--- the type, items and mode of an element segment in the abstract syntax: function indices have the
--- type `(ref func)`, and a segment that names no table is for table 0 (Element Section)
+-- the type of an element segment in the abstract syntax: function indices have the type `(ref
+-- func)` (Element Section)
 abbrev pub elem_type : Elements → RefType → RefType
 elem_type (Functions funcs) ty = func_ref false
 elem_type (Expressions items) ty = ty
 
+-- the items of an element segment in the abstract syntax, where function indices are expressions
+-- (Element Section)
 abbrev pub elem_items : Elements → List (List ConstInstr)
 elem_items (Functions funcs) = func_items funcs
 elem_items (Expressions items) = items
 
+-- the mode of an element segment in the abstract syntax: a segment that names no table is for table
+-- 0 (Element Section)
 abbrev pub elem_mode : ElementKind → Mode
 elem_mode Passive = passive
 elem_mode Declared = declared
@@ -141,34 +150,37 @@ elem_of segment = record {
   mode = elem_mode segment.kind;
 }
 
--- whether a type is a nullable reference to unshared functions (own rule)
+-- whether a heap type is the type of unshared functions (own rule)
 abbrev pub is_func : HeapType → Bool
 is_func (Abstract shared abstract.Func) = not shared
 is_func _ = false
 
+-- whether a reference type is funcref (Reference Types)
 abbrev pub is_func_ref : RefType → Bool
 is_func_ref ty = ty.nullable && is_func ty.heap_type
 
--- the written form of an active segment: it does not name table 0, unless the items are expressions
--- of a type other than funcref (own rule)
+-- the written form of an active segment of function indices: it does not name table 0 (own rule)
 abbrev pub active_funcs_form : ℕ → Form
 active_funcs_form table = if table == 0 then first_funcs else table_funcs
 
+-- the written form of an active segment of expressions: without a table index if the table is 0 and
+-- the type is funcref (Element Section)
 abbrev pub active_items_form : ℕ → RefType → Form
 active_items_form table ty = if (table == 0) && is_func_ref ty then first_items else table_items
 
--- the written form of a segment of function indices, of a segment of expressions, and of either
--- (own rule)
+-- the written form of a segment of function indices (own rule)
 abbrev pub funcs_form : ElementKind → Form
 funcs_form Passive = passive_funcs
 funcs_form Declared = declared_funcs
 funcs_form (Active table offset) = active_funcs_form (unwrap_or table 0)
 
+-- the written form of a segment of expressions (Element Section)
 abbrev pub items_form : RefType → ElementKind → Form
 items_form ty Passive = passive_items
 items_form ty Declared = declared_items
 items_form ty (Active table offset) = active_items_form (unwrap_or table 0) ty
 
+-- the written form of an element segment (Element Section)
 abbrev pub elem_form : Elements → RefType → ElementKind → Form
 elem_form (Functions funcs) ty kind = funcs_form kind
 elem_form (Expressions items) ty kind = items_form ty kind

@@ -23,8 +23,7 @@ abbrev pub is_there : Option ℕ → Bool
 is_there (Some n) = true
 is_there None = false
 
--- a maximum, an integer of 64 bits (Limits), and a page size, an integer of 32 bits (custom page
--- sizes proposal); no byte if there is none
+-- a maximum, an integer of 64 bits, or no byte if there is none (Limits)
 abbrev pub IsMaximumIn : Spelling → Option ℕ → List ℕ → Type 0
 IsMaximumIn spelling (Some n) piece = IsUnsignedIn spelling 64 n piece
 IsMaximumIn spelling None piece = Is [] piece
@@ -32,6 +31,8 @@ IsMaximumIn spelling None piece = Is [] piece
 abbrev pub IsMaximum : Option ℕ → List ℕ → Type 0
 IsMaximum = IsMaximumIn any
 
+-- the logarithm of a page size, an integer of 32 bits, or no byte if none is stated (custom page
+-- sizes proposal)
 abbrev pub IsPageSizeIn : Spelling → Option ℕ → List ℕ → Type 0
 IsPageSizeIn spelling (Some log2) piece = IsUnsignedIn spelling 32 log2 piece
 IsPageSizeIn spelling None piece = Is [] piece
@@ -48,6 +49,7 @@ global_byte mutable shared = flag mutable 0x01 + flag shared 0x02
 abbrev pub IsGlobalTypeIn : Spelling → GlobalType → List ℕ → Type 0
 IsGlobalTypeIn spelling global = Joined (IsValTypeIn spelling global.val_type) (IsByte (global_byte global.mutable global.shared))
 
+-- a global type in any spelling (Global Types)
 abbrev pub IsGlobalType : GlobalType → List ℕ → Type 0
 IsGlobalType = IsGlobalTypeIn any
 
@@ -70,6 +72,7 @@ IsMemoryTypeIn spelling memory =
     Joined (IsByte (limits_byte memory.maximum memory.shared memory.memory64 memory.page_size_log2))
     (Joined (IsRangeIn spelling memory.minimum memory.maximum) (IsPageSizeIn spelling memory.page_size_log2))
 
+-- a memory type in any spelling (Memory Types)
 abbrev pub IsMemoryType : MemoryType → List ℕ → Type 0
 IsMemoryType = IsMemoryTypeIn any
 
@@ -79,6 +82,7 @@ IsTableTypeIn spelling table =
     Joined (IsRefTypeIn spelling table.element_type) (Joined (IsByte (limits_byte table.maximum table.shared table.table64 None))
     (IsRangeIn spelling table.minimum table.maximum))
 
+-- a table type in any spelling (Table Types)
 abbrev pub IsTableType : TableType → List ℕ → Type 0
 IsTableType = IsTableTypeIn any
 
@@ -86,6 +90,7 @@ IsTableType = IsTableTypeIn any
 abbrev pub IsTagTypeIn : Spelling → ℕ → List ℕ → Type 0
 IsTagTypeIn spelling index = Joined (IsByte 0x00) (IsIndexIn spelling index)
 
+-- a tag type in any spelling (Tag Types)
 abbrev pub IsTagType : ℕ → List ℕ → Type 0
 IsTagType = IsTagTypeIn any
 

@@ -19,5 +19,6 @@ kind_byte Tag = 0x04
 abbrev pub IsExportIn : Spelling → List ℕ × ExportKind × ℕ → List ℕ → Type 0
 IsExportIn spelling item = Joined (IsNameIn spelling item.0) (Joined (IsByte (kind_byte item.1)) (IsUnsignedIn spelling 32 item.2))
 
+-- an export in any spelling (Export Section)
 abbrev pub IsExport : List ℕ × ExportKind × ℕ → List ℕ → Type 0
 IsExport = IsExportIn any

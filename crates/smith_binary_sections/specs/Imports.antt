@@ -43,6 +43,7 @@ IsImportGroupIn spelling (Compact1 from items) piece = Joined (IsGroupHeadIn spe
 IsImportGroupIn spelling (Compact2 from ty names) piece = Joined (IsGroupHeadIn spelling from 0x7E)
     (Joined (IsExternTypeIn spelling ty) (IsListIn spelling (IsNameIn spelling) names)) piece
 
+-- a group of imports in any spelling (Import Section; compact imports proposal)
 abbrev pub IsImportGroup : Imports → List ℕ → Type 0
 IsImportGroup = IsImportGroupIn any
 

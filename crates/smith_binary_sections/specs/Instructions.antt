@@ -15,6 +15,7 @@ use Rattle.smith_binary_sections.specs.Types.{IsHeapTypeIn}
 abbrev pub IsIndexIn : Spelling → ℕ → List ℕ → Type 0
 IsIndexIn spelling = IsUnsignedIn spelling 32
 
+-- an index in any spelling (Binary Format, Modules, Indices)
 abbrev pub IsIndex : ℕ → List ℕ → Type 0
 IsIndex = IsIndexIn any
 

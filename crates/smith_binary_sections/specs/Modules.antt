@@ -50,6 +50,7 @@ abbrev pub IsStartSectionIn : Spelling → Option ℕ → List ℕ → Type 0
 IsStartSectionIn spelling (Some index) piece = IsSectionIn spelling 8 (IsIndexIn spelling index) piece
 IsStartSectionIn spelling None piece = piece ≡ []
 
+-- the start section, if there is a start function, in any spelling (Start Section)
 abbrev pub IsStartSection : Option ℕ → List ℕ → Type 0
 IsStartSection = IsStartSectionIn any
 

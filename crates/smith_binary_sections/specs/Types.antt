@@ -45,6 +45,7 @@ IsHeapTypeIn spelling (Abstract true ty) piece = Joined (IsByte 0x65) (IsByte (a
 IsHeapTypeIn spelling (Concrete index) piece = IsSignedIn spelling 33 (pos index) piece
 IsHeapTypeIn spelling (Exact index) piece = Joined (IsByte 0x62) (IsUnsignedIn spelling 32 index) piece
 
+-- a heap type in any spelling (Heap Types)
 abbrev pub IsHeapType : HeapType → List ℕ → Type 0
 IsHeapType = IsHeapTypeIn any
 
@@ -70,6 +71,8 @@ abbrev pub short_ref : Bool → HeapType → Option AbstractHeapType
 short_ref true (Abstract false ty) = Some ty
 short_ref nullable heap = None
 
+-- a reference type as the abstract heap type alone if one is given, else in its full form
+-- (Reference Types)
 abbrev pub IsRefTypeAs : Spelling → RefType → Option AbstractHeapType → List ℕ → Type 0
 IsRefTypeAs spelling reference (Some ty) piece = IsByte (abstract_byte ty) piece
 IsRefTypeAs spelling reference None piece = Joined (IsByte (null_byte reference.nullable)) (IsHeapTypeIn spelling reference.heap_type) piece
@@ -140,6 +143,7 @@ shared_bytes false = []
 abbrev pub IsCompositeTypeIn : Spelling → CompositeType → List ℕ → Type 0
 IsCompositeTypeIn spelling composite = Joined (Is (shared_bytes composite.shared)) (IsInnerTypeIn spelling composite.inner)
 
+-- a composite type in any spelling (Composite Types)
 abbrev pub IsCompositeType : CompositeType → List ℕ → Type 0
 IsCompositeType = IsCompositeTypeIn any
 
@@ -165,6 +169,8 @@ abbrev pub is_alone : Option ℕ → Bool → Bool
 is_alone None is_final = is_final
 is_alone (Some index) is_final = false
 
+-- a subtype as its composite type alone if the flag is true, else in its full form (Recursive
+-- Types)
 abbrev pub IsSubTypeAsIn : Spelling → Bool → SubType → List ℕ → Type 0
 IsSubTypeAsIn spelling true t = IsCompositeTypeIn spelling t.composite_type
 IsSubTypeAsIn spelling false t =
@@ -187,6 +193,7 @@ abbrev pub IsRecGroupWrittenIn : Spelling → List SubType → List ℕ → Type
 IsRecGroupWrittenIn spelling (t ∷ []) = IsSubTypeWrittenIn spelling t
 IsRecGroupWrittenIn spelling group = Joined (IsByte 0x4E) (IsListIn spelling (IsSubTypeWrittenIn spelling) group)
 
+-- a recursive group as it is written, with integers in any spelling
 abbrev pub IsRecGroupWritten : List SubType → List ℕ → Type 0
 IsRecGroupWritten = IsRecGroupWrittenIn any
 

@@ -25,6 +25,7 @@ abbrev pub named_by : Instr → List ℕ
 named_by (instr.Reference op) = named_by_reference op
 named_by _ = []
 
+-- the functions that an expression names with `ref.func` (Structure, Expressions)
 abbrev pub named_in : List Instr → List ℕ
 named_in expression = flat_map named_by expression
 
@@ -38,9 +39,11 @@ abbrev pub named_by_element_mode : Mode → List ℕ
 named_by_element_mode (Mode.active table offset) = named_in offset
 named_by_element_mode _ = []
 
+-- the functions that an element segment names (Structure, Element Segments)
 abbrev pub named_by_element : Elem → List ℕ
 named_by_element segment = flat_map named_in segment.items ++ named_by_element_mode segment.mode
 
+-- the functions that the offset of a data segment names (Structure, Data Segments)
 abbrev pub named_by_data_mode : DataMode → List ℕ
 named_by_data_mode (DataMode.active memory offset) = named_in offset
 named_by_data_mode DataMode.passive = []

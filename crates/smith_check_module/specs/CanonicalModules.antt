@@ -9,14 +9,15 @@ use Rattle.smith_syntax.specs.declared.entity_type.TableType.{TableType}
 use Rattle.smith_types.specs.Imports.{EntitySpaces}
 use Rattle.smith_check_types.specs.Renamed.{renamed_heap, renamed_ref, renamed_val}
 
--- a table type and a global type (Structure, Types)
+-- a table type with each type index replaced by `name` (Structure, Table Types)
 abbrev pub renamed_table : (ℕ → ℕ) → TableType → TableType
 renamed_table name table = record table { element_type = renamed_ref name table.element_type }
 
+-- a global type with each type index replaced by `name` (Structure, Global Types)
 abbrev pub renamed_global : (ℕ → ℕ) → GlobalType → GlobalType
 renamed_global name global = record global { val_type = renamed_val name global.val_type }
 
--- the index spaces (Structure, Indices)
+-- the index spaces with each type index replaced by `name` (Structure, Indices)
 abbrev pub renamed_spaces : (ℕ → ℕ) → EntitySpaces → EntitySpaces
 renamed_spaces name spaces = record {
   tags = map name spaces.tags;

@@ -68,14 +68,15 @@ pub record AreDefinitionsValid (context : Context) (indices : List ℕ) (m : Syn
   pub tables : All (IsTableInitialised (seeing context (seen_by_tables context)) indices) m.tables
   pub globals : AreGlobalsInitialised context indices (length (imported_spaces m.imports).globals) m.globals
 
--- the items of a segment are each a `ref.func` of the segment's type, or all are constant
--- expressions of that type (Validation, Element Segments), which requires reference types (own
--- rule)
+-- the items of a segment are each a `ref.func` of the segment's type (Validation, Element Segments)
 pub record AreFunctions (context : Context) (ty : RefType) (items : List (List Instr)) : Type 0 where
   pub functions : List ℕ
   pub spelled : items ≡ func_items functions
   pub typed : All (IsItem context ty) functions
 
+-- the items of a segment are each a `ref.func` of the segment's type, or all are constant
+-- expressions of that type (Validation, Element Segments), which requires reference types (own
+-- rule)
 abbrev pub AreItemsValid : Context → List ℕ → RefType → List (List Instr) → Type 0
 AreItemsValid context indices ty items =
     AreFunctions context ty items ⊎ (IsTrue context.features.reference_types × All (IsConstant context indices (Ref ty)) items)

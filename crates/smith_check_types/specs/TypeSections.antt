@@ -23,12 +23,13 @@ canonical_index indices index = unwrap_or (slice_get indices index) index
 abbrev pub canonical_groups : List ℕ → List (List SubType) → List (List SubType)
 canonical_groups indices groups = map (map (renamed (canonical_index indices))) groups
 
--- a heap type, and a value type, refers only to types before `end` (Validation, Heap Types)
+-- a heap type refers only to types before `end` (Validation, Heap Types)
 abbrev pub IsHeapInScope : ℕ → HeapType → Type 0
 IsHeapInScope end (Abstract shared ty) = Unit {0}
 IsHeapInScope end (Concrete index) = index < end
 IsHeapInScope end (Exact index) = index < end
 
+-- a value type refers only to types before `end` (Validation, Value Types)
 abbrev pub IsInScope : ℕ → ValType → Type 0
 IsInScope end (Ref reference) = IsHeapInScope end reference.heap_type
 IsInScope end _ = Unit {0}

@@ -52,16 +52,19 @@ pub record AreFeaturesEnough (which : Which) (features : Features) (space : Grou
   pub globals : All (IsGlobalValid features space.types) spaces.globals
   pub counts : AreCountsFor which features spaces
 
--- the same properties, for the types and the index spaces of a shape
+-- the types of a shape are sound
 abbrev pub AreTypesRight : Shape → Type 0
 AreTypesRight shape = AreTypesSound (space_of shape.groups) (shape_spaces shape)
 
+-- the indices of a shape are sound
 abbrev pub AreIndicesRight : Shape → Type 0
 AreIndicesRight shape = AreIndicesSound (space_of shape.groups) (shape_spaces shape) shape.exports
 
+-- the limits of a shape are sound
 abbrev pub AreLimitsRight : Shape → Type 0
 AreLimitsRight shape = AreLimitsSound (space_of shape.groups) (shape_spaces shape)
 
+-- the features suffice for a shape
 abbrev pub AreFeaturesOn : Which → Features → Shape → Type 0
 AreFeaturesOn which features shape = AreFeaturesEnough which features (space_of shape.groups) (shape_spaces shape)
 

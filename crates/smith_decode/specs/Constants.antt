@@ -21,8 +21,7 @@ use Rattle.smith_decode.specs.Data.{Data, DataMode}
 use Rattle.smith_decode.specs.Elements.{Elem, Mode}
 use Rattle.smith_decode.specs.Modules.{Syntax}
 
--- a constant instruction as an instruction, and a constant expression as an expression (Structure,
--- Expressions)
+-- a constant instruction as an instruction (Structure, Expressions)
 abbrev pub as_instr : ConstInstr → Instr
 as_instr (constant.I32Const value) = instr.I32Const value
 as_instr (constant.I64Const value) = instr.I64Const value
@@ -48,6 +47,7 @@ as_instr (constant.ArrayNewFixed index size) = instr.Aggregate (aggregate.ArrayN
 as_instr constant.AnyConvertExtern = instr.Aggregate aggregate.AnyConvertExtern
 as_instr constant.ExternConvertAny = instr.Aggregate aggregate.ExternConvertAny
 
+-- a constant expression as an expression (Structure, Expressions)
 abbrev pub as_expr : List ConstInstr → List Instr
 as_expr = map as_instr
 

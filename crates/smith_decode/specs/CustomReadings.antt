@@ -18,6 +18,7 @@ skip_customs zero bytes = Ok bytes
 skip_customs (suc most) bytes =
     if starts_with 0 bytes then (sized_at custom_whole (drop 1 bytes) >>= (λ custom. skip_customs most custom.1)) else Ok bytes
 
+-- skips all custom sections at the front
 unfoldable pub customs_at : List ℕ → Result (List ℕ) Fault
 customs_at bytes = skip_customs (length bytes) bytes
 
@@ -45,6 +46,7 @@ GivesRest (Err e) rest reading = Fails e reading
 abbrev pub custom : Option ℕ → List ℕ → List ℕ → Custom
 custom after name bytes = record { after = after; name = name; bytes = bytes }
 
+-- reads the content of a custom section, given the identifier of the section before it
 unfoldable pub custom_at : Option ℕ → List ℕ → Result Custom Fault
 custom_at after content = name_at content >>= (λ name. Ok (custom after name.0 name.1))
 

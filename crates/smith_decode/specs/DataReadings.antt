@@ -13,6 +13,7 @@ use Rattle.smith_decode.specs.declared.data.DataSegment.{DataSegment}
 use Rattle.smith_decode.specs.Data.{Data, IsData, DataMode as AbstractMode}
 use Rattle.smith_decode.specs.Data.DataMode.{passive, active}
 
+-- a data segment of this mode and these bytes
 abbrev pub segment : DataMode → List ℕ → DataSegment
 segment mode bytes = record { mode = mode; bytes = bytes }
 

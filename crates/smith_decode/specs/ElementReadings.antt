@@ -42,6 +42,7 @@ abbrev pub items_view : ElementItems → List (List Instr)
 items_view (Functions funcs) = func_items funcs
 items_view (Expressions items) = items
 
+-- an element segment in the abstract syntax (Structure, Element Segments)
 abbrev pub element_view : ElementSegment → Elem
 element_view s = elem s.ty (items_view s.items) (mode_view s.mode)
 

@@ -27,6 +27,7 @@ pub record Elem : Type 0 where
   pub items : List (List Instr)
   pub mode : Mode
 
+-- an element segment of this type, these items and this mode (Structure, Element Segments)
 abbrev pub elem : RefType → List (List Instr) → Mode → Elem
 elem ty items mode = record { ty = ty; items = items; mode = mode }
 
@@ -46,12 +47,15 @@ IsFirstFuncs offset funcs = Joined (IsNestedExpr offset) (IsFuncs funcs)
 abbrev pub IsTableFuncs : ℕ → List Instr → List ℕ → List ℕ → Type 0
 IsTableFuncs table offset funcs = Joined (IsIndex table) (Joined (IsNestedExpr offset) (IsKindFuncs funcs))
 
+-- an offset, then expressions (Element Section)
 abbrev pub IsFirstItems : List Instr → List (List Instr) → List ℕ → Type 0
 IsFirstItems offset items = Joined (IsNestedExpr offset) (IsItems items)
 
+-- a reference type, then expressions (Element Section)
 abbrev pub IsTypedItems : RefType → List (List Instr) → List ℕ → Type 0
 IsTypedItems ty items = Joined (IsRefType ty) (IsItems items)
 
+-- a table index, an offset, a reference type, then expressions (Element Section)
 abbrev pub IsTableItems : ℕ → List Instr → RefType → List (List Instr) → List ℕ → Type 0
 IsTableItems table offset ty items = Joined (IsIndex table) (Joined (IsNestedExpr offset) (IsTypedItems ty items))
 

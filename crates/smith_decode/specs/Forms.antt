@@ -41,21 +41,25 @@ use Rattle.smith_decode.specs.Definitions.{null_of}
 use Rattle.smith_decode.specs.TypeForms.{IsGlobalTypeEnabled, IsGroupEnabled, IsImportGroupEnabled, IsMemoryTypeEnabled}
 use Rattle.smith_decode.specs.TypeForms.{IsRefTypeEnabled, IsTableTypeEnabled, IsValTypeEnabled}
 
--- the block type, the types of a cast, and the heap type that an instruction has as immediates are
--- enabled (Control Instructions; Reference Instructions; Parametric Instructions)
+-- a block type is enabled: the value type that it may have as its result is (Control Instructions)
 abbrev pub IsBlockTypeEnabled : Features → BlockType → Type 0
 IsBlockTypeEnabled features (block.Value value) = IsValTypeEnabled features value
 IsBlockTypeEnabled features _ = Unit {0}
 
+-- both types of a cast are enabled (Control Instructions)
 abbrev pub IsCastEnabled : Features → BranchCast → Type 0
 IsCastEnabled features cast = IsRefTypeEnabled features cast.from × IsRefTypeEnabled features cast.to
 
+-- the heap type or the reference type that a reference instruction has as an immediate is enabled
+-- (Reference Instructions)
 abbrev pub AreReferencesEnabled : Features → ReferenceInstr → Type 0
 AreReferencesEnabled features (reference.Null heap_type) = IsHeapTypeEnabled features heap_type
 AreReferencesEnabled features (reference.Test to) = IsRefTypeEnabled features to
 AreReferencesEnabled features (reference.Cast to) = IsRefTypeEnabled features to
 AreReferencesEnabled features _ = Unit {0}
 
+-- the types that an instruction has as immediates are enabled (Control Instructions; Reference
+-- Instructions; Parametric Instructions)
 abbrev pub AreStatedEnabled : Features → Instr → Type 0
 AreStatedEnabled features (instr.Block ty) = IsBlockTypeEnabled features ty
 AreStatedEnabled features (instr.Loop ty) = IsBlockTypeEnabled features ty
@@ -67,11 +71,11 @@ AreStatedEnabled features (instr.SelectTyped values) = All (IsValTypeEnabled fea
 AreStatedEnabled features (instr.Reference op) = AreReferencesEnabled features op
 AreStatedEnabled features _ = Unit {0}
 
--- a memory index and a table index are enabled: any but 0 requires multi-memory, or reference types
--- (Indices)
+-- a memory index is enabled: any but 0 requires multi-memory (Indices)
 abbrev pub IsMemoryNameEnabled : Features → ℕ → Type 0
 IsMemoryNameEnabled features index = (index ≡ 0 → ⊥) → IsTrue features.multi_memory
 
+-- a table index is enabled: any but 0 requires reference types (Indices)
 abbrev pub IsTableNameEnabled : Features → ℕ → Type 0
 IsTableNameEnabled features index = (index ≡ 0 → ⊥) → IsTrue features.reference_types
 
@@ -81,7 +85,7 @@ pub record IsMemArgEnabled (features : Features) (at : MemArg) : Type 0 where
   pub memory : IsMemoryNameEnabled features at.memory
   pub offset : 2 ^ 32 ≤ at.offset → IsTrue features.memory64
 
--- the memory and table indices of an instruction are enabled (Instructions)
+-- the memory indices of a memory instruction are enabled (Memory Instructions)
 abbrev pub AreMemoriesEnabled : Features → MemoryInstr → Type 0
 AreMemoriesEnabled features (memory.Size index) = IsMemoryNameEnabled features index
 AreMemoriesEnabled features (memory.Grow index) = IsMemoryNameEnabled features index
@@ -90,11 +94,14 @@ AreMemoriesEnabled features (memory.Copy to from) = IsMemoryNameEnabled features
 AreMemoriesEnabled features (memory.Init index segment) = IsMemoryNameEnabled features index
 AreMemoriesEnabled features (memory.DataDrop segment) = Unit {0}
 
+-- the table indices of `table.copy` and `table.init` are enabled (Table Instructions)
 abbrev pub AreTablesEnabled : Features → TableInstr → Type 0
 AreTablesEnabled features (table.Copy to from) = IsTableNameEnabled features to × IsTableNameEnabled features from
 AreTablesEnabled features (table.Init index segment) = IsTableNameEnabled features index
 AreTablesEnabled features _ = Unit {0}
 
+-- the table indices of an instruction, and its memory indices and offset, are enabled
+-- (Instructions)
 abbrev pub AreNamedEnabled : Features → Instr → Type 0
 AreNamedEnabled features (instr.CallIndirect table ty) = IsTableNameEnabled features table
 AreNamedEnabled features (instr.ReturnCallIndirect table ty) = IsTableNameEnabled features table
@@ -115,16 +122,18 @@ pub record IsInstrEnabled (features : Features) (instruction : Instr) : Type 0 w
   pub stated : AreStatedEnabled features instruction
   pub named : AreNamedEnabled features instruction
 
--- an instruction of a constant expression is enabled; a numeric instruction requires extended
--- constants (Expressions)
+-- a numeric instruction of a constant expression is enabled: it requires extended constants
+-- (Expressions)
 abbrev pub IsExtendedEnabled : Features → Instr → Type 0
 IsExtendedEnabled features (instr.Numeric op) = IsTrue features.extended_const
 IsExtendedEnabled features _ = Unit {0}
 
+-- an instruction of a constant expression is enabled (Expressions)
 pub record IsConstantEnabled (features : Features) (instruction : Instr) : Type 0 where
   pub form : IsInstrEnabled features instruction
   pub extended : IsExtendedEnabled features instruction
 
+-- each instruction of a constant expression is enabled (Expressions)
 abbrev pub IsExprEnabled : Features → List Instr → Type 0
 IsExprEnabled features expression = All (IsConstantEnabled features) expression
 
@@ -143,39 +152,43 @@ pub record IsGlobalEnabled (features : Features) (global : GlobalDefinition) : T
   pub ty : IsGlobalTypeEnabled features global.ty
   pub initial : IsExprEnabled features global.initial
 
--- an export is enabled (Export Section)
+-- the kind of an export is enabled: tags require exceptions (Export Section)
 abbrev pub IsKindEnabled : Features → ExportKind → Type 0
 IsKindEnabled features kind.Tag = IsTrue features.exceptions
 IsKindEnabled features _ = Unit {0}
 
+-- an export is enabled: its kind is (Export Section)
 abbrev pub IsExportEnabled : Features → Export → Type 0
 IsExportEnabled features item = IsKindEnabled features item.kind
 
--- An element segment is enabled (Element Section). Items that are expressions and a table index
--- other than 0 require reference types; modes other than active require bulk memory. Function
--- indices require no feature.
+-- the items of an element segment are enabled: expressions require reference types, function
+-- indices no feature (Element Section)
 abbrev pub AreItemsEnabled : Features → RefType → ElementItems → Type 0
 AreItemsEnabled features ty (element_items.Functions functions) = Unit {0}
 AreItemsEnabled features ty (element_items.Expressions expressions) =
     IsTrue features.reference_types × IsRefTypeEnabled features ty × All (IsExprEnabled features) expressions
 
+-- the mode of an element segment is enabled: modes other than active require bulk memory, and a
+-- table index other than 0 reference types (Element Section)
 abbrev pub IsElementModeEnabled : Features → ElementMode → Type 0
 IsElementModeEnabled features element_mode.Passive = IsTrue features.bulk_memory
 IsElementModeEnabled features element_mode.Declared = IsTrue features.bulk_memory
 IsElementModeEnabled features (element_mode.Active table offset) =
     IsTableNameEnabled features table × IsExprEnabled features offset
 
+-- an element segment is enabled: its items and its mode are (Element Section)
 pub record IsElementEnabled (features : Features) (segment : ElementSegment) : Type 0 where
   pub items : AreItemsEnabled features segment.ty segment.items
   pub mode : IsElementModeEnabled features segment.mode
 
--- a data segment is enabled: a memory index other than 0 requires multi-memory, and the passive
--- mode requires bulk memory (Data Section)
+-- the mode of a data segment is enabled: a passive segment requires bulk memory, and a memory index
+-- other than 0 multi-memory (Data Section)
 abbrev pub IsDataModeEnabled : Features → DataMode → Type 0
 IsDataModeEnabled features data_mode.Passive = IsTrue features.bulk_memory
 IsDataModeEnabled features (data_mode.Active memory offset) =
     IsMemoryNameEnabled features memory × IsExprEnabled features offset
 
+-- a data segment is enabled: its mode is (Data Section)
 abbrev pub IsDataEnabled : Features → DataSegment → Type 0
 IsDataEnabled features segment = IsDataModeEnabled features segment.mode
 
@@ -203,6 +216,7 @@ forms_of features m =
     ∷ All (IsBodyEnabled features) m.bodies
     ∷ All (IsDataEnabled features) m.datas ∷ []
 
+-- each of these propositions holds
 abbrev pub Each : List (Type 0) → Type 0
 Each [] = Unit {0}
 Each (P ∷ properties) = P × Each properties

@@ -97,16 +97,20 @@ pub record IsModuleBinary (m : Syntax) (bytes : List ℕ) : Type 0 where
   pub named : count ≡ None → list_any body_names_data m.bodies ≡ false
   pub customs : HasCustoms m.customs form.second
 
--- tables, tags, globals and exports in the abstract syntax (Structure, Modules)
+-- a table in the abstract syntax: its type and its initialiser (Structure, Tables)
 abbrev pub table_pair : TableDefinition → TableType × List Instr
 table_pair table = (table.ty, table.initial)
 
+-- a tag in the abstract syntax: its type index (Structure, Tags)
 abbrev pub tag_index : TagDefinition → ℕ
 tag_index tag = tag.0
 
+-- a global in the abstract syntax: its type and its initialiser (Structure, Globals)
 abbrev pub global_pair : GlobalDefinition → GlobalType × List Instr
 global_pair global = (global.ty, global.initial)
 
+-- an export in the abstract syntax: its name, and the kind and the index of its item (Structure,
+-- Exports)
 abbrev pub export_triple : Export → List ℕ × ExportKind × ℕ
 export_triple item = (item.name, item.kind, item.index)
 

@@ -36,6 +36,7 @@ inner_items (Array array) = 0
 inner_items (Struct structure) = length structure.fields
 inner_items (Func function) = length function.params + length function.results
 
+-- the fields, or the parameters and results, of a subtype (Recursive Types)
 abbrev pub sub_type_items : SubType → ℕ
 sub_type_items t = inner_items t.composite_type.inner
 
@@ -52,27 +53,33 @@ instr_items (SelectTyped types) = length types
 instr_items (TryTable ty clauses) = length clauses
 instr_items _ = 0
 
+-- the instructions of an expression and the items within them (Expressions)
 abbrev pub expr_items : List Instr → ℕ
 expr_items instructions = all_items instr_items instructions
 
+-- the items of a table's initialiser (Table Section)
 abbrev pub table_items : TableDefinition → ℕ
 table_items table = expr_items table.initial
 
+-- the items of a global's initialiser (Global Section)
 abbrev pub global_items : GlobalDefinition → ℕ
 global_items global = expr_items global.initial
 
+-- the bytes of an export's name (Export Section)
 abbrev pub export_items : Export → ℕ
 export_items item = length item.name
 
--- the items of an element segment and the instructions of its offset (Element Section)
+-- the items of an element segment (Element Section)
 abbrev pub element_items : ElementItems → ℕ
 element_items (Functions functions) = length functions
 element_items (Expressions expressions) = all_items expr_items expressions
 
+-- the items of an element segment's offset (Element Section)
 abbrev pub element_mode_items : ElementMode → ℕ
 element_mode_items (element_mode.Active table offset) = expr_items offset
 element_mode_items _ = 0
 
+-- the items of an element segment and of its offset (Element Section)
 abbrev pub segment_items : ElementSegment → ℕ
 segment_items segment = element_mode_items segment.mode + element_items segment.items
 
@@ -80,11 +87,12 @@ segment_items segment = element_mode_items segment.mode + element_items segment.
 abbrev pub body_items : Body → ℕ
 body_items body = length body.locals + expr_items body.instructions
 
--- the instructions of a data segment's offset, and its bytes (Data Section)
+-- the items of a data segment's offset (Data Section)
 abbrev pub data_mode_items : DataMode → ℕ
 data_mode_items (data_mode.Active memory offset) = expr_items offset
 data_mode_items data_mode.Passive = 0
 
+-- the items of a data segment's offset, and its bytes (Data Section)
 abbrev pub data_items : DataSegment → ℕ
 data_items segment = data_mode_items segment.mode + length segment.bytes
 

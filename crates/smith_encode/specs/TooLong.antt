@@ -33,23 +33,28 @@ use Rattle.smith_encode.specs.Segments.{IsSeenElem}
 abbrev pub IsLongExpr : List Instr → Type 0
 IsLongExpr instructions = Any IsLongInstr instructions
 
+-- a table whose initialiser has an instruction that the format cannot express
 abbrev pub IsLongTable : TableDefinition → Type 0
 IsLongTable table = IsLongExpr table.initial
 
+-- a global whose initialiser has an instruction that the format cannot express
 abbrev pub IsLongGlobal : GlobalDefinition → Type 0
 IsLongGlobal global = IsLongExpr global.initial
 
+-- an export with a name that is too long
 abbrev pub IsLongExport : Export → Type 0
 IsLongExport item = IsLongText item.name
 
--- the offset of an active segment is too long
+-- an active segment whose offset has an instruction that the format cannot express
 abbrev pub IsLongMode : element_segments.Mode → Type 0
 IsLongMode (element_segments.Mode.active table offset) = IsLongExpr offset
 IsLongMode mode = ⊥
 
+-- an element segment of 2^32 items or more, or with an instruction that the format cannot express
 abbrev pub IsLongElem : Elem → Type 0
 IsLongElem e = IsLongMode e.mode ⊎ IsLongList IsLongExpr e.items
 
+-- a decoded element segment that is too long
 abbrev pub IsLongSegment : ElementSegment → Type 0
 IsLongSegment segment = IsLongElem (element_view segment)
 
@@ -60,10 +65,13 @@ IsLongBody body =
     IsLongList IsNeverLong body.locals
     ⊎ (IsLongExpr body.instructions ⊎ IsLongContent (Joined (IsList IsLocalRun body.locals) (IsExpr body.instructions)))
 
+-- an active data segment whose offset has an instruction that the format cannot express
 abbrev pub IsLongDataMode : data_segments.DataMode → Type 0
 IsLongDataMode (data_segments.DataMode.active memory offset) = IsLongExpr offset
 IsLongDataMode mode = ⊥
 
+-- a data segment of 2^32 bytes or more, or whose offset has an instruction that the format cannot
+-- express
 abbrev pub IsLongData : DataSegment → Type 0
 IsLongData segment = IsLongDataMode (segment_view segment).mode ⊎ IsLongText segment.bytes
 

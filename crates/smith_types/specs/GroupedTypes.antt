@@ -6,6 +6,7 @@ use Rattle.std.specs.declared.ops.Range.{Range}
 use Rattle.smith_syntax.specs.declared.composite_type.SubType.{SubType}
 use Rattle.smith_types.specs.Types.{IsAlike, IsOrderly, AreConsecutive, next_start}
 
+-- the types of a type space, and the ranges of indices of its groups (Structure, Recursive Types)
 pub record GroupedTypes : Type 0 where
   pub types : List SubType
   pub groups : List (Range ℕ)
