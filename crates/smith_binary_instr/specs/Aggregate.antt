@@ -11,8 +11,8 @@ use Rattle.smith_instr.specs.declared.aggregate.AggregateInstr.TheVariants as ag
 use Rattle.smith_instr.specs.declared.aggregate.Extension.{Extension}
 use Rattle.smith_instr.specs.declared.aggregate.Extension.TheVariants as extension
 
--- the number of a `get` instruction: `first` for an unpacked field, then those that extend with and
--- without sign (Aggregate Instructions)
+-- the number of a `get` instruction: `first` for an unpacked field, `first + 1` for one extended by
+-- its sign, `first + 2` for one extended by zeros (Aggregate Instructions)
 abbrev pub get_number : ℕ → Extension → ℕ
 get_number first extension.Unpacked = first
 get_number first extension.Signed = first + 1

@@ -141,7 +141,7 @@ saturating_number saturate.I64TruncSatF32U = 5
 saturating_number saturate.I64TruncSatF64S = 6
 saturating_number saturate.I64TruncSatF64U = 7
 
--- the numbers of wide arithmetic, after the prefix 0xFC (own, of the proposal)
+-- the numbers of wide arithmetic, after the prefix 0xFC (wide arithmetic proposal)
 abbrev pub wide_number : WideArithmetic → ℕ
 wide_number wide.Add128 = 19
 wide_number wide.Sub128 = 20

@@ -12,7 +12,7 @@ use Rattle.smith_binary_read.specs.declared.error.ReadError.TheVariants as error
 abbrev pub Reading : Type 0 → Type 0
 Reading A = Result (A × List ℕ) Fault
 
--- a reading, then a reading of what it gives, or its fault
+-- a reading, then the reading of what the first gives; or the fault of the first
 infixl 10 ◌>>=◌
 abbrev pub ◌>>=◌ : {A B : Type 0} → Result A Fault → (A → Result B Fault) → Result B Fault
 (Ok x) >>= f = f x
@@ -75,7 +75,7 @@ unfoldable pub each_at : {A : Type 0} → (List ℕ → Reading A) → ℕ → L
 each_at read zero bytes = Ok ([], bytes)
 each_at read (suc count) bytes = read bytes >>= (λ x. each_at read count x.1 >>= (λ xs. Ok (x.0 ∷ xs.0, xs.1)))
 
--- the item, if no bytes are left
+-- the item if no bytes are left, else a fault
 abbrev pub at_end : {A : Type 0} → A → List ℕ → Result A Fault
 at_end x rest = if length rest == 0 then Ok x else fault_at TrailingBytes rest
 

@@ -58,7 +58,7 @@ cast_instr_at number bytes =
     else (if number == 22 then mapped_at (λ heap. reference.Cast (record { nullable = false; heap_type = heap })) heap_type_at bytes
     else mapped_at (λ heap. reference.Cast (record { nullable = true; heap_type = heap })) heap_type_at bytes))
 
--- the instructions without immediates, by their numbers
+-- the instructions without immediates after the byte 0xFB, by their numbers
 abbrev pub conversion_rows : List (ℕ × Instr)
 conversion_rows =
     (15, instr.Aggregate aggregate.ArrayLen) ∷ (26, instr.Aggregate aggregate.AnyConvertExtern) ∷

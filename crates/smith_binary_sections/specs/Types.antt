@@ -65,8 +65,8 @@ pub data IsRefType (reference : RefType) (piece : List ℕ) : Type 0 where
   full : Joined (IsByte (null_byte reference.nullable)) (IsHeapType reference.heap_type) piece → IsRefType reference piece
   short : reference.nullable ≡ true → IsAbstractAlone reference.heap_type piece → IsRefType reference piece
 
--- the abstract heap type as which a reference type is written: it is nullable, and its heap type is
--- abstract and unshared (own rule)
+-- the abstract heap type that is written for a reference type, if it is nullable and its heap type
+-- is abstract and unshared (own rule)
 abbrev pub short_ref : Bool → HeapType → Option AbstractHeapType
 short_ref true (Abstract false ty) = Some ty
 short_ref nullable heap = None

@@ -27,7 +27,8 @@ renamed_spaces name spaces = record {
   globals = map (renamed_global name) spaces.globals;
 }
 
--- an instruction of a constant expression (Validation, Constant Expressions)
+-- an instruction of a constant expression with each type index replaced by `name` (Validation,
+-- Constant Expressions)
 abbrev pub renamed_const : (ℕ → ℕ) → ConstInstr → ConstInstr
 renamed_const name (instr.RefNull heap) = instr.RefNull (renamed_heap name heap)
 renamed_const name (instr.StructNew index) = instr.StructNew (name index)

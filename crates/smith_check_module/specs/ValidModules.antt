@@ -81,8 +81,8 @@ abbrev pub AreItemsValid : Context → List ℕ → RefType → List (List Instr
 AreItemsValid context indices ty items =
     AreFunctions context ty items ⊎ (IsTrue context.features.reference_types × All (IsConstant context indices (Ref ty)) items)
 
--- the type of a segment is that of function lists, or is valid (Validation, Element Segments) and
--- enabled (own rule)
+-- the type of a segment is `(ref func)`, the type of function lists, or is valid (Validation,
+-- Element Segments) and enabled (own rule)
 abbrev pub IsElementTypeValid : Context → RefType → Type 0
 IsElementTypeValid context ty =
     (ty ≡ func_ref false) ⊎ (IsRefTypeValid context.features (length context.types) ty × IsElementTypeEnabled context.features ty)

@@ -51,8 +51,8 @@ IsConvertible abstract.Any = Unit {0}
 IsConvertible abstract.Extern = Unit {0}
 IsConvertible _ = ⊥
 
--- a type is valid; the bottom types are (Validation, Value Types), and so is a reference of either
--- sharedness to a valid, convertible heap type (own rule)
+-- a type is valid: a valid value type or a bottom type (Validation, Value Types), or a reference of
+-- either sharedness to a valid, convertible heap type (own rule)
 abbrev pub IsSlotValid : BodyContext → Slot → Type 0
 IsSlotValid context (Value value) = IsValid context value
 IsSlotValid context (EitherRef ty) = IsConvertible ty × IsHeapValid context (Abstract false ty)

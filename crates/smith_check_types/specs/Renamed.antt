@@ -55,7 +55,7 @@ abbrev pub renamed_supertype : (ℕ → ℕ) → Option ℕ → Option ℕ
 renamed_supertype name None = None
 renamed_supertype name (Some index) = Some (name index)
 
--- a type of a group (Structure, Recursive Types)
+-- a subtype with each type index replaced by `name` (Structure, Recursive Types)
 abbrev pub renamed : (ℕ → ℕ) → SubType → SubType
 renamed name t = record {
   is_final = t.is_final;

@@ -66,19 +66,19 @@ pub record Passes (config : Config) : Type 0 where
   pub memory32 : config.max_memory32_bytes ≤ 2 ^ 32
   pub memory64 : config.max_memory64_bytes ≤ 2 ^ 64
 
--- the condition of each fault
+-- the condition of each fault of a configuration
 abbrev pub HasFault : Config → ConfigFault → Type 0
 HasFault config (MinAboveMax count) = BoundsApply config count × (maximum_of config count < minimum_of config count)
 HasFault config (MaxTooLarge count) = 2 ^ 31 < maximum_of config count
 HasFault config Memory32Bytes = 2 ^ 32 < config.max_memory32_bytes
 HasFault config Memory64Bytes = 2 ^ 64 < config.max_memory64_bytes
 
--- the counts, in order
+-- the counts of a configuration, in the order of the check
 abbrev pub counts : List Count
 counts =
     Types ∷ Imports ∷ Tags ∷ Funcs ∷ Globals ∷ Exports ∷ ElementSegments ∷ Elements ∷ DataSegments ∷ Memories ∷ Tables ∷ []
 
--- the faults, in order
+-- the faults of a configuration, in the order of the check
 abbrev pub faults : List ConfigFault
 faults = map MinAboveMax counts ++ map MaxTooLarge counts ++ Memory32Bytes ∷ Memory64Bytes ∷ []
 

@@ -68,8 +68,8 @@ AreLimitsRight shape = AreLimitsSound (space_of shape.groups) (shape_spaces shap
 abbrev pub AreFeaturesOn : Which → Features → Shape → Type 0
 AreFeaturesOn which features shape = AreFeaturesEnough which features (space_of shape.groups) (shape_spaces shape)
 
--- the condition of each fault; a missing feature is a fault only if the shape is valid with every
--- feature
+-- the condition of each fault of a shape; a missing feature is a fault only if the shape is valid
+-- with every feature
 abbrev pub HasShapeFault : Which → Config → Shape → ShapeFault → Type 0
 HasShapeFault which config shape fault.TooLong = IsShort shape → ⊥
 HasShapeFault which config shape fault.BadType = AreTypesRight shape → ⊥
@@ -81,7 +81,7 @@ HasShapeFault which config shape fault.DuplicateExport = AreDistinct (map (λ (o
 HasShapeFault which config shape fault.NotPlain = (which ≡ Exports) × (IsPlain shape → ⊥)
 HasShapeFault which config shape fault.LeftOut = HasNothingLeftOut shape → ⊥
 
--- the faults, in the order of the check
+-- the faults of a shape, in the order of the check
 abbrev pub shape_faults : List ShapeFault
 shape_faults = fault.TooLong ∷ fault.BadType ∷ fault.Index ∷ fault.Limit ∷ fault.Feature ∷ fault.DuplicateExport ∷ fault.NotPlain
     ∷ fault.LeftOut ∷ []

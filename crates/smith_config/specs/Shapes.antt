@@ -112,7 +112,7 @@ pub record IsNothingLeftOut (listed : List SubType) (spaces : EntitySpaces) : Ty
   pub tables : All (λ (table : TableType). table.shared ≡ false) spaces.tables
   pub globals : All (λ (global : GlobalType). global.shared ≡ false) spaces.globals
 
--- the same, for the types and the index spaces of a shape
+-- no type, table or global of a shape is shared, and no reference is shared or exact
 abbrev pub HasNothingLeftOut : Shape → Type 0
 HasNothingLeftOut shape = IsNothingLeftOut (shape_types shape) (shape_spaces shape)
 
@@ -156,7 +156,8 @@ AreCountsFor AvailableImports features spaces = Unit {0}
 AreCountsFor Exports features spaces = AreCountsEnabled features spaces
 AreCountsFor ModuleShape features spaces = AreCountsEnabled features spaces
 
--- the same, for the index spaces of a shape
+-- tags, a second table and a second memory of a shape have their features, except in available
+-- imports
 abbrev pub AreCountsFit : Which → Features → Shape → Type 0
 AreCountsFit which features shape = AreCountsFor which features (shape_spaces shape)
 

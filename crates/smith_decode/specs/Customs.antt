@@ -36,7 +36,8 @@ IsAnySection section piece = (section.0 < 256) × IsSection section.0 (Is sectio
 abbrev pub IsCustomAfter : Option ℕ → Custom → List ℕ → Type 0
 IsCustomAfter after custom content = (custom.after ≡ after) × Joined (IsName custom.name) (Is custom.bytes) content
 
--- the next section is custom, and is the first of `customs`, or is not custom
+-- the section is custom, and is the first of `customs`, or is not custom; `Rest` holds of the
+-- sections after it
 pub data IsNext (after : Option ℕ) (section : ℕ × List ℕ) (customs : List Custom) (Rest : Option ℕ → List Custom → Type 0) : Type 0 where
   custom : (one : Custom) (more : List Custom) → section.0 ≡ 0 → IsCustomAfter after one section.1 → customs ≡ one ∷ more
       → Rest after more → IsNext after section customs Rest

@@ -12,8 +12,8 @@ use Rattle.smith_encode.specs.TooLong.{IsTooLong}
 abbrev pub HasNoSpelling : Syntax → Type 0
 HasNoSpelling m = (bytes : List ℕ) → IsModuleBinary m bytes → ⊥
 
--- the error is lack of memory, excess length, or that no bytes spell the module, and its condition
--- holds
+-- the condition of each error: excess length, or that no bytes spell the module; lack of memory has
+-- none
 abbrev pub IsFault : Module → EncodeFault → Type 0
 IsFault m Memory = Unit {0}
 IsFault m TooLong = IsTooLong m

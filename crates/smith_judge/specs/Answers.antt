@@ -18,7 +18,8 @@ use Rattle.smith_judge.specs.declared.answer.Answer.TheVariants as answer
 use Rattle.smith_judge.specs.declared.answer.Gap.{Gap}
 use Rattle.smith_judge.specs.declared.finding.Finding.{Finding}
 
--- an answer decides `IsValid`, unless it is that the file is not judged
+-- an answer decides whether a file is valid, by the proposition `IsValid`, unless the file is not
+-- judged
 abbrev pub Decides : Answer → Type 0 → Type 0
 Decides answer.Valid IsValid = IsValid
 Decides (answer.Invalid finding) IsValid = IsValid → ⊥

@@ -55,8 +55,9 @@ abbrev pub MayLackExports : Config → Type 0
 MayLackExports config =
     HasShape config ⊎ ((config.max_type_size ≤ 42 * (config.max_imports + config.min_exports)) ⊎ MayHaveNoExports config)
 
--- a minimum above zero may not be met; the minimums of types, tables, memories and globals always
--- are
+-- A minimum above zero may not be met. The minimums of types, tables, memories and globals are
+-- always met, those of segments with bulk memory, and that of functions without garbage collection
+-- if types are required.
 abbrev pub MayBeShort : Config → Count → Type 0
 MayBeShort config counts.Types = ⊥
 MayBeShort config counts.Tables = ⊥
