@@ -190,7 +190,7 @@ macro_rules! place {
 }
 
 /// The name and the place of every field, in the order of `Config`, and of the three members that
-/// are not fields.
+/// are no fields.
 static PLACES: [(&str, Place); 74] = fields!(
     place,
     ("preset", Place::Preset),

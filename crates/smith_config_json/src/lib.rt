@@ -4,10 +4,10 @@
 //! lists the names, with a description of each field. A field keeps its default if no member names
 //! it, or if its member is `null`.
 //!
-//! Three members are not fields. `preset` names a [`Preset`], which changes the configuration
-//! before the other members do, wherever it is. `fuel` is the number of calls and loop iterations
-//! after which a program traps; [`fuel`] finds it. `fuel-export` is whether the global that counts
-//! them is exported; [`is_fuel_exported`] finds it.
+//! Three members are no fields. `preset` names a [`Preset`], which changes the configuration before
+//! the other members do, wherever it is. `fuel` is the number of calls and iterations of loops after
+//! which a program traps; [`fuel`] finds it. `fuel-export` says whether the global that counts them
+//! is exported; [`is_fuel_exported`] finds it.
 #![tactic(auto)]
 
 mod examples;

@@ -93,7 +93,7 @@ pub(crate) enum Number {
     Fuel,
 }
 
-/// A field of a configuration, or the preset or the export of the fuel, which are not fields.
+/// A field of a configuration, or the preset or the export of the fuel, which no field holds.
 #[derive(Clone, Copy)]
 pub(crate) enum Place {
     Number(Number),

@@ -47,8 +47,8 @@ abbrev pub IsBinaryWith : Option Fuel → Program → List ℕ → Type 0
 IsBinaryWith None program bytes = IsEncoded program.«module» program.bodies bytes
 IsBinaryWith (Some fuel) program bytes = IsCountedBinary fuel program bytes
 
--- the bytes are the file, with custom sections if requested, which are drawn from the bytes of the
--- input that the program leaves
+-- the bytes are a file, with custom sections if there are to be any: those that are drawn from the
+-- bytes of the input that the program left
 abbrev pub IsFinished : Bool → ℕ → List ℕ → List ℕ → List ℕ → Type 0
 IsFinished true least left file bytes = IsAdded least (custom_sections_at left).0 file bytes
 IsFinished false least left file bytes = bytes ≡ file
@@ -83,8 +83,8 @@ abbrev pub IsUnwrittenWith : Form → Option Fuel → Program → Refusal → Ty
 IsUnwrittenWith form None program refusal = IsUnwritten form program refusal
 IsUnwrittenWith form (Some fuel) program refusal = IsUncounted form fuel program refusal
 
--- the bytes are the file of the program that the generator draws for the configuration and the
--- input; custom sections are drawn from `left`, the unread bytes of the input
+-- the bytes are written for a program that the generator draws from the configuration and the
+-- input, with these bytes of the input left, from which its custom sections are drawn
 pub record IsBinaryOf (config : Config) (fuel : Option Fuel) (input bytes left : List ℕ) : Type 0 where
   pub program : Program
   pub drawn : IsProgram config input (Ok program) left

@@ -1,4 +1,4 @@
--- Requests in the text of a configuration, and the program for a request and an input.
+-- What the text of a configuration requests, and the program that it and an input produce.
 use Rattle.std.specs.Prelude.{◌≡◌, ℕ, List, [], ◌∷◌, Option, None, option_map, Ok}
 use Rattle.json.specs.Lex.{tokens}
 use Rattle.json.specs.Token.{Token}
@@ -19,7 +19,7 @@ pub data IsConfigured (text : List ℕ) (config : Config) : Type 0 where
 abbrev pub fuel_of_tokens : List Token → Option Fuel
 fuel_of_tokens ts = option_map (λ amount. record { amount = amount; is_exported = is_fuel_exported_in ts }) (fuel_in ts)
 
--- the fuel of a text: none if the text is empty, or else that of the JSON object
+-- the fuel of a text: none if the text is empty, else that of the JSON object
 abbrev pub fuel_of : List ℕ → Option Fuel
 fuel_of [] = None
 fuel_of (b ∷ bytes) = fuel_of_tokens (tokens (b ∷ bytes))

@@ -41,14 +41,14 @@ pub record IsBroken (features : Features) (file : List ℕ) (said : Answer) : Ty
   pub answer : IsAnswer features file said
   pub rule : NamesRule said
 
--- the file is the twin with one change, and breaks a rule because of it
+-- a file is a twin with one change, by which it breaks a rule
 pub record IsBrokenTwin (features : Features) (twin : List ℕ) (wrong : Wrong) : Type 0 where
   pub same : wrong.twin.items ≡ twin
   pub change : IsChangeOf wrong.change twin wrong.file.items
   pub broken : IsBroken features wrong.file.items wrong.answer
 
--- an invalid file for a configuration and an input, of which `left` are the unread bytes: its twin
--- is valid, it has one change, and it breaks a rule
+-- a file is drawn for a configuration and an input, with these bytes of the input left: from a valid
+-- twin, by one change, and it breaks a rule
 pub record IsWrong (config : Config) (input left : List ℕ) (wrong : Wrong) : Type 0 where
   pub twin : IsTwin config input left wrong.twin.items
   pub valid : IsValidBinary wrong.twin.items

@@ -8,8 +8,8 @@ use Rattle.smith_module_rules.specs.ExportedItems.{Export}
 use Rattle.smith_module_rules.specs.Module.{ModuleParts}
 use Rattle.smith_draw_contents.specs.Exporting.{is_exported, longest_export}
 
--- the name of the export: `fuel`, and if an export has this name, as many `_` after it as the
--- longest name of an export has bytes
+-- the name of the export after others: `fuel`, and if one of them has this name, as many `_` after
+-- it as the longest of their names has bytes
 abbrev pub fuel_name : List Export → List ℕ
 fuel_name exports = codes "fuel" ++ (if is_exported exports (codes "fuel") then repeat (longest_export exports) (codes "_") else [])
 
