@@ -62,7 +62,7 @@ pub fn keyword(alloc: Global, bytes: &[u8], answer: &Answer) -> Result<String, E
     }
 }
 
-/// Returns in words, in one line, the answer `answer` to the file `bytes`. No clause states the
+/// Returns `answer`, to the file whose bytes are `bytes`, in words, in one line. No clause states the
 /// words.
 pub fn words(alloc: Global, bytes: &[u8], answer: &Answer) -> Result<String, Error>
     ensures memory { IfErr result (λ e. e ≡ Error.Memory) }
