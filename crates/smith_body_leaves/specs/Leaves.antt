@@ -306,10 +306,11 @@ is_created_in config context set wanted ty None = false
 abbrev pub is_created : Config → BodyContext → List ℕ → ValType → ℕ → Bool
 is_created config context set wanted ty = is_created_in config context set wanted ty (struct_in (slice_get context.types ty))
 
--- the first struct type that is tried and of which a struct is created
+-- the index of a struct type, if a struct of this type may be created
 abbrev pub created_at : Config → BodyContext → List ℕ → ValType → ℕ → Option ℕ
 created_at config context set wanted ty = if is_created config context set wanted ty then Some ty else None
 
+-- the first tried struct type of which a struct may be created
 unfoldable pub created_type : Config → BodyContext → List ℕ → ValType → Option ℕ
 created_type config context set wanted = first_tried context true (named_type wanted) (created_at config context set wanted)
 

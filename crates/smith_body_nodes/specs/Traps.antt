@@ -90,8 +90,8 @@ may_aggregate_trap aggregate.I31GetS = true
 may_aggregate_trap aggregate.I31GetU = true
 may_aggregate_trap _ = false
 
--- an instruction may trap (Execution, Control Instructions, for those of control); accesses trap
--- past the end of a memory, and atomic ones at an address that isn't aligned
+-- whether an instruction may trap (Execution, Control Instructions, for control instructions);
+-- accesses trap past the end of a memory, and atomic accesses at an address that isn't aligned
 abbrev pub may_trap : Instr → Bool
 may_trap instr.Unreachable = true
 may_trap instr.ThrowRef = true
