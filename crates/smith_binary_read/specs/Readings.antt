@@ -33,7 +33,8 @@ abbrev pub Gives : {A : Type 0} → Result A ReadError → List ℕ → Reading 
 Gives (Ok x) rest reading = reading ≡ Ok (x, rest)
 Gives (Err e) rest reading = Fails e reading
 
--- the same for a call whose result is converted by `view`
+-- a call returned a value that `view` converts to what the reading gives, and left the bytes that
+-- the reading leaves; or it was refused memory
 abbrev pub GivesBy : {X A : Type 0} → (X → A) → Result X ReadError → List ℕ → Reading A → Type 0
 GivesBy view (Ok x) rest reading = reading ≡ Ok (view x, rest)
 GivesBy view (Err e) rest reading = Fails e reading

@@ -19,7 +19,8 @@ use Rattle.smith_body_aggregates.specs.declared.fields.FieldUse.{FieldUse}
 abbrev pub is_array : BodyContext → FieldUse → ℕ → Bool
 is_array context way index = is_usable_in context.types way (element_in (slice_get context.types index))
 
--- the same, if its created values match the wanted type
+-- whether an array type has an element that may be used in this way, and created values that match
+-- the wanted type
 abbrev pub is_created_array : BodyContext → ValType → FieldUse → ℕ → Bool
 is_created_array context wanted way index = is_created_below context wanted index && is_array context way index
 

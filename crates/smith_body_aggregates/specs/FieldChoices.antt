@@ -53,7 +53,8 @@ read_at context wanted bytes =
     let structure = bool_at bytes in
     if structure.0 then struct_get_at context wanted structure.1 else array_get_at context wanted structure.1
 
--- the same, if references may name types by their indices
+-- a read of a field or an element whose value matches the wanted type, if references may name types
+-- by their indices
 unfoldable pub field_read_at : BodyContext → ValType → List ℕ → Chosen
 field_read_at context wanted bytes = if names_types context then read_at context wanted bytes else (None, bytes)
 
@@ -121,6 +122,6 @@ write_of context write.InitElem bytes = init_elem_at context bytes
 unfoldable pub write_at : BodyContext → List ℕ → Chosen
 write_at context bytes = let kind = chosen_at write.StructSet field_writes bytes in write_of context kind.0 kind.1
 
--- the same, if references may name types by their indices
+-- a write of a field or an element, if references may name types by their indices
 unfoldable pub field_write_at : BodyContext → List ℕ → Chosen
 field_write_at context bytes = if names_types context then write_at context bytes else (None, bytes)

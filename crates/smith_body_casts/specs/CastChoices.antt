@@ -113,6 +113,6 @@ cast_for context I32 bytes = scalar_at context bytes
 cast_for context (Ref to) bytes = conversion_at context to bytes
 cast_for context _ bytes = (None, bytes)
 
--- the same, if references may name types by their indices
+-- a node that produces a value of the wanted type, if references may name types by their indices
 unfoldable pub cast_choice_at : BodyContext → ValType → List ℕ → Chosen
 cast_choice_at context wanted bytes = if names_types context then cast_for context wanted bytes else (None, bytes)

@@ -109,7 +109,7 @@ abbrev pub any_vector_at : Config → List MemoryType → ValType → List ℕ �
 any_vector_at config memories V128 bytes = vector_choice_at config memories bytes
 any_vector_at config memories wanted bytes = vector_row_at wanted bytes
 
--- the same; none without vectors
+-- a vector, or a number that a vector instruction produces, if vectors are enabled
 unfoldable pub vector_at : Config → BodyContext → ValType → List ℕ → Option Node × List ℕ
 vector_at config context wanted bytes = if context.features.simd then any_vector_at config context.memories wanted bytes else (None, bytes)
 

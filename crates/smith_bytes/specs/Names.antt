@@ -46,7 +46,7 @@ unfoldable pub new_name : (List ℕ → Bool) → List ℕ → ℕ → List ℕ 
 new_name taken digits zero name = name
 new_name taken digits (suc most) name = if taken name then new_name taken digits most (name ++ digits) else name
 
--- the same as a relation, for a loop: digits are appended to the text until the name is not taken
+-- a name: the text with these digits appended until the name is not taken
 pub record IsNewName (taken : List ℕ → Bool) (digits text name : List ℕ) : Type 0 where
   pub copies : ℕ
   pub made : name ≡ with_copies text digits copies

@@ -81,7 +81,8 @@ within_engines config = record config {
   wide_arithmetic_enabled = false;
 }
 
--- the same for JavaScriptCore, and no branches on references
+-- as for engines, with at most one memory, and without garbage collection, and so without branches
+-- on references, 64-bit memories and relaxed vector instructions: what JavaScriptCore accepts
 abbrev pub within_javascriptcore : Config → Config
 within_javascriptcore config = let c = within_engines config in record c {
   max_memories = 1;
@@ -90,7 +91,8 @@ within_javascriptcore config = let c = within_engines config in record c {
   relaxed_simd_enabled = false;
 }
 
--- the same for wabt, and no references
+-- as for engines, and without reference types, garbage collection, exceptions and 64-bit memories:
+-- what wabt accepts
 abbrev pub within_wabt : Config → Config
 within_wabt config = let c = within_engines config in record c {
   reference_types_enabled = false;
@@ -99,8 +101,10 @@ within_wabt config = let c = within_engines config in record c {
   memory64_enabled = false;
 }
 
--- the same for Binaryen, which also accepts only few names, no passive segments, no segments beyond
--- the end of their memory or table, and no `atomic.fence` without a memory
+-- as for wabt, with no imports, at most one export and exactly one memory, and without traps,
+-- multi-value, bulk memory and relaxed vector instructions. Binaryen accepts only few names, no
+-- passive segments, no segments beyond the end of their memory or table, and no `atomic.fence`
+-- without a memory.
 abbrev pub within_binaryen : Config → Config
 within_binaryen config = let c = within_wabt config in record c {
   max_imports = 0;

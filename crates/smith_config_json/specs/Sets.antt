@@ -24,7 +24,8 @@ set_to set config rest (Ok None) = Ok (config, rest)
 set_to set config rest (Ok (Some x)) = Ok (set config x, rest)
 set_to set config rest (Err fault) = Err fault
 
--- the same for the value that begins with a token: null, or a list of three weights
+-- the field is set to the value that begins with a token: null leaves it unchanged, a list of three
+-- weights sets it
 abbrev pub set_choices : Setter MemoryOffsetChoices → Config → Token → List Token → Outcome
 set_choices set config null rest = Ok (config, rest)
 set_choices set config begin_array rest = set_to set config (drop 4 rest) (map_ok Some (weights rest))

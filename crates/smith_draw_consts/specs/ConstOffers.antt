@@ -63,7 +63,8 @@ type_offers context wanted fuel true index (inner.Array array) = if nat_lt 0 fue
     wanted then array_ways index array.0 else []
 type_offers context wanted fuel arrays index _ = []
 
--- the same, given the type at the index
+-- the choices that create a value of the type `t` at `index`, if its reference is a subtype of the
+-- wanted type
 abbrev pub ways_by : Context → ValType → ℕ → Bool → ℕ → SubType → List Choice
 ways_by context wanted fuel arrays index t = type_offers context wanted fuel arrays index t.composite_type.inner
 

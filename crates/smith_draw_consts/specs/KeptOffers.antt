@@ -114,7 +114,8 @@ pub record AreFewRead (context : Context) (few : FewItems) : Type 0 where
   pub globals : AreRecorded (λ index global. readable global) context.globals few.globals.items
   pub funcs : AreRecorded (λ function index. index) context.funcs few.funcs.items
 
--- the same, and all visible globals and all functions have been read
+-- the recorded types of globals and type indices of functions are correct, and all visible globals
+-- and all functions have been read
 pub record IsFewWhole (context : Context) (few : FewItems) : Type 0 where
   pub read : AreFewRead context few
   pub globals : context.visible ≤ length few.globals.items
@@ -196,7 +197,8 @@ pub record IsWhole (context : Context) (wanted : ValType) (offer : KeptOffer) : 
   pub funcs_seen : offer.funcs.seen ≡ length context.funcs
   pub funcs : IsCounted (offered_before (function_offers context wanted) context.funcs) offer.funcs
 
--- the same for the entry at this position
+-- the entry at this position counts all visible globals and all functions that are offered for a
+-- value of this type
 abbrev pub IsWholeAt : Context → List KeptOffer → ℕ → ValType → Type 0
 IsWholeAt context kept place wanted = (offer : KeptOffer) × (slice_get kept place ≡ Some offer) × IsWhole context wanted offer
 

@@ -175,7 +175,7 @@ unfoldable pub drawn_expressions_at : Config → Context → RefType → ℕ →
 drawn_expressions_at config context ty most bytes = try_grow_at (λ _. expression_item_at config context ty) config.min_elements most []
     bytes
 
--- the same; an error if `most` is less than the minimum
+-- at most `most` items as expressions; an error if `most` is less than the minimum
 unfoldable pub expressions_at : Config → Context → RefType → ℕ → List ℕ → Result (List (List ConstInstr) × List ℕ) Error
 expressions_at config context ty most bytes =
     if nat_lt most config.min_elements then Err (IncorrectFormat (Unmet counts.Elements)) else drawn_expressions_at config context ty most

@@ -41,7 +41,7 @@ past_maximum_at most before grown =
 unfoldable pub items_defined_at : {A : Type 0} → (List A → List ℕ → A × List ℕ) → ℕ → ℕ → ℕ → List ℕ → List A × List ℕ
 items_defined_at draw least most before bytes = past_maximum_at most before (grow_at draw (least - before) (most - before) [] bytes)
 
--- the same for draws that may fail
+-- the items of a kind that are defined after `before` items, by draws that may fail
 unfoldable pub items_tried_at : {A : Type 0} → (List A → List ℕ → Result (A × List ℕ) Error) → ℕ → ℕ → ℕ → List ℕ
     → Result (List A × List ℕ) Error
 items_tried_at draw least most before bytes = do

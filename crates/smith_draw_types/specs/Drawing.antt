@@ -10,13 +10,15 @@ pub record AlwaysDraws {A : Type 0} (drawn : A × List ℕ) (value : A) (old new
   pub exact : drawn ≡ (value, new)
   pub left : KeepsPieces old new
 
--- the same for a call that fails only if an allocation fails
+-- a call that fails only if an allocation fails returns the drawn value and leaves the bytes after
+-- it, a piece of the bytes before
 pub record Draws {A : Type 0} (drawn : A × List ℕ) (result : Result A Error) (old new : List ℕ) : Type 0 where
   pub exact : IfOk result (λ value. drawn ≡ (value, new))
   pub memory : IfErr result (λ e. e ≡ Memory)
   pub left : KeepsPieces old new
 
--- the same for a call that puts the drawn value into a state passed by reference
+-- a call that fails only if an allocation fails puts the drawn value into a state, and leaves the
+-- bytes after it, a piece of the bytes before
 pub record DrawsInto {A : Type 0} (drawn : A × List ℕ) (state : A) (result : Result (Unit {0}) Error) (old new : List ℕ) : Type 0 where
   pub exact : OnOk result (drawn ≡ (state, new))
   pub memory : IfErr result (λ e. e ≡ Memory)

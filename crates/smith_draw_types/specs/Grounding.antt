@@ -33,7 +33,7 @@ function_context features types funcs imported_funcs = record {
 abbrev pub functions_in : Config → Entities → Context
 functions_in config entities = function_context (features_of config) [] entities.funcs.now entities.imported_funcs
 
--- the same for the functions over which a call draws types
+-- the context with the functions over which a call draws types, without types and globals
 abbrev pub functions_of : Config → EarlyGrounds → Context
 functions_of config grounds = function_context (features_of config) [] grounds.funcs.now grounds.imported_funcs
 
