@@ -7,7 +7,7 @@ ghost use Rattle.smith_instr.specs.declared.vector.LaneExtract.{LaneExtract};
 ghost use Rattle.smith_instr.specs.declared.vector.LaneShape.TheVariants as shape;
 ghost use Rattle.smith_instr.specs.declared.vector.LaneShape.{LaneShape};
 ghost use Rattle.smith_instr.specs.declared.vector.VectorInstr.TheVariants as vector;
-ghost use Rattle.smith_instr_examples.specs.ExampleTyping.{HasNoType, HasOnlyType, LeavesNot, TakesNot};
+ghost use Rattle.smith_instr_examples.specs.ExampleTyping.{HasNoType, HasOnlyType, HasType, LeavesNot, TakesNot};
 
 fn splats()
     ensures i8x16_splat { HasOnlyType (instr.Vector (vector.Splat shape.I8x16)) (I32 ∷ [])
@@ -128,10 +128,14 @@ fn replaced_by_other_types()
 {}
 
 fn shuffles()
-    ensures of_the_last_lane { HasOnlyType (instr.Vector (vector.Shuffle (replicate 16 31)))
+    ensures of_the_last_lane { HasType (instr.Vector (vector.Shuffle (replicate 16 31)))
         (V128 ∷ V128 ∷ []) (V128 ∷ []) }
     ensures with_the_first_lane_too_high { HasNoType
         (instr.Vector (vector.Shuffle (32 ∷ replicate 15 0))) }
     ensures with_the_last_lane_too_high { HasNoType
         (instr.Vector (vector.Shuffle (replicate 15 0 ++ 32 ∷ []))) }
+    ensures of_one { TakesNot (instr.Vector (vector.Shuffle (replicate 16 31))) (V128 ∷ []) }
+    ensures of_a_number { TakesNot (instr.Vector (vector.Shuffle (replicate 16 31)))
+        (V128 ∷ I64 ∷ []) }
+    ensures to_i32 { LeavesNot (instr.Vector (vector.Shuffle (replicate 16 31))) (I32 ∷ []) }
 {}
