@@ -12,7 +12,7 @@ use smith_types::{ConstInstr, ExportKind, GlobalType, Items, Name, ValType};
 use std::alloc::Global;
 
 // Adds the sinks to both lists. After an error each list may have more items than before.
-fn push_sinks(
+fn push_each_sink(
     alloc: Global,
     globals: &mut Items<GlobalType>,
     definitions: &mut Items<(u32, Items<ConstInstr>)>,
@@ -32,7 +32,7 @@ fn push_sinks(
 }
 
 // Adds the sinks to both lists, or to none, and returns the index of the first.
-fn push_all(
+fn push_sinks(
     alloc: Global,
     globals: &mut Items<GlobalType>,
     definitions: &mut Items<(u32, Items<ConstInstr>)>,
@@ -52,7 +52,7 @@ fn push_all(
 {
     let count = globals.len();
     let defined = definitions.len();
-    if let Err(error) = push_sinks(alloc, globals, definitions) {
+    if let Err(error) = push_each_sink(alloc, globals, definitions) {
         truncate(alloc, globals, count);
         truncate(alloc, definitions, defined);
         return Err(error);
@@ -61,7 +61,7 @@ fn push_all(
 }
 
 // Exports the sinks from `first` on. After an error there may be more exports than before.
-fn push_exports(
+fn push_each_export(
     alloc: Global,
     exports: &mut Items<(Name, ExportKind, u32)>,
     first: u32,
@@ -74,6 +74,25 @@ fn push_exports(
     export_global(alloc, exports, "sink_i32", first)?;
     export_global(alloc, exports, "sink_i64", first + 1)?;
     export_global(alloc, exports, "sink_i64_2", first + 2)
+}
+
+// Exports the sinks from `first` on, or none of them.
+fn push_exports(
+    alloc: Global,
+    exports: &mut Items<(Name, ExportKind, u32)>,
+    first: u32,
+) -> Result<(), Error>
+    requires room { first + 2 < 2 ^ 32 }
+    ensures ok { OnOk result (exports.new ≡ with_sinks first exports.old) }
+    ensures err { OnErr result (exports.new ≡ exports.old) }
+    ensures memory { IfErr result (λ e. e ≡ Error.Memory) }
+{
+    let count = exports.len();
+    if let Err(error) = push_each_export(alloc, exports, first) {
+        truncate(alloc, exports, count);
+        return Err(error);
+    }
+    Ok(())
 }
 
 impl Module {
@@ -117,7 +136,7 @@ impl Module {
             return Err(Error::IncorrectFormat(Why::RawBody));
         }
         let drawn = self.drawn.as_mut();
-        push_all(alloc, &mut drawn.imported.spaces.globals, &mut drawn.definitions.globals)
+        push_sinks(alloc, &mut drawn.imported.spaces.globals, &mut drawn.definitions.globals)
     }
 
     /// Exports the sinks, the first of which is at `first`, as [`Module::add_sinks`] returned it,
@@ -140,11 +159,6 @@ impl Module {
         ensures valid { IsValid self.old → IsValid self.new }
     {
         let exports = &mut self.drawn.as_mut().contents.exports;
-        let count = exports.len();
-        if let Err(error) = push_exports(alloc, exports, first) {
-            truncate(alloc, exports, count);
-            return Err(error);
-        }
-        Ok(())
+        push_exports(alloc, exports, first)
     }
 }
