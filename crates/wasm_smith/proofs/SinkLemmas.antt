@@ -59,7 +59,7 @@ same_parts m globals globals' definitions definitions' e f = rw (e, f) refl
 
 one_by_one_defined : (definitions : List (ℕ × List ConstInstr)) (globals : List GlobalType)
     → ((definitions ++ (length globals, I32Const (pos 0) ∷ []) ∷ []) ++ (length (globals ++ sink I32 ∷ []), I64Const (pos 0) ∷ []) ∷ [])
-        ++ (length ((globals ++ sink I32 ∷ []) ++ sink I64 ∷ []), I64Const (pos 0) ∷ []) ∷ [] ≡ definitions ++ sink_definitions (length globals)
+    ++ (length ((globals ++ sink I32 ∷ []) ++ sink I64 ∷ []), I64Const (pos 0) ∷ []) ∷ [] ≡ definitions ++ sink_definitions (length globals)
 one_by_one_defined definitions globals = rw (one_longer globals (sink I32), two_longer globals (sink I32) (sink I64))
     (one_by_one definitions (length globals, I32Const (pos 0) ∷ []) (length globals + 1, I64Const (pos 0) ∷ [])
     (length globals + 2, I64Const (pos 0) ∷ []))

@@ -26,9 +26,27 @@ fn push_each_sink(
         (take (length definitions.old) definitions.new ≡ definitions.old) }
     ensures memory { IfErr result (λ e. e ≡ Error.Memory) }
 {
-    push_global(alloc, ValType::I32, ConstInstr::I32Const(0), globals, definitions)?;
-    push_global(alloc, ValType::I64, ConstInstr::I64Const(0), globals, definitions)?;
-    push_global(alloc, ValType::I64, ConstInstr::I64Const(0), globals, definitions)
+    push_global(
+        alloc,
+        ValType::I32,
+        ConstInstr::I32Const(0),
+        globals,
+        definitions,
+    )?;
+    push_global(
+        alloc,
+        ValType::I64,
+        ConstInstr::I64Const(0),
+        globals,
+        definitions,
+    )?;
+    push_global(
+        alloc,
+        ValType::I64,
+        ConstInstr::I64Const(0),
+        globals,
+        definitions,
+    )
 }
 
 // Adds the sinks to both lists, or to none, and returns the index of the first.
@@ -136,7 +154,11 @@ impl Module {
             return Err(Error::IncorrectFormat(Why::RawBody));
         }
         let drawn = self.drawn.as_mut();
-        push_sinks(alloc, &mut drawn.imported.spaces.globals, &mut drawn.definitions.globals)
+        push_sinks(
+            alloc,
+            &mut drawn.imported.spaces.globals,
+            &mut drawn.definitions.globals,
+        )
     }
 
     /// Exports the sinks, the first of which is at `first`, as [`Module::add_sinks`] returned it,
