@@ -115,8 +115,8 @@ fn push_exports(
 
 impl Module {
     /// Adds three mutable globals, the sinks: one `i32`, then two `i64`, which are 0 at first.
-    /// Returns the index of the first. Instructions can be added to bodies that write values there
-    /// which would be dropped, so that a caller sees them.
+    /// Returns the index of the first. Instructions that are added to bodies can write values to
+    /// them that the bodies drop, so that a caller can read these values.
     ///
     /// The sinks follow all other globals, even past the maximum of the configuration, and are not
     /// exported. A further call adds three more. The definitions are allocated from `alloc`.
@@ -161,15 +161,15 @@ impl Module {
         )
     }
 
-    /// Exports the sinks, the first of which is at `first`, as [`Module::add_sinks`] returned it,
-    /// so that a caller can read them. The exports follow all others, even past the maximum of the
+    /// Exports the three sinks from the index `first` on, which [`Module::add_sinks`] returned, so
+    /// that a caller can read them. The exports follow all others, even past the maximum of the
     /// configuration, and add nothing to the type size.
     ///
-    /// The names are `sink_i32`, `sink_i64` and `sink_i64_2`, each followed by as many `_` as the
-    /// longest name of an earlier export has bytes, if an earlier export has the name without them.
-    /// They are allocated from `alloc`.
+    /// The names are `sink_i32`, `sink_i64` and `sink_i64_2`. If an earlier export has one of these
+    /// names, as many `_` follow it as the longest name of an earlier export has bytes. The names
+    /// are allocated from `alloc`.
     ///
-    /// Requires `first + 2` to be less than the number of globals, and to be a `u32`.
+    /// Requires `first + 2` to be less than the number of globals, and less than 2^32.
     ///
     /// # Errors
     ///
