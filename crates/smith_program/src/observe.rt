@@ -1,5 +1,5 @@
 ghost use Rattle.std.specs.Prelude.{◌≡◌, ◌<◌, ◌-◌, ◌^◌, ◌+◌, ◌++◌, IfOk, IfErr, Some};
-ghost use Rattle.std.specs.Prelude.{length, slice_get};
+ghost use Rattle.std.specs.Prelude.{[], length, slice_get, if◌then◌else◌};
 ghost use Rattle.smith_syntax.specs.declared.code.Code.{Code as Defined};
 ghost use Rattle.smith_syntax.specs.declared.composite_type.FuncType.{FuncType as Function};
 ghost use Rattle.smith_module_rules.specs.Module.{IsValid};
@@ -18,15 +18,16 @@ use smith_types::Items;
 use std::alloc::Global;
 use wasm_smith::{Module, has_raw_body};
 
-fn leaves(instr: &Instr) -> bool
-    ensures { result ≡ leaves instr.now }
+// Returns `mixed` if `instr` leaves its function, and otherwise nothing.
+fn mixed_before<'a>(mixed: &'a [Instr], instr: &Instr) -> &'a [Instr]
+    ensures { result.now ≡ (if leaves instr.now then mixed.now else []) }
 {
     match instr {
-        Instr::Return => true,
-        Instr::ReturnCall(_) => true,
-        Instr::ReturnCallIndirect { .. } => true,
-        Instr::ReturnCallRef(_) => true,
-        _ => false,
+        Instr::Return => mixed,
+        Instr::ReturnCall(_) => mixed,
+        Instr::ReturnCallIndirect { .. } => mixed,
+        Instr::ReturnCallRef(_) => mixed,
+        _ => &[],
     }
 }
 
@@ -38,9 +39,7 @@ fn observed(alloc: Global, mixed: &[Instr], instructions: &[Instr]) -> Result<It
 {
     let mut made = Items::with_capacity(alloc, instructions.len())?;
     for instr in instructions {
-        if leaves(instr) {
-            push_copies(alloc, &mut made, mixed)?;
-        }
+        push_copies(alloc, &mut made, mixed_before(mixed, instr))?;
         made.push(copied(alloc, instr)?)?;
     }
     push_copies(alloc, &mut made, mixed)?;
