@@ -4,6 +4,7 @@ pub mod InsertedLemmas
 pub mod CountedLemmas
 pub mod MixLemmas
 pub mod ObservedLemmas
+pub mod MixedLoop
 pub mod WiderLemmas
 pub mod GlobalLemmas
 pub mod TerminationLemmas
@@ -12,3 +13,4 @@ pub mod DeterminedLemmas
 pub mod GeneratedLemmas
 pub mod GlobalExportLemmas
 pub mod ObservedProgramLemmas
+pub mod ObservedBodiesLemmas
