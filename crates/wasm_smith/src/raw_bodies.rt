@@ -1,7 +1,8 @@
-ghost use Rattle.std.specs.Prelude.{◌↔◌, Any, IsTrue};
-ghost use Rattle.smith_syntax.specs.declared.code.Code.{Code as Body};
+ghost use Rattle.std.specs.Prelude.{◌↔◌, IsTrue};
 ghost use Rattle.smith_module_rules.specs.Held.{IsRaw};
+ghost use Rattle.wasm_smith.specs.Termination.{HasRawBody};
 
+use crate::module::Module;
 use smith_types::{Code, Instructions};
 
 fn is_raw(body: &Code) -> bool
@@ -13,9 +14,12 @@ fn is_raw(body: &Code) -> bool
     }
 }
 
-/// Returns whether a body is raw bytes.
-pub(crate) fn has_raw_body(code: &[Code]) -> bool
-    ensures { IsTrue result ↔ Any (λ (body : Body). IsRaw body.instructions) code.now }
-{
-    code.iter().any(is_raw)
+impl Module {
+    /// Returns whether a body is raw bytes, to which no instruction can be added. Only a
+    /// configuration with `allow_invalid_funcs` gives such a module.
+    pub fn has_raw_body(&self) -> bool
+        ensures { IsTrue result ↔ HasRawBody self.now }
+    {
+        self.drawn.contents.code.as_slice().iter().any(is_raw)
+    }
 }

@@ -7,7 +7,6 @@ ghost use Rattle.wasm_smith.specs.SinkExports.{AnswersSinkExports, with_sinks};
 use crate::added_global::{push_global, truncate};
 use crate::global_export::export_global;
 use crate::module::Module;
-use crate::raw_bodies::has_raw_body;
 use smith_bytes::{Error, Why};
 use smith_types::{ConstInstr, ExportKind, GlobalType, Items, Name, ValType};
 use std::alloc::Global;
@@ -114,7 +113,7 @@ impl Module {
         ensures answer { AnswersSinks self.old self.new result }
         ensures valid { IsValid self.old → IsValid self.new }
     {
-        if has_raw_body(self.drawn.contents.code.as_slice()) {
+        if self.has_raw_body() {
             return Err(Error::IncorrectFormat(Why::RawBody));
         }
         let drawn = self.drawn.as_mut();

@@ -9,7 +9,6 @@ ghost use Rattle.wasm_smith.specs.Termination.{AnswersCounter, counter};
 
 use crate::added_global::{push_global, truncate};
 use crate::module::Module;
-use crate::raw_bodies::has_raw_body;
 use smith_bytes::{Error, Why};
 use smith_types::{ConstInstr, GlobalType, Items, ValType};
 use std::alloc::Global;
@@ -84,7 +83,7 @@ impl Module {
         ensures answer { AnswersCounter default_fuel self.old self.new result }
         ensures valid { IsValid self.old → IsValid self.new }
     {
-        if has_raw_body(self.drawn.contents.code.as_slice()) {
+        if self.has_raw_body() {
             return Err(Error::IncorrectFormat(Why::RawBody));
         }
         let drawn = self.drawn.as_mut();
