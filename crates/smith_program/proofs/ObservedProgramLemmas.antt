@@ -21,6 +21,8 @@ use Rattle.smith_instr.specs.Sequences.{IsBodyTyped}
 use Rattle.smith_instr.specs.declared.instr.Instr.{Instr}
 use Rattle.smith_body_nodes.specs.Scopes.{IsScope}
 use Rattle.wasm_smith.specs.Sinks.{AddsSinks, AnswersSinks, sink, sinks, sink_definitions}
+use Rattle.wasm_smith.specs.SinkExports.{with_sink_exports}
+use Rattle.wasm_smith.proofs.SinkExportLemmas.{sinks_exported_valid}
 use Rattle.wasm_smith.proofs.SinkLemmas.{adds_sinks_valid}
 use Rattle.smith_program.specs.Bodies.{AreBodiesOf, HasDefinedType, IsBodyAt, IsOfBody, function_context}
 use Rattle.smith_program.specs.Observed.{AnswersObserved, AreObserved, after_mixes, half, leaves, mix, mix32, mix64, mixes, mixes_from}
@@ -30,6 +32,7 @@ use Rattle.smith_program.specs.Valid.{HaveAll, IsValidProgram}
 use Rattle.smith_program.specs.declared.program.Body.{Body}
 use Rattle.smith_program.specs.declared.program.Body.TheVariants as body
 use Rattle.smith_program.proofs.DrawnBodiesLemmas.{code_there}
+use Rattle.smith_program.proofs.GlobalExportLemmas.{sink_exporting_bodies}
 use Rattle.smith_program.proofs.GlobalLemmas.{Added, still_typed, with_added}
 use Rattle.smith_program.proofs.MixLemmas.{AreSinks}
 use Rattle.smith_program.proofs.ObservedLemmas.{observed_typed}
@@ -145,20 +148,20 @@ On features instruction = IsTrue (has_features features instruction)
 half_on : (features : Features) (sink index lane : ℕ) → IsTrue features.simd → All (On features) (mix64 sink (half index lane))
 half_on features sink index lane simd =
     All-from_recursion (On features) (mix64 sink (half index lane))
-    (tt, (tt, (tt, (tt, (tt, (tt, (simd, (simd, (simd, (simd, (simd, (tt, (tt, tt)))))))))))))
+    (refl, (refl, (refl, (refl, (refl, (refl, (simd, (simd, (simd, (simd, (simd, (refl, (refl, tt)))))))))))))
 
 mix_on : (features : Features) (types first index : ℕ) (value : ValType) → IsValTypeValid features types value
     → All (On features) (mix first index value)
 mix_on features types first index I32 valid =
-    All-from_recursion (On features) (mix first index I32) (tt, (tt, (tt, (tt, (tt, (tt, tt))))))
+    All-from_recursion (On features) (mix first index I32) (refl, (refl, (refl, (refl, (refl, (refl, tt))))))
 mix_on features types first index I64 valid =
-    All-from_recursion (On features) (mix first index I64) (tt, (tt, (tt, (tt, (tt, (tt, tt))))))
+    All-from_recursion (On features) (mix first index I64) (refl, (refl, (refl, (refl, (refl, (refl, tt))))))
 mix_on features types first index F32 valid =
     All-from_recursion (On features) (mix first index F32)
-    (tt, (tt, (tt, (tt, (tt, (tt, (tt, (tt, (tt, (tt, (tt, (tt, tt))))))))))))
+    (refl, (refl, (refl, (refl, (refl, (refl, (refl, (refl, (refl, (refl, (refl, (refl, tt))))))))))))
 mix_on features types first index F64 valid =
     All-from_recursion (On features) (mix first index F64)
-    (tt, (tt, (tt, (tt, (tt, (tt, (tt, (tt, (tt, (tt, (tt, (tt, tt))))))))))))
+    (refl, (refl, (refl, (refl, (refl, (refl, (refl, (refl, (refl, (refl, (refl, (refl, tt))))))))))))
 mix_on features types first index V128 valid =
     All-append (On features) (mix64 (first + 1) (half index 0)) (mix64 (first + 2) (half index 1))
     (half_on features (first + 1) index 0 valid) (half_on features (first + 2) index 1 valid)
@@ -226,3 +229,11 @@ observed_program_valid first old new ((none, adds), observes) program =
     (observed_bodies first old.«module» new.«module» old.bodies new.bodies program.valid adds observes program.typed)
     (subst (λ (m : ModuleParts). All (HaveAll (Enabled m)) new.bodies) (sym adds.added)
     (bodies_on first old.«module» old.bodies new.bodies program.valid program.typed.each observes program.enabled))
+
+-- a valid program stays valid with the exports of the sinks
+pub sinks_exported_program_valid : (first : ℕ) (m : ModuleParts) (bodies : List Body) → first + 2 < length m.globals
+    → IsValidProgram m bodies → IsValidProgram (with_sink_exports first m) bodies
+sinks_exported_program_valid first m bodies within program =
+    let new = with_sink_exports first m in
+    program_valid new bodies (sinks_exported_valid first m new (Ok tt) refl within program.valid)
+    (sink_exporting_bodies first m new (Ok tt) bodies refl program.typed) program.enabled

@@ -16,7 +16,7 @@ use smith_bytes::{Error, Why};
 use smith_instr::Instr;
 use smith_types::Items;
 use std::alloc::Global;
-use wasm_smith::{Module, has_raw_body};
+use wasm_smith::Module;
 
 // Returns `mixed` if `instr` leaves its function, and otherwise nothing.
 fn mixed_before<'a>(mixed: &'a [Instr], instr: &Instr) -> &'a [Instr]
@@ -130,7 +130,7 @@ impl Program {
         ensures typed { AreBodiesOf self.old.«module» self.old.bodies
             → AreBodiesOf self.new.«module» self.new.bodies }
     {
-        if has_raw_body(self.module.code()) {
+        if self.module.has_raw_body() {
             return Err(Error::IncorrectFormat(Why::RawBody));
         }
         let next = self.module.globals().len() as u32;
