@@ -67,7 +67,7 @@ impl<'a> FunctionJudge<'a> {
 
     // Returns the context of a body of a function of this type, with these parameters and locals.
     fn scope<'b>(&'b self, function: &'b FuncType, locals: &'b [ValType]) -> Scope<'b>
-        ensures { IsContextOf self.now function.now locals.now (bare result) }
+        ensures parts { IsContextOf self.now function.now locals.now (bare result) }
         ensures results { result.results.now ≡ function.now.results }
     {
         Scope {

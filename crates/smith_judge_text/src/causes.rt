@@ -110,13 +110,9 @@ fn write_mismatch<S: Sink>(
 
 // Writes an item that is not there.
 fn write_unknown<S: Sink>(unknown: Unknown, sink: &mut S) -> fmt::Result {
-    let (name, index, count) = (
-        space_name(unknown.named.space),
-        unknown.named.index,
-        unknown.count,
-    );
-    ("unknown ", name, (" ", index, " of ")).write_text(sink)?;
-    count.write_text(sink)
+    let name = space_name(unknown.named.space);
+    ("unknown ", name, (" ", unknown.named.index)).write_text(sink)?;
+    (": their number is ", unknown.count).write_text(sink)
 }
 
 /// Writes why an instruction is wrong that breaks the rule `rule`, or nothing if that is not known.
