@@ -1,5 +1,5 @@
 -- What is said of a refused instruction.
-use Rattle.std.specs.Prelude.{◌≡◌, ℕ, ◌+◌, ◌≤◌, Option, Some, None, List, length, take, slice_get, reverse}
+use Rattle.std.specs.Prelude.{◌≡◌, ℕ, ◌+◌, ◌≤◌, Option, Some, None, List, ◌∷◌, length, take, slice_get, reverse}
 use Rattle.std.specs.List.{Contains}
 use Rattle.smith_syntax.specs.declared.value_type.ValType.{ValType}
 use Rattle.smith_instr.specs.Contexts.{BodyContext, IsBlockType, IsLocalSet}

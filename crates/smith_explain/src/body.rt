@@ -60,6 +60,7 @@ fn block_cause(alloc: Global, scope: &Scope, kind: Kind, ty: BlockType) -> Resul
     push_values(&mut wanted, &shape.params)?;
     if is_first(kind) {
         push_values(&mut wanted, &[ValType::I32])?;
+        return Ok(Cause::Operands(wanted));
     }
     Ok(Cause::Operands(wanted))
 }
@@ -159,7 +160,7 @@ fn cause_at(
 ) -> Result<Cause, Error>
     requires scope { IsScope (bare scope.now) }
     requires well { IsWell (bare scope.now) checker.now }
-    ensures ok { IfOk result (IsCauseAt (bare scope.now) checker.now (option_map (λ instr. instr.now) instr)) }
+    ensures ok { IfOk result (IsCauseAt (bare scope.now) checker.now (option_map (λ one. one.now) instr.entry)) }
     ensures memory { IfErr result (λ e. e ≡ Error.Memory) }
 {
     match instr {
