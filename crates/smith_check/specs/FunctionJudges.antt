@@ -65,7 +65,7 @@ pub record HasPartsAt (judge : FunctionJudge) (place : ℕ) (function : FuncType
   pub held : slice_get judge.module.now.bodies place ≡ Some body
 
 -- a context has the parts of a judge, those of a function and these locals
-pub record IsContextOf (judge : FunctionJudge) (function : FuncType) (locals : List ValType) (context : BodyContext) : Type 0 where
+pub record IsContextOf (judge : FunctionJudge) (function : FuncType) (these : List ValType) (context : BodyContext) : Type 0 where
   pub features : context.features ≡ features_in judge.features
   pub types : context.types ≡ judge.types.now.space.types
   pub funcs : context.funcs ≡ judge.spaces.now.funcs
@@ -77,7 +77,7 @@ pub record IsContextOf (judge : FunctionJudge) (function : FuncType) (locals : L
   pub elems : context.elems ≡ judge.elems.now
   pub datas : context.datas ≡ length judge.module.now.datas
   pub references : context.references ≡ judge.references.now
-  pub locals : context.locals ≡ locals
+  pub locals : context.locals ≡ these
   pub params : context.params ≡ length function.params
   pub labels : context.labels ≡ []
   pub results : context.results ≡ function.results

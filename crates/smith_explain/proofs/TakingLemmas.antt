@@ -1,6 +1,7 @@
 -- Operands that an instruction is tried on.
-use Rattle.std.proofs.Common.{◌≡◌, ℕ, Bool, true, false, false≢true, List, [], ◌++◌, Result, Ok, Err, refl, sym, ◌∙◌, ap, subst, inl, inr}
+use Rattle.std.proofs.Common.{◌≡◌, ℕ, Bool, true, false, List, [], ◌++◌, Result, Ok, Err, refl, sym, ◌∙◌, ap, subst, inl, inr}
 use Rattle.std.specs.Prelude.{◌⊎◌, IfOk, IsTrue}
+use Rattle.std.proofs.lemmas.Bool.{false≢true}
 use Rattle.smith_bytes.specs.declared.error.Error.{Error}
 use Rattle.smith_syntax.specs.declared.value_type.ValType.{ValType}
 use Rattle.smith_instr.specs.Contexts.{BodyContext}
@@ -58,7 +59,7 @@ module _ (context : BodyContext) (labels : List (List ValType)) (x : Instr) (set
   tried_step true new yes taken =
       let r = taken.steps.sound new.known (covers_itself context new taken.valid) in
       step_below r.before (stacked new.known (set ++ sets x)) (covered_below r.before r.covered) r.step
-  tried_step false new no never = absurd (false≢true no)
+  tried_step false new so never = absurd (false≢true so)
 
 plain_taking : (context : BodyContext) (checker : Checker) (x : Instr) (wanted : List Slot) → IsPlain x
     → ((after : Stacked) × IsStep (with_labels context (labels_in checker)) x (stacked wanted checker.log.items) after)

@@ -17,4 +17,4 @@ step-requires-clause-labels c =
 pub returns-clause-ok : goal.returns-clause-ok
 returns-clause-ok c =
     tried_taking (bare c.args.scope.now) c.args.checker.now c.args.instr.now c.args.wanted.now c.step.result (held c.step.new.operands)
-    c.requires.plain (rw c.deref.ensures.value at c.step.ensures.ok)
+    c.requires.plain (rw (c.deref.ensures.value, c.in_ok-from_slice.ensures.items) at c.step.ensures.ok)
