@@ -150,13 +150,17 @@ pub explained : (judge : FunctionJudge) (place at : ℕ) → IsFunctionJudge jud
     → IfOk found (λ said. MatchOption said (Unit {0}) (IsExplanation (context_in judge function body) (body_in judge body) at))
     → IfOk found (λ said. MatchOption said (Unit {0})
     (IsExplained (features_in judge.features) (syntax_of judge.module.now) place at))
-explained judge place at j function body parts (Ok (Some one)) said = (judge.types.now.indices, right_types judge j, record {
-  function = function;
-  locals = locals_in judge body;
-  body = body_in judge body;
-  there = function_at judge place function body j parts;
-  explained = said;
-})
+explained judge place at j function body parts (Ok (Some one)) said = (
+  judge.types.now.indices,
+  right_types judge j,
+  record {
+    function = function;
+    locals = locals_in judge body;
+    body = body_in judge body;
+    there = function_at judge place function body j parts;
+    explained = said;
+  },
+)
 explained judge place at j function body parts (Ok None) said = tt
 explained judge place at j function body parts (Err e) said = tt
 

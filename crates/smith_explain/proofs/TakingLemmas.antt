@@ -37,22 +37,24 @@ module _ (context : BodyContext) (labels : List (List ValType)) (x : Instr) (set
   step_below before after below step =
       let f = step.framed in
       let (front, rest, is, left, right) = zip_parts (IsBelow context.types) wanted f.rest f.taken
-      (subst (λ (xs : List Slot). AreBelow context.types wanted xs) f.under below) in
-      (stacked (front ++ f.given) (set ++ sets x), record {
-        operands = step.operands;
-        results = step.results;
-        typed = step.typed;
-        framed = record {
-          rest = front;
-          taken = rest;
-          given = f.given;
-          under = is;
-          accepted = below_all context.types rest f.taken step.operands right f.accepted;
-          offered = f.offered;
-          over = refl;
-          set_then = refl;
-        };
-      })
+      (subst (λ (xs : List Slot). AreBelow context.types wanted xs) f.under below) in (
+        stacked (front ++ f.given) (set ++ sets x),
+        record {
+          operands = step.operands;
+          results = step.results;
+          typed = step.typed;
+          framed = record {
+            rest = front;
+            taken = rest;
+            given = f.given;
+            under = is;
+            accepted = below_all context.types rest f.taken step.operands right f.accepted;
+            offered = f.offered;
+            over = refl;
+            set_then = refl;
+          };
+        },
+      )
 
   pub tried_step : (there : Bool) (new : Held) → IsTrue there → IsTried context labels x set there (holding wanted false) new
       → (other : Stacked) × IsStep (with_labels context labels) x (stacked wanted set) other

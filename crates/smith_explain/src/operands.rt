@@ -156,17 +156,13 @@ fn push_reference(slots: &mut Vec<Slot>, op: ReferenceInstr) -> Result<(), Error
     }
 }
 
-// Appends the operands of an instruction on a variable, of `drop` and of `select`.
+// Appends the operands of an instruction on a variable, of `drop`, and of `select` with a type. Those of the
+// other `select` depend on the stack.
 fn push_simple(slots: &mut Vec<Slot>, scope: &Scope, instr: &Instr) -> Result<(), Error>
     ensures memory { IfErr result (λ e. e ≡ Error.Memory) }
 {
     match instr {
         Instr::Drop => Ok(slots.push(Slot::Bottom)?),
-        Instr::Select => {
-            slots.push(Slot::Bottom)?;
-            slots.push(Slot::Bottom)?;
-            push_values(slots, &[ValType::I32])
-        }
         Instr::SelectTyped(types) => {
             push_values(slots, types.as_slice())?;
             push_values(slots, types.as_slice())?;
@@ -216,7 +212,6 @@ pub fn push_operands(
         Instr::Reference(op) => push_reference(slots, *op),
         Instr::Aggregate(op) => push_aggregate(slots, scope, *op),
         Instr::Drop
-        | Instr::Select
         | Instr::SelectTyped(_)
         | Instr::LocalSet(_)
         | Instr::LocalTee(_)

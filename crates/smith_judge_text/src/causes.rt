@@ -115,7 +115,11 @@ fn write_unknown<S: Sink>(unknown: Unknown, sink: &mut S) -> fmt::Result {
     (": their number is ", unknown.count).write_text(sink)
 }
 
-/// Writes why an instruction is wrong that breaks the rule `rule`, or nothing if that is not known.
+// The most types of the stack that are shown where no cause is known.
+const SHOWN: usize = 8;
+
+/// Writes why an instruction is wrong that breaks the rule `rule`, or what the rule demands and the types on
+/// top of the stack if that is not known.
 pub fn write_cause<S: Sink>(explanation: &Explanation, rule: Rule, sink: &mut S) -> fmt::Result {
     match &explanation.cause {
         Cause::Unknown(unknown) => write_unknown(*unknown, sink),
@@ -126,11 +130,14 @@ pub fn write_cause<S: Sink>(explanation: &Explanation, rule: Rule, sink: &mut S)
         Cause::Operands(wanted) => {
             write_mismatch(wanted.as_slice(), &explanation.stack, rule, sink)
         }
-        Cause::Other => Ok(()),
+        Cause::Other => {
+            (rule.sentence(), "; on the stack: ").write_text(sink)?;
+            write_top(&explanation.stack, SHOWN, true, sink)
+        }
     }
 }
 
-/// Returns why an instruction is wrong, in words, or an empty text if that is not known.
+/// Returns why an instruction is wrong that breaks the rule `rule`, in words.
 pub fn cause_text(alloc: Global, explanation: &Explanation, rule: Rule) -> Result<String, Error>
     ensures memory { IfErr result (λ e. e ≡ Error.Memory) }
 {

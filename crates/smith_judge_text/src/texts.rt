@@ -64,8 +64,8 @@ pub fn keyword(alloc: Global, bytes: &[u8], answer: &Answer) -> Result<String, E
 
 /// Returns why the instruction that `answer`, to the file whose bytes are `bytes`, is about is wrong, in
 /// words: the types that it takes and those that are on the stack, or what it names and is not there. The
-/// text is empty if the answer is about no instruction, or if nothing is known. `explain` of `smith_judge`
-/// has the same, with clauses; no clause states the words.
+/// text is empty if the answer is about no instruction. `explain` of `smith_judge` has the same, with
+/// clauses; no clause states the words.
 pub fn cause(
     alloc: Global,
     features: WasmFeatures,
