@@ -2,7 +2,7 @@ use smith_check_operands::Operands;
 use smith_check_rules::Slot;
 
 /// An index space (Structure, Indices).
-#[derive(Clone, Copy, Debug, PartialEq, Eq)]
+#[derive(Clone, Copy, Debug)]
 pub enum Space {
     /// The types.
     Type,
