@@ -70,9 +70,11 @@ module _ (judge : FunctionJudge) (j : IsFunctionJudge judge) (function : FuncTyp
       subst (λ (other : BodyContext). IfOk found (IsVerdict other (body_in judge body))) same_context
       (subst (λ (code : List Instr). IfOk found (IsVerdict context code)) is verdict)
 
-  pub same_explanation : (at : ℕ) (found : Result (Option Explanation) Error) (instructions : List Instr) → instructions ≡ body_in judge body
+  pub same_explanation : (at : ℕ) (found : Result (Option Explanation) Error) (instructions : List Instr)
+      → instructions ≡ body_in judge body
       → IfOk found (λ said. MatchOption said (Unit {0}) (IsExplanation context instructions at))
       → IfOk found (λ said. MatchOption said (Unit {0}) (IsExplanation (context_in judge function body) (body_in judge body) at))
   same_explanation at found instructions is said =
-      subst (λ (other : BodyContext). IfOk found (λ one. MatchOption one (Unit {0}) (IsExplanation other (body_in judge body) at))) same_context
+      subst (λ (other : BodyContext).
+      IfOk found (λ one. MatchOption one (Unit {0}) (IsExplanation other (body_in judge body) at))) same_context
       (subst (λ (code : List Instr). IfOk found (λ one. MatchOption one (Unit {0}) (IsExplanation context code at))) is said)
