@@ -43,7 +43,7 @@ pub struct Judged {
 
 fn judge_by(alloc: Global, features: WasmFeatures, file: &[u8]) -> Result<Judged, Error> {
     let answer = judge(alloc, features, file)?;
-    let words = words(alloc, file, &answer)?;
+    let words = words(alloc, features, file, &answer)?;
     Ok(Judged {
         verdict: Verdict::of(&answer),
         words,

@@ -1,7 +1,7 @@
 -- What a judge of functions says.
-use Rattle.std.proofs.Common.{◌≡◌, ◌∙◌, ℕ, ◌+◌, ◌<◌, ◌≤◌, List, ◌++◌, Option, Some, None, Bor, length}
+use Rattle.std.proofs.Common.{◌≡◌, ◌∙◌, ℕ, ◌+◌, ◌<◌, ◌≤◌, List, ◌++◌, Option, Some, None, Result, Ok, Err, Bor, length}
 use Rattle.std.proofs.Common.{map, get_or, sym, ap, subst, arith, below_more, inl, inr, refl}
-use Rattle.std.specs.Prelude.{All, MatchOption, slice_get}
+use Rattle.std.specs.Prelude.{All, IfOk, MatchOption, slice_get}
 use Rattle.std.proofs.Math.ListN.{get_or-map}
 use Rattle.std.proofs.lemmas.List.{length-append, length-map}
 use Rattle.std.proofs.lemmas.Option.{same_Some, slice_get-get_or, slice_get-map, slice_get_read, slice_get_within}
@@ -29,6 +29,10 @@ use Rattle.smith_types.specs.Groups.{space_of}
 use Rattle.smith_check_types.specs.Renamed.{renamed_val}
 use Rattle.smith_check_body.specs.Verdicts.{IsRefused}
 use Rattle.smith_check_module.specs.Contexts.{types_in}
+use Rattle.smith_bytes.specs.declared.error.Error.{Error}
+use Rattle.smith_explain.specs.Causes.{IsExplanation}
+use Rattle.smith_explain.specs.declared.explanation.Explanation.{Explanation}
+use Rattle.smith_check.specs.Explanations.{IsExplained}
 use Rattle.smith_check.specs.Faults.{AreTypesRight, IsBodyRefused, IsJudgement, IsRightBefore, most_locals}
 use Rattle.smith_check.specs.FunctionJudges.{AreLocalsRight, AreRightBefore, HasPartsAt, HasTypeAt, IsFunctionJudge, IsRightAt}
 use Rattle.smith_check.specs.FunctionJudges.{body_in, context_in, locals_in}
@@ -139,6 +143,26 @@ function_at judge place function body j parts = record {
   locals_are = refl;
   body_is = refl;
 }
+
+-- what is said of a body is said of its module
+pub explained : (judge : FunctionJudge) (place at : ℕ) → IsFunctionJudge judge → (function : FuncType) (body : Body)
+    → HasPartsAt judge place function body → (found : Result (Option Explanation) Error)
+    → IfOk found (λ said. MatchOption said (Unit {0}) (IsExplanation (context_in judge function body) (body_in judge body) at))
+    → IfOk found (λ said. MatchOption said (Unit {0})
+    (IsExplained (features_in judge.features) (syntax_of judge.module.now) place at))
+explained judge place at j function body parts (Ok (Some one)) said = (
+  judge.types.now.indices,
+  right_types judge j,
+  record {
+    function = function;
+    locals = locals_in judge body;
+    body = body_in judge body;
+    there = function_at judge place function body j parts;
+    explained = said;
+  },
+)
+explained judge place at j function body parts (Ok None) said = tt
+explained judge place at j function body parts (Err e) said = tt
 
 module _ (judge : FunctionJudge) (place : ℕ) (j : IsFunctionJudge judge) where
   pub typed_right : (function : FuncType) (body : Body) → HasPartsAt judge place function body → AreLocalsRight judge body

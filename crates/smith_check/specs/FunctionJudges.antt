@@ -1,5 +1,5 @@
 -- What the functions of a module are judged by.
-use Rattle.std.specs.Prelude.{◌≡◌, ℕ, ◌<◌, List, Some, length, map, slice_get}
+use Rattle.std.specs.Prelude.{◌≡◌, ℕ, ◌<◌, List, [], Some, length, map, slice_get}
 use Rattle.smith_syntax.specs.FeatureBits.{features_in}
 use Rattle.smith_syntax.specs.declared.composite_type.FuncType.{FuncType}
 use Rattle.smith_syntax.specs.declared.value_type.ValType.{ValType}
@@ -66,3 +66,21 @@ AreLocalsRight judge body =
 pub record HasPartsAt (judge : FunctionJudge) (place : ℕ) (function : FuncType) (body : Body) : Type 0 where
   pub typed : HasTypeAt judge place function
   pub held : slice_get judge.module.now.bodies place ≡ Some body
+
+-- a context has the parts of a judge, those of a function and these locals
+pub record IsContextOf (judge : FunctionJudge) (function : FuncType) (these : List ValType) (context : BodyContext) : Type 0 where
+  pub features : context.features ≡ features_in judge.features
+  pub types : context.types ≡ judge.types.now.space.types
+  pub funcs : context.funcs ≡ judge.spaces.now.funcs
+  pub imported : context.imported_funcs ≡ judge.imported_funcs
+  pub tables : context.tables ≡ judge.spaces.now.tables
+  pub memories : context.memories ≡ judge.spaces.now.memories
+  pub globals : context.globals ≡ judge.spaces.now.globals
+  pub tags : context.tags ≡ judge.spaces.now.tags
+  pub elems : context.elems ≡ judge.elems.now
+  pub datas : context.datas ≡ length judge.module.now.datas
+  pub references : context.references ≡ judge.references.now
+  pub locals : context.locals ≡ these
+  pub params : context.params ≡ length function.params
+  pub labels : context.labels ≡ []
+  pub results : context.results ≡ function.results

@@ -1,12 +1,17 @@
 ghost use Rattle.std.specs.Prelude.{◌≡◌, ℕ, ◌<◌, ◌≤◌, length, IfOk, IfErr, MatchOption};
 ghost use Rattle.smith_syntax.specs.FeatureBits.{features_in};
+ghost use Rattle.smith_check_operands.specs.Scopes.{bare};
 ghost use Rattle.smith_check_body.specs.Verdicts.{IsVerdict};
+ghost use Rattle.smith_decode.specs.Modules.{syntax_of};
+ghost use Rattle.smith_explain.specs.Causes.{IsExplanation};
+ghost use Rattle.smith_check.specs.Explanations.{IsExplained};
 ghost use Rattle.smith_check.specs.Faults.{IsJudgement};
 ghost use Rattle.smith_check.specs.FunctionJudges.{
   AreLocalsRight,
   AreRightBefore,
   HasPartsAt,
   HasTypeAt,
+  IsContextOf,
   IsFunctionJudge,
   IsRightAt,
   body_in,
@@ -22,7 +27,8 @@ use smith_check_operands::lookups::func_at;
 use smith_check_renamed::canonical_body;
 use smith_check_types::{CheckedTypes, canonical_index};
 use smith_decode::{Body, Module};
-use smith_types::{EntitySpaces, FuncType, Items, RefType, WasmFeatures};
+use smith_explain::Explanation;
+use smith_types::{EntitySpaces, FuncType, Items, RefType, ValType, WasmFeatures};
 use std::alloc::Global;
 
 /// What the functions of a module are judged by.
@@ -59,6 +65,29 @@ impl<'a> FunctionJudge<'a> {
         func_at(self.types.space.types(), index)
     }
 
+    // Returns the context of a body of a function of this type, with these parameters and locals.
+    fn scope<'b>(&'b self, function: &'b FuncType, locals: &'b [ValType]) -> Scope<'b>
+        ensures parts { IsContextOf self.now function.now locals.now (bare result) }
+        ensures results { result.results.now ≡ function.now.results }
+    {
+        Scope {
+            features: self.features,
+            types: &self.types.space,
+            funcs: self.spaces.funcs.as_slice(),
+            imported_funcs: self.imported_funcs,
+            tables: self.spaces.tables.as_slice(),
+            memories: self.spaces.memories.as_slice(),
+            globals: self.spaces.globals.as_slice(),
+            tags: self.spaces.tags.as_slice(),
+            elems: self.elems,
+            datas: self.module.datas.len(),
+            references: self.references,
+            locals,
+            params: function.params.len(),
+            results: function.results.as_slice(),
+        }
+    }
+
     // Checks a body of a function of this type, whose locals are valid.
     fn verdict(&self, alloc: Global, function: &FuncType, body: &Body) -> Result<Verdict, Error>
         requires judge { IsFunctionJudge self.now }
@@ -73,22 +102,7 @@ impl<'a> FunctionJudge<'a> {
         let locals = locals_of(alloc, indices, params, body.locals.as_slice())?;
         let instructions = canonical_body(alloc, indices, body.instructions.as_slice())?;
         let results = Items::from_slice(alloc, function.results.as_slice())?;
-        let scope = Scope {
-            features: self.features,
-            types: &self.types.space,
-            funcs: self.spaces.funcs.as_slice(),
-            imported_funcs: self.imported_funcs,
-            tables: self.spaces.tables.as_slice(),
-            memories: self.spaces.memories.as_slice(),
-            globals: self.spaces.globals.as_slice(),
-            tags: self.spaces.tags.as_slice(),
-            elems: self.elems,
-            datas: self.module.datas.len(),
-            references: self.references,
-            locals: locals.as_slice(),
-            params: params.len(),
-            results: function.results.as_slice(),
-        };
+        let scope = self.scope(function, locals.as_slice());
         check_body(alloc, &scope, results, instructions.as_slice())
     }
 
@@ -117,6 +131,64 @@ impl<'a> FunctionJudge<'a> {
                 instruction: at,
             })),
         })
+    }
+
+    // Returns what is known of the instruction `at` of a body of a function of this type, whose locals are
+    // valid.
+    fn explanation(
+        &self,
+        alloc: Global,
+        function: &FuncType,
+        body: &Body,
+        at: usize,
+    ) -> Result<Option<Explanation>, Error>
+        requires judge { IsFunctionJudge self.now }
+        requires typed { (place : ℕ) × HasTypeAt self.now place function.now }
+        requires locals { AreLocalsRight self.now body.now }
+        ensures ok { IfOk result (λ found. MatchOption found (Unit {0})
+            (IsExplanation (context_in self.now function.now body.now) (body_in self.now body.now) at)) }
+        ensures memory { IfErr result (λ e. e ≡ Error.Memory) }
+    {
+        let indices = self.types.indices.as_slice();
+        let params = function.params.as_slice();
+        let locals = locals_of(alloc, indices, params, body.locals.as_slice())?;
+        let instructions = canonical_body(alloc, indices, body.instructions.as_slice())?;
+        let results = Items::from_slice(alloc, function.results.as_slice())?;
+        let scope = self.scope(function, locals.as_slice());
+        smith_explain::explain(alloc, &scope, results, instructions.as_slice(), at)
+    }
+
+    /// Returns what is known of the instruction `at` of the body at a place, if there is such a body, and
+    /// its locals are valid and not too many.
+    pub fn explain(
+        &self,
+        alloc: Global,
+        place: usize,
+        at: usize,
+    ) -> Result<Option<Explanation>, Error>
+        requires { IsFunctionJudge self.now }
+        ensures ok { IfOk result (λ found. MatchOption found (Unit {0})
+            (IsExplained (features_in self.now.features) (syntax_of self.now.«module».now) place at)) }
+        ensures memory { IfErr result (λ e. e ≡ Error.Memory) }
+    {
+        let bodies = self.module.bodies.as_slice();
+        if place >= bodies.len() {
+            return Ok(None);
+        }
+        let function = match self.type_at(place) {
+            Some(function) => function,
+            None => return Ok(None),
+        };
+        let body = &bodies[place];
+        let runs = body.locals.as_slice();
+        if !are_few(function.params.len(), runs) {
+            return Ok(None);
+        }
+        let end = self.types.space.types().len();
+        match first_wrong_run(self.features, end, self.types.indices.as_slice(), runs) {
+            Some(_) => Ok(None),
+            None => self.explanation(alloc, function, body, at),
+        }
     }
 
     // Returns what there is to say of the function at a place, unless it is valid.

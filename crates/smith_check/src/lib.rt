@@ -14,5 +14,6 @@ mod judgement;
 mod locals;
 mod references;
 
-pub use judge::check;
+pub use judge::{check, explain};
 pub use judgement::{Fault, Judgement, LOCALS, Unjudged};
+pub use smith_explain::Explanation;

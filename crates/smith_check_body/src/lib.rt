@@ -5,11 +5,15 @@
 //! on the stack, and without recursion: blocks may be nested to any depth.
 #![tactic(auto)]
 
-mod blocks;
-mod check;
-mod checker;
+/// The blocks that instructions open.
+pub mod blocks;
+/// The check of a body.
+pub mod check;
+/// How far a check has come.
+pub mod checker;
 mod families;
-mod step;
+/// A step of a check.
+pub mod step;
 mod verdict;
 
 pub use check::check_body;

@@ -1,3 +1,4 @@
 mod OriginLemmas
 mod AnswerLemmas
 mod ExampleLemmas
+pub mod ExplanationLemmas

@@ -72,12 +72,13 @@ impl Answer {
     }
 }
 
-/// The answer in words, in one line, without the name of an instruction. [`Words`] has it too.
+/// The answer in words, in one line, without the name of an instruction, and without the types concerned. [`Words`] has them too.
 impl fmt::Display for Answer {
     fn fmt<W: fmt::Write>(&self, f: &mut fmt::Formatter<W>) -> fmt::Result {
         let words = Words {
             answer: self,
             keyword: "",
+            cause: "",
         };
         write!(f, "{words}")
     }

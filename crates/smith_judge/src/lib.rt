@@ -7,6 +7,7 @@
 
 mod answer;
 mod examples;
+mod explanation;
 mod finding;
 mod judgement;
 mod origins;
@@ -17,12 +18,13 @@ mod wording;
 mod words;
 
 pub use answer::{Answer, Gap};
+pub use explanation::explain;
 pub use finding::{Finding, Item};
 pub use judgement::judge;
 pub use rules::Rule;
 pub use smith_binary_read::Reason;
 pub use smith_bytes::Error;
-pub use smith_check::{Fault, LOCALS, Unjudged};
+pub use smith_check::{Explanation, Fault, LOCALS, Unjudged};
 pub use smith_types::WasmFeatures;
 pub use verdict::{NOWHERE, Verdict};
 pub use words::Words;

@@ -11,6 +11,8 @@ pub struct Words<'a> {
     pub answer: &'a Answer,
     /// The name of the instruction at its place, or empty if there is none or it is not known.
     pub keyword: &'a str,
+    /// Why the instruction is wrong, or empty if that is not known.
+    pub cause: &'a str,
 }
 
 impl fmt::Display for Words<'_> {
@@ -20,7 +22,7 @@ impl fmt::Display for Words<'_> {
             Answer::Valid => f.write_str(name),
             Answer::Invalid(finding) => {
                 write!(f, "{name}: ")?;
-                write_finding(finding, self.keyword, f)
+                write_finding(finding, self, f)
             }
             Answer::Malformed { offset, reason } => write!(f, "{name}: {reason} at 0x{offset:x}"),
             Answer::FeatureOff { offset } => {
@@ -37,19 +39,24 @@ impl fmt::Display for Words<'_> {
 // Writes where a fault is, and which rule it breaks.
 fn write_finding<W: fmt::Write>(
     finding: &Finding,
-    keyword: &str,
+    words: &Words<'_>,
     f: &mut fmt::Formatter<W>,
 ) -> fmt::Result {
     write_item(finding.item(), finding.index, f)?;
     match finding.fault {
         Fault::Types(_) | Fault::Section(_) => {}
         Fault::Local { run, .. } => write!(f, ", run {run} of locals")?,
-        Fault::Body { instruction, .. } => write_instruction(instruction, keyword, f)?,
+        Fault::Body { instruction, .. } => write_instruction(instruction, words.keyword, f)?,
     }
     let offset = finding.offset;
     let wording = wording_of(finding.rule);
-    let (sentence, section) = (wording.sentence, wording.section);
-    write!(f, " at 0x{offset:x}: {sentence} (Validation, {section})")
+    let section = wording.section;
+    let why = if words.cause.is_empty() {
+        wording.sentence
+    } else {
+        words.cause
+    };
+    write!(f, " at 0x{offset:x}: {why} (Validation, {section})")
 }
 
 // Writes an item. There is one start function, so it has no index.

@@ -1,6 +1,8 @@
-//! The answer to whether a file is a valid module, in words, with the name of the instruction at its place.
+//! The answer to whether a file is a valid module, in words, with the name of the instruction at its place
+//! and the types concerned.
 #![tactic(auto)]
 
+mod causes;
 mod texts;
 
-pub use texts::{keyword, words};
+pub use texts::{cause, keyword, words};

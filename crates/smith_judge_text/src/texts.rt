@@ -1,10 +1,11 @@
 ghost use Rattle.std.specs.Prelude.{◌≡◌, IfErr};
 
+use crate::causes::cause_text;
 use smith_binary_read::{ReadError, Reader};
 use smith_binary_read_instr::read_instr;
 use smith_bytes::Error;
 use smith_instr::Instr;
-use smith_judge::{Answer, Fault, Words};
+use smith_judge::{Answer, Fault, WasmFeatures, Words, explain};
 use smith_text_program::{FromFmt, write_instr};
 use std::alloc::Global;
 
@@ -62,15 +63,43 @@ pub fn keyword(alloc: Global, bytes: &[u8], answer: &Answer) -> Result<String, E
     }
 }
 
+/// Returns why the instruction that `answer`, to the file whose bytes are `bytes`, is about is wrong, in
+/// words: the types that it takes and those that are on the stack, or what it names and is not there. The
+/// text is empty if the answer is about no instruction. `explain` of `smith_judge` has the same, with
+/// clauses; no clause states the words.
+pub fn cause(
+    alloc: Global,
+    features: WasmFeatures,
+    bytes: &[u8],
+    answer: &Answer,
+) -> Result<String, Error>
+    ensures memory { IfErr result (λ e. e ≡ Error.Memory) }
+{
+    let Answer::Invalid(finding) = answer else {
+        return Ok(String::new(alloc));
+    };
+    match explain(alloc, features, bytes, answer)? {
+        Some(explanation) => cause_text(alloc, &explanation, finding.rule),
+        None => Ok(String::new(alloc)),
+    }
+}
+
 /// Returns `answer`, to the file whose bytes are `bytes`, in words, in one line. No clause states the
 /// words.
-pub fn words(alloc: Global, bytes: &[u8], answer: &Answer) -> Result<String, Error>
+pub fn words(
+    alloc: Global,
+    features: WasmFeatures,
+    bytes: &[u8],
+    answer: &Answer,
+) -> Result<String, Error>
     ensures memory { IfErr result (λ e. e ≡ Error.Memory) }
 {
     let keyword = keyword(alloc, bytes, answer)?;
+    let cause = cause(alloc, features, bytes, answer)?;
     let words = Words {
         answer,
         keyword: keyword.as_str(),
+        cause: cause.as_str(),
     };
     Ok(format!(in alloc; "{words}")?)
 }

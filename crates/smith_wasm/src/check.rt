@@ -5,8 +5,8 @@ use crate::lines::{Sums, answer_object, sums_object};
 use crate::request::config_text;
 use crate::words::{FILES, JSON, QUIET};
 use clap::ArgMatches;
-use smith_judge::{WasmFeatures, judge};
-use smith_judge_text::{keyword, words};
+use smith_judge::{WasmFeatures, Words, judge};
+use smith_judge_text::{cause, keyword, words};
 use std::path::Path;
 
 /// The status if all files are valid, and the one if a file isn't.
@@ -130,10 +130,16 @@ fn check_bytes(
     }
     if manner.is_json {
         let name = keyword(rt.alloc(), bytes, &answer)?;
-        let line = answer_object(rt.alloc(), path, &answer, name.as_str())?;
+        let why = cause(rt.alloc(), manner.features, bytes, &answer)?;
+        let words = Words {
+            answer: &answer,
+            keyword: name.as_str(),
+            cause: why.as_str(),
+        };
+        let line = answer_object(rt.alloc(), path, words)?;
         return write_to(rt, None, line.as_slice());
     }
-    let words = words(rt.alloc(), bytes, &answer)?;
+    let words = words(rt.alloc(), manner.features, bytes, &answer)?;
     Ok(println!(rt; "{path}: {words}")?)
 }
 

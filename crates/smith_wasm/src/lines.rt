@@ -68,14 +68,13 @@ pub(crate) fn sums_object(alloc: Global, sums: &Sums) -> Result<Vec<u8>, AllocEr
     end_line(writer)
 }
 
-/// Returns the answer to the file at `path` as a line with a JSON object. `keyword` is the name of the
-/// instruction at its place, or empty.
+/// Returns the answer to the file at `path` as a line with a JSON object.
 pub(crate) fn answer_object(
     alloc: Global,
     path: &str,
-    answer: &Answer,
-    keyword: &str,
+    words: Words<'_>,
 ) -> Result<Vec<u8>, AllocError> {
+    let answer = words.answer;
     let mut writer = Writer::new(Vec::new(alloc));
     writer.begin_object()?;
     write_text(&mut writer, "file", path)?;
@@ -88,11 +87,14 @@ pub(crate) fn answer_object(
         }
         Answer::NotJudged(gap) => write_gap(&mut writer, gap)?,
     }
-    if !keyword.is_empty() {
-        write_text(&mut writer, "keyword", keyword)?;
+    if !words.keyword.is_empty() {
+        write_text(&mut writer, "keyword", words.keyword)?;
     }
-    let words = format!(in alloc; "{}", Words { answer, keyword })?;
-    write_text(&mut writer, "words", words.as_str())?;
+    if !words.cause.is_empty() {
+        write_text(&mut writer, "cause", words.cause)?;
+    }
+    let text = format!(in alloc; "{words}")?;
+    write_text(&mut writer, "words", text.as_str())?;
     end_line(writer)
 }
 

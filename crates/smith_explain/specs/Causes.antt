@@ -1,0 +1,110 @@
+-- What is said of a refused instruction.
+use Rattle.std.specs.Prelude.{◌≡◌, ℕ, ◌+◌, ◌≤◌, Option, Some, None, List, ◌∷◌, length, take, slice_get, reverse}
+use Rattle.std.specs.List.{Contains}
+use Rattle.smith_syntax.specs.declared.value_type.ValType.{ValType}
+use Rattle.smith_instr.specs.Contexts.{BodyContext, IsBlockType, IsLocalSet}
+use Rattle.smith_instr.specs.declared.control.BlockType.{BlockType}
+use Rattle.smith_instr.specs.declared.instr.Instr.{Instr}
+use Rattle.smith_instr.specs.declared.instr.Instr.TheVariants as instr
+use Rattle.smith_instr.specs.declared.reference.ReferenceInstr.TheVariants as reference
+use Rattle.smith_check_rules.specs.Sequences.{IsStep, Stacked, stacked}
+use Rattle.smith_check_rules.specs.Slots.{values}
+use Rattle.smith_check_rules.specs.declared.slot.Slot.{Slot}
+use Rattle.smith_check_operands.specs.Closes.{label_of, labels_of, with_labels}
+use Rattle.smith_check_operands.specs.Covers.{held}
+use Rattle.smith_check_operands.specs.declared.frame.Kind.{Kind}
+use Rattle.smith_check_operands.specs.declared.frame.Kind.TheVariants as kind
+use Rattle.smith_check_body.specs.Checks.{IsReached}
+use Rattle.smith_check_body.specs.Opens.{taken_by}
+use Rattle.smith_check_body.specs.declared.checker.Checker.{Checker}
+use Rattle.smith_explain.specs.Names.{IsNamed}
+use Rattle.smith_explain.specs.declared.explanation.Cause.{Cause}
+use Rattle.smith_explain.specs.declared.explanation.Cause.TheVariants as cause
+use Rattle.smith_explain.specs.declared.explanation.Explanation.{Explanation}
+use Rattle.smith_explain.specs.declared.explanation.Space.{Space}
+use Rattle.smith_explain.specs.declared.explanation.Space.TheVariants as space
+use Rattle.smith_explain.specs.declared.explanation.Unknown.{Unknown}
+
+-- the number of items of an index space, where there are so many labels (Validation, Contexts)
+abbrev pub count_in : BodyContext → ℕ → Space → ℕ
+count_in context labels space.Type = length context.types
+count_in context labels space.Function = length context.funcs
+count_in context labels space.Table = length context.tables
+count_in context labels space.Memory = length context.memories
+count_in context labels space.Global = length context.globals
+count_in context labels space.Tag = length context.tags
+count_in context labels space.Element = length context.elems
+count_in context labels space.Data = context.datas
+count_in context labels space.Local = length context.locals
+count_in context labels space.Label = labels
+
+-- the index of an item is past the end of its index space
+pub record IsMissing (context : BodyContext) (labels : ℕ) (unknown : Unknown) : Type 0 where
+  pub count : unknown.count ≡ count_in context labels unknown.named.space
+  pub past : unknown.count ≤ unknown.named.index
+
+-- an instruction is a reference to a function that is not declared (Validation, Reference Instructions)
+pub record IsUndeclared (context : BodyContext) (instruction : Instr) (function : ℕ) : Type 0 where
+  pub is : instruction ≡ instr.Reference (reference.Func function)
+  pub undeclared : Contains context.references function → ⊥
+
+-- an instruction reads a local that is not set (Validation, Variable Instructions)
+pub record IsUnset (context : BodyContext) (set : List ℕ) (instruction : Instr) (local : ℕ) : Type 0 where
+  pub is : instruction ≡ instr.LocalGet local
+  pub unset : (value : ValType) → IsLocalSet context set local value → ⊥
+
+-- the labels of the blocks that are open (Validation, Contexts)
+abbrev pub labels_in : Checker → List (List ValType)
+labels_in checker = label_of checker.shape ∷ labels_of (reverse checker.outers.items)
+
+-- a block of a kind and a type takes these operands (Validation, Control Instructions)
+pub record IsBlockTaking (context : BodyContext) (opens : Kind) (ty : BlockType) (wanted : List Slot) : Type 0 where
+  pub params : List ValType
+  pub results : List ValType
+  pub typed : IsBlockType context ty params results
+  pub is : wanted ≡ values (taken_by opens params)
+
+-- an instruction takes a stack of these types, where the locals of the checker are set (Validation,
+-- Instructions); the end of a block takes its results
+abbrev pub IsTaking : BodyContext → Checker → Instr → List Slot → Type 0
+IsTaking context checker (instr.Block ty) wanted = IsBlockTaking context kind.Block ty wanted
+IsTaking context checker (instr.Loop ty) wanted = IsBlockTaking context kind.Loop ty wanted
+IsTaking context checker (instr.If ty) wanted = IsBlockTaking context kind.If ty wanted
+IsTaking context checker (instr.TryTable ty clauses) wanted = IsBlockTaking context kind.Block ty wanted
+IsTaking context checker instr.Else wanted = wanted ≡ values checker.shape.results
+IsTaking context checker instr.End wanted = wanted ≡ values checker.shape.results
+IsTaking context checker instruction wanted =
+    (after : Stacked) × IsStep (with_labels context (labels_in checker)) instruction (stacked wanted checker.log.items) after
+
+-- what is said of a block that is opened, and of the end of one, is so
+abbrev pub IsBlockCause : BodyContext → Kind → BlockType → Cause → Type 0
+IsBlockCause context opens ty (cause.Operands wanted) = IsBlockTaking context opens ty wanted.items
+IsBlockCause context opens ty cause.Other = Unit {0}
+IsBlockCause context opens ty _ = ⊥
+
+abbrev pub IsEndCause : Checker → Cause → Type 0
+IsEndCause checker (cause.Operands wanted) = wanted.items ≡ values checker.shape.results
+IsEndCause checker cause.Other = Unit {0}
+IsEndCause checker _ = ⊥
+
+-- what is said of an instruction is so
+abbrev pub IsCause : BodyContext → Checker → Instr → Cause → Type 0
+IsCause context checker instruction (cause.Unknown unknown) =
+    IsNamed instruction unknown.named × IsMissing context (length checker.outers.items + 1) unknown
+IsCause context checker instruction (cause.Undeclared function) = IsUndeclared context instruction function
+IsCause context checker instruction (cause.Unset local) = IsUnset context checker.log.items instruction local
+IsCause context checker instruction (cause.Operands wanted) = IsTaking context checker instruction wanted.items
+IsCause context checker instruction cause.Other = Unit {0}
+
+-- what is said of the instruction at a place, or of the end of the body, which is an `end`
+abbrev pub IsCauseAt : BodyContext → Checker → Option Instr → Cause → Type 0
+IsCauseAt context checker (Some instruction) said = IsCause context checker instruction said
+IsCauseAt context checker None said = IsCause context checker instr.End said
+
+-- what is said of the instruction at an index of a body: the types on the stack are those that the
+-- instructions before it leave in the innermost block, and the cause is so
+pub record IsExplanation (context : BodyContext) (body : List Instr) (at : ℕ) (explanation : Explanation) : Type 0 where
+  pub checker : Checker
+  pub reached : IsReached context checker (take at body)
+  pub stack : held explanation.stack ≡ held checker.operands
+  pub cause : IsCauseAt context checker (slice_get body at) explanation.cause
