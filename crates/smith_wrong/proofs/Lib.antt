@@ -1,2 +1,3 @@
 mod ChangeLemmas
+mod PreambleLemmas
 mod WrongLemmas

@@ -16,7 +16,7 @@ pub enum Family {
 
 impl Family {
     /// Every family.
-    pub const ALL: [Family; 54] = [
+    pub const ALL: [Family; 55] = [
         Family::Module(ModuleFamily::OperandType),
         Family::Module(ModuleFamily::MissingOperand),
         Family::Module(ModuleFamily::ExtraOperand),
@@ -59,6 +59,7 @@ impl Family {
         Family::Bytes(BytesFamily::ListCount),
         Family::Bytes(BytesFamily::FunctionCount),
         Family::Bytes(BytesFamily::DataCount),
+        Family::Bytes(BytesFamily::DataCountMissing),
         Family::Bytes(BytesFamily::SectionOrder),
         Family::Bytes(BytesFamily::SectionTwice),
         Family::Bytes(BytesFamily::UnknownSection),
@@ -145,15 +146,17 @@ fn module_weight(family: ModuleFamily) -> u32 {
         | ModuleFamily::PackedField
         | ModuleFamily::Alignment
         | ModuleFamily::ImportType
-        | ModuleFamily::TagType => 8,
+        | ModuleFamily::TagType
+        | ModuleFamily::DataSegment => 8,
         // No drawn module has a local without a default value.
-        ModuleFamily::UnsetLocal => 1,
+        ModuleFamily::UnsetLocal => 2,
         _ => 4,
     }
 }
 
 fn bytes_weight(family: BytesFamily) -> u32 {
     match family {
+        BytesFamily::DataCountMissing => 16,
         BytesFamily::DataCount => 4,
         BytesFamily::FunctionCount | BytesFamily::BodySize | BytesFamily::NotUtf8 => 3,
         _ => 2,
