@@ -1,3 +1,4 @@
 mod ChangeLemmas
 mod PreambleLemmas
+mod WithoutLemmas
 mod WrongLemmas

@@ -1,6 +1,6 @@
 -- A module begins with the magic number and the version, and a file whose first eight bytes are others is no module.
 use Rattle.std.proofs.Common.{◌≡◌, ℕ, ◌+◌, ◌<◌, ◌≤◌, List, [], ◌∷◌, ◌++◌, length, take, drop, get_or, slice_index}
-use Rattle.std.proofs.Common.{Ok, refl, sym, ap, subst, ◌∙◌, arith, length-append}
+use Rattle.std.proofs.Common.{Option, Some, None, Result, Ok, Err, IfOk, IfSome, refl, sym, ap, subst, ◌∙◌, arith, length-append, length-drop}
 use Rattle.std.proofs.lemmas.List.{get_or_append_left, length-take-le}
 use Rattle.std.proofs.Math.Seq.{get_or-append_seam}
 use Rattle.smith_syntax.specs.Features.{Features}
@@ -16,6 +16,8 @@ use Rattle.smith_wrong_bytes.specs.declared.change.Splice.{Splice}
 use Rattle.smith_wrong_bytes.specs.declared.family.BytesFamily.{BytesFamily}
 use Rattle.smith_wrong_bytes.specs.declared.family.BytesFamily.TheVariants as family
 use Rattle.smith_wrong.specs.Wrong.{NamesRule}
+use Rattle.smith_wrong.specs.declared.changes.ChangedFile.{ChangedFile}
+use Rattle.smith_wrong.specs.declared.refusal.WrongRefusal.{WrongRefusal}
 
 record Begins (bytes : List ℕ) : Type 0 where
   pub rest : List ℕ
@@ -57,15 +59,20 @@ other_breaks twin change m begins h read =
     (put_at twin h.byte change.at rest (omega (arith, long, h.at))) in
     h.other (sym put ∙ begins_at (spliced twin change) change.at h.at file ∙ sym (begins_at twin change.at h.at begins))
 
+-- the front of a list, and nothing after it
+cut_length : (bytes : List ℕ) (at : ℕ) → at ≤ length bytes → length (take at bytes ++ drop (length bytes) bytes) ≡ at
+cut_length bytes at within = omega (arith, length-append (take at bytes) (drop (length bytes) bytes), length-drop (length bytes) bytes,
+    length-take-le at bytes within)
+
 cut_breaks : (twin : List ℕ) (change : Splice) (m : Module) → Begins twin → IsCutPreamble twin change
     → module_at (spliced twin change) ≡ Ok m → ⊥
 cut_breaks twin change m begins h read =
     let long = begins_length twin begins in
     let file = begins_length (spliced twin change) (module_begins (spliced twin change) m read) in
     let short : length (spliced twin change) ≡ change.at =
-    subst (λ (inserted : List ℕ). length (take change.at twin ++ (inserted ++ drop (change.at + change.removed) twin)) ≡ change.at)
-    (sym h.inserted) (subst (λ (end : ℕ). length (take change.at twin ++ ([] ++ drop end twin)) ≡ change.at) (sym h.removed)
-    (grind (arith, length-take-le change.at twin (omega (arith, long, h.at))))) in
+        subst (λ (inserted : List ℕ). length (take change.at twin ++ (inserted ++ drop (change.at + change.removed) twin)) ≡ change.at)
+        (sym h.inserted) (subst (λ (end : ℕ). length (take change.at twin ++ drop end twin) ≡ change.at) (sym h.removed)
+        (cut_length twin change.at (omega (arith, long, h.at)))) in
     absurd (omega (arith, file, short, h.at))
 
 -- a program whose first eight bytes are changed is no module
@@ -76,6 +83,15 @@ preamble_breaks family.Preamble twin bytes change m valid h is read =
 preamble_breaks family.CutFile twin bytes change m valid h is read =
     cut_breaks twin change m (program_begins twin valid) h (subst (λ (l : List ℕ). module_at l ≡ Ok m) is read)
 preamble_breaks _ twin bytes change m valid h is read = absurd h
+
+-- a file that is written with such a change is none
+pub made_breaks : (one : BytesFamily) (twin : List ℕ) (change : Splice) (written : Result (Option ChangedFile) WrongRefusal)
+    → IsValidBinary twin → IsOfPreamble one twin change
+    → IfOk written (λ made. IfSome made (λ file. file.bytes.items ≡ spliced twin change))
+    → IfOk written (λ made. IfSome made (λ file. (m : Module) → module_at file.bytes.items ≡ Ok m → ⊥))
+made_breaks one twin change (Ok (Some file)) valid h same = λ m read. preamble_breaks one twin file.bytes.items change m valid h same read
+made_breaks one twin change (Ok None) valid h same = tt
+made_breaks one twin change (Err e) valid h same = tt
 
 -- what is said of bytes that are no module is a rule that they break
 pub names_rule : (features : Features) (bytes : List ℕ) (said : Answer) → IsAnswer features bytes said

@@ -158,7 +158,7 @@ pub(crate) fn draw_preamble(
     family: BytesFamily,
     u: &mut Unstructured<'_>,
 ) -> Result<Option<ChangedFile>, WrongRefusal>
-    requires valid { IsValidBinary twin.now }
+    requires { IsValidBinary twin.now }
     ensures change { IfOk result (λ drawn. IfSome drawn (λ one.
         IsChangeOf one.change twin.now one.bytes.items)) }
     ensures family { IfOk result (λ drawn. IfSome drawn (λ one. family_of one.change ≡ families.Bytes family)) }

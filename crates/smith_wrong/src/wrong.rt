@@ -115,7 +115,7 @@ fn break_twin(
     families: &[Family],
     u: &Unstructured<'_>,
 ) -> Result<Wrong, WrongRefusal>
-    requires valid { IsValidBinary twin.items }
+    requires { IsValidBinary twin.items }
     ensures twin { IfOk result (λ wrong. wrong.twin.items ≡ twin.items) }
     ensures change { IfOk result (λ wrong. IsChangeOf wrong.change twin.items wrong.file.items) }
     ensures broken { IfOk result (λ wrong.
@@ -147,7 +147,7 @@ fn draw_broken(
     families: &[Family],
     u: &Unstructured<'_>,
 ) -> Result<Option<(ChangedFile, Answer)>, WrongRefusal>
-    requires valid { IsValidBinary twin.now }
+    requires { IsValidBinary twin.now }
     ensures change { IfOk result (λ found. IfSome found (λ one.
         IsChangeOf one.0.change twin.now one.0.bytes.items)) }
     ensures broken { IfOk result (λ found. IfSome found (λ one.
@@ -178,7 +178,7 @@ fn try_preambles(
     families: &[Family],
     u: &mut Unstructured<'_>,
 ) -> Result<Option<(ChangedFile, Answer)>, WrongRefusal>
-    requires valid { IsValidBinary twin.now }
+    requires { IsValidBinary twin.now }
     ensures change { IfOk result (λ found. IfSome found (λ one.
         IsChangeOf one.0.change twin.now one.0.bytes.items)) }
     ensures broken { IfOk result (λ found. IfSome found (λ one.
@@ -204,7 +204,7 @@ fn try_preamble(
     family: Family,
     u: &mut Unstructured<'_>,
 ) -> Result<Option<(ChangedFile, Answer)>, WrongRefusal>
-    requires valid { IsValidBinary twin.now }
+    requires { IsValidBinary twin.now }
     ensures change { IfOk result (λ found. IfSome found (λ one.
         IsChangeOf one.0.change twin.now one.0.bytes.items)) }
     ensures broken { IfOk result (λ found. IfSome found (λ one.
