@@ -1,6 +1,6 @@
 -- A module begins with the magic number and the version, and a file whose first eight bytes are others is no module.
-use Rattle.std.proofs.Common.{◌≡◌, ℕ, ◌+◌, ◌<◌, ◌≤◌, List, [], ◌∷◌, ◌++◌, length, take, drop, get_or, slice_index}
-use Rattle.std.proofs.Common.{Option, Some, None, Result, Ok, Err, IfOk, IfSome, refl, sym, ap, subst, ◌∙◌, arith, length-append, length-drop}
+use Rattle.std.proofs.Common.{◌≡◌, ℕ, ◌+◌, ◌<◌, ◌≤◌, List, ◌∷◌, ◌++◌, length, take, drop, slice_index}
+use Rattle.std.proofs.Common.{Option, Some, None, Result, Ok, Err, IfOk, IfSome, sym, ap, subst, ◌∙◌, arith, length-append, length-drop}
 use Rattle.std.proofs.lemmas.List.{get_or_append_left, length-take-le}
 use Rattle.std.proofs.Math.Seq.{get_or-append_seam}
 use Rattle.smith_syntax.specs.Features.{Features}

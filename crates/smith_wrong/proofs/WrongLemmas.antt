@@ -1,5 +1,5 @@
 -- What is known of a broken file makes it an invalid one with all that is said of it.
-use Rattle.std.proofs.Common.{◌≡◌, ◌⊎◌, inl, inr, ℕ, List, Result, Ok, Err, IfOk, IfErr, sym, subst}
+use Rattle.std.proofs.Common.{◌≡◌, ◌⊎◌, inl, inr, ℕ, List, Result, Ok, Err, IfOk, sym, subst}
 use Rattle.smith_config.specs.Features.{features_of}
 use Rattle.smith_config.specs.declared.config.Config.{Config}
 use Rattle.smith_syntax.specs.Features.{Features}

@@ -26,7 +26,7 @@ module_weight_of item.UnsetLocal = 2
 module_weight_of _ = 4
 
 abbrev pub bytes_weight_of : BytesFamily → ℕ
-bytes_weight_of bytes.DataCountMissing = 16
+bytes_weight_of bytes.DataCountMissing = 6
 bytes_weight_of bytes.DataCount = 4
 bytes_weight_of bytes.FunctionCount = 3
 bytes_weight_of bytes.BodySize = 3

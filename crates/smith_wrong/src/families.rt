@@ -167,7 +167,7 @@ fn bytes_weight(family: BytesFamily) -> u32
     ensures { result ≡ bytes_weight_of family }
 {
     match family {
-        BytesFamily::DataCountMissing => 16,
+        BytesFamily::DataCountMissing => 6,
         BytesFamily::DataCount => 4,
         BytesFamily::FunctionCount | BytesFamily::BodySize | BytesFamily::NotUtf8 => 3,
         _ => 2,

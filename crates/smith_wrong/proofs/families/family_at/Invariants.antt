@@ -1,5 +1,5 @@
-use Rattle.std.proofs.Common.{◌≡◌, ◌+◌, ◌-◌, ◌^◌, min, drop}
-use Rattle.smith_wrong.specs.Weights.{total_of, family_in}
+use Rattle.std.proofs.Common.{◌≡◌, drop}
+use Rattle.smith_wrong.specs.Weights.{family_in}
 use Rattle.smith_wrong.proofs.families.family_at.Given as goal
 
 abbrev pub invariant-loop-family : goal.invariant-loop-family

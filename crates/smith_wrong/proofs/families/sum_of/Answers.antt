@@ -1,4 +1,4 @@
-use Rattle.std.proofs.Common.{◌≡◌, ◌+◌, ◌-◌, ◌^◌, ℕ, min, drop, subst, arith}
+use Rattle.std.proofs.Common.{◌≡◌, drop, arith}
 use Rattle.std.proofs.lemmas.List.{at_drop_all}
 use Rattle.smith_wrong.specs.Weights.{total_of}
 use Rattle.smith_wrong.proofs.families.sum_of.Goals as goal

@@ -1,4 +1,3 @@
-use Rattle.std.proofs.Common.{ℕ, ◌<◌}
 use Rattle.smith_wrong.proofs.WithoutLemmas.{NoneBefore}
 use Rattle.smith_wrong.proofs.wrong.try_preambles.Given as goal
 
