@@ -1,3 +1,4 @@
 pub mod Changes
 pub mod ExampleChanges
+pub mod Weights
 pub mod Wrong

@@ -1,6 +1,7 @@
 -- Invalid files, and their valid twins: the sections Binary Format, Modules, and Validation, Modules, of the
 -- WebAssembly Core Specification 3.0.
 use Rattle.std.specs.Prelude.{◌≡◌, ℕ, List, Ok, Err}
+use Rattle.std.specs.List.{Contains}
 use Rattle.smith_binary.specs.Faults.{IsFault}
 use Rattle.smith_binary.specs.declared.error.EncodeError.{EncodeError}
 use Rattle.smith_config.specs.Features.{features_of}
@@ -15,8 +16,12 @@ use Rattle.smith_judge.specs.Answers.{IsAnswer}
 use Rattle.smith_judge.specs.Files.{IsValidFile}
 use Rattle.smith_judge.specs.declared.answer.Answer.{Answer}
 use Rattle.smith_judge.specs.declared.answer.Answer.TheVariants as answer
+use Rattle.smith_wrong_bytes.specs.Splices.{HasPreamble}
+use Rattle.smith_wrong_bytes.specs.declared.family.BytesFamily.{BytesFamily}
 use Rattle.smith_wrong.specs.Changes.{IsChangeOf}
 use Rattle.smith_wrong.specs.declared.changes.Change.{Change}
+use Rattle.smith_wrong.specs.declared.families.Family.{Family}
+use Rattle.smith_wrong.specs.declared.families.Family.TheVariants as family
 use Rattle.smith_wrong.specs.declared.refusal.WrongRefusal.{WrongRefusal}
 use Rattle.smith_wrong.specs.declared.refusal.WrongRefusal.TheVariants as refusal
 use Rattle.smith_wrong.specs.declared.wrong.Wrong.{Wrong}
@@ -41,12 +46,6 @@ pub record IsBroken (features : Features) (file : List ℕ) (said : Answer) : Ty
   pub answer : IsAnswer features file said
   pub rule : NamesRule said
 
--- a file is a twin with one change, by which it breaks a rule
-pub record IsBrokenTwin (features : Features) (twin : List ℕ) (wrong : Wrong) : Type 0 where
-  pub same : wrong.twin.items ≡ twin
-  pub change : IsChangeOf wrong.change twin wrong.file.items
-  pub broken : IsBroken features wrong.file.items wrong.answer
-
 -- a file is drawn for a configuration and an input, with these bytes of the input left: from a valid
 -- twin, by one change, and it breaks a rule
 pub record IsWrong (config : Config) (input left : List ℕ) (wrong : Wrong) : Type 0 where
@@ -67,3 +66,7 @@ IsRefused config input left (refusal.Module e) = IsProgram config input (Err e) 
 IsRefused config input left (refusal.Encoding e) = IsUnwritten config input left e
 IsRefused config input left refusal.Memory = Unit {0}
 IsRefused config input left refusal.NoChange = (twin : List ℕ) × IsTwin config input left twin
+
+-- none of the families has a change of the first eight bytes, which every module has
+abbrev pub AreWithoutPreamble : List Family → Type 0
+AreWithoutPreamble families = (one : BytesFamily) → Contains families (family.Bytes one) → HasPreamble one → ⊥

@@ -3,8 +3,10 @@ ghost use Rattle.smith_binary_read.specs.declared.error.Reason.TheVariants as re
 ghost use Rattle.smith_judge.specs.declared.answer.Answer.TheVariants as answer;
 ghost use Rattle.smith_wrong.specs.Changes.{IsChangeOf, family_of};
 ghost use Rattle.smith_wrong.specs.ExampleChanges.{second_byte};
-ghost use Rattle.smith_wrong.specs.Wrong.{NamesRule};
+ghost use Rattle.smith_wrong.specs.Weights.{drawn_family};
+ghost use Rattle.smith_wrong.specs.Wrong.{AreWithoutPreamble, NamesRule};
 ghost use Rattle.smith_wrong.specs.declared.families.Family.TheVariants as family;
+ghost use Rattle.smith_wrong_module.specs.declared.family.ModuleFamily.TheVariants as item;
 ghost use Rattle.smith_wrong_bytes.specs.declared.family.BytesFamily.TheVariants as bytes;
 
 fn changes()
@@ -18,4 +20,19 @@ fn rules()
     ensures malformed { NamesRule (answer.Malformed 3 reason.UnexpectedEnd) }
     ensures valid { NamesRule answer.Valid → ⊥ }
     ensures feature_off { NamesRule (answer.FeatureOff 3) → ⊥ }
+{}
+
+fn weights()
+    ensures first { drawn_family (family.Module item.Lane ∷ family.Bytes bytes.CutFile ∷ []) (3 ∷ [])
+        ≡ Some (family.Module item.Lane) }
+    ensures second { drawn_family (family.Module item.Lane ∷ family.Bytes bytes.CutFile ∷ []) (4 ∷ [])
+        ≡ Some (family.Bytes bytes.CutFile) }
+    ensures round { drawn_family (family.Module item.Lane ∷ family.Bytes bytes.CutFile ∷ []) (6 ∷ [])
+        ≡ Some (family.Module item.Lane) }
+    ensures none { drawn_family [] (4 ∷ []) ≡ None }
+{}
+
+fn preambles()
+    ensures without { AreWithoutPreamble (family.Bytes bytes.LeftOverByte ∷ []) }
+    ensures with_one { AreWithoutPreamble (family.Bytes bytes.LeftOverByte ∷ family.Bytes bytes.CutFile ∷ []) → ⊥ }
 {}
