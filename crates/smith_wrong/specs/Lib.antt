@@ -1,3 +1,4 @@
 pub mod Changes
 pub mod ExampleChanges
+pub mod Numbers
 pub mod Wrong

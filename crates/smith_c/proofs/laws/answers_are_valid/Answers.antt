@@ -9,7 +9,7 @@ use Rattle.smith_binary_program.specs.Valid.{IsValidBinary}
 use Rattle.smith_request.specs.Refusals.{error_status, fault_status, status_of}
 use Rattle.smith_request.specs.ValidFiles.{IsValidFile}
 use Rattle.smith_request.specs.declared.refusal.Refusal.{Refusal}
-use Rattle.smith_request.specs.declared.refusal.Refusal.TheVariants.{NotUtf8, Config, Module, Encoding, Shape}
+use Rattle.smith_request.specs.declared.refusal.Refusal.TheVariants.{NotUtf8, Config, Module, Encoding, Shape, NoChange, NoFamily}
 use Rattle.smith_request.proofs.ValidLemmas.{binary_valid, plain_valid}
 use Rattle.smith_request.specs.Requests.{fuel_of}
 use Rattle.smith_c.specs.CallAnswers.{IsAnswered, IsPut}
@@ -32,6 +32,8 @@ numbered (Module e) none = error_numbered e none
 numbered (Encoding encoding.Memory) none = omega (arith, none)
 numbered (Encoding encoding.TooLong) none = omega (arith, none)
 numbered (Shape which fault) none = omega (arith, none)
+numbered NoChange none = omega (arith, none)
+numbered NoFamily none = omega (arith, none)
 
 -- the front of a buffer is what was written to it
 front : (bytes rest : List ℕ) → take (length bytes) (bytes ++ rest) ≡ bytes
