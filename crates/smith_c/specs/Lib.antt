@@ -1,3 +1,3 @@
 pub mod CallAnswers
-pub mod Faults
+pub mod Files
 pub mod KeptConfigs

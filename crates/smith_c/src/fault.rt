@@ -1,6 +1,6 @@
 ghost use Rattle.std.specs.Prelude.{◌≡◌};
 ghost use Rattle.smith_c.specs.CallAnswers.{IsPut};
-ghost use Rattle.smith_c.specs.Faults.{fault_of};
+ghost use Rattle.smith_c.specs.Files.{fault_of};
 
 use crate::answer::{Answer, MADE, put};
 use smith_judge::Verdict;

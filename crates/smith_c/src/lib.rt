@@ -3,7 +3,7 @@
 #![tactic(auto)]
 
 ghost use Rattle.smith_c.specs.CallAnswers.{IsAnswered, IsExplained};
-ghost use Rattle.smith_c.specs.Faults.{IsInvalidMade};
+ghost use Rattle.smith_c.specs.Files.{IsChecked, IsInvalidMade};
 ghost use Rattle.smith_c.specs.KeptConfigs.{IsRead, config_of, request_of};
 ghost use Rattle.smith_request.specs.Invalid.{IsInvalid, IsInvalidOf, IsInvalidRefusal};
 ghost use Rattle.smith_request.specs.Invalid.{IsShapedInvalid, IsShapedInvalidRefusal, IsUnbroken};
@@ -343,7 +343,9 @@ pub extern "C" fn smith_check(
     file: &[u8],
     verdict: &mut Verdict,
     out: &mut [u8],
-) -> Answer {
+) -> Answer
+    ensures { IsChecked config.now file.now verdict.old verdict.new out.old out.new result }
+{
     match check(alloc, config, file) {
         Ok(judged) => {
             *verdict = judged.verdict;
