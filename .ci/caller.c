@@ -3,8 +3,8 @@
  *
  * It also checks the buffer after each call, with too little room, with just enough, and with more, that the calls for a
  * configuration that is read answer the same, also with no shapes, that calls with a shape make modules, what each module and its front are
- * judged to be, and that an invalid file is one. The exit status is 3 if a buffer is not as smith.h says, 4 if memory runs out, or a read or a write fails, and 5 if
- * answers differ or are wrong.
+ * judged to be, and that an invalid file is one. The exit status is 3 if a buffer is not as smith.h says, 4 if memory runs out, or a read or
+ * a write fails, and 5 if answers differ or are wrong.
  */
 #include "smith.h"
 
