@@ -7,7 +7,7 @@
 #![tactic(auto)]
 
 mod customs;
-mod invalid;
+mod invalid_file;
 /// Laws: functions with empty bodies whose clauses state theorems.
 pub mod laws;
 mod manner;
@@ -16,7 +16,7 @@ mod request;
 mod shaped;
 mod writers;
 
-pub use invalid::invalid;
+pub use invalid_file::invalid;
 pub use manner::{Form, Fuel, Manner, output, write_program};
 pub use refusal::Refusal;
 pub use request::{Request, binary, text, wat};
