@@ -61,17 +61,11 @@ pub record IsJudgedBy (text : List ℕ) (features : Features) : Type 0 where
   pub set : IsSet text judging_config config
   pub same : features ≡ features_of config
 
--- what the kind of a verdict says of whether a file is valid: 0 that it is, 1 and 2 that it isn't
-abbrev pub KindDecides : ℕ → Type 0 → Type 0
-KindDecides 0 IsValid = IsValid
-KindDecides 1 IsValid = IsValid → ⊥
-KindDecides 2 IsValid = IsValid → ⊥
-KindDecides _ IsValid = Unit {0}
-
--- a verdict is right: it decides whether the file is a valid module of these features, and it has the numbers
--- of what is said of the file
+-- a verdict is right: a file whose kind is 0 is a valid module of these features, one whose kind is 1 or 2 isn't,
+-- and the verdict has the numbers of what is said of the file
 pub record IsVerdict (features : Features) (file : List ℕ) (verdict : Verdict) : Type 0 where
-  pub decided : KindDecides verdict.kind (IsValidFile features file)
+  pub valid : verdict.kind ≡ 0 → IsValidFile features file
+  pub invalid : (verdict.kind ≡ 1) ⊎ (verdict.kind ≡ 2) → IsValidFile features file → ⊥
   pub judgement : Judgement
   pub said : IsAnswer features file judgement
   pub numbers : verdict ≡ verdict_of judgement
