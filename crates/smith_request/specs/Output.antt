@@ -17,7 +17,7 @@ use Rattle.smith_request.specs.declared.manner.Form.{Form}
 use Rattle.smith_request.specs.declared.manner.Fuel.{Fuel}
 use Rattle.smith_request.specs.declared.manner.Form.TheVariants.{Binary, Text}
 use Rattle.smith_request.specs.declared.refusal.Refusal.{Refusal}
-use Rattle.smith_request.specs.declared.refusal.Refusal.TheVariants.{NotUtf8, Config as of_config, Module, Encoding, Shape}
+use Rattle.smith_request.specs.declared.refusal.Refusal.TheVariants.{NotUtf8, Config as of_config, Module, Encoding, Shape, NoChange, NoFamily}
 
 -- a program with a fuel counter of this amount, and the same bodies
 pub record IsCounted (fuel : ℕ) (program counted : Program) : Type 0 where
@@ -68,6 +68,8 @@ IsUnwritten form program NotUtf8 = ⊥
 IsUnwritten form program (of_config _) = ⊥
 IsUnwritten form program (Module _) = ⊥
 IsUnwritten form program (Shape _ _) = ⊥
+IsUnwritten form program NoChange = ⊥
+IsUnwritten form program NoFamily = ⊥
 
 -- the program is not written with a counter: no counter can be added or exported, because a body is
 -- raw bytes or memory runs out; or there is no index for it; or the program with its counter is not

@@ -15,7 +15,7 @@ use Rattle.smith_request.specs.Output.{IsRefusedFor}
 use Rattle.smith_request.specs.Requests.{IsConfigured, fuel_of}
 use Rattle.smith_request.specs.declared.manner.Form.{Form}
 use Rattle.smith_request.specs.declared.refusal.Refusal.{Refusal}
-use Rattle.smith_request.specs.declared.refusal.Refusal.TheVariants.{NotUtf8, Config, Module, Encoding, Shape}
+use Rattle.smith_request.specs.declared.refusal.Refusal.TheVariants.{NotUtf8, Config, Module, Encoding, Shape, NoChange, NoFamily}
 use Rattle.smith_request.specs.declared.request.Request.{Request}
 
 -- a UTF-8 text that is not empty is refused because of its first fault, or lack of memory
@@ -31,6 +31,8 @@ IsUnread text (Config refusal) = IsUnparsed text refusal
 IsUnread text (Module e) = ⊥
 IsUnread text (Encoding e) = ⊥
 IsUnread text (Shape _ _) = ⊥
+IsUnread text NoChange = ⊥
+IsUnread text NoFamily = ⊥
 
 -- an error for a configuration's text and an input
 pub data IsRefusal (form : Form) (text input : List ℕ) (refusal : Refusal) : Type 0 where
@@ -71,3 +73,5 @@ status_of (Module e) = error_status e
 status_of (Encoding encoding.Memory) = 2
 status_of (Encoding encoding.TooLong) = 7
 status_of (Shape _ _) = 8
+status_of NoChange = 9
+status_of NoFamily = 10

@@ -10,7 +10,7 @@ use Rattle.smith_request.specs.Refusals.{IsRefusalFor}
 use Rattle.smith_request.specs.Requests.{IsBinaryFor, IsTextFor}
 use Rattle.smith_request.specs.declared.manner.Form.{Form}
 use Rattle.smith_request.specs.declared.refusal.Refusal.{Refusal}
-use Rattle.smith_request.specs.declared.refusal.Refusal.TheVariants.{NotUtf8, Config, Module, Encoding, Shape as of_shape}
+use Rattle.smith_request.specs.declared.refusal.Refusal.TheVariants.{NotUtf8, Config, Module, Encoding, Shape as of_shape, NoChange, NoFamily}
 use Rattle.smith_request.specs.declared.request.Request.{Request}
 use Rattle.smith_request.specs.declared.shaped.ShapeFiles.{ShapeFiles}
 
@@ -44,6 +44,8 @@ IsNoShape which bytes (Module e) = e ≡ Memory
 IsNoShape which bytes NotUtf8 = ⊥
 IsNoShape which bytes (Config _) = ⊥
 IsNoShape which bytes (Encoding _) = ⊥
+IsNoShape which bytes NoChange = ⊥
+IsNoShape which bytes NoFamily = ⊥
 
 -- the file for one of the uses has no shape
 pub data IsUnshaped (files : ShapeFiles) (refusal : Refusal) : Type 0 where

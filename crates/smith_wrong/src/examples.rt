@@ -1,8 +1,9 @@
-ghost use Rattle.std.specs.Prelude.{[], ◌∷◌, ◌≡◌};
+ghost use Rattle.std.specs.Prelude.{[], ◌∷◌, ◌≡◌, Some, None};
 ghost use Rattle.smith_binary_read.specs.declared.error.Reason.TheVariants as reason;
 ghost use Rattle.smith_judge.specs.declared.answer.Answer.TheVariants as answer;
 ghost use Rattle.smith_wrong.specs.Changes.{IsChangeOf, family_of};
 ghost use Rattle.smith_wrong.specs.ExampleChanges.{second_byte};
+ghost use Rattle.smith_wrong.specs.Numbers.{family_numbered};
 ghost use Rattle.smith_wrong.specs.Weights.{drawn_family};
 ghost use Rattle.smith_wrong.specs.Wrong.{AreWithoutPreamble, NamesRule};
 ghost use Rattle.smith_wrong.specs.declared.families.Family.TheVariants as family;
@@ -14,6 +15,15 @@ fn changes()
     ensures kept { IsChangeOf (second_byte 9) (5 ∷ 6 ∷ 7 ∷ []) (5 ∷ 6 ∷ 7 ∷ []) → ⊥ }
     ensures another { IsChangeOf (second_byte 9) (5 ∷ 6 ∷ 7 ∷ []) (4 ∷ 9 ∷ 7 ∷ []) → ⊥ }
     ensures family { family_of (second_byte 9) ≡ family.Bytes bytes.Preamble }
+{}
+
+#[tactic(auto, unfolding(crate::specs::Numbers::family_numbered))]
+fn numbers()
+    ensures first { family_numbered 1 ≡ Some (family.Module item.OperandType) }
+    ensures of_bytes { family_numbered 36 ≡ Some (family.Bytes bytes.LongInteger) }
+    ensures last { family_numbered 54 ≡ Some (family.Bytes bytes.CutFile) }
+    ensures before { family_numbered 0 ≡ None }
+    ensures past { family_numbered 55 ≡ None }
 {}
 
 fn rules()
