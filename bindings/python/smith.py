@@ -12,7 +12,7 @@ import os
 import pathlib
 import typing
 
-__version__ = "0.7.2"
+__version__ = "0.8.0"
 
 Bytes = typing.Union[bytes, bytearray, memoryview]
 Shape = typing.Union[str, bytes, bytearray, memoryview]
