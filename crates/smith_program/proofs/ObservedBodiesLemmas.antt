@@ -51,7 +51,7 @@ one_observed end first m old new given made each read before this place other wi
             made,
             subst (λ (n : ℕ). slice_get (new ++ made ∷ []) n ≡ Some made) here (slice_get-last new made),
             subst (λ (b : Body). IsObservedAt first m place b made) same
-            (subst (λ (n : ℕ). IsObservedAt first m n given made) (sym is) this),
+                (subst (λ (n : ℕ). IsObservedAt first m n given made) (sym is) this),
           )
       | inr less ↦
           let (after, there, observes) = before place other less at in
