@@ -27,8 +27,8 @@ use Rattle.smith_program.specs.Observed.{bits32, bits64, half, mix, mix32, mix64
 use Rattle.smith_program.proofs.InsertedLemmas.{IsNeutral, none_neutral, both_neutral, step_by}
 
 -- an instruction before others: it pushes a value, replaces one, two or three, or pops one
-pushed : (context : BodyContext) (first : Instr) (value : ValType) (base : List ValType) (set : List ℕ) (rest : List Instr) (after : Stacked)
-    → HasInstrType context set first [] (value ∷ []) → sets first ≡ [] → IsValid context value
+pushed : (context : BodyContext) (first : Instr) (value : ValType) (base : List ValType) (set : List ℕ) (rest : List Instr)
+    (after : Stacked) → HasInstrType context set first [] (value ∷ []) → sets first ≡ [] → IsValid context value
     → AreTyped context rest (stacked (base ++ value ∷ []) set) after → AreTyped context (first ∷ rest) (stacked base set) after
 pushed context first value base set rest after typed none valid more =
     step (step_by context first [] (value ∷ []) base base (base ++ value ∷ []) set typed none (sym (append-nil base)) refl
@@ -196,6 +196,7 @@ mixes_neutral context first index front (value ∷ values) back sinks are at (th
     let there : slice_get context.locals index ≡ Some value = rw (are, at) (between front value (values ++ back)) in
     let longer : length (front ++ value ∷ []) ≡ length front + 1 = length_push front value in
     let next : suc index ≡ length (front ++ value ∷ []) = omega arith in
-    both_neutral context (mix first index value) (mixes_from first (suc index) values) (mix_neutral context first index value sinks there this)
+    both_neutral context (mix first index value) (mixes_from first (suc index) values)
+    (mix_neutral context first index value sinks there this)
     (mixes_neutral context first (suc index) (front ++ value ∷ []) values back sinks
     (are ∙ sym (append_assoc front (value ∷ []) (values ++ back))) next others)

@@ -1,6 +1,6 @@
 -- The bodies of a module whose locals are mixed into sinks.
-use Rattle.std.proofs.Common.{◌≡◌, ℕ, ◌+◌, ◌<◌, suc, Bool, true, false, List, [], ◌∷◌, ◌++◌, Some, Result, Ok, Err, length, get_or, refl, sym, subst}
-use Rattle.std.proofs.Common.{◌∙◌, arith, take}
+use Rattle.std.proofs.Common.{◌≡◌, ℕ, ◌+◌, ◌<◌, suc, Bool, true, false, List, [], ◌∷◌, ◌++◌, Some, Result, Ok, Err, length, get_or, refl, sym}
+use Rattle.std.proofs.Common.{subst, ◌∙◌, arith, take}
 use Rattle.std.specs.Prelude.{All, IsTrue, slice_get, if◌then◌else◌}
 use Rattle.std.specs.List.{flat_map, AllByRecursion as Each}
 use Rattle.std.proofs.lemmas.List.Elements.{All-nil, All-cons, All-append, All-from_recursion, All-take, recursion_from_All}
@@ -46,8 +46,8 @@ abbrev with_sinks : ℕ → ModuleParts → ModuleParts
 with_sinks first old = with_added (added_sinks first old) old
 
 -- an added global, after the others
-after_others : (others added : List GlobalType) (first place index : ℕ) (global : GlobalType) → first ≡ length others → index ≡ first + place
-    → slice_get added place ≡ Some global → slice_get (others ++ added) index ≡ Some global
+after_others : (others added : List GlobalType) (first place index : ℕ) (global : GlobalType) → first ≡ length others
+    → index ≡ first + place → slice_get added place ≡ Some global → slice_get (others ++ added) index ≡ Some global
 after_others others added first place index global next at there =
     let here : length others + place ≡ index = omega arith in
     subst (λ (n : ℕ). slice_get (others ++ added) n ≡ Some global) here (slice_get-after others added place ∙ there)
