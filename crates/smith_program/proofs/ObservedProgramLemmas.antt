@@ -1,6 +1,6 @@
 -- The bodies of a module whose locals are mixed into sinks.
-use Rattle.std.proofs.Common.{◌≡◌, ℕ, ◌+◌, ◌<◌, suc, Bool, true, false, List, [], ◌∷◌, ◌++◌, Some, Result, Ok, Err, length, get_or, refl, sym}
-use Rattle.std.proofs.Common.{subst, ◌∙◌, arith, take}
+use Rattle.std.proofs.Common.{◌≡◌, ℕ, ◌+◌, ◌<◌, suc, Bool, true, false, List, [], ◌∷◌, ◌++◌, Some, Result, Ok, Err, length, get_or, refl}
+use Rattle.std.proofs.Common.{sym, subst, ◌∙◌, arith, take}
 use Rattle.std.specs.Prelude.{All, IsTrue, slice_get, if◌then◌else◌}
 use Rattle.std.specs.List.{flat_map, AllByRecursion as Each}
 use Rattle.std.proofs.lemmas.List.Elements.{All-nil, All-cons, All-append, All-from_recursion, All-take, recursion_from_All}
