@@ -2,9 +2,9 @@
  * Writes for each input a status and the module, or the reason in words, in the same form.
  *
  * It also checks the buffer after each call, with too little room, with just enough, and with more, that the calls for a
- * configuration that is read answer the same, also with no shapes, that calls with a shape make modules, and what each module and its front
- * are judged to be. The exit status is 3 if a buffer is not as smith.h says, 4 if memory runs out, or a read or a write fails, and 5 if
- * answers differ or are wrong.
+ * configuration that is read answer the same, also with no shapes, that calls with a shape make modules, what each module and its front are
+ * judged to be, and that an invalid file is one. The exit status is 3 if a buffer is not as smith.h says, 4 if memory runs out, or a read or
+ * a write fails, and 5 if answers differ or are wrong.
  */
 #include "smith.h"
 
@@ -168,6 +168,36 @@ static void try_shapes(const struct read *read, struct bytes input, uint8_t *out
     need(smith_refusal_shaped(&read->config, &shapes, input.at, input.length, out, ROOM).status == SMITH_NO_SHAPE, 5);
 }
 
+/* Makes an invalid file by a buffer of marks and `room` bytes of it. The fault must be written if the file is made, or has no room. */
+static struct smith_answer invalid_file(struct bytes config, struct bytes input, uint32_t family, struct smith_fault *fault, uint8_t *out,
+                                        size_t room) {
+    memset(fault, MARK, sizeof *fault);
+    memset(out, MARK, room + BEYOND);
+    struct smith_answer answer = smith_invalid(config.at, config.length, input.at, input.length, &family, family > 0, fault, out, room);
+    for (size_t i = answer.status == SMITH_MADE ? answer.length : 0; i < room + BEYOND; i++) need(out[i] == MARK, 3);
+    need((fault->family == MARK * 0x01010101u) == (answer.status > SMITH_SHORT), 3);
+    return answer;
+}
+
+/* An invalid file must be one of the family that is given, with one fault whatever room there is for it, and the same if the configuration
+ * is read, also with no shapes. */
+static void try_invalid(struct bytes config, const struct read *read, struct bytes input, uint8_t *out, uint8_t *other) {
+    static const uint32_t any[1];
+    struct smith_shapes none = smith_no_shapes();
+    struct smith_fault fault, same;
+    struct smith_answer made = invalid_file(config, input, 0, &fault, out, ROOM);
+    need_same(made, out, smith_invalid_with(&read->config, input.at, input.length, any, 0, &same, other, ROOM), other);
+    need_same(made, out, smith_invalid_shaped(&read->config, &none, input.at, input.length, any, 0, &same, other, ROOM), other);
+    need(invalid_file(config, input, 99, &same, other, ROOM).status == SMITH_NO_FAMILY, 5);
+    if (made.status != SMITH_MADE) return;
+    need(fault.verdict.kind == SMITH_INVALID || fault.verdict.kind == SMITH_MALFORMED, 5);
+    need(invalid_file(config, input, 0, &same, other, made.length - 1).status == SMITH_SHORT, 3);
+    need(memcmp(&fault.verdict, &same.verdict, sizeof same.verdict) == 0 && fault.family == same.family, 5);
+    struct smith_answer again = invalid_file(config, input, fault.family, &same, other, ROOM);
+    need(again.status == SMITH_NO_CHANGE || (again.status == SMITH_MADE && same.family == fault.family), 5);
+    need(smith_family_name(fault.family) && !smith_family_name(0) && !smith_family_name(SMITH_FAMILY_CUT_FILE + 1), 5);
+}
+
 static void answer_record(struct bytes config, struct bytes input, uint8_t *out, uint8_t *other) {
     struct smith_answer answer = tried(smith_binary, config, input, out, SMITH_MADE);
     if (answer.status == SMITH_MADE) {
@@ -197,6 +227,7 @@ int main(void) {
         struct bytes input = record(&given);
         compare(config, &read, input, out, other);
         if (read.status == SMITH_MADE) try_shapes(&read, input, out, other);
+        if (read.status == SMITH_MADE) try_invalid(config, &read, input, out, other);
         answer_record(config, input, out, other);
     }
     smith_config_free(read.handle);

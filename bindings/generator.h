@@ -19,14 +19,30 @@ struct generator {
 
 typedef struct smith_answer smith_call(const struct smith_config *, const uint8_t *, size_t, uint8_t *, size_t);
 
+/* Replaces the buffer by one with room for `length` bytes. */
+static inline void generator_enlarge(struct generator *generator, size_t length) {
+    free(generator->output);
+    generator->room = length;
+    if (!(generator->output = (uint8_t *)malloc(generator->room))) abort();
+}
+
 /* Returns what `call` answers for the input. The output is at the front of `generator->output`. */
 static inline struct smith_answer generator_call(struct generator *generator, smith_call *call, const uint8_t *input, size_t length) {
     for (;;) {
         struct smith_answer answer = call(&generator->config, input, length, generator->output, generator->room);
         if (answer.status != SMITH_SHORT) return answer;
-        free(generator->output);
-        generator->room = answer.length;
-        if (!(generator->output = (uint8_t *)malloc(generator->room))) abort();
+        generator_enlarge(generator, answer.length);
+    }
+}
+
+/* Returns what smith_invalid_with answers for the input and some families. The file is at the front of `generator->output`. */
+static inline struct smith_answer generator_invalid(struct generator *generator, const uint8_t *input, size_t length,
+                                                    const uint32_t *families, size_t count, struct smith_fault *fault) {
+    for (;;) {
+        struct smith_answer answer =
+            smith_invalid_with(&generator->config, input, length, families, count, fault, generator->output, generator->room);
+        if (answer.status != SMITH_SHORT) return answer;
+        generator_enlarge(generator, answer.length);
     }
 }
 

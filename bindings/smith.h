@@ -1,4 +1,4 @@
-/* Valid WebAssembly modules from bytes, with bodies of instructions.
+/* Valid WebAssembly modules from bytes, with bodies of instructions, and files that are no valid modules.
  *
  * Link with libsmith.a, or load libsmith.so; `./build` makes both. In the header next to them SMITH_VERSION is the version, a string, and
  * SMITH_UNPROVED is defined if nothing of the build is proved. Versions with the same second number produce the same modules.
@@ -62,7 +62,9 @@ enum {
     SMITH_UNMET = 5,        /* the input doesn't reach a minimum of the configuration, or exports would pass the type size */
     SMITH_SHAPE = 6,        /* a shape is wrong, or needs what the configuration doesn't permit */
     SMITH_TOO_LONG = 7,     /* a list or a section is too long for the binary format */
-    SMITH_NO_SHAPE = 8      /* the bytes of a shape are no module in the binary or the text format */
+    SMITH_NO_SHAPE = 8,     /* the bytes of a shape are no module in the binary or the text format */
+    SMITH_NO_CHANGE = 9,    /* no change that was tried makes the module an invalid file */
+    SMITH_NO_FAMILY = 10    /* the number of a family of changes is that of none */
 };
 
 /* `length` is the number of bytes of the output. It is 0 if there is none. */
@@ -94,8 +96,8 @@ static inline struct smith_config *smith_config_new(const uint8_t *config, size_
 /* Frees a handle that smith_config_new returned. A null pointer is none, and nothing is done. */
 static inline void smith_config_free(struct smith_config *config) { free(config); }
 
-/* Writes the module in the binary format. The status is any of the above, but SMITH_SHAPE and SMITH_NO_SHAPE only of calls that take
- * shapes. */
+/* Writes the module in the binary format. The status is any of the above up to SMITH_NO_SHAPE, but SMITH_SHAPE and SMITH_NO_SHAPE only of
+ * calls that take shapes. */
 struct smith_answer smith_binary(const uint8_t *config, size_t config_length,
                                  const uint8_t *input, size_t input_length,
                                  uint8_t *out, size_t out_length);
@@ -250,6 +252,113 @@ struct smith_verdict {
 struct smith_answer smith_check(const uint8_t *config, size_t config_length,
                                 const uint8_t *file, size_t file_length,
                                 struct smith_verdict *verdict, uint8_t *out, size_t out_length);
+
+/* The families of changes that make a valid module an invalid file, with the names that `smith_wasm invalid --families` takes: those of
+ * items of the module first, then those of bytes, most of which make it malformed. */
+enum {
+    SMITH_FAMILY_OPERAND_TYPE = 1,         /* an operand has another type */
+    SMITH_FAMILY_MISSING_OPERAND = 2,      /* an instruction is left out */
+    SMITH_FAMILY_EXTRA_OPERAND = 3,        /* a value that nothing takes is added */
+    SMITH_FAMILY_BLOCK_TYPE = 4,           /* a block has another type */
+    SMITH_FAMILY_FUNCTION_RESULT = 5,      /* a value is added at the end of a body */
+    SMITH_FAMILY_INDEX_PAST_END = 6,       /* an index in a body is past the end of its index space */
+    SMITH_FAMILY_OTHER_ENTITY = 7,         /* an index in a body is that of another entity or type */
+    SMITH_FAMILY_REFERENCE_TYPE = 8,       /* a type of a reference in a body is another one */
+    SMITH_FAMILY_LABEL = 9,                /* a branch has another label */
+    SMITH_FAMILY_CAST_HIERARCHY = 10,      /* a test or a cast is to a type of another hierarchy */
+    SMITH_FAMILY_TAIL_CALL = 11,           /* a call is a tail call */
+    SMITH_FAMILY_DEAD_CODE = 12,           /* an instruction is added after one that leaves */
+    SMITH_FAMILY_UNSET_LOCAL = 13,         /* a local without a default value is read before it is set */
+    SMITH_FAMILY_IMMUTABLE_GLOBAL = 14,    /* an immutable global is set */
+    SMITH_FAMILY_IMMUTABLE_FIELD = 15,     /* an immutable field or array is written */
+    SMITH_FAMILY_PACKED_FIELD = 16,        /* a field is extended that isn't packed, or one that is packed isn't */
+    SMITH_FAMILY_UNDECLARED_FUNCTION = 17, /* ref.func is of a function that nothing outside bodies refers to */
+    SMITH_FAMILY_ALIGNMENT = 18,           /* an alignment is above the natural one */
+    SMITH_FAMILY_OFFSET = 19,              /* an offset is past the addresses of a memory */
+    SMITH_FAMILY_LANE = 20,                /* a lane is past the last one */
+    SMITH_FAMILY_SUPERTYPE = 21,           /* a supertype doesn't match, or comes later */
+    SMITH_FAMILY_FINAL_TYPE = 22,          /* a final type has subtypes */
+    SMITH_FAMILY_FORWARD_REFERENCE = 23,   /* a type refers to one after its recursive type */
+    SMITH_FAMILY_LIMITS = 24,              /* a minimum is above its maximum */
+    SMITH_FAMILY_DUPLICATE_EXPORT = 25,    /* two exports have one name */
+    SMITH_FAMILY_EXPORT_INDEX = 26,        /* an export is of an entity that isn't there */
+    SMITH_FAMILY_START_FUNCTION = 27,      /* the start function has another type, or isn't there */
+    SMITH_FAMILY_CONSTANT_TYPE = 28,       /* a constant expression has another type */
+    SMITH_FAMILY_NON_CONSTANT = 29,        /* a constant expression has another instruction */
+    SMITH_FAMILY_LATER_GLOBAL = 30,        /* a constant expression reads a mutable or a later global */
+    SMITH_FAMILY_FUNCTION_TYPE = 31,       /* a function has another type */
+    SMITH_FAMILY_TAG_TYPE = 32,            /* a tag has another type */
+    SMITH_FAMILY_IMPORT_TYPE = 33,         /* an import has another type */
+    SMITH_FAMILY_ELEMENT_SEGMENT = 34,     /* an element segment has another type, table or function */
+    SMITH_FAMILY_DATA_SEGMENT = 35,        /* a data segment is for a memory that isn't there */
+    SMITH_FAMILY_LONG_INTEGER = 36,        /* an integer has too many bytes */
+    SMITH_FAMILY_UNUSED_BITS = 37,         /* unused bits of an integer are set */
+    SMITH_FAMILY_SECTION_SIZE = 38,        /* the size of a section is wrong */
+    SMITH_FAMILY_BODY_SIZE = 39,           /* the size of a body is wrong */
+    SMITH_FAMILY_LIST_COUNT = 40,          /* the number of items of a list is wrong */
+    SMITH_FAMILY_FUNCTION_COUNT = 41,      /* there are more or fewer functions than bodies */
+    SMITH_FAMILY_DATA_COUNT = 42,          /* there are more or fewer data segments than are stated */
+    SMITH_FAMILY_SECTION_ORDER = 43,       /* sections are out of order */
+    SMITH_FAMILY_SECTION_TWICE = 44,       /* a section comes twice */
+    SMITH_FAMILY_UNKNOWN_SECTION = 45,     /* a section has an unknown identifier */
+    SMITH_FAMILY_LEFT_OVER_BYTE = 46,      /* a section or a body has a byte after its item */
+    SMITH_FAMILY_NOT_UTF8 = 47,            /* a name isn't UTF-8 */
+    SMITH_FAMILY_UNKNOWN_FLAG = 48,        /* a byte that chooses a form is unknown */
+    SMITH_FAMILY_UNKNOWN_TYPE = 49,        /* a type begins with an unknown byte */
+    SMITH_FAMILY_UNKNOWN_OPCODE = 50,      /* an opcode is unknown */
+    SMITH_FAMILY_MISSING_END = 51,         /* an expression has no end */
+    SMITH_FAMILY_SECOND_END = 52,          /* an expression ends twice */
+    SMITH_FAMILY_PREAMBLE = 53,            /* the magic number or the version is another one */
+    SMITH_FAMILY_CUT_FILE = 54             /* the file is cut off */
+};
+
+/* Returns the name of a family, such as "operand-type", or a null pointer if no family has the number. */
+static inline const char *smith_family_name(uint32_t family) {
+    static const char *const names[] = {
+        "operand-type", "missing-operand", "extra-operand", "block-type", "function-result", "index-past-end", "other-entity",
+        "reference-type", "label", "cast-hierarchy", "tail-call", "dead-code", "unset-local", "immutable-global", "immutable-field",
+        "packed-field", "undeclared-function", "alignment", "offset", "lane", "supertype", "final-type", "forward-reference", "limits",
+        "duplicate-export", "export-index", "start-function", "constant-type", "non-constant", "later-global", "function-type",
+        "tag-type", "import-type", "element-segment", "data-segment", "long-integer", "unused-bits", "section-size", "body-size",
+        "list-count", "function-count", "data-count", "section-order", "section-twice", "unknown-section", "left-over-byte", "not-utf8",
+        "unknown-flag", "unknown-type", "unknown-opcode", "missing-end", "second-end", "preamble", "cut-file",
+    };
+    return family >= 1 && family <= sizeof names / sizeof *names ? names[family - 1] : NULL;
+}
+
+/* What smith_invalid says of its file. `verdict` has the first fault of the file, in the numbers of smith_check; its kind is
+ * SMITH_INVALID or SMITH_MALFORMED. `family` is that of the change. */
+struct smith_fault {
+    struct smith_verdict verdict;
+    uint32_t family;
+};
+
+/* Writes a file that is no valid module, to test a validator: the module of the configuration and the input with one change that breaks a
+ * rule. The change is of one of the families whose numbers are given, or of any if `families_count` is 0. It is proved that no valid module
+ * of the features that the configuration turns on is spelled by the file, and that the fault is right. The validator must have these
+ * features and no others, since a file may be valid under more.
+ *
+ * The module before the change is one that smith_binary writes for the same configuration and input, as is proved too, but without fuel
+ * and custom sections, which the file never has: smith_binary returns it if the configuration has neither.
+ *
+ * If a file is made, the fault is written, and the status is SMITH_MADE if the file was too, or SMITH_SHORT if `out` is too short for it.
+ * Otherwise nothing is written. The status is SMITH_NO_CHANGE for one input in 30 of the default configuration, whose modules are often
+ * nearly empty, and for fewer if modules have functions. Others are SMITH_NO_FAMILY and those of smith_binary; smith_refusal returns the
+ * reasons of these in words. */
+struct smith_answer smith_invalid(const uint8_t *config, size_t config_length,
+                                  const uint8_t *input, size_t input_length,
+                                  const uint32_t *families, size_t families_count,
+                                  struct smith_fault *fault, uint8_t *out, size_t out_length);
+
+/* The same for a configuration that is read, and with shapes. */
+struct smith_answer smith_invalid_with(const struct smith_config *config, const uint8_t *input, size_t input_length,
+                                       const uint32_t *families, size_t families_count,
+                                       struct smith_fault *fault, uint8_t *out, size_t out_length);
+
+struct smith_answer smith_invalid_shaped(const struct smith_config *config, const struct smith_shapes *shapes,
+                                         const uint8_t *input, size_t input_length,
+                                         const uint32_t *families, size_t families_count,
+                                         struct smith_fault *fault, uint8_t *out, size_t out_length);
 
 #ifdef __cplusplus
 }

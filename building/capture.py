@@ -30,6 +30,7 @@ NO_HINTS = "#!/bin/sh\nexit 2\n"
 EXPORT = re.compile(r'#\[unsafe\(no_mangle\)\]\npub extern "C" fn (\w+)\((.*?),?\s*\) ->', re.S)
 VALUES = {"Global": "rt.alloc()", "&[u8]": 'b""', "&mut [u8]": "&mut out", "u32": "0", "usize": "0", "bool": "false"}
 VALUES |= {"&KeptConfig": "&kept", "&mut KeptConfig": "&mut kept", "&mut Verdict": "&mut verdict", "&ShapeFiles<'_>": "&shapes"}
+VALUES |= {"&[u32]": "&[1]", "&mut Fault": "&mut fault"}
 
 # What the calls in `main` pass on.
 PASSED = """    let mut out = [0u8; 1];
@@ -38,6 +39,7 @@ PASSED = """    let mut out = [0u8; 1];
     };
     let mut kept = KeptConfig::of(&request);
     let mut verdict = Verdict::valid();
+    let mut fault = Fault { verdict, family: 0 };
     let shapes = ShapeFiles {
         available_imports: b"",
         exports: b"",

@@ -1,4 +1,5 @@
-// Package smith makes valid WebAssembly modules from bytes, by libsmith.a of dist, or of a folder that CGO_LDFLAGS names.
+// Package smith makes valid WebAssembly modules from bytes, and files that are no valid modules, by libsmith.a of dist, or of a folder that
+// CGO_LDFLAGS names.
 package smith
 
 // #cgo CFLAGS: -I${SRCDIR}/..
@@ -18,6 +19,19 @@ package smith
 //         available_imports, available_imports_length, exports, exports_length, module_shape, module_shape_length,
 //     };
 //     return call(config, &shapes, input, input_length, out, out_length);
+// }
+//
+// // Does the same for an invalid file.
+// static struct smith_answer call_invalid(const struct smith_config *config,
+//                                         const uint8_t *available_imports, size_t available_imports_length,
+//                                         const uint8_t *exports, size_t exports_length,
+//                                         const uint8_t *module_shape, size_t module_shape_length,
+//                                         const uint8_t *input, size_t input_length, const uint32_t *families, size_t families_count,
+//                                         struct smith_fault *fault, uint8_t *out, size_t out_length) {
+//     struct smith_shapes shapes = {
+//         available_imports, available_imports_length, exports, exports_length, module_shape, module_shape_length,
+//     };
+//     return smith_invalid_shaped(config, &shapes, input, input_length, families, families_count, fault, out, out_length);
 // }
 import "C"
 
@@ -78,6 +92,23 @@ func (config *Config) call(call C.shaped, input, out []byte) C.struct_smith_answ
 		pointer(input), length(input), pointer(out), length(out))
 }
 
+// invalid returns what smith_invalid_shaped answers for the shapes, input and families.
+func (config *Config) invalid(input []byte, families []Family, fault *C.struct_smith_fault, out []byte) C.struct_smith_answer {
+	numbers := make([]C.uint32_t, len(families)+1)
+	for at, family := range families {
+		numbers[at] = C.uint32_t(family)
+	}
+	shapes, length := config.Shapes, func(bytes []byte) C.size_t { return C.size_t(len(bytes)) }
+	return C.call_invalid(&config.kept, pointer(shapes.AvailableImports), length(shapes.AvailableImports),
+		pointer(shapes.Exports), length(shapes.Exports), pointer(shapes.ModuleShape), length(shapes.ModuleShape),
+		pointer(input), length(input), &numbers[0], C.size_t(len(families)), fault, pointer(out), length(out))
+}
+
+// refusal returns why there is no module of input, in words that are put into out.
+func (config *Config) refusal(input, out []byte) *Refused {
+	return refused(out, config.call(C.shaped(C.smith_refusal_shaped), input, out))
+}
+
 // Module returns the module of input, with bodies of instructions, in the binary format. The error is a *Refused.
 func (config *Config) Module(input []byte) ([]byte, error) {
 	out := make([]byte, 1<<16)
@@ -89,7 +120,7 @@ func (config *Config) Module(input []byte) ([]byte, error) {
 		case C.SMITH_SHORT:
 			out = make([]byte, answer.length)
 		default:
-			return nil, refused(out, config.call(C.shaped(C.smith_refusal_shaped), input, out))
+			return nil, config.refusal(input, out)
 		}
 	}
 }

@@ -47,3 +47,36 @@ func TestRefused(t *testing.T) {
 		t.Fatal(err)
 	}
 }
+
+func TestInvalid(t *testing.T) {
+	config, err := NewConfig("")
+	if err != nil {
+		t.Fatal(err)
+	}
+	family := FamilyNamed("preamble")
+	invalid, err := config.Invalid(nil, family)
+	if err != nil || invalid.Family != family || invalid.Verdict.Kind != Malformed {
+		t.Fatal(invalid, err)
+	}
+	verdict, words, err := Check("", invalid.File)
+	if err != nil || verdict != invalid.Verdict || words == "" {
+		t.Fatal(verdict, words, err)
+	}
+	_, err = config.Invalid(nil, Family(99))
+	refused, is := err.(*Refused)
+	if !is || refused.Status != 10 {
+		t.Fatal(err)
+	}
+}
+
+func TestCheck(t *testing.T) {
+	verdict, words, err := Check("", []byte("\x00asm\x01\x00\x00\x00"))
+	if err != nil || verdict.Kind != Valid || verdict.Offset != Nowhere || words != "valid" {
+		t.Fatal(verdict, words, err)
+	}
+	_, _, err = Check("[", nil)
+	refused, is := err.(*Refused)
+	if !is || refused.Status != 3 {
+		t.Fatal(err)
+	}
+}

@@ -1,6 +1,7 @@
-// A `consume` over wabt 1.0.32: what `wasm-validate --enable-all` does with a file. docs/BINDINGS.md has the commands.
+// A `consume` and a `validate` over wabt 1.0.32: what `wasm-validate --enable-all` does with a file. docs/BINDINGS.md has the commands.
 //
-// With -DABORT a module that wabt refuses is a crash, since each is valid: turn off in the configuration what wabt lacks.
+// With -DABORT a module that wabt refuses is a crash, since each is valid: turn off in the configuration what wabt lacks. `validate` is for
+// files that are not valid: the configuration must also turn on what wabt has, as {"preset": "wabt"} does.
 #include <cstdint>
 #include <cstdlib>
 
@@ -12,7 +13,7 @@
 
 using namespace wabt;
 
-static Result validate(const uint8_t* bytes, size_t length, Errors* errors) {
+static Result read_and_validate(const uint8_t* bytes, size_t length, Errors* errors) {
   Features features;
   features.EnableAll();
   Module module;
@@ -23,11 +24,16 @@ static Result validate(const uint8_t* bytes, size_t length, Errors* errors) {
 
 extern "C" void consume(const uint8_t* bytes, size_t length) {
   Errors errors;
-  [[maybe_unused]] Result result = validate(bytes, length, &errors);
+  [[maybe_unused]] Result result = read_and_validate(bytes, length, &errors);
 #ifdef ABORT
   if (Failed(result)) {
     FormatErrorsToFile(errors, Location::Type::Binary);
     abort();
   }
 #endif
+}
+
+extern "C" int validate(const uint8_t* bytes, size_t length) {
+  Errors errors;
+  return Succeeded(read_and_validate(bytes, length, &errors));
 }

@@ -1,4 +1,4 @@
-"""Valid WebAssembly modules from bytes, by libsmith.so.
+"""Valid WebAssembly modules from bytes, and files that are no valid modules, by libsmith.so.
 
 The library is the one that SMITH_LIBRARY names, or else the one next to this file, in `lib` of its installation, or in `dist` of its
 checkout.
@@ -12,7 +12,7 @@ import os
 import pathlib
 import typing
 
-__version__ = "0.7.1"
+__version__ = "0.8.0"
 
 Bytes = typing.Union[bytes, bytearray, memoryview]
 Shape = typing.Union[str, bytes, bytearray, memoryview]
@@ -70,13 +70,21 @@ class _Numbers(ctypes.Structure):
     _fields_ += [(name, ctypes.c_uint64) for name in ("index", "inner", "offset")]
 
 
-_MADE, _SHORT = 0, 1
+class _Fault(ctypes.Structure):
+    """What is said of an invalid file, as in smith.h."""
+
+    _fields_ = [("verdict", _Numbers), ("family", ctypes.c_uint32)]
+
+
+_MADE, _SHORT, _NO_CHANGE = 0, 1, 9
 _LIBRARY = ctypes.CDLL(_path())
 _BYTES = [ctypes.c_char_p, ctypes.c_size_t]
 _TAKES = {"smith_check": _BYTES * 2 + [ctypes.POINTER(_Numbers)] + _BYTES}
 _TAKES |= {"smith_config_read": _BYTES + [ctypes.POINTER(_Kept)], "smith_refusal": _BYTES * 3}
 _SHAPED = [ctypes.POINTER(_Kept), ctypes.POINTER(_Shapes)] + _BYTES * 2
 _TAKES |= {f"smith_{name}_shaped": _SHAPED for name in ("binary", "text", "wat", "refusal")}
+_FAMILIES = [ctypes.POINTER(ctypes.c_uint32), ctypes.c_size_t]
+_TAKES["smith_invalid_shaped"] = _SHAPED[:-2] + _FAMILIES + [ctypes.POINTER(_Fault)] + _BYTES
 for _name, _kinds in _TAKES.items():
     getattr(_LIBRARY, _name).restype = Answer
     getattr(_LIBRARY, _name).argtypes = _kinds
@@ -206,3 +214,56 @@ def check(file: Bytes, config: Config | str | dict | None = None) -> Verdict:
 
 def _values(numbers: _Numbers) -> list:
     return [(name, getattr(numbers, name)) for name, _ in numbers._fields_]
+
+
+FAMILIES = (
+    "operand-type", "missing-operand", "extra-operand", "block-type", "function-result", "index-past-end", "other-entity",
+    "reference-type", "label", "cast-hierarchy", "tail-call", "dead-code", "unset-local", "immutable-global", "immutable-field",
+    "packed-field", "undeclared-function", "alignment", "offset", "lane", "supertype", "final-type", "forward-reference", "limits",
+    "duplicate-export", "export-index", "start-function", "constant-type", "non-constant", "later-global", "function-type", "tag-type",
+    "import-type", "element-segment", "data-segment", "long-integer", "unused-bits", "section-size", "body-size", "list-count",
+    "function-count", "data-count", "section-order", "section-twice", "unknown-section", "left-over-byte", "not-utf8", "unknown-flag",
+    "unknown-type", "unknown-opcode", "missing-end", "second-end", "preamble", "cut-file",
+)
+"""The families of changes that make a module an invalid file, in the order of their numbers in smith.h."""
+
+
+@dataclasses.dataclass(frozen=True)
+class Invalid:
+    """A file that is no valid module: its bytes, the family of the change, and its first fault, by the numbers that smith.h names. `inner`
+    is None where there is none."""
+
+    file: bytes
+    family: str
+    kind: int
+    rule: int
+    reason: int
+    item: int
+    index: int
+    inner: int | None
+    offset: int
+
+
+def _number_of(family: str) -> int:
+    if family not in FAMILIES:
+        raise ValueError(f"`{family}` names no family of changes")
+    return FAMILIES.index(family) + 1
+
+
+def invalid(given: Bytes, config: Config | str | dict = "", families: typing.Iterable[str] = (), **shapes: Shape) -> Invalid:
+    """Returns the module of `given` with one change that breaks a rule, of one of `families`, or of any if there are none.
+
+    The file is invalid under the features that `config` turns on, and may be valid under more. Raises `Refused` if there is no module, or,
+    with status 9, if no change that was tried breaks a rule, and `ValueError` if a name is that of no family.
+    """
+    config, data = _config_of(config, shapes), bytes(memoryview(given))
+    numbers, fault = [_number_of(family) for family in families], _Fault()
+    chosen = (ctypes.c_uint32 * max(len(numbers), 1))(*numbers)
+    words = config._kept, config._shapes, data, len(data)
+    status, output = _output(_LIBRARY.smith_invalid_shaped, *words, chosen, len(numbers), fault)
+    if status == _NO_CHANGE:
+        raise Refused(status, "no change that was tried breaks a rule")
+    if status != _MADE:
+        raise Refused(status, _output(_LIBRARY.smith_refusal_shaped, *words)[1].decode() or "out of memory")
+    found = [None if name == "inner" and value == _NOWHERE else value for name, value in _values(fault.verdict)]
+    return Invalid(output, FAMILIES[fault.family - 1], *found)

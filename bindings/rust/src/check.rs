@@ -42,7 +42,7 @@ impl fmt::Display for Verdict {
     }
 }
 
-fn kind_of(number: u32) -> Kind {
+pub(crate) fn kind_of(number: u32) -> Kind {
     match number {
         0 => Kind::Valid,
         1 => Kind::Invalid,
@@ -51,7 +51,7 @@ fn kind_of(number: u32) -> Kind {
     }
 }
 
-fn unless_nowhere(number: u64) -> Option<u64> {
+pub(crate) fn unless_nowhere(number: u64) -> Option<u64> {
     (number != u64::MAX).then_some(number)
 }
 

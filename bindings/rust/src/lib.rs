@@ -1,13 +1,15 @@
-//! Valid WebAssembly modules from bytes, by the proved library `libsmith.a`.
+//! Valid WebAssembly modules from bytes, and files that are no valid modules, by the proved library `libsmith.a`.
 //!
 //! The feature `arbitrary` adds `wasm_smith`, a module with the names of the crate of this name.
 mod check;
+mod invalid;
 mod library;
 #[cfg(feature = "arbitrary")]
 pub mod wasm_smith;
 
 pub use check::{check, Kind, Verdict};
-use library::{smith_binary_shaped, smith_text_shaped, smith_wat_shaped, utf8, Call, Kept, Shapes};
+pub use invalid::{invalid, Family, Invalid};
+use library::{smith_binary_shaped, smith_text_shaped, smith_wat_shaped, utf8, Call, FaultNumbers, Kept, Shapes};
 use std::fmt;
 
 /// A configuration, read once, and its shapes, which are read for each module. Any number of threads may use it at the same time.
@@ -52,6 +54,10 @@ impl Config {
 
     pub(crate) fn text(&self) -> &str {
         &self.text
+    }
+
+    fn invalid(&self, families: &[u32], input: &[u8]) -> Result<(Vec<u8>, FaultNumbers), Refused> {
+        self.kept.as_ref().map_err(Refused::clone)?.invalid(&self.shapes, families, input)
     }
 
     fn made(&self, call: Call, input: &[u8]) -> Result<Vec<u8>, Refused> {

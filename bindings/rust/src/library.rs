@@ -3,6 +3,7 @@ use crate::Refused;
 
 const MADE: u32 = 0;
 const SHORT: u32 = 1;
+const NO_CHANGE: u32 = 9;
 
 #[repr(C)]
 pub struct Answer {
@@ -26,6 +27,14 @@ pub struct Numbers {
     pub index: u64,
     pub inner: u64,
     pub offset: u64,
+}
+
+/// What is said of an invalid file, `struct smith_fault`.
+#[repr(C)]
+#[derive(Clone, Copy, Debug, Default)]
+pub struct FaultNumbers {
+    pub verdict: Numbers,
+    pub family: u32,
 }
 
 /// The bytes of the shapes of a configuration, each of which may be empty.
@@ -86,6 +95,17 @@ extern "C" {
         shapes: *const ShapeBytes,
         input: *const u8,
         input_length: usize,
+        out: *mut u8,
+        out_length: usize,
+    ) -> Answer;
+    fn smith_invalid_shaped(
+        config: *const Kept,
+        shapes: *const ShapeBytes,
+        input: *const u8,
+        input_length: usize,
+        families: *const u32,
+        families_count: usize,
+        fault: *mut FaultNumbers,
         out: *mut u8,
         out_length: usize,
     ) -> Answer;
@@ -163,6 +183,27 @@ impl Kept {
         match output(|out| with(call, out)) {
             (MADE, bytes) => Ok(bytes),
             (status, _) => Err(refused(status, |out| with(smith_refusal_shaped, out))),
+        }
+    }
+
+    /// Returns an invalid file of `shapes` and `input`, with a change of one of `families` or of any if there are none, and what is said of
+    /// it.
+    pub fn invalid(&self, shapes: &Shapes, families: &[u32], input: &[u8]) -> Result<(Vec<u8>, FaultNumbers), Refused> {
+        let bytes = shapes.bytes();
+        let mut fault = FaultNumbers::default();
+        let (status, file) = output(|out| {
+            let (at, count) = (families.as_ptr(), families.len());
+            // SAFETY: `self` was read, each other pointer is that of a slice with its length, and `fault` and `out` are borrowed
+            // exclusively.
+            unsafe { smith_invalid_shaped(self, &bytes, input.as_ptr(), input.len(), at, count, &mut fault, out.as_mut_ptr(), out.len()) }
+        });
+        match status {
+            MADE => Ok((file, fault)),
+            NO_CHANGE => Err(Refused { status, words: "no change that was tried breaks a rule".to_owned() }),
+            _ => Err(refused(status, |out| {
+                // SAFETY: `self` was read, each other pointer is that of a slice with its length, and `out` is borrowed exclusively.
+                unsafe { smith_refusal_shaped(self, &bytes, input.as_ptr(), input.len(), out.as_mut_ptr(), out.len()) }
+            })),
         }
     }
 }

@@ -6,7 +6,7 @@
 #![tactic(auto)]
 
 mod error;
-/// Laws: functions without effect, whose clauses state properties.
+/// Laws: functions with empty bodies whose clauses state theorems.
 pub mod laws;
 mod numbers;
 mod pieces;

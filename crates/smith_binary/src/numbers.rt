@@ -47,7 +47,7 @@ fn write_little_endian(value: u128, count: usize, sink: &mut Sink) -> Result<(),
     write_little_endian(value / 256, count - 1, sink)
 }
 
-// Writes the unsigned integer `value` in as few bytes as possible, but in `least` at least.
+// Writes the unsigned integer `value` in as few bytes as possible, and in no fewer than `least`.
 fn write_padded(value: u64, least: u8, sink: &mut Sink) -> Result<(), EncodeError>
     ensures writes { OnOk result ((bits : ℕ) → value < 2 ^ bits → 7 * least < bits + 7
         → Writes (λ _. Shortest (IsPadded least bits value)) sink.old sink.new) }

@@ -7,7 +7,7 @@ use crate::error::EncodeError;
 use crate::sink::Sink;
 
 impl Sink {
-    /// Writes `count`, the number of items of a list or of bytes of a content.
+    /// Writes `count`, the length of a list in items or of a content in bytes.
     ///
     /// # Errors
     ///

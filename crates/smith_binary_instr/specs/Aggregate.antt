@@ -1,5 +1,5 @@
 -- Aggregate instructions: the section Binary Format, Instructions, Aggregate Instructions, of the
--- WebAssembly Core Specification 3.0. The shared i31 is that of the shared-everything-threads
+-- WebAssembly Core Specification 3.0. The shared i31 follows the shared-everything-threads
 -- proposal.
 use Rattle.std.specs.Prelude.{ℕ, ◌+◌, List}
 use Rattle.smith_binary.specs.Spelling.{Spelling}
@@ -11,14 +11,14 @@ use Rattle.smith_instr.specs.declared.aggregate.AggregateInstr.TheVariants as ag
 use Rattle.smith_instr.specs.declared.aggregate.Extension.{Extension}
 use Rattle.smith_instr.specs.declared.aggregate.Extension.TheVariants as extension
 
--- the number of a get: `first` for an unpacked field; the numbers of gets that extend follow it
--- (Aggregate Instructions)
+-- the number of a `get` instruction: `first` for an unpacked field, `first + 1` for one extended by
+-- its sign, `first + 2` for one extended by zeros (Aggregate Instructions)
 abbrev pub get_number : ℕ → Extension → ℕ
 get_number first extension.Unpacked = first
 get_number first extension.Signed = first + 1
 get_number first extension.Unsigned = first + 2
 
--- two indices after a number and the prefix of aggregates (Aggregate Instructions)
+-- the prefix 0xFB, a number and two indices (Aggregate Instructions)
 abbrev pub IsOnTwoIn : Spelling → ℕ → ℕ → ℕ → List ℕ → Type 0
 IsOnTwoIn spelling number first second = Joined (IsPrefixedIn spelling 0xFB number)
     (Joined (IsIndexIn spelling first) (IsIndexIn spelling second))
@@ -26,7 +26,7 @@ IsOnTwoIn spelling number first second = Joined (IsPrefixedIn spelling 0xFB numb
 abbrev pub IsOnTwo : ℕ → ℕ → ℕ → List ℕ → Type 0
 IsOnTwo = IsOnTwoIn any
 
--- one index after a number and the prefix of aggregates (Aggregate Instructions)
+-- the prefix 0xFB, a number and one index (Aggregate Instructions)
 abbrev pub IsOnIn : Spelling → ℕ → ℕ → List ℕ → Type 0
 IsOnIn spelling number index = Joined (IsPrefixedIn spelling 0xFB number) (IsIndexIn spelling index)
 

@@ -8,7 +8,7 @@ use Rattle.smith_instr.specs.declared.atomic.AtomicUpdate.TheVariants as update
 use Rattle.smith_instr.specs.declared.atomic.AtomicWidth.{AtomicWidth}
 use Rattle.smith_instr.specs.declared.atomic.AtomicWidth.TheVariants as width
 
--- the numbers of accesses of one kind follow one another, by their widths (own, of the proposal)
+-- the distance of an access from the first number of its kind, by its width (threads proposal)
 abbrev pub width_number : AtomicWidth → ℕ
 width_number width.I32 = 0
 width_number width.I64 = 1
@@ -18,7 +18,7 @@ width_number width.I64Of8 = 4
 width_number width.I64Of16 = 5
 width_number width.I64Of32 = 6
 
--- the first number of each kind of update (own, of the proposal)
+-- the first number of each kind of update (threads proposal)
 abbrev pub update_number : AtomicUpdate → ℕ
 update_number update.Add = 0x1E
 update_number update.Sub = 0x25
@@ -27,7 +27,7 @@ update_number update.Or = 0x33
 update_number update.Xor = 0x3A
 update_number update.Exchange = 0x41
 
--- the number of an atomic access, after its prefix (own, of the proposal)
+-- the number of an atomic access, after its prefix (threads proposal)
 abbrev pub atomic_number : AtomicAccess → ℕ
 atomic_number atomic.Notify = 0x00
 atomic_number atomic.Wait32 = 0x01

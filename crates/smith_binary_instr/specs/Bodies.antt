@@ -9,19 +9,20 @@ use Rattle.smith_binary_sections.specs.Codes.{IsLocals, IsLocalsWrittenIn}
 use Rattle.smith_instr.specs.declared.instr.Instr.{Instr}
 use Rattle.smith_binary_instr.specs.Instructions.{IsExpr, IsExprWrittenIn}
 
--- the content of a body: its locals, in runs of one type, then its expression (Code Section)
+-- the content of a body: its locals, in runs, then its expression (Code Section)
 abbrev pub IsFunc : List ValType → List Instr → List ℕ → Type 0
 IsFunc locals instructions = Joined (IsLocals locals) (IsExpr instructions)
 
--- a body: the number of bytes of its content, then the content (Code Section)
+-- a body: the size of its content, then the content (Code Section)
 abbrev pub IsFuncBody : List ValType → List Instr → List ℕ → Type 0
 IsFuncBody locals instructions = IsSized (IsFunc locals instructions)
 
--- the content of a body as it is written: each local is a run of its own, and no access names the
--- first memory (own rule)
+-- the content of a body as it is written: each local is a run of its own, and no access names
+-- memory 0 (own rule)
 abbrev pub IsFuncWrittenIn : Spelling → List ValType → List Instr → List ℕ → Type 0
 IsFuncWrittenIn spelling locals instructions = Joined (IsLocalsWrittenIn spelling locals) (IsExprWrittenIn spelling instructions)
 
+-- the content of a body as it is written, with integers in any spelling
 abbrev pub IsFuncWritten : List ValType → List Instr → List ℕ → Type 0
 IsFuncWritten = IsFuncWrittenIn any
 

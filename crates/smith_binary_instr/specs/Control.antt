@@ -12,8 +12,8 @@ use Rattle.smith_instr.specs.declared.control.BlockType.TheVariants as block
 use Rattle.smith_instr.specs.declared.control.Catch.{Catch}
 use Rattle.smith_instr.specs.declared.control.Catch.TheVariants as catch
 
--- the type of a block: a byte, a value type, or the index of a type as a signed integer that is not
--- negative (Control Instructions)
+-- a block type: a byte, a value type, or a type index as a signed integer that is not negative
+-- (Control Instructions)
 abbrev pub IsBlockTypeIn : Spelling → BlockType → List ℕ → Type 0
 IsBlockTypeIn spelling block.Empty piece = IsByte 0x40 piece
 IsBlockTypeIn spelling (block.Value value) piece = IsValTypeIn spelling value piece
@@ -32,7 +32,7 @@ IsCatchIn spelling (catch.AllRef label) piece = Joined (IsByte 0x03) (IsIndexIn 
 abbrev pub IsCatch : Catch → List ℕ → Type 0
 IsCatch = IsCatchIn any
 
--- the byte of a cast: whether its operand may be null, and whether its target type may (Control
+-- the byte of a cast, which has the nullability of its source and of its target type (Control
 -- Instructions)
 abbrev pub cast_byte : Bool → Bool → ℕ
 cast_byte false false = 0x00
@@ -40,8 +40,8 @@ cast_byte true false = 0x01
 cast_byte false true = 0x02
 cast_byte true true = 0x03
 
--- the immediates of a branch on a cast: which of both types are nullable, the label, and both heap
--- types (Control Instructions)
+-- the immediates of a branch on a cast: the byte with the nullability of both types, the label, and
+-- both heap types (Control Instructions)
 abbrev pub IsBranchCastIn : Spelling → BranchCast → List ℕ → Type 0
 IsBranchCastIn spelling cast =
     Joined (IsByte (cast_byte cast.from.nullable cast.to.nullable))

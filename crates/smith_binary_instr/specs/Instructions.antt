@@ -1,7 +1,7 @@
 -- Instructions, flat: the section Binary Format, Instructions, of the WebAssembly Core
--- Specification 3.0. A block is spelled by its start, its instructions and its end in order, so a
--- flat list is spelled instruction by instruction; the lists that are blocks of the standard are
--- defined in `Nesting`. Atomic instructions are those of the threads proposal.
+-- Specification 3.0. A block is spelled by its start, its instructions and its end in order, so
+-- that a flat list is spelled instruction by instruction. `Nesting` defines the lists that form the
+-- blocks of the standard. Atomic instructions follow the threads proposal.
 use Rattle.std.specs.Prelude.{ℕ, List}
 use Rattle.smith_binary.specs.Spelling.{IsSignedIn, Spelling}
 use Rattle.smith_binary.specs.Spelling.Spelling.{any}
@@ -100,14 +100,15 @@ IsInstrsIn spelling instructions = Each (IsInstrIn spelling) instructions
 abbrev pub IsInstrs : List Instr → List ℕ → Type 0
 IsInstrs = IsInstrsIn any
 
--- an expression: instructions, then their end (Expressions)
+-- an expression: instructions, then `end` (Expressions)
 abbrev pub IsExprIn : Spelling → List Instr → List ℕ → Type 0
 IsExprIn spelling instructions = Joined (IsInstrsIn spelling instructions) (IsByte 0x0B)
 
+-- an expression in any spelling (Expressions)
 abbrev pub IsExpr : List Instr → List ℕ → Type 0
 IsExpr = IsExprIn any
 
--- an instruction as it is written: no access names the first memory (own rule)
+-- an instruction as it is written: no access names memory 0 (own rule)
 abbrev pub IsInstrWrittenIn : Spelling → Instr → List ℕ → Type 0
 IsInstrWrittenIn spelling (instr.Load op at) piece = Joined (IsByte (load_opcode op)) (IsMemArgWrittenIn spelling at) piece
 IsInstrWrittenIn spelling (instr.Store op at) piece = Joined (IsByte (store_opcode op)) (IsMemArgWrittenIn spelling at) piece

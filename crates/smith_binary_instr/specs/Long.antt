@@ -7,12 +7,12 @@ use Rattle.smith_instr.specs.declared.instr.Instr.TheVariants as instr
 use Rattle.smith_instr.specs.declared.memory.MemArg.{MemArg}
 use Rattle.smith_binary_instr.specs.Bodies.{IsFuncWritten}
 
--- an alignment of more than six bits
+-- an alignment has more than six bits
 abbrev pub IsWide : MemArg → Type 0
 IsWide at = 2 ^ 6 ≤ at.align
 
--- an instruction with a list of 2^32 items or more, with an alignment of more bits than the format
--- has, or on a lane of another size than the four that have numbers
+-- an instruction has a list of 2^32 items or more, an alignment of more than six bits, or a lane of
+-- a size without a number
 abbrev pub IsLongInstr : Instr → Type 0
 IsLongInstr (instr.BrTable labels last) = IsLongList IsNeverLong labels
 IsLongInstr (instr.TryTable ty clauses) = IsLongList IsNeverLong clauses
@@ -26,8 +26,8 @@ IsLongInstr (instr.VectorStoreLane log2_bytes at lane) = (4 ≤ log2_bytes) ⊎ 
 IsLongInstr (instr.Atomic access at) = IsWide at
 IsLongInstr _ = ⊥
 
--- a body with 2^32 locals or more, with such an instruction, or with 2^32 bytes or more where each
--- local is a run of its own
+-- a body has 2^32 locals or more, such an instruction, or, with each local as a run of its own,
+-- 2^32 bytes or more
 abbrev pub IsLongFunc : List ValType → List Instr → Type 0
 IsLongFunc locals instructions =
     IsLongList IsNeverLong locals ⊎ (Any IsLongInstr instructions ⊎ IsLongContent (IsFuncWritten locals instructions))

@@ -16,15 +16,14 @@ use Rattle.smith_instr.specs.declared.memory.MemoryInstr.TheVariants as memory
 use Rattle.smith_instr.specs.declared.vector.VectorLoad.{VectorLoad}
 use Rattle.smith_instr.specs.declared.vector.VectorLoad.TheVariants as vector_load
 
--- the place of an access to a memory: for the first memory the alignment, then the offset; for any
--- memory the alignment with the bit after its six bits set, then the index of the memory and the
--- offset (Memory Instructions)
+-- a memory argument: for memory 0, the alignment and the offset; or for any memory, the alignment
+-- with the bit 2^6 set, the index of the memory and the offset (Memory Instructions)
 pub data IsMemArg (at : MemArg) (piece : List ℕ) : Type 0 where
   first_memory : at.memory ≡ 0 → at.align < 2 ^ 6 → Joined (IsUnsigned 32 at.align) (IsUnsigned 64 at.offset) piece → IsMemArg at piece
   named_memory : at.align < 2 ^ 6 → Joined (IsUnsigned 32 (at.align + 2 ^ 6)) (Joined (IsIndex at.memory) (IsUnsigned 64 at.offset)) piece
       → IsMemArg at piece
 
--- the place as it is written: the first memory is not named, and any other is (own rule)
+-- a memory argument as it is written: it names every memory except 0 (own rule)
 pub record IsMemArgWrittenIn (spelling : Spelling) (at : MemArg) (piece : List ℕ) : Type 0 where
   pub form : IsMemArg at piece
   pub unnamed : at.memory ≡ 0 → Joined (IsUnsignedIn spelling 32 at.align) (IsUnsignedIn spelling 64 at.offset) piece
@@ -34,7 +33,7 @@ pub record IsMemArgWrittenIn (spelling : Spelling) (at : MemArg) (piece : List �
 abbrev pub IsMemArgWritten : MemArg → List ℕ → Type 0
 IsMemArgWritten = IsMemArgWrittenIn any
 
--- a place, in the form in which it is written where it is (Memory Instructions)
+-- a memory argument in a spelling (Memory Instructions)
 abbrev pub IsMemArgIn : Spelling → MemArg → List ℕ → Type 0
 IsMemArgIn any at = IsMemArg at
 IsMemArgIn (written least) at = IsMemArgWrittenIn (written least) at
@@ -82,7 +81,7 @@ IsMemoryIn spelling (memory.Fill index) piece = Joined (IsPrefixedIn spelling 0x
 abbrev pub IsMemory : MemoryInstr → List ℕ → Type 0
 IsMemory = IsMemoryIn any
 
--- the numbers of loads of vectors, after the prefix of vectors (Vector Instructions)
+-- the numbers of loads of vectors, after the prefix 0xFD (Vector Instructions)
 abbrev pub vector_load_number : VectorLoad → ℕ
 vector_load_number vector_load.V128 = 0
 vector_load_number vector_load.I8x8S = 1
@@ -98,8 +97,8 @@ vector_load_number vector_load.Splat64 = 10
 vector_load_number vector_load.Zero32 = 92
 vector_load_number vector_load.Zero64 = 93
 
--- an access to a lane of `2 ^ log2_bytes` bytes, of which there are four sizes: the numbers follow
--- one another from `first` on (Vector Instructions)
+-- a load or a store of one lane of `2 ^ log2_bytes` bytes; its number is `first + log2_bytes`, for
+-- four sizes (Vector Instructions)
 abbrev pub IsLaneAccessIn : Spelling → ℕ → ℕ → MemArg → ℕ → List ℕ → Type 0
 IsLaneAccessIn spelling first log2_bytes at lane piece = (log2_bytes < 4) × Joined (IsPrefixedIn spelling 0xFD (first + log2_bytes))
     (Joined (IsMemArgIn spelling at) (IsByte lane)) piece
@@ -107,7 +106,7 @@ IsLaneAccessIn spelling first log2_bytes at lane piece = (log2_bytes < 4) × Joi
 abbrev pub IsLaneAccess : ℕ → ℕ → MemArg → ℕ → List ℕ → Type 0
 IsLaneAccess = IsLaneAccessIn any
 
--- an access to a lane as it is written (own rule)
+-- a load or a store of one lane as it is written (own rule)
 abbrev pub IsLaneAccessWrittenIn : Spelling → ℕ → ℕ → MemArg → ℕ → List ℕ → Type 0
 IsLaneAccessWrittenIn spelling first log2_bytes at lane piece = (log2_bytes < 4) × Joined (IsPrefixedIn spelling 0xFD (first + log2_bytes))
     (Joined (IsMemArgWrittenIn spelling at) (IsByte lane)) piece

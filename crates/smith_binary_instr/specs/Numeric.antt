@@ -1,5 +1,5 @@
 -- Numeric instructions: the section Binary Format, Instructions, Numeric Instructions, of the
--- WebAssembly Core Specification 3.0. Wide arithmetic is that of the wide arithmetic proposal.
+-- WebAssembly Core Specification 3.0. Wide arithmetic follows its proposal.
 use Rattle.std.specs.Prelude.{ℕ, ◌+◌, List}
 use Rattle.smith_binary.specs.Spelling.{Spelling}
 use Rattle.smith_binary.specs.Spelling.Spelling.{any}
@@ -28,14 +28,13 @@ use Rattle.smith_instr.specs.declared.numeric.WideArithmetic.TheVariants as wide
 use Rattle.smith_instr.specs.declared.numeric.NumericInstr.{NumericInstr}
 use Rattle.smith_instr.specs.declared.numeric.NumericInstr.TheVariants as numeric
 
--- the opcodes of the operators of a type, which follow one another from the first on; unary
--- operators of integers (Numeric Instructions)
+-- the opcodes of unary operators of integers, from `first` on (Numeric Instructions)
 abbrev pub int_unary_opcode : ℕ → IntUnary → ℕ
 int_unary_opcode first int_unary.Clz = first
 int_unary_opcode first int_unary.Ctz = first + 1
 int_unary_opcode first int_unary.Popcnt = first + 2
 
--- binary operators of integers (Numeric Instructions)
+-- the opcodes of binary operators of integers, from `first` on (Numeric Instructions)
 abbrev pub int_binary_opcode : ℕ → IntBinary → ℕ
 int_binary_opcode first int_binary.Add = first
 int_binary_opcode first int_binary.Sub = first + 1
@@ -53,7 +52,7 @@ int_binary_opcode first int_binary.ShrU = first + 12
 int_binary_opcode first int_binary.Rotl = first + 13
 int_binary_opcode first int_binary.Rotr = first + 14
 
--- comparisons of integers (Numeric Instructions)
+-- the opcodes of comparisons of integers, from `first` on (Numeric Instructions)
 abbrev pub int_compare_opcode : ℕ → IntCompare → ℕ
 int_compare_opcode first int_compare.Eq = first
 int_compare_opcode first int_compare.Ne = first + 1
@@ -66,7 +65,7 @@ int_compare_opcode first int_compare.LeU = first + 7
 int_compare_opcode first int_compare.GeS = first + 8
 int_compare_opcode first int_compare.GeU = first + 9
 
--- unary operators of floats (Numeric Instructions)
+-- the opcodes of unary operators of floats, from `first` on (Numeric Instructions)
 abbrev pub float_unary_opcode : ℕ → FloatUnary → ℕ
 float_unary_opcode first float_unary.Abs = first
 float_unary_opcode first float_unary.Neg = first + 1
@@ -76,7 +75,7 @@ float_unary_opcode first float_unary.Trunc = first + 4
 float_unary_opcode first float_unary.Nearest = first + 5
 float_unary_opcode first float_unary.Sqrt = first + 6
 
--- binary operators of floats (Numeric Instructions)
+-- the opcodes of binary operators of floats, from `first` on (Numeric Instructions)
 abbrev pub float_binary_opcode : ℕ → FloatBinary → ℕ
 float_binary_opcode first float_binary.Add = first
 float_binary_opcode first float_binary.Sub = first + 1
@@ -86,7 +85,7 @@ float_binary_opcode first float_binary.Min = first + 4
 float_binary_opcode first float_binary.Max = first + 5
 float_binary_opcode first float_binary.Copysign = first + 6
 
--- comparisons of floats (Numeric Instructions)
+-- the opcodes of comparisons of floats, from `first` on (Numeric Instructions)
 abbrev pub float_compare_opcode : ℕ → FloatCompare → ℕ
 float_compare_opcode first float_compare.Eq = first
 float_compare_opcode first float_compare.Ne = first + 1
@@ -123,7 +122,7 @@ conversion_opcode convert.I64ReinterpretF64 = 0xBD
 conversion_opcode convert.F32ReinterpretI32 = 0xBE
 conversion_opcode convert.F64ReinterpretI64 = 0xBF
 
--- the opcodes of extensions of a sign (Numeric Instructions)
+-- the opcodes of sign extensions (Numeric Instructions)
 abbrev pub extension_opcode : SignExtension → ℕ
 extension_opcode extend.I32From8 = 0xC0
 extension_opcode extend.I32From16 = 0xC1
@@ -131,7 +130,7 @@ extension_opcode extend.I64From8 = 0xC2
 extension_opcode extend.I64From16 = 0xC3
 extension_opcode extend.I64From32 = 0xC4
 
--- the numbers of conversions that saturate, after their prefix (Numeric Instructions)
+-- the numbers of saturating conversions, after the prefix 0xFC (Numeric Instructions)
 abbrev pub saturating_number : SaturatingConversion → ℕ
 saturating_number saturate.I32TruncSatF32S = 0
 saturating_number saturate.I32TruncSatF32U = 1
@@ -142,7 +141,7 @@ saturating_number saturate.I64TruncSatF32U = 5
 saturating_number saturate.I64TruncSatF64S = 6
 saturating_number saturate.I64TruncSatF64U = 7
 
--- the numbers of wide arithmetic, after its prefix (own, of the proposal)
+-- the numbers of wide arithmetic, after the prefix 0xFC (wide arithmetic proposal)
 abbrev pub wide_number : WideArithmetic → ℕ
 wide_number wide.Add128 = 19
 wide_number wide.Sub128 = 20

@@ -12,13 +12,13 @@ use Rattle.smith_instr.specs.declared.reference.ReferenceInstr.TheVariants as re
 use Rattle.smith_instr.specs.declared.table.TableInstr.{TableInstr}
 use Rattle.smith_instr.specs.declared.table.TableInstr.TheVariants as table
 
--- the number of a test or a cast to a reference type: `first` for a non-nullable one, and the next
--- for a nullable one (Reference Instructions)
+-- the number of a test or a cast: `first` for a non-nullable target type, `first + 1` for a
+-- nullable one (Reference Instructions)
 abbrev pub cast_number : ℕ → Bool → ℕ
 cast_number first false = first
 cast_number first true = first + 1
 
--- a test or a cast to a reference type (Reference Instructions)
+-- a test or a cast, with its target type (Reference Instructions)
 abbrev pub IsCastIn : Spelling → ℕ → RefType → List ℕ → Type 0
 IsCastIn spelling first ty = Joined (IsPrefixedIn spelling 0xFB (cast_number first ty.nullable)) (IsHeapTypeIn spelling ty.heap_type)
 

@@ -12,14 +12,14 @@ use Rattle.smith_binary_instr.specs.VectorNumbers.{relaxed_float_binary_number, 
 use Rattle.smith_binary_instr.specs.VectorNumbers.{relaxed_ternary_number, replace_number, shift_number, splat_number, vector_binary_number}
 use Rattle.smith_binary_instr.specs.VectorNumbers.{vector_float_binary_number, vector_float_unary_number, vector_unary_number}
 
--- an instruction of a number, after the prefix of vectors (Vector Instructions)
+-- the prefix 0xFD and a number (Vector Instructions)
 abbrev pub IsNumberedIn : Spelling → ℕ → List ℕ → Type 0
 IsNumberedIn spelling number = IsPrefixedIn spelling 0xFD number
 
 abbrev pub IsNumbered : ℕ → List ℕ → Type 0
 IsNumbered = IsNumberedIn any
 
--- sixteen lanes, a byte each (Vector Instructions)
+-- sixteen lane indices, each a byte (Vector Instructions)
 abbrev pub IsLanes : List ℕ → List ℕ → Type 0
 IsLanes lanes piece = (length lanes ≡ 16) × Is lanes piece
 

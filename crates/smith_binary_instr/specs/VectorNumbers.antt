@@ -295,7 +295,8 @@ relaxed_float_ternary_number relaxed_float_ternary.F32x4Nmadd = 262
 relaxed_float_ternary_number relaxed_float_ternary.F64x2Madd = 263
 relaxed_float_ternary_number relaxed_float_ternary.F64x2Nmadd = 264
 
--- the numbers of shifts: those of a shape follow one another (Vector Instructions)
+-- the numbers of shifts: the numbers of the three shifts of one shape are consecutive (Vector
+-- Instructions)
 abbrev pub shift_number : VectorShift → IntShape → ℕ
 shift_number shift.Shl lane_shape = shl_number lane_shape
 shift_number shift.ShrS lane_shape = shl_number lane_shape + 1

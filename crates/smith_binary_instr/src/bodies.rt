@@ -44,9 +44,9 @@ pub fn encode_locals(sink: &mut Sink, locals: &[ValType]) -> Result<(), EncodeEr
     list.encode(sink)
 }
 
-/// Writes a body of the locals `locals`, parameters aside, and the instructions `instructions`, the
-/// last `end` aside: the number of its bytes, its locals and its expression, in the form of the
-/// standard's section Binary Format, Code Section.
+/// Writes a body in the form of the standard's section Binary Format, Code Section: the number of
+/// its bytes, its locals and its expression. `locals` does not include the parameters, and
+/// `instructions` does not include the last `end`.
 ///
 /// # Errors
 ///

@@ -76,7 +76,7 @@ pub(crate) fn write_try_table(
     list.encode(sink)
 }
 
-// Writes `br_table` to one of `labels`, or else to `last`.
+// Writes `br_table` with `labels` and the default label `last`.
 pub(crate) fn write_branch_table(
     labels: &[u32],
     last: u32,
@@ -96,7 +96,7 @@ pub(crate) fn write_branch_table(
     sink.write_u32(last)
 }
 
-// Returns the byte of a cast for which of its types are nullable.
+// Returns the byte that states which types of a cast are nullable.
 fn cast_byte(from: bool, to: bool) -> u8
     ensures { result ≡ cast_byte from to }
 {

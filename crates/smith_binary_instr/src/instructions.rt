@@ -149,9 +149,10 @@ fn write_instr(instruction: &Instr, sink: &mut Sink) -> Result<(), EncodeError>
     }
 }
 
-/// Writes `instruction` at the end of `sink`: the standard's section Binary Format, Instructions.
+/// Writes `instruction` at the end of `sink`: see the standard, section Binary Format,
+/// Instructions.
 ///
-/// An access to memory names the memory unless it is the first.
+/// An access to memory has the index of the memory unless it is 0.
 ///
 /// # Errors
 ///
@@ -182,7 +183,7 @@ pub fn encode_instrs(sink: &mut Sink, instructions: &[Instr]) -> Result<(), Enco
     Ok(())
 }
 
-/// Writes `instructions` in order, then the `end` of the expression, which the list leaves out.
+/// Writes `instructions` in order, then the `end` of the expression.
 ///
 /// # Errors
 ///

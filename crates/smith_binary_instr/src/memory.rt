@@ -12,7 +12,7 @@ use crate::prefix::write_prefixed;
 use smith_binary::{EncodeError, Sink};
 use smith_instr::{Load, MemArg, MemoryInstr, Store, VectorLoad};
 
-// Writes `at`. Names the memory unless it is the first.
+// Writes `at`, with the index of the memory unless it is 0.
 fn write_mem_arg(at: MemArg, sink: &mut Sink) -> Result<(), EncodeError>
     ensures writes { OnOk result (Writes (λ s. IsMemArgWrittenIn s at) sink.old sink.new) }
     ensures fault { IfErr result (IsFault (2 ^ 6 ≤ at.align)) }
@@ -54,8 +54,8 @@ pub(crate) fn write_prefixed_access(
     write_mem_arg(at, sink)
 }
 
-// Writes the access to the lane `lane` of `2 ^ log2_bytes` bytes. The number of the least lane is
-// `first`.
+// Writes the access to the lane `lane` of `2 ^ log2_bytes` bytes. `first` is the number of the
+// access to a lane of one byte.
 pub(crate) fn write_lane_access(
     first: u32,
     log2_bytes: u32,

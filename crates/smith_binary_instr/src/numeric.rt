@@ -151,7 +151,7 @@ fn conversion_opcode(op: Conversion) -> u8
     }
 }
 
-// Returns the opcode of an extension of a sign.
+// Returns the opcode of a sign extension.
 fn extension_opcode(op: SignExtension) -> u8
     ensures { result ≡ extension_opcode op }
 {
@@ -164,7 +164,7 @@ fn extension_opcode(op: SignExtension) -> u8
     }
 }
 
-// Returns the number of a conversion that saturates, after its prefix.
+// Returns the number of a saturating conversion, after its prefix.
 fn saturating_number(op: SaturatingConversion) -> u32
     ensures { result ≡ saturating_number op }
 {
@@ -192,8 +192,8 @@ fn wide_number(op: WideArithmetic) -> u32
     }
 }
 
-/// Writes the numeric instruction `instruction` at the end of `sink`: the standard's section Binary
-/// Format, Instructions, Numeric Instructions.
+/// Writes the numeric instruction `instruction` at the end of `sink`: see the standard, section
+/// Binary Format, Instructions, Numeric Instructions.
 pub fn write_numeric(instruction: NumericInstr, sink: &mut Sink) -> Result<(), EncodeError>
     ensures writes { OnOk result (Writes (λ s. IsNumericIn s instruction) sink.old sink.new) }
     ensures memory { IfErr result (λ e. e ≡ Memory) }

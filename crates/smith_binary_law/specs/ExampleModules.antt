@@ -2,7 +2,7 @@
 use Rattle.std.specs.Prelude.{None, []}
 use Rattle.smith_binary_sections.specs.Modules.{Contents}
 
--- a module in which nothing is defined
+-- an empty module
 abbrev pub empty_module : Contents
 empty_module = record {
   types = [];

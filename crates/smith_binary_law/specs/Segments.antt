@@ -1,6 +1,5 @@
 -- Valid segments in the abstract syntax: the section Validation, Modules, of the WebAssembly Core
--- Specification 3.0, for any features. References match others also by the own rules of
--- `Subtyping`.
+-- Specification 3.0, for any features. Subtyping follows the own rules of `Subtyping`.
 use Rattle.std.specs.Prelude.{◌≡◌, ℕ, List, [], ◌∷◌, Some, slice_get, All}
 use Rattle.smith_types.specs.Expressions.{Context, AreStackSteps}
 use Rattle.smith_types.specs.Flags.{funcref}
@@ -18,13 +17,14 @@ use Rattle.smith_binary_sections.specs.Elements.{Elem, Mode, passive, declared, 
 use Rattle.smith_binary_sections.specs.Data.{Data, DataMode}
 use Rattle.smith_binary_sections.specs.Data as data_segment
 
--- an expression produces one value that matches the wanted type (Constant Expressions)
+-- an expression produces one value, whose type matches `wanted` (Constant Expressions)
 pub record IsTyped (context : Context) (wanted : ValType) (expression : List ConstInstr) : Type 0 where
   pub value : ValType
   pub steps : AreStackSteps context expression [] (value ∷ [])
   pub below : IsValBelow context.types value wanted
 
--- a table takes items of a type from an offset of its addresses on (Element Segments)
+-- the table exists, its element type accepts `ty`, and the offset has its address type (Element
+-- Segments)
 pub record IsTaken (context : Context) (tables : List TableType) (ty : RefType) (index : ℕ) (offset : List ConstInstr) : Type 0 where
   pub table : TableType
   pub stands : slice_get tables index ≡ Some table
@@ -36,8 +36,8 @@ IsModeTyped context tables ty passive = Unit {0}
 IsModeTyped context tables ty declared = Unit {0}
 IsModeTyped context tables ty (active index offset) = IsTaken context tables ty index offset
 
--- an element segment: its type exists, each item produces a reference of it, and a table takes it
--- (Element Segments)
+-- an element segment: its type exists, each item has this type, and its table accepts it (Element
+-- Segments)
 pub record IsElemTyped (context : Context) (tables : List TableType) (e : Elem) : Type 0 where
   pub ty : IsInRange context.types e.ty.heap_type
   pub items : All (IsTyped context (Ref e.ty)) e.items
@@ -52,8 +52,8 @@ IsDataModeTyped context memories (data_segment.active index offset) =
 abbrev pub IsDataTyped : Context → List MemoryType → Data → Type 0
 IsDataTyped context memories d = IsDataModeTyped context memories d.mode
 
--- items that are listed as functions have the type `funcref` (own rule: a binary states no other
--- type of such a list)
+-- items that are function indices have the type `funcref` (own rule: the binary format gives such a
+-- list no other type)
 abbrev pub AreListedAsFuncref : Elements → RefType → Type 0
 AreListedAsFuncref (Functions functions) ty = ty ≡ funcref
 AreListedAsFuncref (Expressions expressions) ty = Unit {0}

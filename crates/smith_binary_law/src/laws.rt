@@ -23,9 +23,8 @@ ghost use Rattle.smith_binary_instr.specs.Nesting.{AreNested};
 ghost use Rattle.smith_binary_law.specs.Checks.{IsChecked};
 ghost use Rattle.smith_binary_law.specs.Segments.{IsElemTyped, IsDataTyped, AreListedAsFuncref};
 
-/// States that bytes are a module in the binary format for at most one module in the abstract
-/// syntax. So a decoder that follows the grammar reads back the module that was written, with
-/// nothing after it.
+/// States that bytes spell at most one module in the abstract syntax. So a decoder that follows the
+/// grammar reads back the module that was written, with nothing after it.
 pub fn modules_are_unambiguous()
     ensures { (m n : Contents) (bytes : List ℕ) → IsModule m bytes → IsModule n bytes → m ≡ n }
 {}
@@ -38,7 +37,7 @@ pub fn bodies_are_checked()
 {}
 
 /// States that a valid element segment is valid in the abstract syntax, if functions are listed
-/// only for the type `funcref`. Its type there matches its own.
+/// only for the type `funcref`. Its type in the abstract syntax matches its type in the module.
 pub fn valid_elements_stay_valid()
     ensures typed { (context : Context) (tables : List TableType) (segment : ElementSegment)
         → IsElementSegmentValid context tables segment → AreListedAsFuncref segment.items segment.ty
@@ -59,7 +58,7 @@ pub fn instructions_are_unambiguous()
     ensures { IsUnambiguous IsInstr }
 {}
 
-/// States that bytes are an expression for at most one list of instructions.
+/// States that bytes spell an expression of at most one list of instructions.
 pub fn expressions_are_unambiguous()
     ensures { (one other : List Instr) (bytes : List ℕ) → IsExpr one bytes → IsExpr other bytes
         → one ≡ other }

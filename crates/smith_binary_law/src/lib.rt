@@ -1,5 +1,4 @@
-//! Laws of the binary format: the grammars of modules, of instructions and of bodies are
-//! unambiguous, since what they spell is read back.
+//! Laws of the binary format: the grammars of modules, instructions and bodies are unambiguous.
 #![tactic(auto)]
 
 mod examples;

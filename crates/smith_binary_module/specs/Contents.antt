@@ -11,11 +11,11 @@ use Rattle.smith_binary_sections.specs.Codes.{body_of}
 use Rattle.smith_binary_sections.specs.Data.{data_of}
 use Rattle.smith_binary_sections.specs.Modules.{Contents}
 
--- the last items of an index space: defined items come after imported ones (Structure, Indices)
+-- the last `count` items of an index space: definitions come after imports (Structure, Indices)
 abbrev pub defined : {A : Type 0} → ℕ → List A → List A
 defined count space = drop (length space - count) space
 
--- the parts of a module in the abstract syntax (Structure, Modules)
+-- a module in the abstract syntax (Structure, Modules)
 abbrev pub contents_of : ModuleParts → Contents
 contents_of m = record {
   types = map (group_at m.types) m.groups;

@@ -13,9 +13,9 @@ use Rattle.smith_binary_sections.specs.Long.{IsLongSection, IsNeverLong, IsLongG
 use Rattle.smith_binary_sections.specs.Long.{IsLongBody, IsLongData}
 use Rattle.smith_binary_module.specs.Contents.{contents_of}
 
--- a section is too long: a list in it has 2^32 items or more, or it or a body of it has a spelling
--- of 2^32 bytes or more. In bodies each local is a run of its own, since runs of no locals could
--- make any body long
+-- A section is too long: it has a list of 2^32 items or more, or it or a body in it has a spelling
+-- of 2^32 bytes or more. In bodies each local is a run of its own, because empty runs could make
+-- any body too long.
 pub data IsTooLong (m : ModuleParts) : Type 0 where
   types : IsLongSection IsRecGroupWritten IsLongGroup (contents_of m).types → IsTooLong m
   imports : IsLongSection IsImportGroup IsLongImportGroup m.imports → IsTooLong m

@@ -1,5 +1,5 @@
--- The sections of a module as they are written, in three parts: imports in the groups of the
--- module, types, tables and segments in one of their forms, and each local as a run of its own.
+-- The sections of a module as they are written, in three parts. Imports are in the module's groups;
+-- types, tables and segments are in one of their forms; each local is a run of its own.
 use Rattle.std.specs.Prelude.{ℕ, List, length}
 use Rattle.std.specs.List.{zip}
 use Rattle.smith_binary.specs.Spelling.{IsUnsignedIn, Spelling}
@@ -47,7 +47,7 @@ IsMiddleIn spelling m =
 abbrev pub IsMiddle : ModuleParts → List ℕ → Type 0
 IsMiddle = IsMiddleIn any
 
--- the other sections, if this spells the content of the code section
+-- the other sections, where `Bodies` spells the content of the code section
 abbrev pub IsBackIn : Spelling → ModuleParts → (List ℕ → Type 0) → List ℕ → Type 0
 IsBackIn spelling m Bodies =
     Joined (IsStartSectionIn spelling m.start)
@@ -59,15 +59,16 @@ IsBackIn spelling m Bodies =
 abbrev pub IsBack : ModuleParts → (List ℕ → Type 0) → List ℕ → Type 0
 IsBack = IsBackIn any
 
--- a module as it is written, if this spells the content of the code section
+-- a module as it is written, where `Bodies` spells the content of the code section
 abbrev pub IsWrittenIn : Spelling → ModuleParts → (List ℕ → Type 0) → List ℕ → Type 0
 IsWrittenIn spelling m Bodies =
     Joined IsPreamble (Joined (IsFrontIn spelling m) (Joined (IsMiddleIn spelling m) (IsBackIn spelling m Bodies)))
 
+-- a module as it is written, with integers in any spelling
 abbrev pub IsWritten : ModuleParts → (List ℕ → Type 0) → List ℕ → Type 0
 IsWritten = IsWrittenIn any
 
--- the bodies that a module has
+-- the module's own bodies, as the content of the code section
 abbrev pub AreOwnBodiesIn : Spelling → ModuleParts → List ℕ → Type 0
 AreOwnBodiesIn spelling m = IsListIn spelling (λ (code : Code). IsBodyWrittenIn spelling (body_of m.fuel_globals code)) m.code
 

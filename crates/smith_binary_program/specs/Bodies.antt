@@ -12,13 +12,13 @@ use Rattle.smith_program.specs.Counted.{counted}
 use Rattle.smith_program.specs.declared.program.Body.{Body}
 use Rattle.smith_program.specs.declared.program.Body.TheVariants as body
 
--- the expression of a function: the drawn instructions (Expressions) with the checks of the
--- counters, or the raw bytes of the module (own rule)
+-- the expression of a function: the drawn instructions with the fuel checks (Expressions), or the
+-- raw bytes of the module (own rule)
 abbrev pub IsExpressionOf : List ℕ → Code → Body → List ℕ → Type 0
 IsExpressionOf counters code (body.Drawn instructions) piece = IsExpr (counted counters instructions) piece
 IsExpressionOf counters code body.Raw piece = Is (body_bytes counters code.instructions) piece
 
--- that expression as it is written, where no access names the first memory (own rule)
+-- the expression of a function as it is written: no access names memory 0 (own rule)
 abbrev pub IsExpressionWrittenIn : Spelling → List ℕ → Code → Body → List ℕ → Type 0
 IsExpressionWrittenIn spelling counters code (body.Drawn instructions) piece = IsExprWrittenIn spelling (counted counters instructions)
     piece
@@ -27,8 +27,8 @@ IsExpressionWrittenIn spelling counters code body.Raw piece = Is (body_bytes cou
 abbrev pub IsExpressionWritten : List ℕ → Code → Body → List ℕ → Type 0
 IsExpressionWritten = IsExpressionWrittenIn any
 
--- a body as it is written (Code Section): the number of its bytes, then its locals, each as a run
--- of its own (own rule), and its expression
+-- a body as it is written: its size, its locals, each as a run of its own (own rule), and its
+-- expression (Code Section)
 abbrev pub IsBodyOfIn : Spelling → List ℕ → Code × Body → List ℕ → Type 0
 IsBodyOfIn spelling counters given =
     IsSizedIn spelling (Joined (IsLocalsWrittenIn spelling given.0.locals) (IsExpressionWrittenIn spelling counters given.0 given.1))
@@ -40,5 +40,6 @@ IsBodyOf = IsBodyOfIn any
 abbrev pub AreBodiesOfIn : Spelling → List ℕ → List Code → List Body → List ℕ → Type 0
 AreBodiesOfIn spelling counters codes bodies = IsListIn spelling (IsBodyOfIn spelling counters) (zip codes bodies)
 
+-- the list of the bodies as they are written, with integers in any spelling (Code Section)
 abbrev pub AreBodiesOf : List ℕ → List Code → List Body → List ℕ → Type 0
 AreBodiesOf = AreBodiesOfIn any

@@ -16,6 +16,6 @@ function locals = one_function (record { locals = locals; instructions = Unreach
 abbrev pub nop : Body
 nop = body.Drawn (instr.Nop ∷ [])
 
--- the bytes before all sections
+-- the magic number and the version
 abbrev pub preamble : List ℕ
 preamble = 0x00 ∷ 0x61 ∷ 0x73 ∷ 0x6D ∷ 0x01 ∷ 0x00 ∷ 0x00 ∷ 0x00 ∷ []

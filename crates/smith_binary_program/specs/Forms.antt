@@ -1,5 +1,5 @@
--- The forms of what is written that require a feature: the chapter Binary Format of the WebAssembly
--- Core Specification 3.0. The requirements are rules of this project.
+-- The written forms that require a feature: the chapter Binary Format of the WebAssembly Core
+-- Specification 3.0. The requirements are rules of this project.
 use Rattle.std.specs.Prelude.{◌≡◌, ℕ, ◌⊎◌, false, IsTrue, None, List, [], ◌∷◌, All}
 use Rattle.std.specs.declared.ops.Range.{Range}
 use Rattle.smith_syntax.specs.Features.{Features}
@@ -27,8 +27,8 @@ use Rattle.smith_binary_sections.specs.Data.DataForm.{first_memory, no_memory, n
 use Rattle.smith_program.specs.Bodies.{AreBodiesBy}
 use Rattle.smith_program.specs.declared.program.Body.{Body}
 
--- the forms of types: a list of sub types in a group, and a sub type that states whether it is final
--- (Recursive Types)
+-- the form of a subtype, and of a group of types, is enabled: finality, supertypes and groups of
+-- several types require garbage collection (Recursive Types)
 abbrev pub IsTypeFormEnabled : Features → SubType → Type 0
 IsTypeFormEnabled features t = is_alone t.supertype t.is_final ≡ false → IsTrue features.gc
 
@@ -36,8 +36,8 @@ abbrev pub IsGroupFormEnabled : Features → List SubType → Type 0
 IsGroupFormEnabled features (t ∷ []) = IsTypeFormEnabled features t
 IsGroupFormEnabled features group = IsTrue features.gc
 
--- a form of an element segment: those with an odd number require bulk memory, and all but 0, 1 and 3
--- require reference types (Element Section)
+-- a form of an element segment is enabled: forms with an odd number require bulk memory, and all
+-- but 0, 1 and 3 require reference types (Element Section)
 abbrev pub IsElemFormEnabled : Features → Form → Type 0
 IsElemFormEnabled features first_funcs = Unit {0}
 IsElemFormEnabled features passive_funcs = IsTrue features.bulk_memory
@@ -48,14 +48,15 @@ IsElemFormEnabled features passive_items = IsTrue features.reference_types × Is
 IsElemFormEnabled features table_items = IsTrue features.reference_types
 IsElemFormEnabled features declared_items = IsTrue features.reference_types × IsTrue features.bulk_memory
 
--- a form of a data segment: without a memory, and with one that is named (Data Section)
+-- a form of a data segment is enabled: a passive segment requires bulk memory, and a named memory
+-- requires multi-memory (Data Section)
 abbrev pub IsDataFormEnabled : Features → DataForm → Type 0
 IsDataFormEnabled features first_memory = Unit {0}
 IsDataFormEnabled features no_memory = IsTrue features.bulk_memory
 IsDataFormEnabled features named_memory = IsTrue features.multi_memory
 
--- the memory of an access, which is named by a bit of the alignment if it is not the first; 0 for
--- other instructions (Memory Instructions)
+-- the memory of an access, whose memory argument names it if it is not 0; or 0 for other
+-- instructions (Memory Instructions)
 abbrev pub accessed : Instr → ℕ
 accessed (instr.Load op at) = at.memory
 accessed (instr.Store op at) = at.memory
@@ -66,23 +67,23 @@ accessed (instr.VectorStoreLane log2_bytes at lane) = at.memory
 accessed (instr.Atomic access at) = at.memory
 accessed _ = 0
 
--- an access with that bit requires several memories (Memory Instructions)
+-- an access is enabled: a named memory requires multi-memory (Memory Instructions)
 abbrev pub IsAccessEnabled : Features → Instr → Type 0
 IsAccessEnabled features instruction = (accessed instruction ≡ 0 → ⊥) → IsTrue features.multi_memory
 
--- the features with reference types that are written with the byte 0x63 or 0x64: garbage collection,
--- and those that a module only has with it
+-- reference types with the byte 0x63 or 0x64 are enabled: by garbage collection, or by a feature
+-- that requires it
 abbrev pub HasLongReferences : Features → Type 0
 HasLongReferences features =
     IsTrue features.gc ⊎ (IsTrue features.function_references
     ⊎ (IsTrue features.custom_descriptors ⊎ IsTrue features.shared_everything_threads))
 
--- the form of a reference type: with such a byte, unless it is an abstract heap type alone (Reference
--- Types)
+-- the form of a reference type is enabled: it is an abstract heap type alone, or one with such a
+-- byte is enabled (Reference Types)
 abbrev pub IsRefFormEnabled : Features → RefType → Type 0
 IsRefFormEnabled features reference = short_ref reference.nullable reference.heap_type ≡ None → HasLongReferences features
 
--- a value type, and value types: the forms of the reference types among them (Value Types)
+-- the form of a value type, and of each of several value types, is enabled (Value Types)
 abbrev pub IsValFormEnabled : Features → ValType → Type 0
 IsValFormEnabled features (Ref reference) = IsRefFormEnabled features reference
 IsValFormEnabled features _ = Unit {0}
@@ -90,7 +91,7 @@ IsValFormEnabled features _ = Unit {0}
 abbrev pub AreValFormsEnabled : Features → List ValType → Type 0
 AreValFormsEnabled features values = All (IsValFormEnabled features) values
 
--- the value types that an instruction states: the type of a block, and those of a select (Control
+-- the value types in a block type and in an instruction, which is a block or a select (Control
 -- Instructions; Parametric Instructions)
 abbrev pub values_of_block : BlockType → List ValType
 values_of_block (block.Value value) = value ∷ []
@@ -107,8 +108,8 @@ values_in _ = []
 abbrev pub IsStatedEnabled : Features → Instr → Type 0
 IsStatedEnabled features instruction = AreValFormsEnabled features (values_in instruction)
 
--- the reference types of a module and its bodies: in its types, its tables and globals, imported ones
--- among them, its element segments, its locals, and its instructions
+-- the form of each reference type in a module is enabled: in types, tables, globals, element
+-- segments, locals and instructions
 pub record AreReferencesEnabled (m : ModuleParts) (bodies : List Body) : Type 0 where
   pub types : All (λ (t : SubType). AreValFormsEnabled (module_features m) (values_of t.composite_type.inner)) m.types
   pub tables : All (λ (table : TableType). IsRefFormEnabled (module_features m) table.element_type) m.tables
@@ -117,8 +118,7 @@ pub record AreReferencesEnabled (m : ModuleParts) (bodies : List Body) : Type 0 
   pub locals : All (λ (code : Code). AreValFormsEnabled (module_features m) code.locals) m.code
   pub instructions : AreBodiesBy (λ (place : ℕ) (code : Code). All (IsStatedEnabled (module_features m))) m bodies
 
--- the groups of types, the reference types, the segments and the accesses of a module and its bodies
--- are in forms that its features enable, as they are written
+-- the written form of each group of types, reference type, segment and access is enabled
 pub record AreFormsEnabled (m : ModuleParts) (bodies : List Body) : Type 0 where
   pub groups : All (λ (group : Range ℕ). IsGroupFormEnabled (module_features m) (group_at m.types group)) m.groups
   pub references : AreReferencesEnabled m bodies

@@ -15,22 +15,22 @@ use Rattle.smith_program.specs.declared.program.Body.{Body}
 use Rattle.smith_program.specs.declared.program.Body.TheVariants as body
 use Rattle.smith_binary_program.specs.Bodies.{AreBodiesOf}
 
--- a body has 2^32 locals or more, an instruction that the format cannot express, or 2^32 bytes or
--- more where each local is a run of its own
+-- a body has 2^32 locals or more, an instruction that the format cannot express, or, with each
+-- local as a run of its own, 2^32 bytes or more
 abbrev pub IsLongDrawn : List ℕ → List ValType → List Instr → Type 0
 IsLongDrawn counters locals instructions =
     IsLongList IsNeverLong locals ⊎ (Any IsLongInstr instructions ⊎ IsLongContent (IsFuncWritten locals (counted counters instructions)))
 
--- a body that was drawn is too long, or raw bytes are
+-- a body is too long, drawn or raw
 abbrev pub IsLongBodyOf : List ℕ → Code × Body → Type 0
 IsLongBodyOf counters (code, body.Drawn instructions) = IsLongDrawn counters code.locals instructions
 IsLongBodyOf counters (code, body.Raw) = IsLongBody (body_of counters code)
 
--- there are 2^32 bodies or more, or such a body
+-- there are 2^32 bodies or more, or one of them is too long
 abbrev pub AreLongBodies : List ℕ → List Code → List Body → Type 0
 AreLongBodies counters codes bodies = IsLongList (IsLongBodyOf counters) (zip codes bodies)
 
--- the module is too long, or its bodies are
+-- the module without its bodies is too long, or its bodies are
 abbrev pub IsLongProgram : ModuleParts → List Body → Type 0
 IsLongProgram m bodies =
     IsTooLong m ⊎ (AreLongBodies m.fuel_globals m.code bodies ⊎ IsLongContent (AreBodiesOf m.fuel_globals m.code bodies))

@@ -1,4 +1,4 @@
--- Bytes that are a valid program, and programs that have the same bytes: the sections Validation,
+-- Bytes that are a valid program, and programs with the same bytes: the sections Validation,
 -- Modules, and Binary Format, Modules, of the WebAssembly Core Specification 3.0.
 use Rattle.std.specs.Prelude.{◌≡◌, ℕ, List, []}
 use Rattle.std.specs.List.{AllZip, Contains, zip}
@@ -12,32 +12,31 @@ use Rattle.smith_program.specs.declared.program.Body.{Body}
 use Rattle.smith_program.specs.declared.program.Body.TheVariants as body
 use Rattle.smith_binary_program.specs.Programs.{IsEncoded, IsProgramBinary}
 
--- the same instructions, with the checks of counters of fuel among them (Structure, Instructions);
--- raw bytes aren't compared (own rule)
+-- two bodies have the same instructions, fuel checks included (Structure, Instructions); raw bytes
+-- are not compared (own rule)
 abbrev pub HaveSameInstructions : List ℕ → List ℕ → Body → Body → Type 0
 HaveSameInstructions counters others (body.Drawn one) (body.Drawn other) = counted counters one ≡ counted others other
 HaveSameInstructions counters others _ _ = Unit {0}
 
--- functions with the same locals and the same instructions (Structure, Functions)
+-- two functions have the same locals and the same instructions (Structure, Functions)
 pub record IsSameFunction (counters others : List ℕ) (one other : Code × Body) : Type 0 where
   pub locals : one.0.locals ≡ other.0.locals
   pub instructions : HaveSameInstructions counters others one.1 other.1
 
--- programs that are one in the abstract syntax, apart from raw bodies: the same parts but for the
--- bodies, and the same functions (Structure, Modules). A counter of fuel is a global, and its checks
--- are instructions
+-- two programs are the same in the abstract syntax, apart from raw bytes (Structure, Modules); fuel
+-- counters are globals, and their checks are instructions
 pub record IsSameProgram (m n : ModuleParts) (bodies others : List Body) : Type 0 where
   pub parts : record (contents_of m) { bodies = [] } ≡ record (contents_of n) { bodies = [] }
   pub functions : AllZip (IsSameFunction m.fuel_globals n.fuel_globals) (zip m.code bodies) (zip n.code others)
 
--- bytes have a section of this identifier (Modules, Sections)
+-- the bytes have a section with this identifier (Modules, Sections)
 pub record HasSection (id : ℕ) (bytes : List ℕ) : Type 0 where
   pub ids : List ℕ
   pub sections : HasSections ids bytes
   pub there : Contains ids id
 
--- bytes are a valid program, and no other program (Binary Format, Modules; Validation, Modules);
--- the number of data segments is stated if a body names one (Data Count Section)
+-- the bytes are a valid program, and no other program (Binary Format, Modules; Validation,
+-- Modules), with a data count section if a body names a data segment (Data Count Section)
 pub record IsValidBinary (bytes : List ℕ) : Type 0 where
   pub m : ModuleParts
   pub bodies : List Body
@@ -46,7 +45,7 @@ pub record IsValidBinary (bytes : List ℕ) : Type 0 where
   pub data_count : NameData bodies → HasSection 12 bytes
   pub no_other : (n : ModuleParts) (others : List Body) → IsProgramBinary n others bytes → IsSameProgram m n bodies others
 
--- bytes are at most one program
+-- bytes spell at most one program
 abbrev pub ProgramsAreUnambiguous : Type 0
 ProgramsAreUnambiguous =
     (m n : ModuleParts) (bodies others : List Body) (bytes : List ℕ) → IsProgramBinary m bodies bytes → IsProgramBinary n others bytes

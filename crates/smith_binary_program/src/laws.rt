@@ -8,23 +8,23 @@ ghost use Rattle.smith_binary_program.specs.Forms.{AreFormsEnabled, HasLongRefer
 ghost use Rattle.smith_binary_program.specs.Valid.{ProgramsAreUnambiguous};
 ghost use Rattle.smith_binary_program.specs.Valid.{EncodedProgramsAreValid};
 
-/// States that bytes are at most one program in the binary format: one module, with one list of
-/// instructions for each body that is not raw bytes, in which the checks of fuel are.
+/// States that bytes spell at most one program: one module, and one list of instructions for each
+/// body that is not raw bytes. These lists include the checks of fuel.
 pub fn programs_are_unambiguous()
     ensures { ProgramsAreUnambiguous }
 {}
 
-/// States that the bytes that [`encode`] writes for a valid program are a valid program, and no
-/// other one.
+/// States that the bytes that [`encode`] writes for a valid program spell a valid program, and no
+/// other program.
 ///
 /// [`encode`]: crate::encode
 pub fn encoded_programs_are_valid()
     ensures { EncodedProgramsAreValid }
 {}
 
-/// States that a valid module and its typed bodies are written without the forms of features that are
-/// off, and that among the features of a module those that reference types need for their long form
-/// are off without garbage collection.
+/// States that a valid module and its typed bodies are written without the forms of disabled
+/// features. Without garbage collection, a module has no feature whose reference types need the
+/// long form.
 pub fn forms_are_enabled()
     ensures enabled { (m : ModuleParts) (bodies : List Body) → IsValid m → AreBodiesOf m bodies
         → AreFormsEnabled m bodies }

@@ -19,26 +19,31 @@ use Rattle.smith_binary_read.specs.Contents.{name_at}
 use Rattle.smith_binary_read.specs.Choices.{coded_at}
 use Rattle.smith_binary_read.specs.TypeReadings.{ref_type_at, val_type_at}
 
--- the index spaces of exports
+-- the kinds of exports, by their byte
 abbrev pub kind_rows : List (ℕ × ExportKind)
 kind_rows = (0x00, kind.Func) ∷ (0x01, kind.Table) ∷ (0x02, kind.Memory) ∷ (0x03, kind.Global) ∷ (0x04, kind.Tag) ∷ []
 
+-- reads the kind of an export
 unfoldable pub kind_at : List ℕ → Reading ExportKind
 kind_at bytes = coded_at kind_rows bytes
 
+-- an export: its name, then the kind and the index of its item
 abbrev pub IsExportItem : Export → List ℕ → Type 0
 IsExportItem item = IsExport (item.name, item.kind, item.index)
 
+-- an export of this name, with the kind and the index of its item
 abbrev pub export_of : List ℕ → ExportKind × ℕ → Export
 export_of name item = record { name = name; kind = item.0; index = item.1 }
 
+-- reads an export
 unfoldable pub export_at : List ℕ → Reading Export
 export_at bytes = joined_at export_of name_at (joined_at (λ kind index. (kind, index)) kind_at (unsigned_at 32)) bytes
 
--- the flags of limits
+-- the flags of limits: a maximum, sharedness, 64-bit addresses and a page size
 abbrev pub flags : Bool → Bool → Bool → Bool → Flags
 flags bounded shared wide paged = record { bounded = bounded; shared = shared; wide = wide; paged = paged }
 
+-- the flags of limits, by their byte
 abbrev pub flag_rows : List (ℕ × Flags)
 flag_rows =
     (0, flags false false false false) ∷ (1, flags true false false false) ∷ (2, flags false true false false)
@@ -50,50 +55,60 @@ flag_rows =
     ∷ (12, flags false false true true) ∷ (13, flags true false true true) ∷ (14, flags false true true true)
     ∷ (15, flags true true true true) ∷ []
 
+-- reads the flags of limits
 unfoldable pub flags_at : List ℕ → Reading Flags
 flags_at bytes = coded_at flag_rows bytes
 
--- a number, if there is one
+-- reads a number if a flag is set
 abbrev pub optional_at : Bool → ℕ → List ℕ → Reading (Option ℕ)
 optional_at true bits bytes = mapped_at (λ n. Some n) (unsigned_at bits) bytes
 optional_at false bits bytes = Ok (None, bytes)
 
+-- a memory type with these flags, this minimum, this maximum and this logarithm of its page size
 abbrev pub memory_type : Flags → ℕ → Option ℕ → Option ℕ → MemoryType
 memory_type f minimum maximum page =
     record { minimum = minimum; maximum = maximum; memory64 = f.wide; shared = f.shared; page_size_log2 = page }
 
+-- reads a memory type
 unfoldable pub memory_type_at : List ℕ → Reading MemoryType
 memory_type_at bytes = flags_at bytes >>=
     (λ f. unsigned_at 64 f.1 >>= (λ minimum. optional_at f.0.bounded 64 minimum.1
     >>= (λ maximum. optional_at f.0.paged 32 maximum.1 >>= (λ page.
     Ok (memory_type f.0 minimum.0 maximum.0 page.0, page.1)))))
 
+-- reads a tag type: a byte for exceptions, then a type index
 unfoldable pub tag_type_at : List ℕ → Reading ℕ
 tag_type_at bytes = byte_at bytes >>= (λ byte. if byte.0 == 0 then unsigned_at 32 byte.1 else fault_at UnknownByte bytes)
 
+-- a table type with this element type, these flags, this minimum and this maximum
 abbrev pub table_type : RefType → Flags → ℕ → Option ℕ → TableType
 table_type element f minimum maximum =
     record { element_type = element; minimum = minimum; maximum = maximum; table64 = f.wide; shared = f.shared }
 
+-- reads a table type, whose flags state no page size
 unfoldable pub table_type_at : List ℕ → Reading TableType
 table_type_at bytes = ref_type_at bytes >>= (λ element. flags_at element.1 >>= (λ f.
     if f.0.paged then fault_at UnknownByte bytes
     else (unsigned_at 64 f.1 >>= (λ minimum. optional_at f.0.bounded 64 minimum.1 >>= (λ maximum.
     Ok (table_type element.0 f.0 minimum.0 maximum.0, maximum.1))))))
 
--- whether a global is mutable and shared
+-- the mutability and sharedness of a global, by its byte
 abbrev pub global_rows : List (ℕ × (Bool × Bool))
 global_rows = (0, (false, false)) ∷ (1, (true, false)) ∷ (2, (false, true)) ∷ (3, (true, true)) ∷ []
 
+-- reads the mutability and sharedness of a global
 unfoldable pub global_flags_at : List ℕ → Reading (Bool × Bool)
 global_flags_at bytes = coded_at global_rows bytes
 
+-- a global type with this value type, this mutability and this sharedness
 abbrev pub global_type : ValType → Bool × Bool → GlobalType
 global_type value f = record { val_type = value; mutable = f.0; shared = f.1 }
 
+-- reads a global type
 unfoldable pub global_type_at : List ℕ → Reading GlobalType
 global_type_at bytes = joined_at global_type val_type_at global_flags_at bytes
 
+-- reads an external type
 unfoldable pub extern_type_at : List ℕ → Reading EntityType
 extern_type_at bytes = byte_at bytes >>= (λ byte.
     if byte.0 == 0 then mapped_at entity.Func (unsigned_at 32) byte.1

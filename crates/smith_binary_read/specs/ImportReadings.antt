@@ -9,13 +9,16 @@ use Rattle.smith_binary_read.specs.Readings.{Reading, ◌>>=◌, byte_at, joined
 use Rattle.smith_binary_read.specs.Contents.{list_at, name_at}
 use Rattle.smith_binary_read.specs.EntityReadings.{extern_type_at}
 
+-- an import in a group, with this name and this type
 abbrev pub import_item : List ℕ → EntityType → ImportItem
 import_item name ty = record { name = name; entity_type = ty }
 
+-- reads an import in a compact group
 unfoldable pub import_item_at : List ℕ → Reading ImportItem
 import_item_at bytes = joined_at import_item name_at extern_type_at bytes
 
--- imports of one module, after its name: an empty name and a byte begin a compact group
+-- reads a group of imports from one module, after its name; an empty name and a byte begin a
+-- compact group
 unfoldable pub import_group_at : List ℕ → Reading Imports
 import_group_at bytes = name_at bytes >>= (λ from. name_at from.1 >>= (λ name. byte_at name.1 >>= (λ byte.
     if length name.0 == 0 && byte.0 == 0x7F then mapped_at (λ items. Compact1 from.0 items) (list_at import_item_at) byte.1

@@ -10,8 +10,10 @@ use Rattle.smith_binary_read.specs.EntityReadings.{tag_type_at}
 abbrev pub IsTagDefinition : TagDefinition → List ℕ → Type 0
 IsTagDefinition tag = IsTagType tag.0
 
+-- a tag with this type index
 abbrev pub tag_of : ℕ → TagDefinition
 tag_of index = record { 0 = index }
 
+-- reads a tag (Tag Section)
 unfoldable pub tag_at : List ℕ → Reading TagDefinition
 tag_at bytes = mapped_at tag_of tag_type_at bytes

@@ -15,7 +15,7 @@ use Rattle.smith_instr.specs.declared.reference.ReferenceInstr.{ReferenceInstr}
 use Rattle.smith_instr.specs.declared.reference.ReferenceInstr.TheVariants as reference
 use Rattle.smith_binary_read_instr.specs.ControlReadings.{branch_cast_at}
 
--- instructions after the byte 0xFB and a number: on structs, up to 5
+-- reads an instruction on structs, with a number up to 5, after the byte 0xFB and the number
 unfoldable pub struct_at : ℕ → List ℕ → Reading AggregateInstr
 struct_at number bytes =
     if number == 0 then mapped_at aggregate.StructNew (unsigned_at 32) bytes
@@ -25,7 +25,7 @@ struct_at number bytes =
     else (if number == 4 then mapped_at (λ parts. aggregate.StructGet parts.0 parts.1 extension.Unsigned) two_at bytes
     else mapped_at (λ parts. aggregate.StructSet parts.0 parts.1) two_at bytes))))
 
--- on new arrays, up to 10
+-- reads an instruction that creates an array, with a number from 6 up to 10
 unfoldable pub new_array_at : ℕ → List ℕ → Reading AggregateInstr
 new_array_at number bytes =
     if number == 6 then mapped_at aggregate.ArrayNew (unsigned_at 32) bytes
@@ -34,7 +34,7 @@ new_array_at number bytes =
     else (if number == 9 then mapped_at (λ parts. aggregate.ArrayNewData parts.0 parts.1) two_at bytes
     else mapped_at (λ parts. aggregate.ArrayNewElem parts.0 parts.1) two_at bytes)))
 
--- on an element of an array, up to 14
+-- reads an instruction on one element of an array, with a number from 11 up to 14
 unfoldable pub array_at : ℕ → List ℕ → Reading AggregateInstr
 array_at number bytes =
     if number == 11 then mapped_at (λ index. aggregate.ArrayGet index extension.Unpacked) (unsigned_at 32) bytes
@@ -42,7 +42,7 @@ array_at number bytes =
     else (if number == 13 then mapped_at (λ index. aggregate.ArrayGet index extension.Unsigned) (unsigned_at 32) bytes
     else mapped_at aggregate.ArraySet (unsigned_at 32) bytes))
 
--- on several elements of an array, up to 19
+-- reads an instruction on several elements of arrays, with a number from 16 up to 19
 unfoldable pub elements_at : ℕ → List ℕ → Reading AggregateInstr
 elements_at number bytes =
     if number == 16 then mapped_at aggregate.ArrayFill (unsigned_at 32) bytes
@@ -50,7 +50,7 @@ elements_at number bytes =
     else (if number == 18 then mapped_at (λ parts. aggregate.ArrayInitData parts.0 parts.1) two_at bytes
     else mapped_at (λ parts. aggregate.ArrayInitElem parts.0 parts.1) two_at bytes))
 
--- tests and casts, up to 23
+-- reads a test or a cast, with a number from 20 up to 23
 unfoldable pub cast_instr_at : ℕ → List ℕ → Reading ReferenceInstr
 cast_instr_at number bytes =
     if number == 20 then mapped_at (λ heap. reference.Test (record { nullable = false; heap_type = heap })) heap_type_at bytes
@@ -58,14 +58,14 @@ cast_instr_at number bytes =
     else (if number == 22 then mapped_at (λ heap. reference.Cast (record { nullable = false; heap_type = heap })) heap_type_at bytes
     else mapped_at (λ heap. reference.Cast (record { nullable = true; heap_type = heap })) heap_type_at bytes))
 
--- instructions of a number alone
+-- the instructions without immediates after the byte 0xFB, by their numbers
 abbrev pub conversion_rows : List (ℕ × Instr)
 conversion_rows =
     (15, instr.Aggregate aggregate.ArrayLen) ∷ (26, instr.Aggregate aggregate.AnyConvertExtern) ∷
     (27, instr.Aggregate aggregate.ExternConvertAny) ∷ (28, instr.Aggregate aggregate.RefI31) ∷
     (29, instr.Aggregate aggregate.I31GetS) ∷ (30, instr.Aggregate aggregate.I31GetU) ∷ []
 
--- instructions with indices, up to 19
+-- reads an instruction with indices, with a number up to 19
 unfoldable pub indexed_at : ℕ → List ℕ → Reading AggregateInstr
 indexed_at number bytes =
     if nat_lt number 6 then struct_at number bytes
@@ -73,6 +73,7 @@ indexed_at number bytes =
     else (if nat_lt number 15 then array_at number bytes
     else elements_at number bytes))
 
+-- reads an instruction after the byte 0xFB
 unfoldable pub aggregate_at : List ℕ → Reading Instr
 aggregate_at bytes = unsigned_at 32 bytes >>= (λ number. or_at (item_of conversion_rows number.0) number.1
     (if nat_lt number.0 20 then mapped_at instr.Aggregate (indexed_at number.0) number.1

@@ -1,5 +1,5 @@
 -- Readings of atomic instructions: the threads proposal, section Binary Format, Atomic Memory
--- Instructions. The shared i31 is that of the shared-everything-threads proposal.
+-- Instructions. The shared i31 follows the shared-everything-threads proposal.
 use Rattle.std.specs.Prelude.{ℕ, ◌-◌, nat_lt, ◌==◌, if◌then◌else◌, List, [], ◌∷◌, Option, Some, None, Ok}
 use Rattle.smith_binary_read.specs.declared.error.Reason.TheVariants.{UnknownByte}
 use Rattle.smith_binary_read.specs.Readings.{Reading, ◌>>=◌, fault_at, byte_at, mapped_at}
@@ -15,15 +15,16 @@ use Rattle.smith_instr.specs.declared.instr.Instr.TheVariants as instr
 use Rattle.smith_binary_read_instr.specs.NumericReadings.{item_or}
 use Rattle.smith_binary_read_instr.specs.MemoryReadings.{mem_arg_at}
 
--- the width of an access, by its place after the first number of its kind
+-- the widths of accesses but the last, by the distance from the first number of a kind of accesses
 abbrev pub width_rows : List (ℕ × AtomicWidth)
 width_rows =
     (0, width.I32) ∷ (1, width.I64) ∷ (2, width.I32Of8) ∷ (3, width.I32Of16) ∷ (4, width.I64Of8) ∷ (5, width.I64Of16) ∷ []
 
+-- the width of an access, by the distance from the first number of its kind
 unfoldable pub width_of : ℕ → AtomicWidth
 width_of place = item_or width_rows width.I64Of32 place
 
--- an update, from 0x1E up to 0x47
+-- the update of a number from 0x1E up to 0x47
 unfoldable pub update_of : ℕ → AtomicAccess
 update_of number =
     if nat_lt number 0x25 then atomic.Update update.Add (width_of (number - 0x1E))
@@ -33,7 +34,7 @@ update_of number =
     else (if nat_lt number 0x41 then atomic.Update update.Xor (width_of (number - 0x3A))
     else atomic.Update update.Exchange (width_of (number - 0x41))))))
 
--- an access from 0x10 on, if there is one
+-- the load, store or update of a number, if any
 unfoldable pub access_of : ℕ → Option AtomicAccess
 access_of number =
     if nat_lt number 0x10 then None
@@ -43,7 +44,7 @@ access_of number =
     else (if nat_lt number 0x4F then Some (atomic.CompareExchange (width_of (number - 0x48)))
     else None))))
 
--- an access, if there is one
+-- the access of a number, if any
 unfoldable pub atomic_of : ℕ → Option AtomicAccess
 atomic_of number =
     if number == 0 then Some atomic.Notify
@@ -51,16 +52,16 @@ atomic_of number =
     else (if number == 2 then Some atomic.Wait64
     else access_of number))
 
--- the place of an access if there is one, else what is read
+-- reads the memory argument of an access, if there is one, or else `other`
 abbrev pub atomic_or : Option AtomicAccess → List ℕ → Reading Instr → Reading Instr
 atomic_or (Some access) bytes other = mapped_at (instr.Atomic access) mem_arg_at bytes
 atomic_or None bytes other = other
 
--- the byte after `atomic.fence`
+-- reads the byte after `atomic.fence`
 unfoldable pub fence_at : List ℕ → Reading Instr
 fence_at bytes = byte_at bytes >>= (λ byte. if byte.0 == 0 then Ok (instr.AtomicFence, byte.1) else fault_at UnknownByte bytes)
 
--- instructions after the byte 0xFE
+-- reads an instruction after the byte 0xFE
 unfoldable pub atomic_at : List ℕ → Reading Instr
 atomic_at bytes = unsigned_at 32 bytes >>= (λ number. atomic_or (atomic_of number.0) number.1
     (if number.0 == 3 then fence_at number.1

@@ -9,29 +9,28 @@ use Rattle.smith_instr.specs.declared.instr.Instr.{Instr}
 use Rattle.smith_binary_instr.specs.Nesting.{blocks_after}
 use Rattle.smith_binary_read_instr.specs.InstrReadings.{instr_at}
 
--- the blocks that are open after an instruction, or a fault at it
+-- the open blocks after an instruction, or a fault at the instruction
 abbrev pub opened_at : Option (List Bool) → List ℕ → Result (List Bool) Fault
 opened_at (Some blocks) bytes = Ok blocks
 opened_at None bytes = fault_at UnknownByte bytes
 
--- whether an expression ends: no block is open, and the next byte is its end
+-- whether an expression ends here: no block is open, and the next byte is its `end`
 unfoldable pub is_over : List Bool → List ℕ → Bool
 is_over [] bytes = starts_with 0x0B bytes
 is_over (block ∷ blocks) bytes = false
 
--- an instruction in these open blocks, and the blocks that are open after it
+-- reads an instruction within these open blocks, and gives the open blocks after it
 unfoldable pub nested_instr_at : List Bool → List ℕ → Reading (Instr × List Bool)
 nested_instr_at blocks bytes =
     instr_at bytes >>= (λ x. opened_at (blocks_after x.0 blocks) bytes >>= (λ next. Ok ((x.0, next), x.1)))
 
--- instructions in these open blocks up to the end of an expression, of which there are fewer than
--- `most`
+-- reads instructions within these open blocks up to the end of the expression, fewer than `most`
 unfoldable pub nested_at : ℕ → List Bool → List ℕ → Reading (List Instr)
 nested_at zero blocks bytes = fault_at UnexpectedEnd bytes
 nested_at (suc most) blocks bytes =
     if is_over blocks bytes then Ok ([], drop 1 bytes)
     else (nested_instr_at blocks bytes >>= (λ x. nested_at most x.0.1 x.1 >>= (λ xs. Ok (x.0.0 ∷ xs.0, xs.1))))
 
--- an expression
+-- reads an expression
 unfoldable pub expr_at : List ℕ → Reading (List Instr)
 expr_at bytes = nested_at (length bytes) [] bytes

@@ -5,6 +5,6 @@ use Rattle.smith_instr.specs.declared.instr.Instr.{Instr}
 use Rattle.smith_binary_instr.specs.Instructions.{IsExpr}
 use Rattle.smith_binary_instr.specs.Nesting.{AreNested}
 
--- an expression, in which each block ends (Expressions)
+-- an expression in which each block has its `end` (Expressions)
 abbrev pub IsNestedExpr : List Instr → List ℕ → Type 0
 IsNestedExpr instructions piece = AreNested [] instructions × IsExpr instructions piece

@@ -12,7 +12,7 @@ use Rattle.smith_binary_read_instr.specs.AggregateReadings.{aggregate_at}
 use Rattle.smith_binary_read_instr.specs.VectorReadings.{vector_instr_at}
 use Rattle.smith_binary_read_instr.specs.AtomicReadings.{atomic_at}
 
--- an instruction whose first byte is below 0x41
+-- reads an instruction whose first byte is below 0x41
 unfoldable pub low_instr_at : ℕ → List ℕ → Reading Instr
 low_instr_at byte bytes =
     if nat_lt byte 0x0C then block_at bytes
@@ -22,14 +22,14 @@ low_instr_at byte bytes =
     else (if nat_lt byte 0x28 then variable_at bytes
     else access_at bytes))))
 
--- an instruction whose first byte is 0x41 or more, and no prefix
+-- reads an instruction whose first byte is at least 0x41, and not a prefix
 unfoldable pub high_instr_at : ℕ → List ℕ → Reading Instr
 high_instr_at byte bytes =
     if nat_lt byte 0x45 then const_at bytes
     else (if nat_lt byte 0xC5 then numeric_at bytes
     else reference_at bytes)
 
--- an instruction after its prefix, from 0xFB up to 0xFE
+-- reads an instruction after its prefix, from 0xFB up to 0xFE
 unfoldable pub prefixed_at : ℕ → List ℕ → Reading Instr
 prefixed_at prefix bytes =
     if prefix == 0xFB then aggregate_at bytes
@@ -37,7 +37,7 @@ prefixed_at prefix bytes =
     else (if prefix == 0xFD then vector_instr_at bytes
     else atomic_at bytes))
 
--- an instruction
+-- reads an instruction
 unfoldable pub instr_at : List ℕ → Reading Instr
 instr_at bytes = byte_at bytes >>= (λ byte.
     if nat_lt byte.0 0x41 then low_instr_at byte.0 bytes

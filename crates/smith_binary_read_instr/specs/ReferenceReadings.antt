@@ -10,12 +10,12 @@ use Rattle.smith_instr.specs.declared.instr.Instr.{Instr}
 use Rattle.smith_instr.specs.declared.instr.Instr.TheVariants as instr
 use Rattle.smith_instr.specs.declared.reference.ReferenceInstr.TheVariants as reference
 
--- instructions of one byte
+-- the instructions without immediates, by their bytes
 abbrev pub reference_rows : List (ℕ × Instr)
 reference_rows =
     (0xD1, instr.Reference reference.IsNull) ∷ (0xD3, instr.Reference reference.Eq) ∷ (0xD4, instr.Reference reference.AsNonNull) ∷ []
 
--- instructions from 0xC5 up to 0xFA
+-- reads an instruction from 0xC5 up to 0xFA
 unfoldable pub reference_at : List ℕ → Reading Instr
 reference_at bytes = byte_at bytes >>= (λ byte. or_at (item_of reference_rows byte.0) byte.1
     (if byte.0 == 0xD0 then mapped_at (λ heap. instr.Reference (reference.Null heap)) heap_type_at byte.1

@@ -10,28 +10,29 @@ use Rattle.smith_syntax.specs.declared.segments.DataSegmentKind.{DataSegmentKind
 use Rattle.smith_syntax.specs.declared.segments.DataSegmentKind.TheVariants.{Passive, Active}
 use Rattle.smith_binary_sections.specs.Instructions.{offset_of, IsExpressionIn, IsIndexIn}
 
--- the mode of a segment (Structure, Data Segments)
+-- the mode of a data segment (Structure, Data Segments)
 pub data DataMode : Type 0 where
   passive : DataMode
   active : ℕ → List ConstInstr → DataMode
 
--- a segment in the abstract syntax (Structure, Data Segments)
+-- a data segment in the abstract syntax (Structure, Data Segments)
 pub record Data : Type 0 where
   pub bytes : List ℕ
   pub mode : DataMode
 
--- the three forms of a segment (Data Section)
+-- the three forms of a data segment (Data Section)
 pub data DataForm : Type 0 where
   first_memory : DataForm
   no_memory : DataForm
   named_memory : DataForm
 
+-- the number of a form of a data segment (Data Section)
 abbrev pub data_number : DataForm → ℕ
 data_number first_memory = 0
 data_number no_memory = 1
 data_number named_memory = 2
 
--- a segment in a form, after the number of the form (Data Section)
+-- a data segment in a form, after the number of the form (Data Section)
 abbrev pub IsInDataFormIn : Spelling → DataForm → Data → List ℕ → Type 0
 IsInDataFormIn spelling first_memory d piece =
     (offset : List ConstInstr) × (d.mode ≡ active 0 offset) × Joined (IsExpressionIn spelling offset) (IsListIn spelling IsByte d.bytes)
@@ -44,14 +45,15 @@ IsInDataFormIn spelling named_memory d piece =
 abbrev pub IsInDataForm : DataForm → Data → List ℕ → Type 0
 IsInDataForm = IsInDataFormIn any
 
--- the number of a form, then a segment in it (Data Section)
+-- the number of a form, then a data segment in that form (Data Section)
 abbrev pub IsDataFormIn : Spelling → DataForm → Data → List ℕ → Type 0
 IsDataFormIn spelling form d = Joined (IsUnsignedIn spelling 32 (data_number form)) (IsInDataFormIn spelling form d)
 
+-- the number of a form, then a data segment in that form, in any spelling (Data Section)
 abbrev pub IsDataIn : DataForm → Data → List ℕ → Type 0
 IsDataIn = IsDataFormIn any
 
--- a data segment: the number of a form, then the segment in it (Data Section)
+-- a data segment: the number of a form, then the segment in that form (Data Section)
 pub record IsData (d : Data) (piece : List ℕ) : Type 0 where
   pub form : DataForm
   pub spelled : IsDataIn form d piece
@@ -65,10 +67,11 @@ data_mode (Active memory offset) = active memory (offset_of offset)
 abbrev pub data_of : DataSegment → Data
 data_of segment = record { bytes = segment.init; mode = data_mode segment.kind }
 
--- the written form of a segment: without the memory if it is the first (own rule)
+-- the written form of an active data segment: it does not name memory 0 (own rule)
 abbrev pub active_data_form : ℕ → DataForm
 active_data_form memory = if memory == 0 then first_memory else named_memory
 
+-- the written form of a data segment (Data Section)
 abbrev pub data_form : DataSegmentKind → DataForm
 data_form Passive = no_memory
 data_form (Active memory offset) = active_data_form memory

@@ -12,35 +12,38 @@ use Rattle.smith_syntax.specs.declared.entity_type.TableType.{TableType}
 use Rattle.smith_binary_sections.specs.Instructions.{IsExpressionIn}
 use Rattle.smith_binary_sections.specs.Entities.{IsTableType, IsGlobalTypeIn, IsTableTypeIn}
 
--- the expression of the null reference of a type (Table Section)
+-- the expression `ref.null` of a reference type (Table Section)
 abbrev pub null_of : RefType → List ConstInstr
 null_of reference = RefNull reference.heap_type ∷ []
 
--- two bytes, the type of a table and the expression of its elements (Table Section)
+-- two bytes, the type of a table and its initialiser (Table Section)
 abbrev pub IsInitialisedTableIn : Spelling → TableType → List ConstInstr → List ℕ → Type 0
 IsInitialisedTableIn spelling ty initial =
     Joined (Is (0x40 ∷ 0x00 ∷ [])) (Joined (IsTableTypeIn spelling ty) (IsExpressionIn spelling initial))
 
+-- a table with its initialiser, in any spelling (Table Section)
 abbrev pub IsInitialisedTable : TableType → List ConstInstr → List ℕ → Type 0
 IsInitialisedTable = IsInitialisedTableIn any
 
--- a table: with the expression of its elements; or its type alone, if they are null (Table Section)
+-- a table: with its initialiser, or its type alone if the initialiser is `ref.null` (Table Section)
 pub data IsTable (table : TableType × List ConstInstr) (piece : List ℕ) : Type 0 where
   initialised : IsInitialisedTable table.0 table.1 piece → IsTable table piece
   null : table.1 ≡ null_of table.0.element_type → IsTableType table.0 piece → IsTable table piece
 
--- a global: its type, then the expression of its first value (Global Section)
+-- a global: its type, then its initialiser (Global Section)
 abbrev pub IsGlobalIn : Spelling → GlobalType × List ConstInstr → List ℕ → Type 0
 IsGlobalIn spelling global = Joined (IsGlobalTypeIn spelling global.0) (IsExpressionIn spelling global.1)
 
+-- a global in any spelling (Global Section)
 abbrev pub IsGlobal : GlobalType × List ConstInstr → List ℕ → Type 0
 IsGlobal = IsGlobalIn any
 
--- a table of a type with an initialiser, or with null references if it has none (own rule)
+-- a table type with an initialiser, which is `ref.null` if the definition has none (own rule)
 abbrev pub initialised_table : TableType × Option (List ConstInstr) → TableType × List ConstInstr
 initialised_table table = (table.0, unwrap_or table.1 (null_of table.0.element_type))
 
--- a global of a type with the initialiser of its definition, which names its index too (own rule)
+-- a global type with the initialiser of its definition, which also has the global's index (own
+-- rule)
 abbrev pub initialised_global : GlobalType × (ℕ × List ConstInstr) → GlobalType × List ConstInstr
 initialised_global global = (global.0, global.1.1)
 
@@ -52,6 +55,7 @@ IsTableAsIn spelling ty (Some initial) = IsInitialisedTableIn spelling ty initia
 abbrev pub IsTableAs : TableType → Option (List ConstInstr) → List ℕ → Type 0
 IsTableAs = IsTableAsIn any
 
+-- a table with its initialiser, if it has one, as it is written (Table Section)
 abbrev pub IsTableWrittenIn : Spelling → TableType × Option (List ConstInstr) → List ℕ → Type 0
 IsTableWrittenIn spelling table = IsTableAsIn spelling table.0 table.1
 

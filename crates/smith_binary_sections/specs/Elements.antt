@@ -18,28 +18,28 @@ use Rattle.smith_syntax.specs.declared.segments.Elements.TheVariants.{Functions,
 use Rattle.smith_binary_sections.specs.Types.{IsRefTypeIn}
 use Rattle.smith_binary_sections.specs.Instructions.{offset_of, IsExpressionIn, IsIndexIn}
 
--- the mode of a segment (Structure, Element Segments)
+-- the mode of an element segment (Structure, Element Segments)
 pub data Mode : Type 0 where
   passive : Mode
   declared : Mode
   active : ℕ → List ConstInstr → Mode
 
--- a segment in the abstract syntax, in which functions are expressions too (Structure, Element
--- Segments)
+-- an element segment in the abstract syntax, where function indices are expressions too (Structure,
+-- Element Segments)
 pub record Elem : Type 0 where
   pub ty : RefType
   pub items : List (List ConstInstr)
   pub mode : Mode
 
--- the type of references to functions, nullable or not (Element Section)
+-- the type of a reference to an unshared function, nullable or not (Element Section)
 abbrev pub func_ref : Bool → RefType
 func_ref nullable = record { nullable = nullable; heap_type = Abstract false abstract.Func }
 
--- functions as expressions (Element Section)
+-- function indices as expressions (Element Section)
 abbrev pub func_items : List ℕ → List (List ConstInstr)
 func_items funcs = map (λ (index : ℕ). RefFunc index ∷ []) funcs
 
--- the eight forms of a segment (Element Section)
+-- the eight forms of an element segment (Element Section)
 pub data Form : Type 0 where
   first_funcs : Form
   passive_funcs : Form
@@ -50,6 +50,7 @@ pub data Form : Type 0 where
   table_items : Form
   declared_items : Form
 
+-- the number of a form of an element segment (Element Section)
 abbrev pub form_number : Form → ℕ
 form_number first_funcs = 0
 form_number passive_funcs = 1
@@ -60,27 +61,30 @@ form_number passive_items = 5
 form_number table_items = 6
 form_number declared_items = 7
 
--- lists of functions, and of expressions (Element Section)
+-- a list of function indices (Element Section)
 abbrev pub IsFuncsIn : Spelling → List ℕ → List ℕ → Type 0
 IsFuncsIn spelling = IsListIn spelling (IsIndexIn spelling)
 
+-- a list of function indices in any spelling (Element Section)
 abbrev pub IsFuncs : List ℕ → List ℕ → Type 0
 IsFuncs = IsFuncsIn any
 
+-- a list of expressions (Element Section)
 abbrev pub IsItemsIn : Spelling → List (List ConstInstr) → List ℕ → Type 0
 IsItemsIn spelling = IsListIn spelling (IsExpressionIn spelling)
 
 abbrev pub IsItems : List (List ConstInstr) → List ℕ → Type 0
 IsItems = IsItemsIn any
 
--- functions after the byte of their kind (Element Section)
+-- the element kind, a byte, then function indices (Element Section)
 abbrev pub IsKindFuncsIn : Spelling → List ℕ → List ℕ → Type 0
 IsKindFuncsIn spelling funcs = Joined (IsByte 0x00) (IsFuncsIn spelling funcs)
 
+-- the element kind, then function indices, in any spelling (Element Section)
 abbrev pub IsKindFuncs : List ℕ → List ℕ → Type 0
 IsKindFuncs = IsKindFuncsIn any
 
--- a segment in a form, after the number of the form (Element Section)
+-- an element segment in a form, after the number of the form (Element Section)
 abbrev pub IsInFormIn : Spelling → Form → Elem → List ℕ → Type 0
 IsInFormIn spelling first_funcs e piece = (offset : List ConstInstr) × (funcs : List ℕ)
     × (e ≡ record { ty = func_ref false; items = func_items funcs; mode = active 0 offset }) × Joined (IsExpressionIn spelling offset)
@@ -106,28 +110,33 @@ IsInFormIn spelling declared_items e piece = (ty : RefType) × (items : List (Li
 abbrev pub IsInForm : Form → Elem → List ℕ → Type 0
 IsInForm = IsInFormIn any
 
--- the number of a form, then a segment in it (Element Section)
+-- the number of a form, then an element segment in that form (Element Section)
 abbrev pub IsElemFormIn : Spelling → Form → Elem → List ℕ → Type 0
 IsElemFormIn spelling form e = Joined (IsUnsignedIn spelling 32 (form_number form)) (IsInFormIn spelling form e)
 
+-- the number of a form, then an element segment in that form, in any spelling (Element Section)
 abbrev pub IsElemIn : Form → Elem → List ℕ → Type 0
 IsElemIn = IsElemFormIn any
 
--- an element segment: the number of a form, then the segment in it (Element Section)
+-- an element segment: the number of a form, then the segment in that form (Element Section)
 pub record IsElem (e : Elem) (piece : List ℕ) : Type 0 where
   pub form : Form
   pub spelled : IsElemIn form e piece
 
--- the parts of an element segment in the abstract syntax: functions are of the type `(ref func)`,
--- and a segment that names no table is over table 0 (Element Section)
+-- the type of an element segment in the abstract syntax: function indices have the type `(ref
+-- func)` (Element Section)
 abbrev pub elem_type : Elements → RefType → RefType
 elem_type (Functions funcs) ty = func_ref false
 elem_type (Expressions items) ty = ty
 
+-- the items of an element segment in the abstract syntax, where function indices are expressions
+-- (Element Section)
 abbrev pub elem_items : Elements → List (List ConstInstr)
 elem_items (Functions funcs) = func_items funcs
 elem_items (Expressions items) = items
 
+-- the mode of an element segment in the abstract syntax: a segment that names no table is for table
+-- 0 (Element Section)
 abbrev pub elem_mode : ElementKind → Mode
 elem_mode Passive = passive
 elem_mode Declared = declared
@@ -141,33 +150,37 @@ elem_of segment = record {
   mode = elem_mode segment.kind;
 }
 
--- whether a type is that of nullable references to functions (own rule)
+-- whether a heap type is the type of unshared functions (own rule)
 abbrev pub is_func : HeapType → Bool
 is_func (Abstract shared abstract.Func) = not shared
 is_func _ = false
 
+-- whether a reference type is funcref (Reference Types)
 abbrev pub is_func_ref : RefType → Bool
 is_func_ref ty = ty.nullable && is_func ty.heap_type
 
--- the written form of a segment that is copied into a table: without the table if it is the first,
--- and the items are functions or have the only type that this form states (own rule)
+-- the written form of an active segment of function indices: it does not name table 0 (own rule)
 abbrev pub active_funcs_form : ℕ → Form
 active_funcs_form table = if table == 0 then first_funcs else table_funcs
 
+-- the written form of an active segment of expressions: without a table index if the table is 0 and
+-- the type is funcref (Element Section)
 abbrev pub active_items_form : ℕ → RefType → Form
 active_items_form table ty = if (table == 0) && is_func_ref ty then first_items else table_items
 
--- the written form of a segment: a list of functions if it is one (own rule)
+-- the written form of a segment of function indices (own rule)
 abbrev pub funcs_form : ElementKind → Form
 funcs_form Passive = passive_funcs
 funcs_form Declared = declared_funcs
 funcs_form (Active table offset) = active_funcs_form (unwrap_or table 0)
 
+-- the written form of a segment of expressions (Element Section)
 abbrev pub items_form : RefType → ElementKind → Form
 items_form ty Passive = passive_items
 items_form ty Declared = declared_items
 items_form ty (Active table offset) = active_items_form (unwrap_or table 0) ty
 
+-- the written form of an element segment (Element Section)
 abbrev pub elem_form : Elements → RefType → ElementKind → Form
 elem_form (Functions funcs) ty kind = funcs_form kind
 elem_form (Expressions items) ty kind = items_form ty kind

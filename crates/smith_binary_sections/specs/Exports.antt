@@ -7,7 +7,7 @@ use Rattle.smith_binary.specs.Pieces.{IsByte, Joined, IsNameIn}
 use Rattle.smith_syntax.specs.declared.entity_type.ExportKind.{ExportKind}
 use Rattle.smith_syntax.specs.declared.entity_type.ExportKind.TheVariants.{Func, Table, Memory, Global, Tag}
 
--- the byte of an index space (Export Section)
+-- the byte of an export's kind (Export Section)
 abbrev pub kind_byte : ExportKind → ℕ
 kind_byte Func = 0x00
 kind_byte Table = 0x01
@@ -15,9 +15,10 @@ kind_byte Memory = 0x02
 kind_byte Global = 0x03
 kind_byte Tag = 0x04
 
--- an export: its name, then the index space and the index of its item (Export Section)
+-- an export: its name, then the kind and the index of its item (Export Section)
 abbrev pub IsExportIn : Spelling → List ℕ × ExportKind × ℕ → List ℕ → Type 0
 IsExportIn spelling item = Joined (IsNameIn spelling item.0) (Joined (IsByte (kind_byte item.1)) (IsUnsignedIn spelling 32 item.2))
 
+-- an export in any spelling (Export Section)
 abbrev pub IsExport : List ℕ × ExportKind × ℕ → List ℕ → Type 0
 IsExport = IsExportIn any

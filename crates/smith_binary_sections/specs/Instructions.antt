@@ -1,5 +1,5 @@
 -- Constant instructions: the section Binary Format, Instructions, of the WebAssembly Core
--- Specification 3.0. The shared i31 is that of the shared-everything-threads proposal.
+-- Specification 3.0. The shared i31 follows the shared-everything-threads proposal.
 use Rattle.std.specs.Prelude.{ℕ, List, [], ◌∷◌}
 use Rattle.smith_binary.specs.Spelling.{IsSignedIn, IsUnsignedIn, Spelling}
 use Rattle.smith_binary.specs.Spelling.Spelling.{any}
@@ -15,17 +15,18 @@ use Rattle.smith_binary_sections.specs.Types.{IsHeapTypeIn}
 abbrev pub IsIndexIn : Spelling → ℕ → List ℕ → Type 0
 IsIndexIn spelling = IsUnsignedIn spelling 32
 
+-- an index in any spelling (Binary Format, Modules, Indices)
 abbrev pub IsIndex : ℕ → List ℕ → Type 0
 IsIndex = IsIndexIn any
 
--- an instruction of several bytes: a prefix, then a number (Instructions)
+-- the opcode of an instruction with a prefix: the prefix, then a number (Instructions)
 abbrev pub IsPrefixedIn : Spelling → ℕ → ℕ → List ℕ → Type 0
 IsPrefixedIn spelling prefix number = Joined (IsByte prefix) (IsUnsignedIn spelling 32 number)
 
 abbrev pub IsPrefixed : ℕ → ℕ → List ℕ → Type 0
 IsPrefixed = IsPrefixedIn any
 
--- an instruction (Numeric, Vector, Variable, Reference, and Aggregate Instructions)
+-- a constant instruction (Numeric, Vector, Variable, Reference, and Aggregate Instructions)
 abbrev pub IsInstrIn : Spelling → ConstInstr → List ℕ → Type 0
 IsInstrIn spelling (instr.I32Const value) piece = Joined (IsByte 0x41) (IsSignedIn spelling 32 value) piece
 IsInstrIn spelling (instr.I64Const value) piece = Joined (IsByte 0x42) (IsSignedIn spelling 64 value) piece
@@ -55,7 +56,7 @@ IsInstrIn spelling instr.ExternConvertAny piece = IsPrefixedIn spelling 0xFB 27 
 abbrev pub IsInstr : ConstInstr → List ℕ → Type 0
 IsInstr = IsInstrIn any
 
--- an expression: instructions, then their end (Expressions)
+-- an expression: instructions, then `end` (Expressions)
 abbrev pub IsExpressionIn : Spelling → List ConstInstr → List ℕ → Type 0
 IsExpressionIn spelling instructions = Joined (Each (IsInstrIn spelling) instructions) (IsByte 0x0B)
 

@@ -1,5 +1,5 @@
--- Modules: the section Binary Format, Modules, of the WebAssembly Core Specification 3.0. Custom
--- sections are left out.
+-- Modules: the section Binary Format, Modules, of the WebAssembly Core Specification 3.0. Modules
+-- have no custom sections here.
 use Rattle.std.specs.Prelude.{◌≡◌, ℕ, Option, Some, None, List, [], ◌∷◌, length}
 use Rattle.smith_binary.specs.Spelling.{Spelling}
 use Rattle.smith_binary.specs.Spelling.Spelling.{any}
@@ -24,9 +24,9 @@ use Rattle.smith_binary_sections.specs.Codes.{IsBody}
 use Rattle.smith_binary_sections.specs.Data.{Data, IsData}
 use Rattle.smith_binary_sections.specs.Sections.{IsOptionalSection, IsListSection}
 
--- a module in the abstract syntax (Structure, Modules). A function is its type and its body, which
--- are two lists here, as in the bytes; a body is its locals and the bytes of its expression, which
--- aren't read further, since raw bodies need not be expressions
+-- A module in the abstract syntax (Structure, Modules). Functions are two lists, as in the binary
+-- format: `functions` has their type indices, `bodies` their locals and the bytes of their
+-- expressions, because raw bytes need not be an expression.
 pub record Contents : Type 0 where
   pub types : List (List SubType)
   pub imports : List Import
@@ -45,22 +45,21 @@ pub record Contents : Type 0 where
 abbrev pub IsPreamble : List ℕ → Type 0
 IsPreamble = Is (0x00 ∷ 0x61 ∷ 0x73 ∷ 0x6D ∷ 0x01 ∷ 0x00 ∷ 0x00 ∷ 0x00 ∷ [])
 
--- the section of a start function (Start Section)
+-- the start section, if there is a start function (Start Section)
 abbrev pub IsStartSectionIn : Spelling → Option ℕ → List ℕ → Type 0
 IsStartSectionIn spelling (Some index) piece = IsSectionIn spelling 8 (IsIndexIn spelling index) piece
 IsStartSectionIn spelling None piece = piece ≡ []
 
+-- the start section, if there is a start function, in any spelling (Start Section)
 abbrev pub IsStartSection : Option ℕ → List ℕ → Type 0
 IsStartSection = IsStartSectionIn any
 
--- the number of data segments, which may be stated before the bodies (Data Count Section); the
--- standard requires it if a body names a data segment, which this relation, over bytes of bodies,
--- does not state
+-- the data count section, which may be absent (Data Count Section); the standard requires it if a
+-- body names a data segment, which `IsValidBinary` states
 abbrev pub IsDataCount : List Data → List ℕ → Type 0
 IsDataCount datas = IsOptionalSection 12 (Unit {0}) (IsUnsigned 32 (length datas))
 
--- the preamble, then the sections of a module in order, with these bytes for its code section, and no
--- byte after them (Modules)
+-- the preamble, then the sections of a module in order; `Code` is the code section (Modules)
 abbrev pub IsModuleAround : Contents → (List ℕ → Type 0) → List ℕ → Type 0
 IsModuleAround m Code =
     Joined IsPreamble
@@ -76,7 +75,7 @@ IsModuleAround m Code =
     (Joined (IsListSection 9 IsElem m.elems)
     (Joined (IsDataCount m.datas) (Joined Code (IsListSection 11 IsData m.datas)))))))))))))
 
--- a module: its sections, with a body for each function (Modules)
+-- a module: its preamble and sections, with a body for each function (Modules)
 pub record IsModule (m : Contents) (bytes : List ℕ) : Type 0 where
   pub each : length m.functions ≡ length m.bodies
   pub form : IsModuleAround m (IsListSection 10 IsBody m.bodies) bytes

@@ -20,7 +20,7 @@ fn write_byte_list(bytes: &[u8], sink: &mut Sink) -> Result<(), EncodeError>
     sink.write_bytes(bytes)
 }
 
-// Writes a segment that copies `bytes` into a memory. Names the memory unless it is the first.
+// Writes a segment that copies `bytes` into a memory, with the index of the memory unless it is 0.
 fn write_active_data(
     memory: u32,
     offset: Offset,

@@ -26,8 +26,8 @@ fn write_kind_funcs(funcs: &[u32], sink: &mut Sink) -> Result<(), EncodeError>
     write_list(funcs, sink)
 }
 
-// Writes a segment that copies the functions `funcs` into a table. Names the table unless it is the
-// first.
+// Writes a segment that copies the functions `funcs` into a table, with the index of the table
+// unless it is 0.
 fn write_active_funcs(
     table: u32,
     offset: Offset,
@@ -95,8 +95,8 @@ fn is_short(table: u32, ty: RefType) -> bool
     table == 0 && ty.nullable && is_func(ty.heap_type)
 }
 
-// Writes a segment that copies `items` of the type `ty` into a table. Names the table unless it is
-// the first and the short form can state the type.
+// Writes a segment that copies `items` of the type `ty` into a table. Uses the short form, without
+// a table and a type, if possible.
 fn write_active_items(
     table: u32,
     offset: Offset,

@@ -44,7 +44,7 @@ pub trait EncodeItem<T> {
         ensures fault { IfErr result (IsFault (Self.is_long self.now item.now)) };
 }
 
-/// A writer of items in two lists, each of which has a part of each item.
+/// A writer of items whose two parts are in two lists.
 pub trait EncodePair<A, B> {
     /// The bytes that spell an item.
     ghost spells: { Spelling → Self → A × B → List ℕ → Type 0 };

@@ -70,7 +70,8 @@ fn null_byte(nullable: bool) -> u8
     if nullable { 0x63 } else { 0x64 }
 }
 
-// Returns the abstract heap type that a reference type is written as, if it can be.
+// Returns the abstract heap type that is written for a reference type, if the short form can state
+// it.
 fn short_ref(nullable: bool, heap_type: HeapType) -> Option<AbstractHeapType>
     ensures { result ≡ short_ref nullable heap_type }
 {

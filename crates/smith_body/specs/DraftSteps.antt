@@ -1,4 +1,4 @@
--- The additions of each step of drawing a body to the instructions so far.
+-- The instructions that each step of drawing a body adds.
 use Rattle.std.specs.Prelude.{◌≡◌, ℕ, ◌+◌, ◌*◌, ◌≤◌, Option, List, [], ◌∷◌, ◌++◌, length, take, option_to_list, All}
 use Rattle.smith_syntax.specs.declared.value_type.ValType.{ValType}
 use Rattle.smith_instr.specs.Contexts.{AreValid}
@@ -33,7 +33,7 @@ abbrev pub state_of : Scope → Draft → List ℕ → State
 state_of scope draft bytes =
     record { context = where_stands scope draft; out = draft.out; set = draft.set.items; budget = draft.budget; bytes = bytes }
 
--- an instruction is written, and the local is set
+-- an instruction is appended, and the local is set
 pub record IsWritten (instruction : Instr) (set : Option ℕ) (old new : Draft) : Type 0 where
   pub out : new.out ≡ old.out ++ instruction ∷ []
   pub set_more : new.set.items ≡ old.set.items ++ option_to_list set

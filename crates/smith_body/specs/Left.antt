@@ -1,4 +1,4 @@
--- The results that nothing takes. Rules of this project.
+-- Spare results: no instruction takes them. Rules of this project.
 use Rattle.std.specs.Prelude.{ℕ, ◌-◌, Option, Some, None, List, [], length, drop, slice_get, unwrap_or}
 use Rattle.smith_syntax.specs.declared.value_type.ValType.{ValType}
 use Rattle.smith_syntax.specs.declared.composite_type.FuncType.{FuncType}
@@ -14,8 +14,7 @@ abbrev pub results_of : Option FuncType → List ValType
 results_of (Some function) = function.results
 results_of None = []
 
--- the types of the results of a call, or of the values that a conditional branch leaves; no types for
--- another instruction
+-- the result types of a call, or of a branch that is not taken; none for another instruction
 abbrev pub left_by : BodyContext → Instr → List ValType
 left_by context (instr.Call index) = results_of (function_at context index)
 left_by context (instr.CallIndirect table ty) = results_of (func_in (slice_get context.types ty))
@@ -23,7 +22,7 @@ left_by context (instr.CallRef ty) = results_of (func_in (slice_get context.type
 left_by context (instr.BrIf label) = unwrap_or (slice_get context.labels label) []
 left_by context _ = []
 
--- the types of the results of such an instruction or of a block
+-- the result types of such an instruction, or of a block
 abbrev pub left_by_head : BodyContext → Head → List ValType
 left_by_head context (head.Plain instruction) = left_by context instruction
 left_by_head context (head.Enclosed opening ty sides) = sides.results

@@ -1,5 +1,5 @@
--- The operands of an instruction that are addresses, indices or lengths, and below which limits most
--- of them are drawn. Rules of this project.
+-- Limits for operands that are addresses, indices or lengths; most of them are drawn below their
+-- limit. Rules of this project.
 use Rattle.std.specs.Prelude.{ℕ, ◌-◌, ◌^◌, ◌==◌, min, Option, Some, None, List, slice_get, if◌then◌else◌}
 use Rattle.smith_syntax.specs.declared.entity_type.MemoryType.{MemoryType}
 use Rattle.smith_syntax.specs.declared.entity_type.TableType.{TableType}
@@ -18,11 +18,11 @@ use Rattle.smith_body_memory.specs.Accesses.{least_bytes}
 use Rattle.smith_body_nodes.specs.declared.node.Head.{Head}
 use Rattle.smith_body_nodes.specs.declared.node.Head.TheVariants as head
 
--- the least number of bytes of a memory, as far as 64 bits hold it
+-- the minimum size of a memory in bytes, at most the greatest 64-bit number
 abbrev pub least_size : MemoryType → ℕ
 least_size memory = min (least_bytes memory) (2 ^ 64 - 1)
 
--- as many addresses as there are from which a memory of the least size has more than these bytes
+-- the number of addresses after which a memory of minimum size has more than these bytes
 abbrev pub bytes_below : Option MemoryType → ℕ → ℕ
 bytes_below None bytes = 0
 bytes_below (Some memory) bytes = least_size memory - bytes
@@ -30,12 +30,12 @@ bytes_below (Some memory) bytes = least_size memory - bytes
 abbrev pub below_end : List MemoryType → ℕ → ℕ → ℕ
 below_end memories index bytes = bytes_below (slice_get memories index) bytes
 
--- the limit of the address of an access: from an address below it and the offset on, 16 bytes are
--- inside
+-- the limit of the address of an access: 16 bytes from an address below it plus the offset are
+-- inside the memory
 abbrev pub access_limit : List MemoryType → MemArg → ℕ
 access_limit memories at = below_end memories at.memory at.offset - 15
 
--- the least number of elements of a table
+-- the minimum number of elements of a table
 abbrev pub least_elements : Option TableType → ℕ
 least_elements None = 0
 least_elements (Some table) = table.minimum
@@ -43,11 +43,11 @@ least_elements (Some table) = table.minimum
 abbrev pub elements_in : List TableType → ℕ → ℕ
 elements_in tables index = least_elements (slice_get tables index)
 
--- the number for the last operand, the one below it, or the third from the top
+-- the number for the top operand, the second or the third from the top
 abbrev pub by_place : ℕ → ℕ → ℕ → ℕ → ℕ
 by_place above last second third = if above == 0 then last else if above == 1 then second else if above == 2 then third else 0
 
--- the limits of operands of an instruction, 0 if there is none: of the addresses of accesses
+-- the limits of an instruction's operands, 0 without a limit: addresses of accesses
 abbrev pub atomic_limit : AtomicAccess → ℕ → ℕ → ℕ
 atomic_limit (atomic.Load op) limit above = by_place above limit 0 0
 atomic_limit atomic.Notify limit above = by_place above 0 limit 0
@@ -57,7 +57,7 @@ atomic_limit atomic.Wait32 limit above = by_place above 0 0 limit
 atomic_limit atomic.Wait64 limit above = by_place above 0 0 limit
 atomic_limit (atomic.CompareExchange op) limit above = by_place above 0 0 limit
 
--- of indices and lengths of tables
+-- indices and lengths of tables
 abbrev pub table_limit : List TableType → TableInstr → ℕ → ℕ
 table_limit tables (table.Get index) above = by_place above (elements_in tables index) 0 0
 table_limit tables (table.Set index) above = by_place above 0 (elements_in tables index) 0
@@ -68,7 +68,7 @@ table_limit tables (table.Init index segment) above = by_place above 4 4 (elemen
 table_limit tables (table.Size index) above = 0
 table_limit tables (table.ElemDrop segment) above = 0
 
--- of addresses and lengths of memories
+-- addresses and lengths of memories
 abbrev pub memory_limit : List MemoryType → MemoryInstr → ℕ → ℕ
 memory_limit memories (memory.Grow index) above = by_place above 4 0 0
 memory_limit memories (memory.Fill index) above = by_place above 64 0 (below_end memories index 63)
@@ -77,7 +77,7 @@ memory_limit memories (memory.Init index segment) above = by_place above 4 4 (be
 memory_limit memories (memory.Size index) above = 0
 memory_limit memories (memory.DataDrop segment) above = 0
 
--- of indices and lengths of arrays
+-- indices and lengths of arrays
 abbrev pub array_limit : AggregateInstr → ℕ → ℕ
 array_limit (aggregate.ArrayNew ty) above = by_place above 16 0 0
 array_limit (aggregate.ArrayNewDefault ty) above = by_place above 16 0 0
@@ -106,7 +106,7 @@ limit_of tables memories (instr.Memory op) above = memory_limit memories op abov
 limit_of tables memories (instr.Aggregate op) above = array_limit op above
 limit_of tables memories _ above = 0
 
--- the limit of the operand of a node with so many operands above it, if it has one
+-- the limit of the operand with this number of operands above it, if it has one
 abbrev pub some_limit : ℕ → Option ℕ
 some_limit limit = if limit == 0 then None else Some limit
 

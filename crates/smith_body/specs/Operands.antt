@@ -11,7 +11,7 @@ use Rattle.smith_body.specs.declared.operands.OperandWay.TheVariants as way
 use Rattle.smith_body.specs.declared.operands.Place.{Place}
 use Rattle.smith_body.specs.declared.operands.Place.TheVariants as place
 
--- the ways to draw an operand for which there is a limit: five of eight times a constant
+-- the ways to draw an operand with a limit: five of eight times a constant
 abbrev pub operand_ways : List OperandWay
 operand_ways =
     way.Constant place.Start ∷
@@ -24,14 +24,14 @@ operand_ways =
     way.Unlimited ∷
     []
 
--- a number: one of the first 16 below the limit, any below it, or one of the last 12 below it and
--- the first 4 from there on
+-- a number: one of the first 16 below the limit, any number below it, or one of the last 12 below
+-- it and the 4 from it on
 abbrev pub number_at : Place → ℕ → List ℕ → ℕ × List ℕ
 number_at place.Start limit bytes = range_at 0 (min (limit - 1) 15) bytes
 number_at place.Inside limit bytes = range_at 0 (limit - 1) bytes
 number_at place.Edge limit bytes = range_at (limit - 12) (min (limit + 3) (2 ^ 64 - 1)) bytes
 
--- the constant of an address, of 64 bits or 32
+-- the constant of an address, of 64 or 32 bits
 abbrev pub address_constant : Bool → ℕ → Instr
 address_constant wide number = if wide then instr.I64Const (cast_signed w64 number) else instr.I32Const (cast_signed w32 (number % 2 ^ 32))
 

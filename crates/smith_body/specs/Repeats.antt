@@ -21,8 +21,8 @@ abbrev pub may_repeat : Opening → List ValType → ℕ → Bool
 may_repeat openings.Loop params budget = (length params == 0) && nat_lt 0 budget
 may_repeat _ params budget = false
 
--- how many times a loop runs that has so many labels around it: in another block at most 4 times,
--- else mostly at most 16 times
+-- the number of iterations of a loop within `labels` labels: in another block at most 4, else
+-- mostly at most 16
 unfoldable pub times_at : ℕ → List ℕ → ℕ × List ℕ
 times_at labels bytes =
     let kind = range_at 0 31 bytes in
@@ -31,12 +31,12 @@ times_at labels bytes =
     else if nat_le 28 kind.0 then range_at 64 319 kind.1
     else range_at 1 16 kind.1
 
--- whether the instructions that count may be used
+-- whether the instructions for counting are permitted
 abbrev pub is_counting_permitted : Features → Config → ℕ → Bool
 is_counting_permitted features config local = is_permitted features config (instr.I32Const (pos 1)) && is_permitted features config
     (instr.LocalGet local)
 
--- a loop is counted by a local of the type i32, or if there is none tested
+-- a loop is counted by an i32 local, or without one, it tests a value
 abbrev pub counted_by : Config → BodyContext → Option ℕ → List ℕ → Repeat × List ℕ
 counted_by config context None bytes = (repeats.Tested, bytes)
 counted_by config context (Some local) bytes =
@@ -48,7 +48,7 @@ way_at config context bytes =
     let local = choose_at (offered (is_local_below context I32) (indexed (length context.locals))) bytes in
     counted_by config context local.0 local.1
 
--- how a block is repeated: seven of eight times, if it may be
+-- whether and how a block is repeated: seven of eight times, if it may be
 unfoldable pub repeat_at : Config → BodyContext → Opening → List ValType → ℕ → List ℕ → Option Repeat × List ℕ
 repeat_at config context opening params budget bytes =
     let number = range_at 0 7 bytes in
@@ -57,7 +57,7 @@ repeat_at config context opening params budget bytes =
     else if number.0 == 0 then (None, number.1)
     else (Some way.0, way.1)
 
--- a local of the type i32 that may count
+-- an i32 local that may count
 pub record IsCounter (scope : Scope) (local : ℕ) : Type 0 where
   pub typed : slice_get scope.locals.now local ≡ Some I32
   pub constant : IsAllowedIn scope (instr.I32Const (pos 1))

@@ -1,4 +1,4 @@
--- What becomes of a value that no other instruction takes. Rules of this project.
+-- Settling: the use of a value that no other instruction takes. Rules of this project.
 use Rattle.std.specs.Prelude.{◌≡◌, ℕ, ◌+◌, ◌-◌, Bool, true, false, ◌&&◌, nat_lt, Option, Some, None, List, [], ◌∷◌}
 use Rattle.std.specs.Prelude.{length, min, slice_get, unwrap_or, if◌then◌else◌}
 use Rattle.smith_bytes.specs.Draws.{choose_at}
@@ -32,7 +32,7 @@ instructions_of (settlings.Global index) = instr.GlobalSet index ∷ []
 instructions_of (settlings.Tested test label) = test ∷ instr.BrIf label ∷ []
 instructions_of settlings.Dropped = instr.Drop ∷ []
 
--- the locals that are then set
+-- the local that these instructions set, if any
 abbrev pub set_by : Settling → List ℕ
 set_by (settlings.Local index) = index ∷ []
 set_by _ = []
@@ -46,7 +46,7 @@ abbrev pub is_global_of : ValType → Option GlobalType → Bool
 is_global_of value (Some global) = global.mutable && val_same.eq global.val_type value
 is_global_of value None = false
 
--- the places that may store values: the locals, and after them the globals
+-- the numbers of locals and of places; a place is a local or, after these, a global
 abbrev pub local_count : BodyContext → ℕ
 local_count context = indexed (length context.locals)
 
@@ -58,7 +58,7 @@ is_place_of context value place =
     if nat_lt place (local_count context) then is_local_of value (slice_get context.locals place)
     else is_global_of value (slice_get context.globals (place - local_count context))
 
--- what stores values at a place, if it is permitted
+-- the settling that stores a value at a place, if it is permitted
 abbrev pub storing : Config → BodyContext → ℕ → Option Settling
 storing config context place =
     let local = place in
@@ -70,7 +70,7 @@ storing config context place =
 abbrev pub place_at : Config → BodyContext → ValType → List ℕ → Option Settling × List ℕ
 place_at config context value bytes = giving (storing config context) (chunk_at (is_place_of context value) (place_count context) bytes)
 
--- the instruction that makes a number of a value, often 0
+-- the instruction that gives a number for a value, which is often 0
 abbrev pub test_of : ValType → Option Instr
 test_of I32 = Some (instr.Numeric numeric.I32Eqz)
 test_of I64 = Some (instr.Numeric numeric.I64Eqz)
@@ -79,14 +79,14 @@ test_of F64 = Some (instr.Numeric (numeric.Saturate saturating.I32TruncSatF64U))
 test_of V128 = Some (instr.Vector (vector.AllTrue shape.I8x16))
 test_of (Ref wanted) = if wanted.nullable then Some (instr.Reference reference.IsNull) else None
 
--- a branch to a label that depends on a test, if both are permitted
+-- a conditional branch to a label, if it and the test are permitted
 abbrev pub testing : Features → Config → Option Instr → ℕ → Option Settling
 testing features config None label = None
 testing features config (Some test) label =
     if is_permitted features config test && is_permitted features config (instr.BrIf label) then Some (settlings.Tested test label) else
     None
 
--- a label without values
+-- whether a label takes no values
 abbrev pub is_bare : Option (List ValType) → Bool
 is_bare (Some []) = true
 is_bare _ = false
@@ -98,11 +98,11 @@ is_bare_label labels label = is_bare (slice_get labels label)
 abbrev pub label_at : List (List ValType) → List ℕ → Option ℕ × List ℕ
 label_at labels bytes = choose_at (offered (is_bare_label labels) (min (length labels) 64)) bytes
 
--- a branch to such a label
+-- a conditional branch to such a label
 abbrev pub test_at : Config → BodyContext → ValType → List ℕ → Option Settling × List ℕ
 test_at config context value bytes = giving (testing context.features config (test_of value)) (label_at context.labels bytes)
 
--- what stores a value, if there is something that does; else what tests it; else it is dropped
+-- the settling of a value: it is stored if possible, else tested if possible, else dropped
 abbrev pub else_tested : Config → BodyContext → ValType → Option Settling → List ℕ → Settling × List ℕ
 else_tested config context value (Some stored) bytes = (stored, bytes)
 else_tested config context value None bytes =
@@ -112,13 +112,13 @@ else_tested config context value None bytes =
 unfoldable pub settling_at : Config → BodyContext → ValType → List ℕ → Settling × List ℕ
 settling_at config context value bytes = let place = place_at config context value bytes in else_tested config context value place.0 place.1
 
--- an instruction of this type sets no local, goes on, and may be used
+-- an instruction has this type, sets no local, lets control continue, and is permitted
 pub record IsSettler (scope : Scope) (labels : List (List ValType)) (operands results : List ValType) (instruction : Instr) : Type 0 where
   pub typed : (set : List ℕ) → HasInstrType (context_of scope labels) set instruction operands results
   pub goes_on : IsNoStop scope.config.now instruction
   pub allowed : IsAllowedIn scope instruction
 
--- the instructions take exactly a value of this type, and may be used
+-- the instructions take exactly a value of this type, and are permitted
 abbrev pub Settles : Scope → List (List ValType) → ValType → Settling → Type 0
 Settles scope labels value (settlings.Local index) = IsSettler scope labels (value ∷ []) [] (instr.LocalSet index)
 Settles scope labels value (settlings.Global index) = IsSettler scope labels (value ∷ []) [] (instr.GlobalSet index)

@@ -140,7 +140,7 @@ fn draw_operands(
     Ok(())
 }
 
-/// Draws an operand of the type `wanted`, mostly below `limit` if there is one.
+/// Draws an operand of the type `wanted`. If there is a `limit`, most operands are below it.
 #[cycle(body)]
 fn draw_operand(
     alloc: Global,
@@ -171,8 +171,8 @@ fn draw_operand(
     }
 }
 
-/// Draws an address, an index or a length, mostly below `limit`: of 64 bits if `wide` is set, else
-/// of 32 bits.
+/// Draws an address, an index or a length: of 64 bits if `wide` is set, else of 32 bits. Most are
+/// below `limit`.
 #[cycle(body)]
 fn draw_limited(
     alloc: Global,
@@ -201,7 +201,8 @@ fn draw_limited(
     }
 }
 
-/// Draws a constant at a `place` below `limit` or next to it, or any value if it isn't allowed.
+/// Draws a constant at a `place` below `limit` or next to it, or any value if the constant isn't
+/// allowed.
 #[cycle(body)]
 fn draw_near(
     alloc: Global,
@@ -575,8 +576,8 @@ fn draw_inside(
     draw_results(alloc, scope, sides.results.as_slice(), depth, draft, u)
 }
 
-/// Draws statements and the results of a block, or seldom in their place an instruction after which
-/// nothing is reached. One of eight times, more statements and the results follow it.
+/// Draws statements and the results of a block, or seldom an instruction after which no code is
+/// reached. One of eight times, more statements and the results follow that instruction.
 #[cycle(body)]
 pub(crate) fn draw_results(
     alloc: Global,
@@ -612,8 +613,8 @@ pub(crate) fn draw_results(
     draw_values(alloc, scope, wanted, depth, draft, u)
 }
 
-/// Draws an instruction after which nothing is reached, which may come in place of any values, at
-/// most `depth` instructions deep. Returns whether there is one.
+/// Draws an instruction after which no code is reached, at most `depth` instructions deep. It may
+/// come in place of any values. Returns whether one was drawn.
 #[cycle(body)]
 fn draw_ending(
     alloc: Global,

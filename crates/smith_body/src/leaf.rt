@@ -10,9 +10,9 @@ use smith_body_nodes::{Draft, Scope, is_allowed};
 use smith_bytes::{Error, Unstructured};
 use smith_types::ValType;
 
-/// Writes instructions that produce a value that matches `wanted`, and take no budget. These are an
-/// instruction without operands that is drawn, a value that is preferred to null, or another value if
-/// the drawn instruction is not allowed.
+/// Writes instructions that produce a value that matches `wanted`, and take no budget. The
+/// instructions are a drawn instruction without operands, a value that is preferred to null, or
+/// another value if the drawn instruction is not allowed.
 pub(crate) fn write_leaf(
     scope: &Scope<'_>,
     wanted: ValType,

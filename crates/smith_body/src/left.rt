@@ -8,7 +8,7 @@ use smith_instr::Instr;
 use smith_types::{FuncType, Items, ValType};
 use std::alloc::Global;
 
-/// Copies the types of those results of `node` that nothing takes, if they are known.
+/// Copies the types of the results of `node` that are left on the stack, if they are known.
 pub(crate) fn spare_of(
     alloc: Global,
     scope: &Scope<'_>,

@@ -9,7 +9,7 @@ use smith_body_nodes::{Head, Scope};
 use smith_instr::{AggregateInstr, AtomicAccess, Instr, MemArg, MemoryInstr, TableInstr};
 use smith_types::MemoryType;
 
-/// The limit of indices into arrays and segments, and of the lengths of what is copied there.
+/// The limit of indices into arrays and segments, and of the lengths of copies there.
 const FEW: u64 = 4;
 
 /// The limit of the lengths of new arrays, and of the elements that a table grows by.
@@ -18,8 +18,8 @@ const SEVERAL: u64 = 16;
 /// The limit of the lengths of bytes that are filled or copied in memories.
 const BYTES: u64 = 64;
 
-/// Returns the limit of an operand of `head` if it is an address, an index or a length: most of
-/// those that are drawn are below it. There are `above` operands above it.
+/// Returns the limit of an operand of `head` if it is an address, an index or a length. Most drawn
+/// operands are below their limit. There are `above` operands above this one.
 pub(crate) fn limit_at(scope: &Scope<'_>, head: &Head, above: usize) -> Option<u64>
     requires scope { IsScope (bare scope.now) }
     ensures { result ≡ limit_at scope.now.tables.now scope.now.memories.now head.now above }
@@ -60,7 +60,7 @@ fn limit_of(scope: &Scope<'_>, instruction: &Instr, above: usize) -> u64
     }
 }
 
-/// Returns the number for the last operand, the one below it, or the third from the top.
+/// Returns the number for the top operand, the second or the third.
 fn by_place(above: usize, last: u64, second: u64, third: u64) -> u64
     ensures { result ≡ by_place above last second third }
 {
@@ -135,8 +135,8 @@ fn array_limit(op: AggregateInstr, above: usize) -> u64
     }
 }
 
-/// Returns the limit of the address of an access. From an address below it and the offset on, 16
-/// bytes are within the least size of the memory, and no access has more.
+/// Returns the limit of the address of an access. For an address below it, the 16 bytes from the
+/// effective address on are within the minimum size of the memory. No access has more bytes.
 fn access_limit(scope: &Scope<'_>, at: MemArg) -> u64
     requires scope { IsScope (bare scope.now) }
     ensures { result ≡ access_limit scope.now.memories.now at }
@@ -144,7 +144,7 @@ fn access_limit(scope: &Scope<'_>, at: MemArg) -> u64
     below_end(scope, at.memory, at.offset).saturating_sub(15)
 }
 
-/// Returns the least number of bytes of a memory, less `bytes`.
+/// Returns the minimum number of bytes of a memory, less `bytes`.
 fn below_end(scope: &Scope<'_>, memory: u32, bytes: u64) -> u64
     requires scope { IsScope (bare scope.now) }
     ensures { result ≡ below_end scope.now.memories.now memory bytes }
@@ -155,7 +155,7 @@ fn below_end(scope: &Scope<'_>, memory: u32, bytes: u64) -> u64
     }
 }
 
-/// Returns the least number of bytes of `memory`, as far as 64 bits hold it.
+/// Returns the minimum number of bytes of `memory`, at most the greatest of 64 bits.
 fn least_size(memory: MemoryType) -> u64
     requires { page_log2 memory.page_size_log2 ≤ 16 }
     ensures { result ≡ least_size memory }
@@ -165,7 +165,7 @@ fn least_size(memory: MemoryType) -> u64
         .saturating_mul(1 << memory.page_size_log2.unwrap_or(16))
 }
 
-/// Returns the least number of elements of a table.
+/// Returns the minimum number of elements of a table.
 fn elements_in(scope: &Scope<'_>, table: u32) -> u64
     ensures { result ≡ elements_in scope.now.tables.now table }
 {

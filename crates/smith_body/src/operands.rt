@@ -6,7 +6,7 @@ ghost use Rattle.smith_body.specs.Operands.{operand_ways};
 use smith_bytes::Unstructured;
 use smith_instr::{Instr, IntBinary, NumericInstr};
 
-/// How an operand is drawn for which there is a limit.
+/// How an operand that has a limit is drawn.
 #[derive(Clone, Copy)]
 pub(crate) enum OperandWay {
     /// A constant at a place.
@@ -28,7 +28,7 @@ pub(crate) enum Place {
     Edge,
 }
 
-/// Lists the ways to draw an operand. The number of times that a way is listed is its weight.
+/// Lists the ways to draw an operand, each as often as its weight.
 pub(crate) fn operand_ways<'a>() -> &'a [OperandWay]
     ensures { result.now ≡ operand_ways }
 {
@@ -78,7 +78,7 @@ pub(crate) fn masking(wide: bool) -> Instr
     Instr::Numeric(NumericInstr::I32Binary(IntBinary::And))
 }
 
-/// Returns the greatest number below `limit` whose bits are ones up to some bit.
+/// Returns the greatest number below `limit` whose binary digits are all ones.
 pub(crate) fn mask_of(limit: u64) -> u64
     ensures { result ≡ mask_of limit }
 {

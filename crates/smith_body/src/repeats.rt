@@ -18,7 +18,7 @@ use smith_bytes::{Error, Unstructured};
 use smith_instr::{Instr, IntBinary, NumericInstr};
 use smith_types::ValType;
 
-/// What a loop tests at its end, to go back to its start unless it is 0.
+/// The number that a loop tests at its end. The loop goes back to its start unless it is 0.
 #[derive(Clone, Copy)]
 pub(crate) enum Repeat {
     /// A local that counts down from a number of times.
@@ -27,8 +27,8 @@ pub(crate) enum Repeat {
     Tested,
 }
 
-/// Draws how a block of `sides` is repeated, if it is: seven of eight times, if it is a loop without
-/// parameters and there is a budget.
+/// Draws how a block of `sides` is repeated. A loop without parameters is repeated seven of eight
+/// times while there is a budget; other blocks are not.
 pub(crate) fn draw_repeat(
     scope: &Scope<'_>,
     opening: Opening,

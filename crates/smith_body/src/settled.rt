@@ -22,14 +22,14 @@ use smith_instr::{
 };
 use smith_types::{Items, ValType};
 
-/// What becomes of a value that no other instruction takes.
+/// What is done with a value that no other instruction pops.
 #[derive(Drop)]
 pub(crate) enum Settling {
     /// A local stores it.
     Local(u32),
     /// A global stores it.
     Global(u32),
-    /// A branch to `label` depends on it, by the number that `test` makes of it.
+    /// `test` turns it into a number, which decides a branch to `label`.
     Tested { test: Instr, label: u32 },
     /// It is dropped.
     Dropped,
@@ -91,8 +91,8 @@ impl<'a> Offer for LabelOffer<'a> {
     }
 }
 
-/// Settles values of the types `values`, the last of which is on top: each is stored, tested or
-/// dropped, the last one first.
+/// Settles values of the types `values`, with the last on top: each is stored, tested or dropped,
+/// the last one first.
 pub(crate) fn settle_values(
     scope: &Scope<'_>,
     values: &[ValType],
@@ -188,7 +188,8 @@ fn choose_place(
     store(scope, value, place)
 }
 
-/// Returns what stores values of the type `value` at a `place`, if it is allowed.
+/// Returns the local or global that stores values of the type `value` at a `place`, if the store is
+/// allowed.
 fn store(scope: &Scope<'_>, value: ValType, place: usize) -> Option<Settling>
     requires below { place < place_count (bare scope.now) }
     requires offered { is_place_of (bare scope.now) value place ≡ true }
@@ -250,7 +251,7 @@ fn choose_label(draft: &Draft, u: &mut Unstructured<'_>) -> Option<u32>
     Some(label as u32)
 }
 
-/// Returns the instruction that makes a number of a value of the type `value`, often 0.
+/// Returns the instruction that turns a value of the type `value` into a number, often 0.
 fn test_of(value: ValType) -> Option<Instr>
     ensures { result ≡ test_of value }
 {

@@ -1,4 +1,4 @@
--- The struct types, array types and fields that are offered.
+-- The struct types, array types and fields that may be drawn.
 use Rattle.std.specs.Prelude.{ℕ, Bool, false, ◌&&◌, nat_lt, Option, Some, None, option_map, List, length, slice_get, if◌then◌else◌}
 use Rattle.smith_bytes.specs.Draws.{choose_at}
 use Rattle.smith_syntax.specs.declared.composite_type.FieldType.{FieldType}
@@ -15,22 +15,23 @@ use Rattle.smith_body_nodes.specs.Scopes.{indexed}
 use Rattle.smith_body_aggregates.specs.declared.aggregates.StructField.{StructField}
 use Rattle.smith_body_aggregates.specs.declared.fields.FieldUse.{FieldUse}
 
--- an array type whose element has a use
+-- whether an array type has an element that may be used in this way
 abbrev pub is_array : BodyContext → FieldUse → ℕ → Bool
 is_array context way index = is_usable_in context.types way (element_in (slice_get context.types index))
 
--- the same, if its created values match the wanted type
+-- whether an array type has an element that may be used in this way, and created values that match
+-- the wanted type
 abbrev pub is_created_array : BodyContext → ValType → FieldUse → ℕ → Bool
 is_created_array context wanted way index = is_created_below context wanted index && is_array context way index
 
--- a chosen array type, with its element
+-- a drawn array type, with its element
 abbrev pub array_there : BodyContext → ℕ → Option (ℕ × FieldType)
 array_there context index = option_map (λ (element : FieldType). (index, element)) (element_in (slice_get context.types index))
 
 abbrev pub array_at : BodyContext → FieldUse → List ℕ → Option (ℕ × FieldType) × List ℕ
 array_at context way bytes = giving (array_there context) (chunk_at (is_array context way) (indexed (length context.types)) bytes)
 
--- an array type whose created values match the wanted type
+-- a drawn array type whose created values match the wanted type
 abbrev pub created_array_at : BodyContext → ValType → FieldUse → List ℕ → Option (ℕ × FieldType) × List ℕ
 created_array_at context wanted way bytes =
     giving (array_there context) (chunk_at (is_created_array context wanted way) (indexed (length context.types)) bytes)
@@ -39,14 +40,14 @@ abbrev pub created_struct_at : BodyContext → ValType → Bool → List ℕ →
 created_struct_at context wanted defaults bytes =
     chunk_at (is_created_struct context wanted defaults) (indexed (length context.types)) bytes
 
--- a field that has a use
+-- whether a field may be used in this way
 abbrev pub is_field : List SubType → FieldUse → List FieldType → ℕ → Bool
 is_field types way fields index = is_usable_in types way (slice_get fields index)
 
 abbrev pub fields_with : List SubType → FieldUse → List FieldType → List ℕ
 fields_with types way fields = offered (is_field types way fields) (indexed (length fields))
 
--- a struct type with such a field
+-- whether a struct type has such a field
 abbrev pub has_field : List SubType → FieldUse → Option StructType → Bool
 has_field types way (Some structure) = nat_lt 0 (length (fields_with types way structure.fields))
 has_field types way None = false
@@ -54,7 +55,7 @@ has_field types way None = false
 abbrev pub is_struct : BodyContext → FieldUse → ℕ → Bool
 is_struct context way index = has_field context.types way (struct_in (slice_get context.types index))
 
--- a chosen field of a struct type, with both indices
+-- a drawn field of a struct type, with both indices
 abbrev pub field_there : ℕ → List FieldType → ℕ → Option StructField
 field_there ty fields index = option_map (λ (field : FieldType). record { ty = ty; index = index; field = field }) (slice_get fields index)
 

@@ -1,5 +1,5 @@
--- The creation of a struct or an array that the bytes choose. The choices, their order and their
--- weights are rules of this project.
+-- Drawn creations of structs and arrays. The choices, their order and their weights are rules of
+-- this project.
 use Rattle.std.specs.Prelude.{ℕ, true, false, Option, Some, None, option_map, List, [], ◌∷◌, length, replicate, slice_get}
 use Rattle.smith_bytes.specs.Draws.{range_at}
 use Rattle.smith_types.specs.Expressions.{field_values}
@@ -51,7 +51,7 @@ array_fixed array bytes =
     let size = range_at 0 7 bytes in
     (Some (aggregate_of (replicate size.0 (value_of array.1)) (aggregate.ArrayNewFixed array.0 size.0)), size.1)
 
--- an array from a data segment, or from an element segment whose type matches that of its elements
+-- an array from a data segment, or from an element segment whose type matches its elements
 abbrev pub array_data_node : ℕ × FieldType → ℕ → Option Node
 array_data_node array segment = Some (aggregate_of (I32 ∷ I32 ∷ []) (aggregate.ArrayNewData array.0 segment))
 
@@ -67,7 +67,7 @@ array_elem_node array segment = Some (aggregate_of (I32 ∷ I32 ∷ []) (aggrega
 abbrev pub array_elem : BodyContext → ℕ × FieldType → List ℕ → Chosen
 array_elem context array bytes = giving (array_elem_node array) (chosen_elem_at context (value_of array.1) bytes)
 
--- the creations; the number of times that each is listed is its weight
+-- the creations, each listed as often as its weight
 abbrev pub creations : List Creation
 creations =
     creation.StructNew ∷

@@ -1,5 +1,5 @@
--- The read or write of a field or an element that the bytes choose. The choices, their order and
--- their weights are rules of this project.
+-- Drawn reads and writes of fields and elements. The choices, their order and their weights are
+-- rules of this project.
 use Rattle.std.specs.Prelude.{ℕ, Option, Some, None, List, [], ◌∷◌, if◌then◌else◌}
 use Rattle.smith_bytes.specs.Draws.{bool_at}
 use Rattle.smith_syntax.specs.declared.composite_type.FieldType.{FieldType}
@@ -23,7 +23,7 @@ use Rattle.smith_body_aggregates.specs.declared.field_writes.FieldWrite.TheVaria
 use Rattle.smith_body_aggregates.specs.declared.fields.FieldUse.TheVariants as field_use
 use Rattle.smith_body_nodes.specs.declared.node.Node.{Node}
 
--- a field that is read; a packed one is extended by its sign if the drawn bool is true
+-- a read of a field; a packed field is extended with sign if a drawn bool is true
 abbrev pub struct_get : StructField → List ℕ → Chosen
 struct_get chosen bytes =
     let signed = bool_at bytes in (
@@ -35,7 +35,7 @@ struct_get chosen bytes =
 abbrev pub struct_get_at : BodyContext → ValType → List ℕ → Chosen
 struct_get_at context wanted bytes = let chosen = field_at context (field_use.Read wanted) bytes in continued struct_get chosen.0 chosen.1
 
--- an element that is read
+-- a read of an element
 abbrev pub array_get : ℕ × FieldType → List ℕ → Chosen
 array_get array bytes =
     let signed = bool_at bytes in (
@@ -47,17 +47,18 @@ array_get array bytes =
 abbrev pub array_get_at : BodyContext → ValType → List ℕ → Chosen
 array_get_at context wanted bytes = let array = array_at context (field_use.Read wanted) bytes in continued array_get array.0 array.1
 
--- a field or an element whose value matches the wanted type
+-- a read of a field or an element whose value matches the wanted type
 unfoldable pub read_at : BodyContext → ValType → List ℕ → Chosen
 read_at context wanted bytes =
     let structure = bool_at bytes in
     if structure.0 then struct_get_at context wanted structure.1 else array_get_at context wanted structure.1
 
--- the same, if references may name types by their indices
+-- a read of a field or an element whose value matches the wanted type, if references may name types
+-- by their indices
 unfoldable pub field_read_at : BodyContext → ValType → List ℕ → Chosen
 field_read_at context wanted bytes = if names_types context then read_at context wanted bytes else (None, bytes)
 
--- a field or an element that is set
+-- a write of a field or an element
 abbrev pub struct_set_node : StructField → Option Node
 struct_set_node chosen =
     Some (aggregate_of (nullable_to (Concrete chosen.ty) ∷ value_of chosen.field ∷ []) (aggregate.StructSet chosen.ty chosen.index))
@@ -65,12 +66,12 @@ struct_set_node chosen =
 abbrev pub array_set_node : ℕ × FieldType → Option Node
 array_set_node array = Some (aggregate_of (nullable_to (Concrete array.0) ∷ I32 ∷ value_of array.1 ∷ []) (aggregate.ArraySet array.0))
 
--- elements that are set to one value
+-- a write of one value to several elements
 abbrev pub array_fill_node : ℕ × FieldType → Option Node
 array_fill_node array = Some (aggregate_of (nullable_to (Concrete array.0) ∷ I32 ∷ value_of array.1 ∷ I32 ∷ [])
     (aggregate.ArrayFill array.0))
 
--- elements that are copied into an array from an array
+-- a copy of elements from array to array
 abbrev pub array_copy_node : ℕ × FieldType → ℕ × FieldType → Option Node
 array_copy_node into out =
     Some (aggregate_of (nullable_to (Concrete into.0) ∷ I32 ∷ nullable_to (Concrete out.0) ∷ I32 ∷ I32 ∷ [])
@@ -82,7 +83,7 @@ array_copied context into bytes = giving (array_copy_node into) (array_at contex
 abbrev pub array_copy_at : BodyContext → List ℕ → Chosen
 array_copy_at context bytes = let into = array_at context field_use.Set bytes in continued (array_copied context) into.0 into.1
 
--- elements that are set to bytes of a data segment, or to references of an element segment
+-- a write of several elements from a data segment or an element segment
 abbrev pub filled : ℕ × FieldType → List ValType
 filled array = nullable_to (Concrete array.0) ∷ I32 ∷ I32 ∷ I32 ∷ []
 
@@ -105,7 +106,7 @@ abbrev pub init_elem_at : BodyContext → List ℕ → Chosen
 init_elem_at context bytes = let array = array_at context field_use.SetReferences bytes in
     continued (elem_initialized context) array.0 array.1
 
--- the writes; the number of times that each is listed is its weight
+-- the writes, each listed as often as its weight
 abbrev pub field_writes : List FieldWrite
 field_writes = write.StructSet ∷ write.ArraySet ∷ write.ArrayFill ∷ write.ArrayCopy ∷ write.InitData ∷ write.InitElem ∷ write.InitElem
     ∷ write.InitElem ∷ []
@@ -121,6 +122,6 @@ write_of context write.InitElem bytes = init_elem_at context bytes
 unfoldable pub write_at : BodyContext → List ℕ → Chosen
 write_at context bytes = let kind = chosen_at write.StructSet field_writes bytes in write_of context kind.0 kind.1
 
--- the same, if references may name types by their indices
+-- a write of a field or an element, if references may name types by their indices
 unfoldable pub field_write_at : BodyContext → List ℕ → Chosen
 field_write_at context bytes = if names_types context then write_at context bytes else (None, bytes)

@@ -17,8 +17,8 @@ use Rattle.smith_instr.specs.declared.aggregate.Extension.TheVariants as extensi
 use Rattle.smith_body_aggregates.specs.declared.fields.FieldUse.{FieldUse}
 use Rattle.smith_body_aggregates.specs.declared.fields.FieldUse.TheVariants as field_use
 
--- bytes may fill a field: packed integers, numbers and vectors (Validation, Aggregate Instructions,
--- array.new_data)
+-- whether a data segment may fill a field: a packed integer, a number or a vector (Validation,
+-- Aggregate Instructions, array.new_data)
 abbrev pub is_of_bytes : StorageType → Bool
 is_of_bytes (storage.Val (Ref reference)) = false
 is_of_bytes _ = true
@@ -34,7 +34,7 @@ is_storage_below types storage.I16 storage.I16 = true
 is_storage_below types (storage.Val a) (storage.Val b) = is_val_below types a b
 is_storage_below types _ _ = false
 
--- a use of a field or an element names a valid type
+-- the type in a use of a field or an element is valid
 abbrev pub IsUseOver : Features → ℕ → FieldUse → Type 0
 IsUseOver features end (field_use.Read wanted) = IsValTypeValid features end wanted
 IsUseOver features end (field_use.CopyInto stored) = IsValTypeValid features end (unpacked stored)
@@ -43,7 +43,7 @@ IsUseOver features end _ = Unit {0}
 abbrev pub IsUse : BodyContext → FieldUse → Type 0
 IsUse context way = IsUseOver context.features (length context.types) way
 
--- a field or an element may be used in this way
+-- whether a field or an element may be used in this way
 abbrev pub is_usable : List SubType → FieldUse → FieldType → Bool
 is_usable types (field_use.Read wanted) field = is_val_below types (value_of field) wanted
 is_usable types field_use.New field = true
@@ -59,7 +59,7 @@ abbrev pub is_usable_in : List SubType → FieldUse → Option FieldType → Boo
 is_usable_in types way (Some field) = is_usable types way field
 is_usable_in types way None = false
 
--- the extension of an integer that is read: none unless it is packed (Validation, Aggregate
+-- the extension of a field that is read: none unless it is packed (Validation, Aggregate
 -- Instructions, struct.get)
 abbrev pub extension_of : StorageType → Bool → Extension
 extension_of (storage.Val value) signed = extension.Unpacked

@@ -10,8 +10,8 @@ use smith_body_nodes::{Scope, choose_callable, draw_index, function_of};
 use smith_bytes::Unstructured;
 use smith_types::{FuncType, ValType};
 
-/// Chooses a function of a drawn chunk whose first result matches `wanted`, if there is one. One that
-/// may be the function of the body is chosen once more.
+/// Chooses a function of a drawn chunk whose first result matches `wanted`, if there is one. A
+/// function that may be that of the body is chosen once more.
 pub fn choose_called(scope: &Scope<'_>, wanted: ValType, u: &mut Unstructured<'_>) -> Option<u32>
     requires scope { IsScope (bare scope.now) }
     requires wanted { IsValid (bare scope.now) wanted }
@@ -29,7 +29,7 @@ pub fn choose_called(scope: &Scope<'_>, wanted: ValType, u: &mut Unstructured<'_
     first
 }
 
-/// Draws a function, if there is one. One that may be the function of the body is drawn once more.
+/// Draws a function, if there is one. A function that may be that of the body is drawn once more.
 pub fn draw_called(scope: &Scope<'_>, u: &mut Unstructured<'_>) -> Option<u32>
     ensures exact { called_at (bare scope.now) (index_at (length scope.now.funcs.now)) u.old
         ≡ (result, u.new) }

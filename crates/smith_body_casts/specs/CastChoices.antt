@@ -1,5 +1,5 @@
--- The cast, test or conversion of a reference that the bytes choose, and the instruction on an i31.
--- The choices, their order and their weights are rules of this project.
+-- Drawn casts, tests and conversions of references, and drawn instructions on an i31. The choices,
+-- their order and their weights are rules of this project.
 use Rattle.std.specs.Prelude.{ℕ, Bool, true, false, ◌&&◌, not, Option, Some, None, is_some, List, [], ◌∷◌, length, slice_get, if◌then◌else◌}
 use Rattle.smith_bytes.specs.Draws.{choose_at}
 use Rattle.smith_types.specs.Expressions.{reference_to}
@@ -62,7 +62,7 @@ non_null_test_at context bytes =
     let to = reference_local_at context bytes in
     continued (λ (to : RefType) (bytes : List ℕ). tested_for context (without_null context.features to) bytes) to.0 to.1
 
--- a number from a reference; each way has the same weight
+-- the ways to get a number from a reference, each with the same weight
 abbrev pub scalars : List Scalar
 scalars = scalar.Length ∷ scalar.Signed ∷ scalar.Unsigned ∷ scalar.Test ∷ scalar.NonNullTest ∷ []
 
@@ -92,8 +92,8 @@ converted_to nullable (Abstract shared abstract.Any) = Some (aggregate_of (exter
 converted_to nullable (Abstract shared abstract.Extern) = Some (aggregate_of (internal shared nullable ∷ []) aggregate.ExternConvertAny)
 converted_to nullable _ = None
 
--- a reference from a number or another reference; the number of times that each way is listed is
--- its weight
+-- the ways to get a reference from a number or another reference, each listed as often as its
+-- weight
 abbrev pub conversions : List Conversion
 conversions = conversion.I31 ∷ conversion.Outside ∷ conversion.Cast ∷ conversion.NonNullCast ∷ conversion.Outside ∷ conversion.Outside
     ∷ conversion.Outside ∷ []
@@ -113,6 +113,6 @@ cast_for context I32 bytes = scalar_at context bytes
 cast_for context (Ref to) bytes = conversion_at context to bytes
 cast_for context _ bytes = (None, bytes)
 
--- the same, if references may name types by their indices
+-- a node that produces a value of the wanted type, if references may name types by their indices
 unfoldable pub cast_choice_at : BodyContext → ValType → List ℕ → Chosen
 cast_choice_at context wanted bytes = if names_types context then cast_for context wanted bytes else (None, bytes)

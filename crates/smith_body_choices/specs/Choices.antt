@@ -1,5 +1,4 @@
--- The node that the bytes choose. The choices, their order and their weights are rules of this
--- project.
+-- Drawn nodes. The choices, their order and their weights are rules of this project.
 use Rattle.std.specs.Prelude.{ℕ, ◌-◌, ◌==◌, Bool, false, Option, Some, None, option_map, List, [], ◌∷◌, length, slice_get, if◌then◌else◌}
 use Rattle.smith_bytes.specs.Draws.{range_at, choose_at}
 use Rattle.smith_syntax.specs.Features.{Features}
@@ -43,7 +42,7 @@ use Rattle.smith_body_choices.specs.declared.families.StatementFamily.TheVariant
 use Rattle.smith_body_choices.specs.declared.families.ValueFamily.{ValueFamily}
 use Rattle.smith_body_choices.specs.declared.families.ValueFamily.TheVariants as value
 
--- a local whose type matches the wanted type, set and read again
+-- a `local.tee` of a local whose type matches the wanted type
 abbrev pub tee_node : BodyContext → ℕ → Option Node
 tee_node context index = option_map (λ value. setting index value (instr.LocalTee index)) (slice_get context.locals index)
 
@@ -61,8 +60,7 @@ unfoldable pub call_at : BodyContext → ValType → List ℕ → Chosen
 call_at context wanted bytes =
     giving (call_node context) (called_at context (chunk_at (is_callable context wanted) (indexed (length context.funcs))) bytes)
 
--- the families of instructions after which nothing is reached; the number of times that each is
--- listed is its weight
+-- the families of instructions after which no code is reached, each listed as often as its weight
 abbrev pub ending_families : List EndingFamily
 ending_families =
     ending.Leaving ∷
@@ -75,7 +73,7 @@ ending_families =
     ending.Unreachable ∷
     []
 
--- an instruction of such a family; none if there is none
+-- an instruction of such a family, if any
 abbrev pub ending_of : BodyContext → EndingFamily → List ℕ → Chosen
 ending_of context ending.Leaving bytes = leaving_at context bytes
 ending_of context ending.TailCall bytes = tail_call_at context bytes
@@ -86,14 +84,13 @@ ending_of context ending.Unreachable bytes = (Some (node_of [] instr.Unreachable
 unfoldable pub ending_choice_at : BodyContext → List ℕ → Chosen
 ending_choice_at context bytes = let family = chosen_at ending.Leaving ending_families bytes in ending_of context family.0 family.1
 
--- in place of a value one of eight times such an instruction, else a block
+-- in place of a value: one of eight times such an instruction, else a block
 unfoldable pub ending_value_at : BodyContext → ValType → List ℕ → Chosen
 ending_value_at context wanted bytes =
     let number = range_at 0 7 bytes in
     if number.0 == 7 then ending_choice_at context number.1 else block_at wanted number.1
 
--- the families of numbers, of vectors and of references; the number of times that each is listed is
--- its weight
+-- the families of numbers, of vectors and of references, each listed as often as its weight
 abbrev pub number_families : List ValueFamily
 number_families =
     value.Leaf ∷
@@ -246,7 +243,7 @@ unfoldable pub value_choice_at : Config → BodyContext → ValType → List ℕ
 value_choice_at config context wanted bytes = let family = chosen_at value.Leaf (value_families wanted) bytes in
     value_of config context wanted family.0 family.1
 
--- the chosen node, if it is allowed
+-- the chosen node, if it is permitted
 abbrev pub if_allowed : Features → Config → Option Node → Option Node
 if_allowed features config None = None
 if_allowed features config (Some node) = if is_node_allowed features config node then Some node else None
@@ -256,8 +253,8 @@ allowed_choice_at config context wanted bytes =
     let chosen = value_choice_at config context wanted bytes in
     (if_allowed context.features config chosen.0, chosen.1)
 
--- the types of values that are dropped: number types, of which a float is the integer of its width
--- unless floats are allowed, and the types of the locals
+-- the types of values that are dropped: the number types, where without floats an integer of the
+-- same width takes the place of a float, and the types of the locals
 abbrev pub dropped_types : Config → List ValType → List ValType
 dropped_types config locals = I32 ∷ I64 ∷ (if config.allow_floats then F32 else I32) ∷ (if config.allow_floats then F64 else I64) ∷ locals
 
@@ -268,14 +265,14 @@ dropped_at config locals bytes = chosen_at I32 (dropped_types config locals) byt
 unfoldable pub drop_at : Config → BodyContext → List ℕ → Chosen
 drop_at config context bytes = let value = dropped_at config context.locals bytes in (Some (node_of (value.0 ∷ []) instr.Drop 0), value.1)
 
--- a local that is set
+-- a `local.set`
 abbrev pub set_node : BodyContext → ℕ → Option Node
 set_node context index = option_map (λ value. setting index value (instr.LocalSet index)) (slice_get context.locals index)
 
 unfoldable pub set_at : BodyContext → List ℕ → Chosen
 set_at context bytes = let index = range_at 0 (indexed (length context.locals) - 1) bytes in (set_node context index.0, index.1)
 
--- a global that is set
+-- a `global.set`
 abbrev pub global_set_node : BodyContext → ℕ → Option Node
 global_set_node context index = option_map (λ global. node_of (global.val_type ∷ []) (instr.GlobalSet index) 0)
     (slice_get context.globals index)
@@ -283,7 +280,7 @@ global_set_node context index = option_map (λ global. node_of (global.val_type 
 unfoldable pub global_set_at : BodyContext → List ℕ → Chosen
 global_set_at context bytes = giving (global_set_node context) (chunk_at (is_mutable context) (indexed (length context.globals)) bytes)
 
--- a call whose results are dropped
+-- a call, whose results are dropped
 abbrev pub any_call_node : BodyContext → ℕ → Option Node
 any_call_node context index =
     option_map (λ (function : FuncType). node_of function.params (instr.Call index) (length function.results)) (function_at context index)
@@ -291,7 +288,7 @@ any_call_node context index =
 unfoldable pub any_call_at : BodyContext → List ℕ → Chosen
 any_call_at context bytes = giving (any_call_node context) (called_at context (index_at (length context.funcs)) bytes)
 
--- the families of statements; the number of times that each is listed is its weight
+-- the families of statements, each listed as often as its weight
 abbrev pub statement_families : List StatementFamily
 statement_families =
     statement.Nop ∷
@@ -354,7 +351,7 @@ any_statement_at config context bytes =
     let family = chosen_at statement.Nop statement_families bytes in
     or_nop (statement_of config context family.0 family.1)
 
--- a node is allowed, and isn't `nop`
+-- whether a node is permitted, and is not `nop`
 abbrev pub is_kept_head : Features → Config → Node → Head → Bool
 is_kept_head features config node (head.Plain instr.Nop) = false
 is_kept_head features config node _ = is_node_allowed features config node
@@ -362,7 +359,7 @@ is_kept_head features config node _ = is_node_allowed features config node
 abbrev pub is_kept : Features → Config → Node → Bool
 is_kept features config node = is_kept_head features config node node.head
 
--- a choice that isn't kept is made once more
+-- a statement, drawn once more if it is not permitted or `nop`
 unfoldable pub statement_choice_at : Config → BodyContext → List ℕ → Node × List ℕ
 statement_choice_at config context bytes =
     let first = any_statement_at config context bytes in

@@ -125,7 +125,7 @@ fn choose_value(
     }
 }
 
-/// Chooses a block, or one of eight times an instruction after which nothing is reached.
+/// Chooses a block, or one of eight times an instruction after which no code is reached.
 fn choose_ending_value(
     alloc: Global,
     scope: &Scope<'_>,
@@ -150,7 +150,7 @@ fn choose_ending_value(
     choose_ending(alloc, scope, draft, u)
 }
 
-/// Chooses an instruction after which nothing is reached: a branch, a tail call, a throw or
+/// Chooses an instruction after which no code is reached: a branch, a tail call, a throw or
 /// `unreachable`. It may come in place of any values. Returns `None` if the choice is not possible.
 pub fn choose_ending(
     alloc: Global,

@@ -82,7 +82,7 @@ pub(crate) enum StatementFamily {
     Try,
 }
 
-/// Families of instructions after which nothing is reached.
+/// Families of instructions after which no code is reached.
 #[derive(Clone, Copy)]
 pub(crate) enum EndingFamily {
     /// `return`, or an unconditional branch to one label.
@@ -96,8 +96,7 @@ pub(crate) enum EndingFamily {
     Unreachable,
 }
 
-/// Lists the families of values of the type `wanted`. The number of times that a family is listed
-/// is its weight.
+/// Lists the families of values of the type `wanted`, each as often as its weight.
 pub(crate) fn value_families<'a>(wanted: ValType) -> &'a [ValueFamily]
     ensures { result.now ≡ value_families wanted }
 {
@@ -237,7 +236,7 @@ fn reference_value_families<'a>() -> &'a [ValueFamily]
     ]
 }
 
-/// Lists the families of statements. The number of times that a family is listed is its weight.
+/// Lists the families of statements, each as often as its weight.
 pub(crate) fn statement_families<'a>() -> &'a [StatementFamily]
     ensures { result.now ≡ statement_families }
 {
@@ -275,8 +274,7 @@ pub(crate) fn statement_families<'a>() -> &'a [StatementFamily]
     ]
 }
 
-/// Lists the families of instructions after which nothing is reached. The number of times that a
-/// family is listed is its weight.
+/// Lists the families of instructions after which no code is reached, each as often as its weight.
 pub(crate) fn ending_families<'a>() -> &'a [EndingFamily]
     ensures { result.now ≡ ending_families }
 {

@@ -1,5 +1,4 @@
--- The block that the bytes choose. The choices, their order and their weights are rules of this
--- project.
+-- Drawn blocks. The choices, their order and their weights are rules of this project.
 use Rattle.std.specs.Prelude.{ℕ, ◌%◌, nat_le, ◌&&◌, Bool, Option, Some, None, List, [], ◌∷◌, length, slice_get, slice_index_or}
 use Rattle.std.specs.Prelude.{if◌then◌else◌}
 use Rattle.smith_bytes.specs.Draws.{range_at}
@@ -18,8 +17,7 @@ use Rattle.smith_body_nodes.specs.declared.node.Node.{Node}
 use Rattle.smith_body_nodes.specs.declared.node.Opening.{Opening}
 use Rattle.smith_body_nodes.specs.declared.node.Opening.TheVariants as opening
 
--- a block, a loop, an `if` with its `else`, or one without; the number of times that each is listed
--- is its weight
+-- a block, a loop, an `if` with `else` and an `if` without, each listed as often as its weight
 abbrev pub openings : List (Option Opening)
 openings =
     Some opening.Block ∷
@@ -37,7 +35,8 @@ opening_at bytes = let number = range_at 0 5 bytes in (slice_index_or openings n
 unfoldable pub block_at : ValType → List ℕ → Chosen
 block_at wanted bytes = let opening = opening_at bytes in (Some (blocked opening.0 (block.Value wanted) [] (wanted ∷ []) 0), opening.1)
 
--- a block of a function type, whose results are dropped, or one without parameters and results
+-- a block with a function type, whose results are dropped, or a block without parameters and
+-- results
 abbrev pub any_block_node : Option Opening → ℕ → Option FuncType → Node
 any_block_node opening index (Some function) = blocked opening (block.Func index) function.params function.results (length function.results)
 any_block_node opening index None = blocked opening block.Empty [] [] 0
@@ -47,20 +46,20 @@ any_block_of context opening bytes =
     let index = range_at 0 (indexed (length context.types)) bytes in
     (Some (any_block_node opening index.0 (func_in (slice_get context.types index.0))), index.1)
 
--- the type of references to exceptions, or null
+-- the type of nullable references to exceptions
 abbrev pub exnref : ValType
 exnref = nullable_to exn
 
--- a handler: a block that leaves such a reference, which is dropped after it; clauses may pass one to
--- its label
+-- a handler: a block whose result is such a reference, which is dropped; clauses may pass a
+-- reference to its label
 abbrev pub handler : Node
 handler = blocked (Some opening.Block) (block.Value exnref) [] (exnref ∷ []) 1
 
--- one of 16 numbers is that of a handler, if clauses may pass references
+-- whether a number means a handler: one of 16 does, if clauses may pass references
 abbrev pub is_of_handler : Features → ℕ → Bool
 is_of_handler features number = nat_le 240 number && refers_to_caught features
 
--- a handler, or a block of a function type
+-- a handler, or a block with a function type
 unfoldable pub any_block_at : BodyContext → List ℕ → Chosen
 any_block_at context bytes =
     let number = range_at 0 255 bytes in

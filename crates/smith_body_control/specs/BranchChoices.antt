@@ -1,5 +1,4 @@
--- The branch that the bytes choose. The choices, their order and their weights are rules of this
--- project.
+-- Drawn branches. The choices, their order and their weights are rules of this project.
 use Rattle.std.specs.Prelude.{ℕ, zero, suc, ◌-◌, ◌/◌, ◌==◌, Option, Some, None, option_map, option_to_list, List, [], ◌∷◌, ◌++◌, length}
 use Rattle.std.specs.Prelude.{slice_get, if◌then◌else◌}
 use Rattle.smith_bytes.specs.Draws.{bool_at, range_at, choose_at}
@@ -33,7 +32,7 @@ leaving_at context bytes =
     else if out.0 then (Some (return_node context), out.1)
     else (br_node context label.0, label.1)
 
--- a conditional branch; the values that it leaves if it is not taken are dropped
+-- a conditional branch; if it is not taken, its values are dropped
 abbrev pub br_if_node : BodyContext → ℕ → Option Node
 br_if_node context label =
     option_map (λ (taken : List ValType). node_of (taken ++ I32 ∷ []) (instr.BrIf label) (length taken)) (slice_get context.labels label)
@@ -41,7 +40,7 @@ br_if_node context label =
 unfoldable pub branch_at : BodyContext → List ℕ → Chosen
 branch_at context bytes = let label = label_at context bytes in (br_if_node context label.0, label.1)
 
--- labels that a branch with the operands for another label may target
+-- labels that a branch with operands of these types may target
 unfoldable pub targets_at : BodyContext → List ValType → ℕ → List ℕ → List ℕ × List ℕ
 targets_at context taken zero bytes = ([], bytes)
 targets_at context taken (suc count) bytes =
@@ -49,7 +48,7 @@ targets_at context taken (suc count) bytes =
     let more = targets_at context taken count label.1 in
     (option_to_list label.0 ++ more.0, more.1)
 
--- their number: at most 7, and one of sixteen times at most 63
+-- the number of labels: at most 7, and one of sixteen times at most 63
 unfoldable pub target_count_at : List ℕ → ℕ × List ℕ
 target_count_at bytes =
     let number = range_at 0 15 bytes in
@@ -58,8 +57,7 @@ target_count_at bytes =
 abbrev pub some_targets_at : BodyContext → List ValType → List ℕ → List ℕ × List ℕ
 some_targets_at context taken bytes = let count = target_count_at bytes in targets_at context taken count.0 count.1
 
--- a branch to one of several labels, one of which is for every other number: out of the function if
--- there is no label
+-- a `br_table` to several labels, or a branch out of the function if there is no label
 abbrev pub table_by : BodyContext → ℕ → Option (List ValType) → List ℕ → Chosen
 table_by context label None bytes = (Some (return_node context), bytes)
 table_by context label (Some taken) bytes =

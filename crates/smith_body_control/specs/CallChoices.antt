@@ -1,5 +1,5 @@
--- The call through a table or a reference that the bytes choose, and the tail call. The choices,
--- their order and their weights are rules of this project.
+-- Drawn calls through tables and references, and drawn tail calls. The choices, their order and
+-- their weights are rules of this project.
 use Rattle.std.specs.Prelude.{◌≡◌, ℕ, ◌-◌, ◌==◌, ◌&&◌, ◌||◌, Bool, true, false, if◌then◌else◌, List, [], ◌∷◌, ◌++◌, length, take, All}
 use Rattle.std.specs.Prelude.{Option, Some, None, option_and_then, option_map, slice_get}
 use Rattle.std.specs.Cmp.Lexicographic.{pointwise}
@@ -35,7 +35,7 @@ IsOutcomeOver features types _ = Unit {0}
 abbrev pub IsOutcome : BodyContext → Outcome → Type 0
 IsOutcome context outcome = IsOutcomeOver context.features context.types outcome
 
--- the values that a call leaves: a tail call is followed by any valid values
+-- the results of a call; after a tail call, any valid values
 abbrev pub IsLeftOver : Features → List SubType → Outcome → List ValType → Type 0
 IsLeftOver features types (outcome.Wanted value) values = values ≡ value ∷ []
 IsLeftOver features types outcome.Dropped values = values ≡ []
@@ -44,7 +44,7 @@ IsLeftOver features types outcome.Returned values = All (IsValTypeValid features
 abbrev pub IsLeft : BodyContext → Outcome → List ValType → Type 0
 IsLeft context outcome values = IsLeftOver context.features context.types outcome values
 
--- the results of a function may have this outcome, if the function of the body returns values of
+-- whether the results of a function may have this outcome, if the body's function returns values of
 -- these types
 abbrev pub is_fit : List SubType → List ValType → Outcome → FuncType → Bool
 is_fit types returned (outcome.Wanted value) function = is_first_below types value function.results
@@ -55,24 +55,25 @@ abbrev pub is_fit_in : List SubType → List ValType → Outcome → Option Func
 is_fit_in types returned outcome (Some function) = is_fit types returned outcome function
 is_fit_in types returned outcome None = false
 
--- a function type whose results may have this outcome
+-- whether the type at an index is a function type whose results may have this outcome
 abbrev pub is_fit_type : BodyContext → Outcome → ℕ → Bool
 is_fit_type context outcome index = is_fit_in context.types context.results outcome (func_in (slice_get context.types index))
 
--- a function whose results the function of the body may return
+-- whether the body's function may return the results of a function
 abbrev pub is_returnable : BodyContext → ℕ → Bool
 is_returnable context index = is_fit_in context.types context.results outcome.Returned (function_at context index)
 
--- a reference type matches that of functions, shared or unshared (Validation, Control Instructions,
--- call_indirect)
+-- whether a reference type matches the type of shared, or of unshared, function references
+-- (Validation, Control Instructions, call_indirect)
 abbrev pub is_below_func : List SubType → RefType → Bool → Bool
 is_below_func types element shared = is_val_below types (Ref element) (nullable_to (Abstract shared abstract.Func))
 
--- a reference type matches that of shared or of unshared functions
+-- whether a reference type matches one of these two types
 abbrev pub holds_functions : List SubType → RefType → Bool
 holds_functions types element = is_below_func types element false || is_below_func types element true
 
--- a table of functions (Validation, Control Instructions, call_indirect)
+-- whether a table has function references as elements (Validation, Control Instructions,
+-- call_indirect)
 abbrev pub is_function_table_at : List SubType → Option TableType → Bool
 is_function_table_at types (Some table) = holds_functions types table.element_type
 is_function_table_at types None = false
@@ -86,7 +87,7 @@ dropped_of (outcome.Wanted value) function = length function.results - 1
 dropped_of outcome.Dropped function = length function.results
 dropped_of outcome.Returned function = 0
 
--- a call of a function in a table: a tail call if its results are returned
+-- a call through a table: a tail call if its results are returned
 abbrev pub indirect_instr : Outcome → ℕ → ℕ → Instr
 indirect_instr outcome.Returned table ty = instr.ReturnCallIndirect table ty
 indirect_instr _ table ty = instr.CallIndirect table ty
@@ -102,15 +103,15 @@ indirect_by context outcome (Some ty) bytes =
     giving (λ table. indirect_node outcome ty table (func_in (slice_get context.types ty)) (slice_get context.tables table))
     (chunk_at (is_function_table context) (indexed (length context.tables)) bytes)
 
--- a function type whose results may have this outcome
+-- a drawn function type whose results may have this outcome
 abbrev pub fit_type_at : BodyContext → Outcome → List ℕ → Option ℕ × List ℕ
 fit_type_at context outcome bytes = chunk_at (is_fit_type context outcome) (indexed (length context.types)) bytes
 
--- such a call, of a type whose results may have this outcome
+-- a call through a table, with a type whose results may have this outcome
 unfoldable pub indirect_at : BodyContext → Outcome → List ℕ → Chosen
 indirect_at context outcome bytes = let ty = fit_type_at context outcome bytes in indirect_by context outcome ty.0 ty.1
 
--- a call of a function by a reference: a tail call if its results are returned
+-- a call through a reference: a tail call if its results are returned
 abbrev pub by_reference_instr : Outcome → ℕ → Instr
 by_reference_instr outcome.Returned ty = instr.ReturnCallRef ty
 by_reference_instr _ ty = instr.CallRef ty
@@ -121,11 +122,11 @@ by_reference_node context outcome ty =
     (dropped_of outcome function))
     (func_in (slice_get context.types ty))
 
--- the type of a function that may be named, by its place among those
+-- the type of a function that `ref.func` may name, by its position among these functions
 abbrev pub named_type : BodyContext → ℕ → Option ℕ
 named_type context place = option_and_then (slice_get context.funcs) (slice_get context.references place)
 
--- a function that may be named and whose results may have this outcome
+-- whether `ref.func` may name a function whose results may have this outcome
 abbrev pub is_fit_named : BodyContext → Outcome → ℕ → Bool
 is_fit_named context outcome place =
     is_fit_in context.types context.results outcome (function_in context.types (named_type context place))
@@ -135,27 +136,28 @@ abbrev pub named_type_at : BodyContext → Outcome → List ℕ → Option ℕ �
 named_type_at context outcome bytes =
     giving (named_type context) (chunk_at (is_fit_named context outcome) (length context.references) bytes)
 
--- the type of a function that is called by a reference: of a function that may be named, since there
--- is a reference to it; one of 16 times any function type
+-- the type of a call through a reference: mostly that of a function that `ref.func` may name,
+-- because there is a reference to it; one of 16 times any function type
 abbrev pub referred_type_at : BodyContext → Outcome → List ℕ → Option ℕ × List ℕ
 referred_type_at context outcome bytes =
     let number = range_at 0 15 bytes in
     if number.0 == 15 then fit_type_at context outcome number.1 else named_type_at context outcome number.1
 
--- such a call, of a type whose results may have this outcome, if a reference may name a type
+-- a call through a reference, with a type whose results may have this outcome, if a reference type
+-- may have a type index
 unfoldable pub by_reference_at : BodyContext → Outcome → List ℕ → Chosen
 by_reference_at context outcome bytes =
     if context.features.reference_types && context.features.gc
     then giving (by_reference_node context outcome) (referred_type_at context outcome bytes)
     else (None, bytes)
 
--- a function type is that of the function of the body
+-- whether a function type is that of the body's function
 abbrev pub is_own_type : BodyContext → FuncType → Bool
 is_own_type context function =
     pointwise val_same.eq function.params (take context.params context.locals)
     && pointwise val_same.eq function.results context.results
 
--- a function that was drawn may be that of the body: it has the same type
+-- whether a drawn function may be the body's own function: it has the same type
 abbrev pub may_be_own_in : BodyContext → Option FuncType → Bool
 may_be_own_in context (Some function) = is_own_type context function
 may_be_own_in context None = false
@@ -164,7 +166,8 @@ abbrev pub may_be_own : BodyContext → Option ℕ → Bool
 may_be_own context (Some index) = may_be_own_in context (function_at context index)
 may_be_own context None = false
 
--- a function that may be that of the body is drawn once more, so that few functions call themselves
+-- a drawn function, drawn once more if it may be the body's own, so that few functions call
+-- themselves
 abbrev pub called_at : BodyContext → (List ℕ → Option ℕ × List ℕ) → List ℕ → Option ℕ × List ℕ
 called_at context draw bytes =
     let first = draw bytes in

@@ -1,5 +1,4 @@
--- The throw that the bytes choose. The choices, their order and their weights are rules of this
--- project.
+-- Drawn throws. The choices, their order and their weights are rules of this project.
 use Rattle.std.specs.Prelude.{ℕ, ◌-◌, ◌==◌, ◌&&◌, Bool, false, Option, Some, None, option_map, List, [], ◌∷◌, length, slice_get}
 use Rattle.std.specs.Prelude.{if◌then◌else◌}
 use Rattle.smith_bytes.specs.Draws.{range_at}

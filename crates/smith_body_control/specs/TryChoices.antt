@@ -1,5 +1,4 @@
--- The `try_table` that the bytes choose. The choices, their order and their weights are rules of
--- this project.
+-- Drawn `try_table` blocks. The choices, their order and their weights are rules of this project.
 use Rattle.std.specs.Prelude.{◌≡◌, ℕ, zero, suc, ◌&&◌, Bool, true, false, Option, Some, None, option_map, option_to_list, List, [], ◌∷◌}
 use Rattle.std.specs.Prelude.{◌++◌, length, slice_get, if◌then◌else◌}
 use Rattle.smith_bytes.specs.Draws.{bool_at, choose_at, range_at}
@@ -22,14 +21,16 @@ use Rattle.smith_body_nodes.specs.declared.node.Node.{Node}
 abbrev pub refers_to_caught : Features → Bool
 refers_to_caught features = refers_to_exceptions features && features.function_references
 
--- a clause for the exceptions of a tag, or for all, that passes a reference to the exception or not
+-- a clause for the exceptions of a tag, or for all exceptions, which may pass a reference to the
+-- exception
 abbrev pub clause_of : Option ℕ → Bool → ℕ → Catch
 clause_of (Some tag) false label = catch.One tag label
 clause_of (Some tag) true label = catch.OneRef tag label
 clause_of None false label = catch.All label
 clause_of None true label = catch.AllRef label
 
--- the values that a clause passes to its label: those of the exception, then the reference, if any
+-- the values that a clause passes to its label: the values of the exception, then the reference, if
+-- any
 abbrev pub passed_values : List ValType → Bool → List ValType
 passed_values values false = values
 passed_values values true = values ++ reference_to exn ∷ []
@@ -39,7 +40,7 @@ abbrev pub IsCaught : BodyContext → Option ℕ → List ValType → Type 0
 IsCaught context (Some tag) values = IsTag context tag values
 IsCaught context None values = values ≡ []
 
--- a clause to a label that takes its values, if there is one
+-- a clause with a label that takes its values, if there is such a label
 abbrev pub clause_to : BodyContext → Option ℕ → Bool → List ValType → List ℕ → Option Catch × List ℕ
 clause_to context tag referenced values bytes =
     let label = choose_at (offered (is_target context.types context.labels (passed_values values referenced)) (label_count context))
@@ -69,7 +70,7 @@ clause_at context bytes =
     let referenced = referenced_at context.features tagged.1 in
     if tagged.0 then tagged_clause_at context referenced.0 referenced.1 else clause_to context None referenced.0 [] referenced.1
 
--- several clauses, without those that are not possible
+-- several clauses, without the impossible ones
 unfoldable pub clauses_at : BodyContext → ℕ → List ℕ → List Catch × List ℕ
 clauses_at context zero bytes = ([], bytes)
 clauses_at context (suc count) bytes =
@@ -77,7 +78,7 @@ clauses_at context (suc count) bytes =
     let more = clauses_at context count clause.1 in
     (option_to_list clause.0 ++ more.0, more.1)
 
--- at most three of them
+-- at most three clauses
 abbrev pub some_clauses_at : BodyContext → List ℕ → List Catch × List ℕ
 some_clauses_at context bytes = let count = range_at 0 3 bytes in clauses_at context count.0 count.1
 
@@ -87,8 +88,7 @@ try_at context wanted bytes =
     let clauses = some_clauses_at context bytes in
     (Some (trying (block.Value wanted) clauses.0 [] (wanted ∷ []) 0), clauses.1)
 
--- a `try_table` of a function type, whose results are dropped, or one without parameters and
--- results
+-- a `try_table` with a function type, whose results are dropped, or without parameters and results
 abbrev pub any_try_node : List Catch → ℕ → Option FuncType → Node
 any_try_node clauses index (Some function) = trying (block.Func index) clauses function.params function.results (length function.results)
 any_try_node clauses index None = trying block.Empty clauses [] [] 0

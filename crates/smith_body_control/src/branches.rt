@@ -64,8 +64,8 @@ pub fn choose_branch(
     conditional(alloc, taken, Instr::BrIf(index as u32), taken.len())
 }
 
-/// Draws the number of labels of a `br_table`, besides that for every other number: at most 7, and
-/// one of sixteen times at most 63.
+/// Draws the number of labels of a `br_table`, its default label aside: at most 7, and one of
+/// sixteen times at most 63.
 #[tactic(auto, unfolding(crate::specs::BranchChoices::target_count_at))]
 fn draw_target_count(u: &mut Unstructured<'_>) -> u8
     ensures exact { target_count_at u.old ≡ (result, u.new) }

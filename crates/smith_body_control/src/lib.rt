@@ -1,5 +1,5 @@
-//! Choices of blocks, branches and exceptions, and of the type of a called function. The standard
-//! is the WebAssembly Core Specification 3.0.
+//! Choices of blocks, branches, exceptions and types of called functions. The standard is the
+//! WebAssembly Core Specification 3.0.
 //!
 //! A call that returns a `Result` fails only if an allocation fails.
 #![tactic(auto)]

@@ -70,7 +70,7 @@ fn passed_values(
     Ok(taken)
 }
 
-/// Chooses the label of a clause, if there is one that takes the values that the clause passes. The
+/// Chooses a label for a clause, if the values that the clause passes match the types of one. The
 /// exceptions of `tag` hold `values`.
 fn choose_clause_to(
     alloc: Global,

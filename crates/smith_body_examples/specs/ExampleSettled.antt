@@ -1,4 +1,4 @@
--- What becomes of a value that no other instruction takes, as instructions.
+-- Settling of values, as instructions.
 use Rattle.std.specs.Prelude.{ℕ, List}
 use Rattle.smith_config.specs.declared.config.Config.{Config}
 use Rattle.smith_syntax.specs.declared.value_type.ValType.{ValType}

@@ -1,6 +1,6 @@
--- The types that may have no value without a budget, where bodies may have all kinds of
--- instructions.
--- With `disallow_traps`, a body has `unreachable` in place of such a value. Rules of this project.
+-- Barren types: they may have no value without a budget, even if all kinds of instructions are
+-- allowed. With `disallow_traps`, a body has `unreachable` in place of such a value. Rules of this
+-- project.
 use Rattle.std.specs.Prelude.{◌≡◌, ℕ, ◌-◌, ◌^◌, ◌≤◌, Bool, false, IsTrue, List, length, slice_get, Some}
 use Rattle.std.specs.List.{Contains}
 use Rattle.smith_config.specs.declared.config.Config.{Config}
@@ -22,8 +22,8 @@ use Rattle.smith_body_leaves.specs.Laws.{HasNoOther}
 abbrev pub IsSharingOn : BodyContext → Bool → Type 0
 IsSharingOn context shared = IsTrue shared → IsTrue context.features.shared_everything_threads
 
--- a barren heap type: no struct of default values, no array without elements, no function that may
--- be named, no i31, and no external reference is below it
+-- a heap type is barren: no struct of default values, no array without elements, no function that
+-- `ref.func` may name, no i31, and no external reference is below it
 pub record IsBarren (context : BodyContext) (heap_type : HeapType) : Type 0 where
   pub no_struct : ¬ IsGroundedByStructs context.types context.features.custom_descriptors heap_type
   pub no_array : (index : ℕ) (element : FieldType) → IsArrayAt context.types index element
@@ -38,8 +38,8 @@ abbrev pub IsBarrenReference : BodyContext → ValType → Type 0
 IsBarrenReference context (Ref to) = (to.nullable ≡ false) × IsBarren context to.heap_type
 IsBarrenReference context _ = ⊥
 
--- with garbage collection, where bodies may have all kinds of instructions, a valid type for which
--- no permitted instructions produce a value without a budget is such a reference type
+-- with garbage collection and all kinds of instructions, a valid type for which no permitted
+-- instructions give a value without a budget is such a reference type
 abbrev pub OnlyBarrenTypesHaveNoOther : Type 0
 OnlyBarrenTypesHaveNoOther =
     (config : Config) (context : BodyContext) (set : List ℕ) (wanted : ValType)

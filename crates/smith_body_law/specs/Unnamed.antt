@@ -1,4 +1,4 @@
--- What grounds a barren type. Rules of this project.
+-- Grounding of barren types. Rules of this project.
 use Rattle.std.specs.Prelude.{◌≡◌, ℕ, List, slice_get, Some}
 use Rattle.std.specs.List.{Contains}
 use Rattle.smith_types.specs.Expressions.{Context, function_reference, reference_to}
@@ -15,14 +15,14 @@ pub record AreOfOneModule (context : Context) (body : BodyContext) : Type 0 wher
   pub funcs : body.funcs ≡ context.funcs
   pub imported_funcs : body.imported_funcs ≡ context.imported_funcs
 
--- functions alone ground a heap type, and none of them is in the list of those that may be named
+-- only functions ground a heap type, and `ref.func` may name none of them
 pub record IsGroundedByUnnamed (context : Context) (references : List ℕ) (heap_type : HeapType) : Type 0 where
   pub no_structs : ¬ IsGroundedByStructs context.types context.features.custom_descriptors heap_type
   pub functions : IsGroundedByFuncs context heap_type
   pub unnamed : (function index : ℕ) → slice_get context.funcs function ≡ Some index
       → IsValBelow context.types (function_reference context function index) (reference_to heap_type) → ¬ Contains references function
 
--- a barren heap type that is grounded is grounded by functions alone, none of which may be named
+-- only functions that `ref.func` may not name ground a barren heap type
 abbrev pub BarrenTypesAreGroundedByUnnamedFunctions : Type 0
 BarrenTypesAreGroundedByUnnamedFunctions =
     (context : Context) (body : BodyContext) (heap_type : HeapType)

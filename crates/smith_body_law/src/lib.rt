@@ -1,5 +1,5 @@
-//! Laws of values that need no budget: for which types there are none, where bodies may have all
-//! kinds of instructions, and what grounds these types.
+//! Laws of values that need no budget: which types have none if bodies may have all kinds of
+//! instructions, and which types ground these.
 #![tactic(auto)]
 
 mod examples;
@@ -9,8 +9,8 @@ ghost use Rattle.smith_body_law.specs.Unnamed.{BarrenTypesAreGroundedByUnnamedFu
 
 /// States that, with garbage collection and where bodies may have all kinds of instructions, only
 /// barren types have no value that needs no budget. These are non-nullable references to heap types
-/// below which there is nothing that can be created or named. With `disallow_traps`, a body has
-/// `unreachable` in place of values of such types alone.
+/// without a subtype whose values can be created or named. With `disallow_traps`, a body has
+/// `unreachable` only in place of values of barren types.
 pub fn only_barren_types_have_no_other()
     ensures { OnlyBarrenTypesHaveNoOther }
 {}

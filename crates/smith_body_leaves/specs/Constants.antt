@@ -1,4 +1,4 @@
--- How the bytes produce a constant. The choice of the interesting values is a rule of this project.
+-- Drawn constants. The choice of the interesting values is a rule of this project.
 use Rattle.std.specs.Prelude.{ℕ, ◌+◌, ◌*◌, ◌^◌, ℤ, pos, List, [], ◌∷◌}
 use Rattle.std.specs.Int.{cast_signed, w8, w32, w64, w128}
 use Rattle.smith_bytes.specs.Draws.{whole_at}
@@ -8,7 +8,7 @@ use Rattle.smith_body_leaves.specs.declared.constant_tables.ConstantWay.TheVaria
 use Rattle.smith_body_leaves.specs.declared.constant_tables.LaneFamily.{LaneFamily}
 use Rattle.smith_body_leaves.specs.declared.constant_tables.LaneFamily.TheVariants as lane
 
--- the ways to draw a constant; the number of times that each is listed is its weight
+-- the ways to draw a constant, each listed as often as its weight
 abbrev pub constant_ways : List ConstantWay
 constant_ways =
     way.Small ∷
@@ -17,7 +17,7 @@ constant_ways =
     way.Whole ∷
     []
 
--- what the lanes of an interesting vector may be
+-- the kinds of lanes of an interesting vector
 abbrev pub lane_families : List LaneFamily
 lane_families =
     lane.Bytes ∷

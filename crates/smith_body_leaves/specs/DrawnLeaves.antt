@@ -1,5 +1,5 @@
--- The value without a budget that the bytes produce: one instruction, or a value that is preferred to
--- null. The choices, their order and their weights are rules of this project.
+-- Drawn values without a budget: one instruction, or a value that is preferred to null. The
+-- choices, their order and their weights are rules of this project.
 use Rattle.std.specs.Prelude.{◌≡◌, ℕ, ℤ, Bool, true, false, ◌&&◌, not, nat_lt, Option, Some, None, option_map, unwrap_or, List, [], ◌∷◌}
 use Rattle.std.specs.Prelude.{◌++◌, length, pos, replicate, slice_get, if◌then◌else◌}
 use Rattle.smith_bytes.specs.Draws.{range_at}
@@ -32,7 +32,7 @@ use Rattle.smith_body_nodes.specs.Offered.{chunk_at}
 use Rattle.smith_body_nodes.specs.Scopes.{indexed, is_permitted}
 use Rattle.smith_body_nodes.specs.declared.offer.Reach.TheVariants as reach
 
--- what was chosen, or if nothing was, what the next choice gives
+-- the chosen item, or if there is none, the item of the next choice
 abbrev pub something_or : {A : Type 0} → Option A → (List ℕ → Option A × List ℕ) → List ℕ → Option A × List ℕ
 something_or (Some x) next bytes = (Some x, bytes)
 something_or None next bytes = next bytes
@@ -62,7 +62,7 @@ unfoldable pub variable_at : Config → BodyContext → List ℕ → ValType →
 variable_at config context set wanted bytes = or_next (held_of config context set wanted leaf.Local bytes)
     (held_of config context set wanted leaf.Global)
 
--- a type that passes a test: the type that is named, or if none is, one of a drawn chunk
+-- a type that passes a test: the type with a given index, or without one, a type of a drawn chunk
 abbrev pub created_type_at : (ℕ → Bool) → ℕ → Option ℕ → List ℕ → Option ℕ × List ℕ
 created_type_at test size (Some ty) bytes = (if nat_lt ty size && test ty then Some ty else None, bytes)
 created_type_at test size None bytes = chunk_at test size bytes
@@ -104,8 +104,7 @@ numbered config context draw None bytes = (None, bytes)
 abbrev pub length_at : List ℕ → ℤ × List ℕ
 length_at bytes = let length = range_at 4 15 bytes in (pos length.0, length.1)
 
--- the families of created values, or none in place of null; the number of times that each is listed
--- is its weight
+-- the families of created values, or none in place of null, each listed as often as its weight
 abbrev pub created_families : List (Option CreatedFamily)
 created_families =
     replicate 5 (Some created.Struct) ++ replicate 5 (Some created.Array) ++ replicate 5 (Some created.I31) ++ None ∷ []
@@ -135,7 +134,7 @@ abbrev pub may_be_created : ValType → Bool
 may_be_created (Ref to) = is_to_created to.heap_type
 may_be_created _ = false
 
--- a created value: of this family, or of the first that has one
+-- a created value of this family, or of the first family that has one
 abbrev pub created_value_at : Config → BodyContext → ValType → CreatedFamily → List ℕ → Option Leaf × List ℕ
 created_value_at config context wanted family bytes =
     if may_be_created wanted then
@@ -178,7 +177,7 @@ abbrev pub permitted_or_spare : Config → BodyContext → List ℕ → ValType 
 permitted_or_spare config context set wanted instruction =
     if is_permitted context.features config instruction then instruction ∷ [] else spare_leaf config context set wanted
 
--- what is preferred to a drawn instruction, if anything is
+-- the value that is preferred to a drawn instruction, if any
 abbrev pub preferred_to : Config → BodyContext → List ℕ → ValType → Instr → List ℕ → Option Leaf × List ℕ
 preferred_to config context set wanted instruction bytes =
     if is_null_or_stop instruction then preferred_at config context set wanted bytes else (None, bytes)

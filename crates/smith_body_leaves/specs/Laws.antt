@@ -33,13 +33,14 @@ abbrev pub IsOther : Config → BodyContext → List ℕ → ValType → Instr �
 IsOther config context set wanted instruction =
     (is_permitted context.features config instruction ≡ true) × IsLeaf context set wanted instruction
 
--- an instruction that is permitted, takes values of these types, and produces one that matches the
--- wanted type
+-- an instruction that is permitted, takes values of these types, and produces a value that matches
+-- the wanted type
 abbrev pub IsOtherTaking : Config → BodyContext → List ℕ → List ValType → (wanted : ValType) → Instr → Type 0
 IsOtherTaking config context set operands wanted instruction =
     (is_permitted context.features config instruction ≡ true) × IsTaking context set operands wanted instruction
 
--- the same for an instruction that takes a value of one type
+-- an instruction that is permitted, takes a value of one type, and produces a value that matches
+-- the wanted type
 abbrev pub IsOtherOver : Config → BodyContext → List ℕ → (operand wanted : ValType) → Instr → Type 0
 IsOtherOver config context set operand wanted instruction = IsOtherTaking config context set (operand ∷ []) wanted instruction
 

@@ -1,5 +1,4 @@
--- The value that the bytes produce without a budget. The choices and their order are rules of this
--- project.
+-- Values without a budget. The choices and their order are rules of this project.
 use Rattle.std.specs.Prelude.{◌≡◌, ℕ, zero, suc, ◌+◌, max, ◌&&◌, Bool, false, true, Option, Some, None, is_some, option_and_then}
 use Rattle.std.specs.Prelude.{option_map, option_to_list, unwrap_or, List, [], ◌∷◌, ◌++◌, length, pos, slice_get, if◌then◌else◌}
 use Rattle.std.specs.Option.{option_or}
@@ -66,7 +65,7 @@ abbrev pub global_at : BodyContext → Reach → ValType → List ℕ → Option
 global_at context reach wanted bytes =
     by_index instr.GlobalGet (within_at reach (is_global_below context wanted) (indexed (length context.globals)) bytes)
 
--- a function that may be named; the bytes choose its place among those offered
+-- a function that `ref.func` may name, by its drawn position among the offered ones
 unfoldable pub named_at : BodyContext → Reach → ValType → List ℕ → Option ℕ × List ℕ
 named_at context reach wanted bytes = giving (slice_get context.references)
     (within_at reach (is_reference context wanted) (length context.references) bytes)
@@ -75,7 +74,7 @@ abbrev pub reference_at : BodyContext → Reach → ValType → List ℕ → Opt
 reference_at context reach wanted bytes = by_index (λ function. instr.Reference (reference.Func function))
     (named_at context reach wanted bytes)
 
--- the families of values without operands; the number of times that each is listed is its weight
+-- the families of values without operands, each listed as often as its weight
 abbrev pub leaf_families : List LeafFamily
 leaf_families =
     leaf.Local ∷
@@ -247,19 +246,19 @@ abbrev pub named_type : ValType → Option ℕ
 named_type (Ref to) = named_by to.heap_type
 named_type _ = None
 
--- what the first index below an end has
+-- the first result among the indices below an end
 abbrev pub first_below : {A : Type 0} → (ℕ → Option A) → ℕ → Option A
 first_below found zero = None
 first_below found (suc n) = option_or (first_below found n) (found n)
 
--- what the first of the types has that are tried: the type that is named, or if none is, any type,
--- but only if `search` is set
+-- the first result among the types that are tried: the type with a given index, or without one, any
+-- type, but only if `search` is set
 abbrev pub first_tried : {A : Type 0} → BodyContext → Bool → Option ℕ → (ℕ → Option A) → Option A
 first_tried context search (Some ty) found = found ty
 first_tried context search None found = if search then first_below found (indexed (length context.types)) else None
 
--- whether the struct types are searched for the field of a struct: at most one search is made for a
--- value, and none for a type that is named
+-- whether the struct types are searched for the field of a struct: at most once for a value, and
+-- never if the type index is given
 abbrev pub searches_on : Bool → Option ℕ → Bool
 searches_on search (Some ty) = search
 searches_on search None = false
@@ -307,10 +306,11 @@ is_created_in config context set wanted ty None = false
 abbrev pub is_created : Config → BodyContext → List ℕ → ValType → ℕ → Bool
 is_created config context set wanted ty = is_created_in config context set wanted ty (struct_in (slice_get context.types ty))
 
--- the first struct type that is tried and of which a struct is created
+-- the index of a struct type, if a struct of this type may be created
 abbrev pub created_at : Config → BodyContext → List ℕ → ValType → ℕ → Option ℕ
 created_at config context set wanted ty = if is_created config context set wanted ty then Some ty else None
 
+-- the first tried struct type of which a struct may be created
 unfoldable pub created_type : Config → BodyContext → List ℕ → ValType → Option ℕ
 created_type config context set wanted = first_tried context true (named_type wanted) (created_at config context set wanted)
 

@@ -21,7 +21,7 @@ pub(crate) enum LaneFamily {
     Doubles,
 }
 
-/// Lists the ways to draw a constant. The number of times that a way is listed is its weight.
+/// Lists the ways to draw a constant, each as often as its weight.
 pub(crate) fn constant_ways<'a>() -> &'a [ConstantWay]
     ensures { result.now ≡ constant_ways }
 {

@@ -13,9 +13,9 @@ use smith_bytes::Error;
 use smith_instr::{AggregateInstr, Instr};
 use smith_types::{FieldType, ValType, unpack};
 
-/// Returns the first struct type that is tried for `wanted` and of which a struct matches `wanted`,
-/// its creation is allowed, and each field has an allowed value of one instruction. This is the type
-/// that `wanted` names, or any type if it names none.
+/// Returns the first struct type whose structs match `wanted`, whose creation is allowed, and each
+/// field of which has an allowed value of one instruction. If `wanted` names a type, only that type
+/// is tried.
 #[tactic(auto, unfolding(crate::specs::Leaves::created_type))]
 pub(crate) fn created_type(scope: &Scope<'_>, wanted: ValType, draft: &Draft) -> Option<u32>
     requires scope { IsScope (bare scope.now) }

@@ -100,7 +100,7 @@ pub(crate) fn choose_default_array(
     Some(ty as u32)
 }
 
-/// Chooses an offered type: `named` if it is one, or if it is `None`, a type of a drawn chunk.
+/// Chooses an offered type: `named`, or a type of a drawn chunk if `named` is `None`.
 fn choose_created<O: Offer>(
     offer: &O,
     named: Option<u32>,

@@ -11,8 +11,7 @@ pub(crate) enum LeafFamily {
     Constant,
 }
 
-/// Lists the families of values without operands. The number of times that a family is listed is
-/// its weight.
+/// Lists the families of values without operands, each as often as its weight.
 pub(crate) fn leaf_families<'a>() -> &'a [LeafFamily]
     ensures { result.now ≡ leaf_families }
 {
@@ -35,8 +34,7 @@ pub(crate) enum CreatedFamily {
     I31,
 }
 
-/// Lists the families of created values, and `None` for null. The number of times that each is listed
-/// is its weight.
+/// Lists the families of created values, and `None` for null, each as often as its weight.
 pub(crate) fn created_families<'a>() -> &'a [Option<CreatedFamily>]
     ensures { result.now ≡ created_families }
 {

@@ -16,7 +16,7 @@ use smith_types::ValType;
 pub struct Leaf {
     /// An instruction without operands.
     pub value: Instr,
-    /// An instruction that takes this value, if there are two after it.
+    /// The instruction that takes this value, if two instructions follow it.
     pub next: Option<Instr>,
     /// The last instruction after the value, if there is one. It takes the value before it.
     pub last: Option<Instr>,

@@ -1,4 +1,4 @@
-//! Values that take no budget: one that is drawn, or the first that is allowed. The standard is the
+//! Values that take no budget: a drawn one, or the first allowed one. The standard is the
 //! WebAssembly Core Specification 3.0.
 //!
 //! A call that returns a `Result` fails only if an allocation fails.

@@ -90,8 +90,8 @@ fn first_constant(scope: &Scope<'_>, wanted: ValType, draft: &Draft) -> Option<I
     None
 }
 
-/// Returns the creation of a struct of default values, of the first type for which it is a value of
-/// the type `wanted`, if it is allowed.
+/// Returns the creation of a struct of default values that matches `wanted`, of the first such
+/// type, if it is allowed.
 fn default_struct(scope: &Scope<'_>, wanted: ValType, draft: &Draft) -> Option<Instr>
     requires scope { IsScope (bare scope.now) }
     requires wanted { IsValid (bare scope.now) wanted }
@@ -106,8 +106,8 @@ fn default_struct(scope: &Scope<'_>, wanted: ValType, draft: &Draft) -> Option<I
     None
 }
 
-/// Returns the creation of an array without elements, of the first type for which it is a value of
-/// the type `wanted`, if it is allowed.
+/// Returns the creation of an array without elements that matches `wanted`, of the first such type,
+/// if it is allowed.
 fn empty_array(scope: &Scope<'_>, wanted: ValType, draft: &Draft) -> Option<Instr>
     requires scope { IsScope (bare scope.now) }
     requires wanted { IsValid (bare scope.now) wanted }

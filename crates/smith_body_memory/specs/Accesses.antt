@@ -14,8 +14,8 @@ use Rattle.smith_body_nodes.specs.declared.node.Node.{Node}
 abbrev pub bytes_of : MemoryType → ℕ → ℕ
 bytes_of memory pages = pages * 2 ^ page_log2 memory.page_size_log2
 
--- the least number of bytes of a memory, and the greatest: without a maximum, the number that it
--- can address
+-- the minimum and the maximum size of a memory in bytes; without a maximum, the number of its
+-- addresses
 abbrev pub least_bytes : MemoryType → ℕ
 least_bytes memory = bytes_of memory memory.minimum
 
@@ -26,16 +26,16 @@ most_in memory None = addresses memory.memory64
 abbrev pub most_bytes : MemoryType → ℕ
 most_bytes memory = most_in memory memory.maximum
 
--- an address from a first one on and before an end: the first one if the end isn't past it, and at
--- most the last address of a memory
+-- an address from `first` on and before `end`, or `first` if there is none; at most the last
+-- address of a memory
 abbrev pub place_in : ℕ → ℕ → ℕ → List ℕ → ℕ × List ℕ
 place_in last first end bytes = range_at (min first last) (max (min first last) (min (end - 1) last)) bytes
 
 unfoldable pub place_at : MemoryType → ℕ → ℕ → List ℕ → ℕ × List ℕ
 place_at memory first end bytes = place_in (addresses memory.memory64 - 1) first end bytes
 
--- an offset below the least number of bytes, from there to the greatest, or past it, by the weights
--- of the three; if all weights are 0, past the greatest
+-- an offset below the minimum size, from there to the maximum size, or above it, by three weights;
+-- if all weights are 0, above the maximum size
 unfoldable pub offset_at : MemoryOffsetChoices → MemoryType → List ℕ → ℕ × List ℕ
 offset_at weights memory bytes =
     let drawn = range_at 0 (weights.0 + weights.1 + weights.2 - 1) bytes in
@@ -43,7 +43,7 @@ offset_at weights memory bytes =
     else if nat_lt drawn.0 (weights.0 + weights.1) then place_at memory (least_bytes memory) (most_bytes memory) drawn.1
     else place_at memory (most_bytes memory) (addresses memory.memory64) drawn.1
 
--- an access to a memory of a type, with an alignment up to one of this binary logarithm
+-- an access to a memory of a type, with an alignment of at most 2^`log2_bytes`
 abbrev pub access_in : Config → ℕ → ℕ → Option MemoryType → List ℕ → Option Access × List ℕ
 access_in config log2_bytes index None bytes = (None, bytes)
 access_in config log2_bytes index (Some memory) bytes =

@@ -1,5 +1,4 @@
--- The atomic access that the bytes choose. The choices, their order and their weights are rules of
--- this project.
+-- Drawn atomic accesses. The choices, their order and their weights are rules of this project.
 use Rattle.std.specs.Prelude.{ℕ, Option, Some, None, List, ◌∷◌}
 use Rattle.smith_bytes.specs.Draws.{choose_at}
 use Rattle.smith_syntax.specs.declared.value_type.ValType.{ValType}
@@ -17,7 +16,7 @@ use Rattle.smith_body_nodes.specs.Nodes.{node_of}
 use Rattle.smith_body_memory.specs.declared.memories.Access.{Access}
 use Rattle.smith_body_nodes.specs.declared.node.Node.{Node}
 
--- an atomic access, whose alignment is that of its bytes
+-- an atomic access, whose alignment is its size
 abbrev pub atomic_node : AtomicAccess → Access → Node
 atomic_node op access =
     node_of (address access.wide ∷ atomic_operands op) (instr.Atomic op (record access.at { align = atomic_bytes op })) 0

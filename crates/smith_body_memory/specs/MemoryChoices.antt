@@ -1,5 +1,5 @@
--- The load or the store that the bytes choose, and the size or the growth of a memory. The choices,
--- their order and their weights are rules of this project.
+-- Drawn loads and stores, and drawn instructions on the size of a memory. The choices, their order
+-- and their weights are rules of this project.
 use Rattle.std.specs.Prelude.{ℕ, Bool, Option, Some, None, List, [], ◌∷◌, length, if◌then◌else◌}
 use Rattle.smith_bytes.specs.Draws.{bool_at, choose_at}
 use Rattle.smith_syntax.specs.declared.value_type.ValType.{ValType}

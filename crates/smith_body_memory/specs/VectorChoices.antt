@@ -1,5 +1,4 @@
--- The vector instruction that the bytes choose. The choices, their order and their weights are
--- rules of this project.
+-- Drawn vector instructions. The choices, their order and their weights are rules of this project.
 use Rattle.std.specs.Prelude.{ℕ, zero, suc, ◌-◌, ◌^◌, Option, Some, None, List, [], ◌∷◌, ◌++◌, if◌then◌else◌}
 use Rattle.smith_bytes.specs.Draws.{choose_at, range_at}
 use Rattle.smith_syntax.specs.declared.value_type.ValType.{ValType}
@@ -82,7 +81,7 @@ load_lane_node to = node_of (address to.access.wide ∷ V128 ∷ []) (instr.Vect
 abbrev pub load_lane_at : Config → List MemoryType → List ℕ → Option Node × List ℕ
 load_lane_at config memories bytes = accessing load_lane_node (lane_access_at config memories bytes)
 
--- the families of vectors; the number of times that each is listed is its weight
+-- the families of vectors, each listed as often as its weight
 abbrev pub vector_families : List VectorFamily
 vector_families =
     family.Instr ∷
@@ -110,7 +109,7 @@ abbrev pub any_vector_at : Config → List MemoryType → ValType → List ℕ �
 any_vector_at config memories V128 bytes = vector_choice_at config memories bytes
 any_vector_at config memories wanted bytes = vector_row_at wanted bytes
 
--- the same; none without vectors
+-- a vector, or a number that a vector instruction produces, if vectors are enabled
 unfoldable pub vector_at : Config → BodyContext → ValType → List ℕ → Option Node × List ℕ
 vector_at config context wanted bytes = if context.features.simd then any_vector_at config context.memories wanted bytes else (None, bytes)
 

@@ -109,8 +109,8 @@ pub(crate) fn draw_access(
     })
 }
 
-/// Draws an offset of `memory` by the weights `choices`: below the least number of its bytes, from
-/// there to the greatest, or past it.
+/// Draws an offset of `memory` by the weights `choices`: below its minimum size in bytes, from
+/// there to its maximum size, or past it.
 #[tactic(auto, unfolding(crate::specs::Accesses::offset_at))]
 fn draw_offset(choices: MemoryOffsetChoices, memory: MemoryType, u: &mut Unstructured<'_>) -> u64
     requires { page_log2 memory.page_size_log2 ≤ 16 }
@@ -146,7 +146,7 @@ fn draw_place(memory: MemoryType, first: u128, end: u128, u: &mut Unstructured<'
     u.int_in_range(first..=first.max(end))
 }
 
-/// Returns the greatest number of bytes of `memory`.
+/// Returns the maximum number of bytes of `memory`.
 fn most_bytes(memory: MemoryType) -> u128
     requires { page_log2 memory.page_size_log2 ≤ 16 }
     ensures { result ≡ most_bytes memory }

@@ -29,7 +29,7 @@ enum VectorFamily {
     LoadLane,
 }
 
-/// Lists the families of vectors. The number of times that a family is listed is its weight.
+/// Lists the families of vectors, each as often as its weight.
 fn vector_families<'a>() -> &'a [VectorFamily]
     ensures { result.now ≡ vector_families }
 {

@@ -61,6 +61,6 @@ local_above_at context to bytes =
     let index = choose_at (offered (is_above context to) (indexed (length context.locals))) bytes in
     (above_in context to index.0, index.1)
 
--- half of the time the top, else such a type
+-- half of the time the top of the hierarchy, else such a type
 abbrev pub above_at : BodyContext → RefType → List ℕ → RefType × List ℕ
 above_at context to bytes = let top = bool_at bytes in if top.0 then (top_above context to, top.1) else local_above_at context to top.1

@@ -1,5 +1,5 @@
--- Types by their indices: the fields of a struct type, the element of an array type, and which
--- created values match a type.
+-- Types by their indices: the fields of a struct type, the element of an array type, and types
+-- whose created values match a type.
 use Rattle.std.specs.Prelude.{ℕ, Bool, false, ◌&&◌, nat_le, Option, Some, None, List, length, slice_get, if◌then◌else◌}
 use Rattle.smith_types.specs.Expressions.{field_values}
 use Rattle.smith_types.specs.Grounded.{are_defaultable}
@@ -12,7 +12,7 @@ use Rattle.smith_syntax.specs.declared.value_type.ValType.{ValType}
 use Rattle.smith_draw_types.specs.Below.{is_val_below}
 use Rattle.smith_instr.specs.Contexts.{BodyContext, AreValid, created_reference}
 
--- references may name types by their indices
+-- whether reference types may have type indices
 abbrev pub names_types : BodyContext → Bool
 names_types context = context.features.reference_types && context.features.gc
 

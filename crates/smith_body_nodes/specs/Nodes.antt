@@ -1,4 +1,4 @@
--- Instructions that are chosen, with the operands that are drawn before them.
+-- Nodes: chosen instructions, with the operands that are drawn before them.
 use Rattle.std.specs.Prelude.{◌≡◌, ℕ, ◌+◌, ◌*◌, ◌≤◌, ◌<◌, ◌==◌, ◌&&◌, ◌||◌, Bool, Option, Some, None, Result, IfOk, IfSome, List, [], ◌∷◌}
 use Rattle.std.specs.Prelude.{◌++◌, length, option_to_list, All, if◌then◌else◌}
 use Rattle.std.specs.Cmp.Lexicographic.{pointwise}
@@ -55,8 +55,8 @@ abbrev pub fitting : Option Opening → List ValType → List ValType → Option
 fitting (Some opening.IfAlone) params results = if pointwise val_same.eq params results then Some opening.IfAlone else None
 fitting opening params results = opening
 
--- the part of a node after its operands takes `operands` and leaves `results`, if these locals are
--- set
+-- the instructions of a node after its operands have the type [operands] → [results], if these
+-- locals are set
 abbrev pub HasHeadType : BodyContext → List ℕ → Head → List ValType → List ValType → Type 0
 HasHeadType context set (head.Plain instruction) operands results = HasInstrType context set instruction operands results
 HasHeadType context set (head.Enclosed opening ty sides) operands results =
@@ -85,7 +85,7 @@ IsHeadValid features types (head.Try ty clauses sides) = AreSidesValid features 
 abbrev pub block_cost : List SubType → ℕ
 block_cost types = 2 * widest types + 3
 
--- the locals that the part after the operands sets
+-- the locals that the instructions after the operands set
 abbrev pub head_sets : Head → List ℕ
 head_sets (head.Plain instruction) = sets instruction
 head_sets _ = []
@@ -127,7 +127,7 @@ is_head_allowed features config head = is_permitted features config (head_instru
 abbrev pub is_node_allowed : Features → Config → Node → Bool
 is_node_allowed features config node = is_head_allowed features config node.head && is_drop_allowed features config node.drops
 
--- a node leaves values of these types, and above them some that are dropped, if at least these
+-- a node gives values of these types, and above them some that are dropped, if at least these
 -- locals are set
 pub record IsNode (context : BodyContext) (set : List ℕ) (values : List ValType) (node : Node) : Type 0 where
   pub results : List ValType
@@ -142,15 +142,15 @@ pub record IsNode (context : BodyContext) (set : List ℕ) (values : List ValTyp
   pub valid : AreValid context node.operands
   pub inside : IsHeadValid context.features context.types node.head
 
--- the node that was chosen, if one was, leaves values of these types
+-- the chosen node, if any, gives values of these types
 abbrev pub IsOffer : BodyContext → List ℕ → List ValType → Result (Option Node) Error → Type 0
 IsOffer context set values result = IfOk result (λ chosen. IfSome chosen (IsNode context set values))
 
--- an instruction after its operands, of whose results some are dropped
+-- a node of an instruction, some of whose results are dropped
 abbrev pub node_of : List ValType → Instr → ℕ → Node
 node_of operands instruction drops = record { operands = operands; head = head.Plain instruction; sets = None; drops = drops }
 
--- an aggregate instruction after its operands
+-- a node of an aggregate instruction
 abbrev pub aggregate_of : List ValType → AggregateInstr → Node
 aggregate_of operands op = node_of operands (instr.Aggregate op) 0
 
@@ -158,8 +158,8 @@ aggregate_of operands op = node_of operands (instr.Aggregate op) 0
 abbrev pub setting : ℕ → ValType → Instr → Node
 setting index value instruction = record { operands = value ∷ []; head = head.Plain instruction; sets = Some index; drops = 0 }
 
--- a node of a block of these sides, of whose results some are dropped: an `if` with its `else` if
--- there is no other opening
+-- a node of a block with these parameters and results, some of which are dropped; without an
+-- opening, an `if` with `else`
 abbrev pub opened_by : Option Opening → BlockType → Sides → ℕ → Node
 opened_by (Some opening) ty sides drops =
     record { operands = taken_by opening sides.params; head = head.Enclosed opening ty sides; sets = None; drops = drops }
@@ -169,7 +169,7 @@ abbrev pub blocked : Option Opening → BlockType → List ValType → List ValT
 blocked opening ty params results drops = opened_by (fitting opening params results) ty (record { params = params; results = results })
     drops
 
--- a node of a `try_table` of these clauses and sides, of whose results some are dropped
+-- a node of a `try_table` with these clauses, parameters and results, some of which are dropped
 abbrev pub trying : BlockType → List Catch → List ValType → List ValType → ℕ → Node
 trying ty clauses params results drops =
     record { operands = params; head = head.Try ty clauses (record { params = params; results = results }); sets = None; drops = drops }

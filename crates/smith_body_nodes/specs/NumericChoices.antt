@@ -1,5 +1,5 @@
--- The numeric instruction that the bytes choose, and `select`. The choices and their weights are
--- rules of this project.
+-- Drawn numeric instructions, and `select`. The choices and their weights are rules of this
+-- project.
 use Rattle.std.specs.Prelude.{ℕ, ◌-◌, Bool, true, false, Option, Some, None, List, [], ◌∷◌, length, if◌then◌else◌}
 use Rattle.smith_bytes.specs.Draws.{choose_at}
 use Rattle.smith_syntax.specs.declared.value_type.ValType.{ValType}

@@ -1,4 +1,4 @@
--- The items that are offered when an instruction is drawn.
+-- The items that may be drawn for an instruction.
 use Rattle.std.specs.Prelude.{◌≡◌, ℕ, zero, suc, ◌+◌, ◌-◌, ◌*◌, ◌/◌, Bool, true, false, ◌&&◌, ◌||◌, not, nat_lt, ◌==◌, Option, Some, None}
 use Rattle.std.specs.Prelude.{option_map, List, [], ◌∷◌, ◌++◌, length, min, slice_get, if◌then◌else◌}
 use Rattle.std.specs.List.{Contains}
@@ -23,7 +23,7 @@ unfoldable pub offered : (ℕ → Bool) → ℕ → List ℕ
 offered test zero = []
 offered test (suc n) = offered test n ++ (if test n then n ∷ [] else [])
 
--- one of the offered items of a drawn chunk; the items are in chunks of 256
+-- an offered item of a drawn chunk; a chunk has 256 items
 unfoldable pub chunk_at : (ℕ → Bool) → ℕ → List ℕ → Option ℕ × List ℕ
 chunk_at test size bytes =
     let chunk = range_at 0 ((size - 1) / 256) bytes in
@@ -31,12 +31,12 @@ chunk_at test size bytes =
     let drawn = choose_at (offered (λ index. test (start + index)) (min (size - start) 256)) chunk.1 in
     (option_map (λ index. start + index) drawn.0, drawn.1)
 
--- one of the offered items, of a drawn chunk or of them all
+-- an offered item, of a drawn chunk or of all items
 abbrev pub within_at : Reach → (ℕ → Bool) → ℕ → List ℕ → Option ℕ × List ℕ
 within_at reach.Chunk test size bytes = chunk_at test size bytes
 within_at reach.Whole test size bytes = choose_at (offered test size) bytes
 
--- the number of labels that may be chosen: the 64 innermost ones
+-- the number of labels that may be drawn: the 64 innermost ones
 abbrev pub label_count : BodyContext → ℕ
 label_count context = min (length context.labels) 64
 
@@ -84,7 +84,7 @@ is_mutable_at None = false
 abbrev pub is_mutable : BodyContext → ℕ → Bool
 is_mutable context index = is_mutable_at (slice_get context.globals index)
 
--- the function type that a type is, if it is one
+-- the function type of a composite type, if it is one
 abbrev pub func_of : CompositeInnerType → Option FuncType
 func_of (inner.Func function) = Some function
 func_of _ = None
@@ -114,7 +114,7 @@ is_callable_at types wanted None = false
 abbrev pub is_callable : BodyContext → ValType → ℕ → Bool
 is_callable context wanted index = is_callable_at context.types wanted (function_at context index)
 
--- types, each of which matches the wanted type at its place
+-- whether each type matches the wanted type at its position
 abbrev pub are_below : List SubType → List ValType → List ValType → Bool
 are_below types [] [] = true
 are_below types (value ∷ values) (wanted ∷ more) = is_val_below types value wanted && are_below types values more

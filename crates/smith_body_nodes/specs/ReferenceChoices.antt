@@ -1,5 +1,4 @@
--- The node on references that the bytes choose. The choices, their order and their weights are
--- rules of this project.
+-- Drawn nodes on references. The choices, their order and their weights are rules of this project.
 use Rattle.std.specs.Prelude.{ℕ, false, Option, Some, None, List, [], ◌∷◌, if◌then◌else◌}
 use Rattle.smith_bytes.specs.Draws.{bool_at}
 use Rattle.smith_syntax.specs.Features.{Features}
@@ -17,7 +16,7 @@ use Rattle.smith_body_nodes.specs.Chosen.{Chosen}
 use Rattle.smith_body_nodes.specs.Nodes.{node_of}
 use Rattle.smith_body_nodes.specs.declared.node.Node.{Node}
 
--- `select` of a type
+-- `select` with a type
 abbrev pub select_typed_node : ValType → Node
 select_typed_node wanted = node_of (wanted ∷ wanted ∷ I32 ∷ []) (instr.SelectTyped (wanted ∷ [])) 0
 
@@ -44,7 +43,7 @@ referent_at locals bytes = let value = chosen_at funcref (funcref ∷ externref 
 abbrev pub is_null_node : HeapType → Node
 is_null_node heap_type = node_of (nullable_to heap_type ∷ []) (instr.Reference reference.IsNull) 0
 
--- a test whether two references are the same, with garbage collection on
+-- a test whether two references are the same, with garbage collection
 abbrev pub eq_node : Features → Option Node
 eq_node features = if features.gc then Some (node_of (eqref ∷ eqref ∷ []) (instr.Reference reference.Eq) 0) else None
 

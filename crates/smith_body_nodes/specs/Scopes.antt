@@ -53,20 +53,20 @@ bare scope = context_of scope []
 abbrev pub where_stands : Scope → Draft → BodyContext
 where_stands scope draft = context_of scope draft.labels.items
 
--- the kinds of instructions that bodies may have: the allowed kinds, and unless `allow_floats` is
--- set without the bits that concern floats (own rule)
+-- the kinds of instructions that bodies may have: the allowed kinds, without floats unless
+-- `allow_floats` is set (own rule)
 abbrev pub kinds_of_bodies : Config → InstructionKinds
 kinds_of_bodies config =
     if config.allow_floats then config.allowed_instructions
     else record { 0 = bit_and (kinds_bits config.allowed_instructions) (2 ^ 16 - 1 - float_bits) }
 
--- an instruction may be chosen: it is enabled, by the kinds that bodies may have, and with
--- `disallow_traps` it doesn't trap
+-- whether an instruction is permitted as a choice: it is enabled, by the kinds that bodies may
+-- have, and with `disallow_traps` it does not trap
 unfoldable pub is_permitted : Features → Config → Instr → Bool
 is_permitted features config instruction =
     is_enabled features (kinds_of_bodies config) instruction && (not config.disallow_traps || not (may_trap instruction))
 
--- an instruction that may be used in a scope: it is enabled, by the kinds that bodies may have, and
+-- an instruction is permitted in a scope: it is enabled, by the kinds that bodies may have, and
 -- with `disallow_traps` it does not trap, or is `unreachable`
 pub record IsAllowedIn (scope : Scope) (instruction : Instr) : Type 0 where
   pub enabled : IsEnabled (features_in scope.features) (kinds_of_bodies scope.config.now) instruction
@@ -107,7 +107,7 @@ pub record IsScope (context : BodyContext) : Type 0 where
   pub fields_valid : (index : ℕ) (t : SubType) → slice_get context.types index ≡ Some t
       → AreValid context (field_values (fields_of t.composite_type.inner))
 
--- the operands of a branch to each label are valid, and not more than a function has
+-- the operands of a branch to each label are valid, and no more than a function has
 pub record AreLabels (scope : Scope) (labels : List (List ValType)) : Type 0 where
   pub valid : All (AreValid (bare scope)) labels
   pub few : All (λ (label : List ValType). length label ≤ widest scope.types.now.types) labels

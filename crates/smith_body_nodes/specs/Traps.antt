@@ -1,7 +1,7 @@
 -- The instructions that may trap: the chapter Execution, Instructions, of the WebAssembly Core
--- Specification 3.0. Atomic accesses are those of the threads proposal. A call is not counted as a
--- trap, since the instructions of the called function are judged by themselves; nor are the limits
--- of stacks and memory.
+-- Specification 3.0. Atomic accesses follow the threads proposal. A call is not counted as a trap,
+-- since the instructions of the called function are judged by themselves; nor are the limits of
+-- stacks and memory.
 use Rattle.std.specs.Prelude.{◌≡◌, Bool, true, false, IsTrue}
 use Rattle.smith_config.specs.declared.config.Config.{Config}
 use Rattle.smith_instr.specs.declared.aggregate.AggregateInstr.{AggregateInstr}
@@ -48,7 +48,7 @@ may_numeric_trap (numeric.I64Binary op) = divides op
 may_numeric_trap (numeric.Convert op) = truncates op
 may_numeric_trap _ = false
 
--- a use of null, or of a reference of another type (Execution, Reference Instructions)
+-- a use of null, or of a reference with another type (Execution, Reference Instructions)
 abbrev pub may_reference_trap : ReferenceInstr → Bool
 may_reference_trap reference.AsNonNull = true
 may_reference_trap (reference.Cast to) = true
@@ -90,8 +90,8 @@ may_aggregate_trap aggregate.I31GetS = true
 may_aggregate_trap aggregate.I31GetU = true
 may_aggregate_trap _ = false
 
--- an instruction may trap (Execution, Control Instructions, for those of control); accesses trap
--- past the end of a memory, and atomic ones at an address that isn't aligned
+-- whether an instruction may trap (Execution, Control Instructions, for control instructions);
+-- accesses trap past the end of a memory, and atomic accesses at an address that isn't aligned
 abbrev pub may_trap : Instr → Bool
 may_trap instr.Unreachable = true
 may_trap instr.ThrowRef = true

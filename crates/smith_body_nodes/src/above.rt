@@ -44,7 +44,7 @@ impl<'a> Offer for AboveOffer<'a> {
 }
 
 /// Draws a reference type that `to` matches: half of the time the top of its hierarchy, else the
-/// type of a local, or the top if there is none.
+/// type of a local, or the top if no local fits.
 pub fn draw_above(scope: &Scope<'_>, to: RefType, u: &mut Unstructured<'_>) -> RefType
     requires scope { IsScope (bare scope.now) }
     requires to { IsValid (bare scope.now) (Ref to) }

@@ -77,7 +77,7 @@ pub fn func_type_at<'a>(scope: &Scope<'a>, index: usize) -> Option<&'a FuncType>
     }
 }
 
-/// Returns the function type that `ty` is, if it is one.
+/// Returns `ty` as a function type, if it is one.
 pub(crate) fn inner_func<'a>(ty: &'a SubType) -> Option<&'a FuncType>
     ensures { MatchOption result (func_of ty.now.composite_type.inner ≡ None) (λ function.
         func_of ty.now.composite_type.inner ≡ Some function.now) }

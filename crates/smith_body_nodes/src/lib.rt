@@ -1,6 +1,6 @@
 //! The context of a body, the instructions that are offered in it, and nodes: instructions with the
-//! types of their operands. The numeric instructions, and those on references, are chosen here. The
-//! standard is the WebAssembly Core Specification 3.0.
+//! types of their operands. Numeric and reference instructions are chosen here. The standard is the
+//! WebAssembly Core Specification 3.0.
 //!
 //! A call that returns a `Result` fails only if an allocation fails.
 #![tactic(auto)]

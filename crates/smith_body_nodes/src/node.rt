@@ -28,8 +28,8 @@ pub struct Sides {
     pub results: Items<ValType>,
 }
 
-/// The opening of a block without clauses in which instructions are drawn once. An `if` with an
-/// `else` is no such block.
+/// The opening of a block with one list of instructions and no clauses: any but an `if` with an
+/// `else` and `try_table`.
 #[derive(Clone, Copy)]
 pub enum Opening {
     /// A `block`.

@@ -57,7 +57,7 @@ pub fn choose_reference_value(
     }
 }
 
-/// Chooses `ref.as_non_null`, whose result is also of the nullable type.
+/// Chooses `ref.as_non_null`, whose result matches the nullable type too.
 fn choose_non_null(alloc: Global, to: RefType) -> Result<Option<Node>, Error>
     ensures exact { IfOk result (λ chosen. chosen ≡ non_null_node to) }
     ensures offer { (context : BodyContext) (set : List ℕ) → IsValid context (Ref to)

@@ -57,7 +57,7 @@ pub struct Draft {
     pub budget: usize,
 }
 
-/// Returns the number of those of `count` items that have an index: at most `2^32 - 1`.
+/// Returns how many of `count` items have an index: at most `2^32 - 1`.
 pub fn indexed_count(count: usize) -> usize
     ensures { result ≡ indexed count }
 {

@@ -1,5 +1,4 @@
--- The branch on a cast that the bytes choose. The choices, their order and their weights are rules
--- of this project.
+-- Drawn branches on casts. The choices, their order and their weights are rules of this project.
 use Rattle.std.specs.Prelude.{ℕ, ◌-◌, ◌==◌, ◌&&◌, not, Bool, true, false, min, Option, Some, None, option_map, option_and_then, unwrap_or}
 use Rattle.std.specs.Prelude.{List, [], ◌∷◌, ◌++◌, length, slice_get, take, if◌then◌else◌}
 use Rattle.smith_bytes.specs.Draws.{bool_at, choose_at, range_at}
@@ -40,7 +39,7 @@ abbrev pub cast_label_at : List (List ValType) → List ℕ → Option CastLabel
 cast_label_at labels bytes = giving (cast_label_there labels) (choose_at (offered (is_of_reference labels) (min (length labels) 64)) bytes)
 
 -- a branch on a cast takes the values of its label, with a reference of another type as the last;
--- if it is not taken, the values that it leaves are dropped
+-- if it is not taken, its values are dropped
 abbrev pub cast_node : RefType → Instr → List ValType → Node
 cast_node from instruction taken = node_of (take (length taken - 1) taken ++ Ref from ∷ []) instruction (length taken)
 
@@ -54,8 +53,8 @@ is_strictly_below context above index =
     is_val_below context.types (Ref (reference_as above index)) (Ref above)
     && not (is_val_below context.types (Ref above) (Ref (reference_as above index)))
 
--- a type strictly below a reference type, of a drawn chunk of the types, or the type itself if there
--- is none
+-- a proper subtype of a reference type, from a drawn chunk of the types, or the type itself if
+-- there is none
 abbrev pub strict_in : RefType → Option ℕ → RefType
 strict_in above (Some index) = reference_as above index
 strict_in above None = above
@@ -65,7 +64,7 @@ strictly_below_at context above bytes =
     let index = chunk_at (is_strictly_below context above) (indexed (length context.types)) bytes in
     if names_types context then (strict_in above index.0, index.1) else (above, bytes)
 
--- a reference type, or half of the time one strictly below it
+-- a reference type, or half of the time a proper subtype
 abbrev pub lower_at : BodyContext → RefType → List ℕ → RefType × List ℕ
 lower_at context above bytes = let half = bool_at bytes in if half.0 then strictly_below_at context above half.1 else (above, half.1)
 
@@ -89,7 +88,7 @@ local_below_at context from bytes =
     let index = choose_at (offered (is_local_below context (Ref from)) (indexed (length context.locals))) bytes in
     (below_in context from index.0, index.1)
 
--- a type that matches a reference type: half of the time one strictly below it, else that of a local
+-- a type that matches a reference type: half of the time a proper subtype, else the type of a local
 abbrev pub below_at : BodyContext → RefType → List ℕ → RefType × List ℕ
 below_at context from bytes =
     let half = bool_at bytes in
@@ -115,8 +114,8 @@ is_exception (Abstract shared abstract.Exn) = true
 is_exception (Abstract shared abstract.NoExn) = true
 is_exception _ = false
 
--- whether a branch on a cast of a reference to such a type is left out: 15 of 16 times for
--- exceptions, since references to them have no types in between
+-- whether a branch on a cast to such a type is left out: 15 of 16 times for exceptions, because
+-- their hierarchy has no other types
 unfoldable pub left_out_at : HeapType → List ℕ → Bool × List ℕ
 left_out_at heap_type bytes =
     let number = range_at 0 15 bytes in
@@ -131,8 +130,8 @@ cast_branch_to context label bytes =
 abbrev pub cast_branch_at : BodyContext → List ℕ → Chosen
 cast_branch_at context bytes = let label = cast_label_at context.labels bytes in continued (cast_branch_to context) label.0 label.1
 
--- a reference of the wanted type, to which a cast succeeds; if it fails, a branch is taken to a
--- label of one value, whose type the wanted type matches
+-- a reference of the wanted type after a cast; if the cast fails, a branch is taken to a label of
+-- one value, whose type the wanted type matches
 abbrev pub kept_cast_node : RefType → ℕ → RefType → Node
 kept_cast_node to label from = node_of (Ref from ∷ []) (instr.BrOnCastFail (cast_of (cast_label label from) from to)) 0
 

@@ -1,5 +1,4 @@
--- The branch on null that the bytes choose. The choices, their order and their weights are rules of
--- this project.
+-- Drawn branches on null. The choices, their order and their weights are rules of this project.
 use Rattle.std.specs.Prelude.{ℕ, ◌+◌, ◌-◌, nat_le, Bool, false, Option, Some, None, option_map, is_some, List, [], ◌∷◌, ◌++◌, length}
 use Rattle.std.specs.Prelude.{slice_get, take, if◌then◌else◌}
 use Rattle.smith_bytes.specs.Draws.{bool_at, choose_at}

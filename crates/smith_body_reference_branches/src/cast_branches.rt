@@ -118,7 +118,7 @@ fn is_left_out(to: RefType, u: &mut Unstructured<'_>) -> bool
     u.int_in_range(0..=15u8) != 15
 }
 
-/// Returns whether `heap_type` is that of exceptions, or of none.
+/// Returns whether `heap_type` is `exn` or `noexn`.
 fn is_exception(heap_type: HeapType) -> bool
     ensures { result ≡ is_exception heap_type }
 {
@@ -260,7 +260,7 @@ fn draw_strictly_below(scope: &Scope<'_>, above: RefType, u: &mut Unstructured<'
     reference_as(above, index as u32)
 }
 
-/// Returns the type of references to the type `index`, nullable if `above` is.
+/// Returns the type of references to the type `index`, nullable if `above` is nullable.
 fn reference_as(above: RefType, index: u32) -> RefType
     ensures { result ≡ reference_as above index }
 {
@@ -281,8 +281,8 @@ fn is_strictly_below(scope: &Scope<'_>, above: RefType, index: u32) -> bool
     is_sub_type(scope, lower, upper) && !is_sub_type(scope, upper, lower)
 }
 
-/// Draws a type that matches `from`: half of the time one strictly below it, else that of a local.
-/// Returns `from` if there is none.
+/// Draws a type that matches `from`: half of the time a type strictly below it, else the type of a
+/// local. Returns `from` if there is none.
 fn draw_below(scope: &Scope<'_>, from: RefType, u: &mut Unstructured<'_>) -> RefType
     requires scope { IsScope (bare scope.now) }
     requires from { IsValid (bare scope.now) (Ref from) }

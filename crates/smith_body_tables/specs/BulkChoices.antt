@@ -1,5 +1,5 @@
--- The instruction on several bytes of a memory that the bytes choose. The choices, their order and
--- their weights are rules of this project.
+-- Drawn instructions on several bytes of a memory. The choices, their order and their weights are
+-- rules of this project.
 use Rattle.std.specs.Prelude.{ℕ, Option, Some, List, [], ◌∷◌}
 use Rattle.smith_syntax.specs.declared.entity_type.MemoryType.{MemoryType}
 use Rattle.smith_syntax.specs.declared.value_type.ValType.TheVariants.{I32}

@@ -1,5 +1,4 @@
--- The table instruction that the bytes choose. The choices, their order and their weights are rules
--- of this project.
+-- Drawn table instructions. The choices, their order and their weights are rules of this project.
 use Rattle.std.specs.Prelude.{ℕ, Bool, true, false, ◌&&◌, Option, Some, None, option_map, List, [], ◌∷◌, length, slice_get, if◌then◌else◌}
 use Rattle.smith_bytes.specs.Draws.{bool_at}
 use Rattle.smith_syntax.specs.declared.entity_type.TableType.{TableType}

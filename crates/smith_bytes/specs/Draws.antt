@@ -1,5 +1,5 @@
--- Each draw as a function of the bytes of the source: the value drawn, and the remaining bytes.
--- Past the end a draw reads zeros.
+-- Each draw as a function of the bytes of the source: the value drawn, and the bytes left. Past the
+-- end, a draw reads zeros.
 use Rattle.std.specs.Prelude.{ℕ, zero, suc, ◌+◌, ◌-◌, ◌*◌, ◌/◌, ◌%◌, ◌^◌, ◌==◌, Bool, List, [], ◌∷◌, take, drop, fold, length, nat_le}
 use Rattle.std.specs.Prelude.{if◌then◌else◌, slice_index, slice_get, Option}
 
@@ -12,7 +12,7 @@ little_endian (b ∷ bs) = b + 256 * little_endian bs
 abbrev pub big_endian : List ℕ → ℕ
 big_endian = fold (λ x b. 256 * x + b) 0
 
--- the number of base-256 digits of d, at most n; 0 for zero
+-- the number of base-256 digits of `d`, or `n` if that is less; 0 for zero
 abbrev pub digit_count_within : ℕ → ℕ → ℕ
 digit_count_within zero d = 0
 digit_count_within (suc n) zero = 0
@@ -30,7 +30,8 @@ whole_at n bytes = (little_endian (take n bytes), drop n bytes)
 unfoldable pub bool_at : List ℕ → Bool × List ℕ
 bool_at bytes = (slice_index bytes 0 % 2 == 1, drop 1 bytes)
 
--- a number in lo..=hi, from as many bytes as hi - lo has digits, most significant byte first
+-- a number in lo..=hi, from as many bytes as hi - lo has base-256 digits, most significant byte
+-- first
 unfoldable pub range_at : ℕ → ℕ → List ℕ → ℕ × List ℕ
 range_at lo hi bytes =
     let n = digit_count (hi - lo) in
@@ -44,7 +45,7 @@ ratio_at n m bytes = let drawn = range_at 1 m bytes in (nat_le drawn.0 n, drawn.
 unfoldable pub choose_at : {A : Type 0} → List A → List ℕ → Option A × List ℕ
 choose_at items bytes = let place = range_at 0 (length items - 1) bytes in (slice_get items place.0, place.1)
 
--- the number of bytes at the end of n bytes that encode a length
+-- the number of bytes that encode a length, at the end of `n` bytes
 abbrev pub length_size : ℕ → ℕ
 length_size n =
     if n == 0 then 0
@@ -53,7 +54,7 @@ length_size n =
     else if nat_le n (2 ^ 32 + 3) then 4
     else 8
 
--- a length, encoded by bytes at the end; at most the number of bytes that remain without them
+-- a length, encoded by the bytes at the end; at most the number of bytes before these
 unfoldable pub len_at : List ℕ → ℕ × List ℕ
 len_at bytes =
     let most = length bytes - length_size (length bytes) in

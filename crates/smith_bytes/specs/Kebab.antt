@@ -14,7 +14,7 @@ letter n = 97 + n
 abbrev pub digit : ℕ → ℕ
 digit n = 48 + n
 
--- whether a name cannot end here: it is empty or ends in a dash
+-- whether a name must go on: it is empty or ends in a dash
 abbrev pub is_open : List ℕ → Bool
 is_open name = (length name == 0) || (slice_index name (length name - 1) == dash)
 
@@ -29,16 +29,16 @@ character name n =
 unfoldable pub character_at : List ℕ → List ℕ → ℕ × List ℕ
 character_at name bytes = let n = range_at 0 36 bytes in (character name n.0, n.1)
 
--- a name after a number of further characters
+-- a name after a number of drawn characters
 unfoldable pub characters_at : ℕ → List ℕ → List ℕ → List ℕ × List ℕ
 characters_at zero name bytes = (name, bytes)
 characters_at (suc n) name bytes = let c = character_at name bytes in characters_at n (name ++ c.0 ∷ []) c.1
 
--- the name, with an a appended if it cannot end
+-- the name, with an `a` appended if it must go on
 abbrev pub closed : List ℕ → List ℕ
 closed name = if is_open name then name ++ letter 0 ∷ [] else name
 
--- a kebab name: as many characters as a drawn length, but at most max_size, then closed
+-- a kebab name: a drawn number of characters, at most `max_size`, then closed
 unfoldable pub kebab_at : ℕ → List ℕ → List ℕ × List ℕ
 kebab_at max_size bytes =
     let size = len_at bytes in

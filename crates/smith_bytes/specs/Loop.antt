@@ -1,4 +1,4 @@
--- A loop that calls a closure that draws.
+-- A loop over a closure that draws.
 use Rattle.std.specs.Prelude.{◌≡◌, ◌≤◌, ◌<◌, ℕ, zero, suc, Bool, true, false, List, Result, Ok, Err, nat_lt}
 use denote.Ref.{MutBor}
 use Rattle.std.specs.Fn.{Mut, CalledAtMut}

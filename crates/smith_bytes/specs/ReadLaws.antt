@@ -11,16 +11,16 @@ pub record DrawsReadWhatIsSpelled : Type 0 where
   pub number : (value lo hi : ℕ) (piece after : List ℕ) → SpellsNumber value lo hi piece → range_at lo hi (piece ++ after) ≡ (value, after)
   pub refusal : (chances : ℕ) (piece after : List ℕ) → SpellsRefusal chances piece → ratio_at 1 chances (piece ++ after) ≡ (false, after)
 
--- the draw reads each item that is spelled, whatever the items before it
+-- from the spelling of an item, the draw gives the item, whatever the items before it
 abbrev pub ReadsEach : {A : Type 0} → (A → List ℕ → Type 0) → (List A → List ℕ → A × List ℕ) → Type 0
 ReadsEach {A = A} Item draw = (made : List A) (x : A) (piece after : List ℕ) → Item x piece → draw made (piece ++ after) ≡ (x, after)
 
--- the relation of a value and its spelling, given by a test
+-- a test accepts the spelling of a value
 abbrev pub Spelled : {A : Type 0} → (A → List ℕ → Bool) → A → List ℕ → Type 0
 Spelled is_spelled x piece = IsTrue (is_spelled x piece)
 
--- if a draw reads each item, a list grown by it reads the items spelled after bools (`asked`), and
--- the items spelled without bools up to the minimum (`needed`)
+-- if a draw reads each item, a list of such draws reads items that are spelled after bools
+-- (`asked`), and items up to the minimum that are spelled without bools (`needed`)
 pub record ListsReadWhatIsSpelled (A : Type 0) : Type 0 where
   pub asked : (is_spelled : A → List ℕ → Bool) (draw : List A → List ℕ → A × List ℕ) (most : ℕ) (made xs : List A) (piece after : List ℕ)
       → ReadsEach (Spelled is_spelled) draw → Listed (Spelled is_spelled) most xs piece → grow_at draw 0 most made (piece ++ after)

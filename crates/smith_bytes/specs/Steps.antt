@@ -1,36 +1,34 @@
--- Results of the steps of a module that may refuse, and other parts that steps share. Rules of this
--- project.
+-- Results of steps that may fail, and other parts that steps share. Rules of this project.
 use Rattle.std.specs.Prelude.{◌≡◌, ℕ, Bool, true, false, List, Result, Ok, Err, ◌==◌, if◌then◌else◌}
 use Rattle.smith_bytes.specs.Draws.{bool_at}
 use Rattle.smith_bytes.specs.declared.error.Error.{Error}
 use Rattle.smith_bytes.specs.declared.error.Error.TheVariants as errors
 use Rattle.smith_bytes.specs.declared.error.Why.{Why}
 
--- a property holds, unless the refusal is left open
+-- a property holds, unless the error is left open
 abbrev pub Unless : Bool → Type 0 → Type 0
 Unless true Holds = Unit {0}
 Unless false Holds = Holds
 
--- lack of memory
+-- whether an error is lack of memory
 abbrev pub is_memory : Error → Bool
 is_memory errors.Memory = true
 is_memory _ = false
 
--- lack of memory, or of anything to choose from
+-- whether an error is lack of memory, or an empty choice
 abbrev pub is_lack : Error → Bool
 is_lack errors.Memory = true
 is_lack errors.EmptyChoose = true
 is_lack _ = false
 
--- A step returns the result of `read`, except for the refusals that are left open. Separate clauses
--- state when these may occur.
+-- A step returns the result of `read`, except for errors that are left open. Separate clauses state
+-- when these may occur.
 abbrev pub Returns : {X Y : Type 0} → (Error → Bool) → (X → Y) → Result X Error → Result Y Error → Type 0
 Returns is_open view (Ok x) read = read ≡ Ok (view x)
 Returns is_open view (Err e) read = Unless (is_open e) (read ≡ Err e)
 
 -- As `Returns`, for a `read` that fails only with a `Why`, which the step returns as an incorrect
--- format: lack of memory, and an empty choice, are left open, and there is no other refusal.
--- Separate clauses state when these two may occur.
+-- format. Lack of memory and an empty choice are left open, and there is no other error.
 abbrev pub ReturnsWhy : {X Y : Type 0} → (X → Y) → Result X Error → Result Y Why → Type 0
 ReturnsWhy view (Ok x) read = read ≡ Ok (view x)
 ReturnsWhy view (Err errors.Memory) read = Unit {0}

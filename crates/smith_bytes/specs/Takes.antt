@@ -1,8 +1,8 @@
--- Draws that read spelled values.
+-- Draws from spellings.
 use Rattle.std.specs.Prelude.{◌≡◌, List, ◌++◌, ℕ}
 
--- if the source starts with a piece that spells a value, that value is drawn and the bytes after
--- the piece remain
+-- if the source starts with the spelling of a value, this value is drawn, and the bytes after the
+-- spelling are left
 pub record Takes {A : Type 0} (Spelled : A → List ℕ → Type 0) (old : List ℕ) (drawn : A) (new : List ℕ) : Type 0 where
   pub made : (value : A) (piece after : List ℕ) → Spelled value piece → old ≡ piece ++ after → drawn ≡ value
   pub left : (value : A) (piece after : List ℕ) → Spelled value piece → old ≡ piece ++ after → new ≡ after

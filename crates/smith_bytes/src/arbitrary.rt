@@ -99,7 +99,7 @@ impl Int for usize {
 pub trait Arbitrary: Drop {
     ghost use Rattle.std.specs.Prelude.{ℕ, List};
 
-    /// Returns the value drawn from the given bytes, and the remaining bytes.
+    /// Returns the value drawn from bytes, and the bytes left.
     ghost drawn: { List ℕ → Self × List ℕ };
 
     /// Draws a value from the front of `u`. Bytes past the end are read as zeros.

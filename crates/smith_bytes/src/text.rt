@@ -58,7 +58,8 @@ const WINDOW: usize = 64;
 /// The greatest number of bytes in a UTF-8 character.
 const LONGEST_CHARACTER: usize = 4;
 
-/// The lowest first byte of a character of several bytes. Its other bytes are lower.
+/// The lowest first byte of a character of several bytes. The other bytes of such a character are
+/// lower.
 const FIRST_OF_SEVERAL: u8 = 0xC0;
 
 /// Returns the longest UTF-8 prefix of `bytes`.

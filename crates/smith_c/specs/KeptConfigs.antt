@@ -1,4 +1,4 @@
--- What a kept configuration means.
+-- The request of a stored configuration.
 use Rattle.std.specs.Prelude.{◌≡◌, ℕ, ◌+◌, ◌*◌, ◌^◌, List, Option, Some, None, if◌then◌else◌}
 use Rattle.smith_config.specs.declared.config.Config.{Config}
 use Rattle.smith_request.specs.Refusals.{IsRefusal, IsRefusalFor, IsUnread, status_of}
@@ -12,11 +12,11 @@ use Rattle.smith_c.specs.CallAnswers.{IsAnswered, IsExplained}
 use Rattle.smith_c.specs.declared.answer.Answer.{Answer}
 use Rattle.smith_c.specs.declared.kept.KeptConfig.{KeptConfig}
 
--- the fuel that is kept, if there is one
+-- the stored fuel, if any
 abbrev pub kept_fuel : KeptConfig → Option Fuel
 kept_fuel kept = if kept.has_fuel then Some (record { amount = kept.fuel; is_exported = kept.is_fuel_exported }) else None
 
--- the configuration that is kept, without shapes
+-- the stored configuration, without shapes
 abbrev pub config_of : KeptConfig → Config
 config_of kept = record {
   min_types = kept.min_types;
@@ -92,17 +92,18 @@ config_of kept = record {
   module_shape = None;
 }
 
--- the request that is kept
+-- the stored request
 abbrev pub request_of : KeptConfig → Request
 request_of kept = record { config = config_of kept; fuel = kept_fuel kept }
 
--- what the text requests is kept, with status 0; or the text is refused, and what was kept stays
+-- the request of the text is stored, with status 0; or the text is refused, and the stored request
+-- is unchanged
 pub data IsRead (text : List ℕ) (before after : KeptConfig) (answer : Answer) : Type 0 where
   kept : IsRequest text (request_of after) → answer ≡ record { status = 0; length = 0 } → IsRead text before after answer
   refused : (refusal : Refusal) → IsUnread text refusal → after ≡ before → answer ≡ record { status = status_of refusal; length = 0 } →
       IsRead text before after answer
 
--- what a call answers for a configuration that is read, it answers for the text
+-- each answer for a stored configuration is an answer for the text
 pub record AnswersFor (config : KeptConfig) (text : List ℕ) : Type 0 where
   pub binary : (input before after : List ℕ) (answer : Answer) →
       IsAnswered (IsBinaryFor (request_of config) input) (IsRefusalFor Binary (request_of config) input) before after answer →

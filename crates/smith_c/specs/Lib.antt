@@ -1,2 +1,3 @@
 pub mod CallAnswers
+pub mod Files
 pub mod KeptConfigs

@@ -1,3 +1,7 @@
+ghost use Rattle.std.specs.Prelude.{◌≡◌, IfOk, IfErr, OnOk};
+ghost use Rattle.smith_syntax.specs.FeatureBits.{features_in};
+ghost use Rattle.smith_c.specs.Files.{IsJudgedBy, IsSet, IsUnjudged, IsUnset, IsVerdict, IsVerdictBy, judging_config};
+
 use smith_bytes::Error;
 use smith_config::Config;
 use smith_config_json::{Preset, read_text};
@@ -8,7 +12,10 @@ use std::alloc::Global;
 use std::str;
 
 /// Sets what `text`, a JSON object or empty, says of a configuration.
-fn set_from(alloc: Global, text: &[u8], config: &mut Config) -> Result<(), Refusal> {
+fn set_from(alloc: Global, text: &[u8], config: &mut Config) -> Result<(), Refusal>
+    ensures ok { OnOk result (IsSet text.now config.old config.new) }
+    ensures refused { IfErr result (IsUnset text.now config.old) }
+{
     if text.is_empty() {
         return Ok(());
     }
@@ -21,15 +28,34 @@ fn set_from(alloc: Global, text: &[u8], config: &mut Config) -> Result<(), Refus
     }
 }
 
-/// Returns the features that the text of a configuration turns on: all that are known, changed by the
-/// JSON object that it is, unless it is empty.
-fn features_of(alloc: Global, text: &[u8]) -> Result<WasmFeatures, Refusal> {
+/// Returns the configuration whose features are all that are known.
+#[tactic(auto, unfolding(smith_config_json::specs::Presets::with_preset))]
+fn judging_config() -> Config
+    ensures { result ≡ judging_config }
+{
     let mut config = Config::default();
     Preset::Proposals.apply(&mut config);
-    let read = set_from(alloc, text, &mut config);
-    let features = config.features();
-    drop(config);
-    read.and(Ok(features))
+    config
+}
+
+/// Returns the features that the text of a configuration turns on: all that are known, changed by the
+/// JSON object that it is, unless it is empty.
+fn features_of(alloc: Global, text: &[u8]) -> Result<WasmFeatures, Refusal>
+    ensures ok { IfOk result (λ features. IsJudgedBy text.now (features_in features)) }
+    ensures refused { IfErr result (IsUnset text.now judging_config) }
+{
+    let mut config = judging_config();
+    match set_from(alloc, text, &mut config) {
+        Ok(()) => {
+            let features = config.features();
+            drop(config);
+            Ok(features)
+        }
+        Err(refusal) => {
+            drop(config);
+            Err(refusal)
+        }
+    }
 }
 
 /// A verdict, and the same in words.
@@ -41,7 +67,11 @@ pub struct Judged {
     pub words: String,
 }
 
-fn judge_by(alloc: Global, features: WasmFeatures, file: &[u8]) -> Result<Judged, Error> {
+/// Judges `file` by `features`.
+fn judge_by(alloc: Global, features: WasmFeatures, file: &[u8]) -> Result<Judged, Error>
+    ensures right { IfOk result (λ judged. IsVerdict (features_in features) file.now judged.verdict) }
+    ensures memory { IfErr result (λ e. e ≡ Error.Memory) }
+{
     let answer = judge(alloc, features, file)?;
     let words = words(alloc, features, file, &answer)?;
     Ok(Judged {
@@ -55,9 +85,15 @@ fn judge_by(alloc: Global, features: WasmFeatures, file: &[u8]) -> Result<Judged
 /// # Errors
 ///
 /// Refuses a text that is not UTF-8 or no configuration, and for lack of memory.
-pub fn check(alloc: Global, config: &[u8], file: &[u8]) -> Result<Judged, Refusal> {
+pub fn check(alloc: Global, config: &[u8], file: &[u8]) -> Result<Judged, Refusal>
+    ensures right { IfOk result (λ judged. IsVerdictBy config.now file.now judged.verdict) }
+    ensures refused { IfErr result (IsUnjudged config.now) }
+{
     match features_of(alloc, config) {
-        Ok(features) => Ok(judge_by(alloc, features, file)?),
+        Ok(features) => match judge_by(alloc, features, file) {
+            Ok(judged) => Ok(judged),
+            Err(error) => Err(Refusal::Module(error)),
+        },
         Err(refusal) => Err(refusal),
     }
 }

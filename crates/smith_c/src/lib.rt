@@ -3,7 +3,10 @@
 #![tactic(auto)]
 
 ghost use Rattle.smith_c.specs.CallAnswers.{IsAnswered, IsExplained};
-ghost use Rattle.smith_c.specs.KeptConfigs.{IsRead, request_of};
+ghost use Rattle.smith_c.specs.Files.{IsChecked, IsInvalidMade};
+ghost use Rattle.smith_c.specs.KeptConfigs.{IsRead, config_of, request_of};
+ghost use Rattle.smith_request.specs.Invalid.{IsInvalid, IsInvalidOf, IsInvalidRefusal};
+ghost use Rattle.smith_request.specs.Invalid.{IsShapedInvalid, IsShapedInvalidRefusal, IsUnbroken};
 ghost use Rattle.smith_request.specs.Requests.{IsBinary, HasBinary, IsTextOf};
 ghost use Rattle.smith_request.specs.Requests.{IsBinaryFor, HasBinaryFor, IsTextFor};
 ghost use Rattle.smith_request.specs.Refusals.{IsRefusal, IsRefusalFor};
@@ -14,6 +17,7 @@ ghost use Rattle.smith_text.specs.declared.module.Layout.TheVariants.{Notes, Sig
 
 mod answer;
 mod explanation;
+mod fault;
 mod judged;
 mod kept;
 mod laws;
@@ -21,6 +25,8 @@ mod laws;
 pub use crate::answer::Answer;
 use crate::answer::put;
 use crate::explanation::explain;
+pub use crate::fault::Fault;
+use crate::fault::put_file;
 use crate::judged::check;
 pub use crate::kept::KeptConfig;
 pub use smith_judge::Verdict;
@@ -261,6 +267,72 @@ pub extern "C" fn smith_refusal_shaped(
     }
 }
 
+/// Makes a change of the program of a configuration and of `input` that breaks a rule, and writes the file
+/// to the front of `out`, and what is said of it to `fault`. The change is of one of the families with the
+/// numbers `families`, or of any if there are none.
+///
+/// `config` is the text of a JSON object, or empty for the default configuration.
+#[unsafe(no_mangle)]
+pub extern "C" fn smith_invalid(
+    alloc: Global,
+    config: &[u8],
+    input: &[u8],
+    families: &[u32],
+    fault: &mut Fault,
+    out: &mut [u8],
+) -> Answer
+    ensures { IsInvalidMade (IsInvalid config.now families.now input.now)
+        (IsInvalidRefusal config.now families.now input.now) fault.old fault.new out.old out.new result }
+{
+    match smith_request::invalid(alloc, config, families, input) {
+        Ok(wrong) => put_file(&wrong, fault, out),
+        Err(refusal) => Answer::without_output(refusal.status()),
+    }
+}
+
+/// Does what [`smith_invalid`] does, for a configuration that is read.
+#[unsafe(no_mangle)]
+pub extern "C" fn smith_invalid_with(
+    alloc: Global,
+    config: &KeptConfig,
+    input: &[u8],
+    families: &[u32],
+    fault: &mut Fault,
+    out: &mut [u8],
+) -> Answer
+    ensures { IsInvalidMade (IsInvalidOf (config_of config.now) families.now input.now)
+        (IsUnbroken (config_of config.now) families.now input.now) fault.old fault.new out.old out.new result }
+{
+    match config.request().invalid(alloc, families, input) {
+        Ok(wrong) => put_file(&wrong, fault, out),
+        Err(refusal) => Answer::without_output(refusal.status()),
+    }
+}
+
+/// Does what [`smith_invalid_with`] does, with the shapes that `shapes` are.
+#[unsafe(no_mangle)]
+pub extern "C" fn smith_invalid_shaped(
+    alloc: Global,
+    config: &KeptConfig,
+    shapes: &ShapeFiles<'_>,
+    input: &[u8],
+    families: &[u32],
+    fault: &mut Fault,
+    out: &mut [u8],
+) -> Answer
+    ensures { IsInvalidMade (IsShapedInvalid shapes.now (request_of config.now) families.now input.now)
+        (IsShapedInvalidRefusal shapes.now (request_of config.now) families.now input.now)
+        fault.old fault.new out.old out.new result }
+{
+    match config
+        .request()
+        .invalid_shaped(alloc, shapes, families, input)
+    {
+        Ok(wrong) => put_file(&wrong, fault, out),
+        Err(refusal) => Answer::without_output(refusal.status()),
+    }
+}
+
 /// Judges `file`, and writes what it is to `verdict`, in numbers, and to the front of `out`, in words, if
 /// they fit. The features that are on are all that are known, changed by `config`, the text of a JSON
 /// object, or empty.
@@ -271,7 +343,9 @@ pub extern "C" fn smith_check(
     file: &[u8],
     verdict: &mut Verdict,
     out: &mut [u8],
-) -> Answer {
+) -> Answer
+    ensures { IsChecked config.now file.now verdict.old verdict.new out.old out.new result }
+{
     match check(alloc, config, file) {
         Ok(judged) => {
             *verdict = judged.verdict;

@@ -25,7 +25,7 @@ pub(crate) fn write_line<T: Display + Copy>(value: T, answer: &mut String) -> Re
     or_memory(writeln!(answer, "{value}"))
 }
 
-/// Returns what answers say of a copy that is equal, or that is not.
+/// Returns the text of an answer on whether a copy is equal.
 pub(crate) fn equality(is_equal: bool) -> &'static str {
     if is_equal { "is equal" } else { "differs" }
 }

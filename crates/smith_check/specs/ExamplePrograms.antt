@@ -7,7 +7,7 @@ use Rattle.smith_syntax.specs.declared.value_type.ValType.TheVariants.{I32}
 use Rattle.smith_decode.specs.Modules.{Syntax}
 use Rattle.smith_check_module.specs.ExampleSyntax.{nothing}
 
--- a type of functions without parameters
+-- a function type without parameters
 abbrev pub function_type : List ValType → SubType
 function_type results = record {
   is_final = true;
@@ -15,7 +15,7 @@ function_type results = record {
   composite_type = record { inner = Func (record { params = []; results = results }); shared = false };
 }
 
--- a module with a function of no instructions that returns nothing, and one that returns a number
+-- a module with one function, whose type has these results and whose body is empty
 abbrev pub with_function : List ValType → Syntax
 with_function results = record nothing {
   types = (function_type results ∷ []) ∷ [];

@@ -1,5 +1,5 @@
--- What a check says of a module: that it is valid, or its first fault, or what is not judged. The order
--- of faults is a rule of this project: types, then the other sections, then the bodies of functions in
+-- The result of checking a module: it is valid, it has a first fault, or it is not judged. The
+-- order of faults is a rule of this project: types, then the other sections, then the bodies in
 -- order.
 use Rattle.std.specs.Prelude.{◌≡◌, ◌⊎◌, ℕ, ◌+◌, ◌^◌, ◌<◌, ◌≤◌, List, ◌++◌, Some, length, take, slice_get}
 use Rattle.smith_syntax.specs.Features.{Features}
@@ -25,29 +25,30 @@ use Rattle.smith_check.specs.declared.judgement.Judgement.TheVariants as judgeme
 use Rattle.smith_check.specs.declared.judgement.Unjudged.{Unjudged}
 use Rattle.smith_check.specs.declared.judgement.Unjudged.TheVariants as unjudged
 
--- so many groups of types are valid, and not one more (Validation, Types)
+-- the first `group` groups of types are valid, and one more is not (Validation, Types)
 pub record AreTypesWrong (features : Features) (m : Syntax) (group : ℕ) : Type 0 where
   pub before : IsTypeSectionValid features (take group m.types)
   pub wrong : IsTypeSectionValid features (take (group + 1) m.types) → ⊥
 
--- the types of a module are valid, and these are their canonical indices (Validation, Types)
+-- the types of a module are valid, and have these canonical indices (Validation, Types)
 pub record AreTypesRight (features : Features) (indices : List ℕ) (m : Syntax) : Type 0 where
   pub canonical : AreCanonical m.types indices
   pub valid : IsTypeSectionValid features m.types
 
--- the types and the other sections are valid, and the functions before a place (Validation, Modules)
+-- the types, the other sections and each function before `place` are valid (Validation, Modules)
 pub record IsRightBefore (features : Features) (indices : List ℕ) (m : Syntax) (place : ℕ) : Type 0 where
   pub types : AreTypesRight features indices m
   pub sections : AreSectionsValid features indices m
   pub functions : (earlier : ℕ) → earlier < place → IsFunctionValid features indices m earlier
 
--- the first run of locals of a body that is not valid (Validation, Locals)
+-- `run` is the first run of locals of the body that is not valid (Validation, Locals)
 pub record IsLocalFault (features : Features) (indices : List ℕ) (m : Module) (body run : ℕ) : Type 0 where
   pub code : Body
   pub there : slice_get m.bodies body ≡ Some code
   pub first : IsFirstWrongRun features (length (types_in indices (syntax_of m))) indices code.locals run
 
--- the body of a function whose locals are valid is refused at an instruction (Validation, Functions)
+-- the function at `place` has valid locals, and its body is not typed because of this instruction
+-- (Validation, Functions)
 pub record IsBodyRefused (features : Features) (indices : List ℕ) (m : Syntax) (place instruction : ℕ) : Type 0 where
   pub function : FuncType
   pub locals : List ValType
@@ -56,18 +57,17 @@ pub record IsBodyRefused (features : Features) (indices : List ℕ) (m : Syntax)
   pub locals_valid : AreValuesValid features indices m locals
   pub refused : IsRefused (context_of_function features indices m function locals) body instruction
 
--- at a place there is a body without the type of a function, or the type of a function without a body
--- (Binary Format, Modules)
+-- at `place`, a body has no function type, or a function type has no body (Binary Format, Modules)
 abbrev pub IsUnpaired : Syntax → ℕ → Type 0
 IsUnpaired m place =
     ((place ≡ length m.functions) × (place < length m.bodies)) ⊎ ((place ≡ length m.bodies) × (place < length m.functions))
 
--- a body is wrong: it is refused at an instruction, or it or its type is missing
+-- the body at `place` is not typed because of this instruction, or it or its type is missing
 abbrev pub IsBodyFault : Features → List ℕ → Syntax → ℕ → ℕ → Type 0
 IsBodyFault features indices m place instruction =
     IsBodyRefused features indices m place instruction ⊎ ((instruction ≡ 0) × IsUnpaired m place)
 
--- a fault is the first of a module
+-- the fault is the first fault of the module (own rule)
 abbrev pub IsFirstFault : Features → Module → Fault → Type 0
 IsFirstFault features m (fault.Types group) = AreTypesWrong features (syntax_of m) group
 IsFirstFault features m (fault.Section item) =
@@ -77,11 +77,12 @@ IsFirstFault features m (fault.Local body run) =
 IsFirstFault features m (fault.Body body instruction) =
     (indices : List ℕ) × IsRightBefore features indices (syntax_of m) body × IsBodyFault features indices (syntax_of m) body instruction
 
--- the most locals of a function that is judged, parameters included (own rule)
+-- the maximum number of locals of a function that is judged, parameters included (own rule)
 abbrev pub most_locals : ℕ
 most_locals = 50000
 
--- everything before a function is valid, and the function has too many locals (own rule)
+-- everything before the function at `place` is valid, and the function has more than `most_locals`
+-- locals (own rule)
 pub record HasManyLocals (features : Features) (m : Syntax) (place : ℕ) : Type 0 where
   pub indices : List ℕ
   pub before : IsRightBefore features indices m place
@@ -91,13 +92,14 @@ pub record HasManyLocals (features : Features) (m : Syntax) (place : ℕ) : Type
   pub there : IsFunctionAt indices m place function locals body
   pub many : most_locals < length (function.params ++ locals)
 
--- why a module is not judged: it has too many types for their indices, or a function with too many
--- locals (own rule)
+-- the reason why a module is not judged: its types are too many for their indices, or a function
+-- has too many locals (own rule)
 abbrev pub IsUnjudged : Features → Syntax → Unjudged → Type 0
 IsUnjudged features m unjudged.Types = 2 ^ 32 ≤ length (space_of m.types).types + 1
 IsUnjudged features m (unjudged.Locals body) = HasManyLocals features m body
 
--- a judgement is right (Validation, Modules)
+-- a judgement is correct (Validation, Modules); the order of faults and what is not judged are own
+-- rules
 abbrev pub IsJudgement : Features → Module → Judgement → Type 0
 IsJudgement features m judgement.Valid = IsValidProgram features (syntax_of m)
 IsJudgement features m (judgement.Invalid fault) = (IsValidProgram features (syntax_of m) → ⊥) × IsFirstFault features m fault

@@ -21,7 +21,7 @@ use Rattle.smith_check.specs.References.{references_of}
 use Rattle.smith_check.specs.ValidPrograms.{AreValuesValid, IsFunctionValid, context_of_function, element_types}
 use Rattle.smith_check.specs.declared.functions.FunctionJudge.{FunctionJudge}
 
--- the parts of a judge are those of one module, whose types and other sections are valid
+-- the parts of the judge belong to one module, whose types and other sections are valid
 pub record IsFunctionJudge (judge : FunctionJudge) : Type 0 where
   pub types : AreChecked (features_in judge.features) judge.module.now.types judge.types.now
   pub sections : AreSectionsValid (features_in judge.features) judge.types.now.indices (syntax_of judge.module.now)
@@ -30,26 +30,29 @@ pub record IsFunctionJudge (judge : FunctionJudge) : Type 0 where
   pub elems : judge.elems.now ≡ element_types judge.types.now.indices (syntax_of judge.module.now).elems
   pub references : judge.references.now ≡ references_of (syntax_of judge.module.now)
 
--- the function at a place is valid, and those before a place are
+-- the function at `place` is valid
 abbrev pub IsRightAt : FunctionJudge → ℕ → Type 0
 IsRightAt judge place = IsFunctionValid (features_in judge.features) judge.types.now.indices (syntax_of judge.module.now) place
 
+-- each function before `place` is valid
 pub record AreRightBefore (judge : FunctionJudge) (place : ℕ) : Type 0 where
   pub each : (earlier : ℕ) → earlier < place → IsRightAt judge earlier
 
--- the function at a place has this type
+-- the function at `place` has this type
 pub record HasTypeAt (judge : FunctionJudge) (place : ℕ) (function : FuncType) : Type 0 where
   pub index : ℕ
   pub there : slice_get judge.module.now.functions place ≡ Some index
   pub typed : IsFuncAt judge.types.now.space.types (canonical_index judge.types.now.indices index) function
 
--- the locals of a body and its instructions, by canonical indices, and its context
+-- the types of a body's locals, by canonical indices
 abbrev pub locals_in : FunctionJudge → Body → List ValType
 locals_in judge body = map (renamed_val (canonical_index judge.types.now.indices)) (body_view body).0
 
+-- the instructions of a body, by canonical indices
 abbrev pub body_in : FunctionJudge → Body → List Instr
 body_in judge body = renamed_body (canonical_index judge.types.now.indices) body.instructions
 
+-- the context of a body, by canonical indices
 abbrev pub context_in : FunctionJudge → FuncType → Body → BodyContext
 context_in judge function body =
     context_of_function (features_in judge.features) judge.types.now.indices (syntax_of judge.module.now) function (locals_in judge body)
@@ -59,7 +62,7 @@ abbrev pub AreLocalsRight : FunctionJudge → Body → Type 0
 AreLocalsRight judge body =
     AreValuesValid (features_in judge.features) judge.types.now.indices (syntax_of judge.module.now) (locals_in judge body)
 
--- the function at a place has this type and this body
+-- the function at `place` has this type and this body
 pub record HasPartsAt (judge : FunctionJudge) (place : ℕ) (function : FuncType) (body : Body) : Type 0 where
   pub typed : HasTypeAt judge place function
   pub held : slice_get judge.module.now.bodies place ≡ Some body

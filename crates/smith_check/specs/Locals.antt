@@ -6,12 +6,12 @@ use Rattle.smith_decode.specs.declared.bodies.LocalRun.{LocalRun}
 use Rattle.smith_check_types.specs.Renamed.{renamed_val}
 use Rattle.smith_check_types.specs.TypeSections.{canonical_index}
 
--- the type of a run of locals is valid over so many types, by canonical indices, if the run has any
--- locals (Validation, Locals)
+-- a run of locals is empty, or its type is valid over `end` types, by canonical indices
+-- (Validation, Locals)
 abbrev pub IsRunRight : Features → ℕ → List ℕ → LocalRun → Type 0
 IsRunRight features end indices run = 0 < run.count → IsValTypeValid features end (renamed_val (canonical_index indices) run.ty)
 
--- the first run of locals that is not valid (Validation, Locals)
+-- the run at `index` is the first that is not valid (Validation, Locals)
 pub record IsFirstWrongRun (features : Features) (end : ℕ) (indices : List ℕ) (runs : List LocalRun) (index : ℕ) : Type 0 where
   pub wrong : LocalRun
   pub at : slice_get runs index ≡ Some wrong

@@ -14,38 +14,42 @@ use Rattle.smith_decode.specs.Data.{Data, DataMode}
 use Rattle.smith_decode.specs.Elements.{Elem, Mode}
 use Rattle.smith_decode.specs.Modules.{Syntax}
 
--- the function that an instruction names as a reference, and those that an expression names
--- (Structure, Reference Instructions)
+-- the function that a reference instruction names, if any (Structure, Reference Instructions)
 abbrev pub named_by_reference : ReferenceInstr → List ℕ
 named_by_reference (reference.Func function) = function ∷ []
 named_by_reference _ = []
 
+-- the function that an instruction names with `ref.func`, if any (Structure, Reference
+-- Instructions)
 abbrev pub named_by : Instr → List ℕ
 named_by (instr.Reference op) = named_by_reference op
 named_by _ = []
 
+-- the functions that an expression names with `ref.func` (Structure, Expressions)
 abbrev pub named_in : List Instr → List ℕ
 named_in expression = flat_map named_by expression
 
--- the functions that an export, an element segment and a data segment name (Structure, Exports;
--- Element Segments; Data Segments)
+-- the function that an export names, if any (Structure, Exports)
 abbrev pub exported_by : ExportKind → ℕ → List ℕ
 exported_by kind.Func index = index ∷ []
 exported_by _ index = []
 
+-- the functions that the offset of an element segment names (Structure, Element Segments)
 abbrev pub named_by_element_mode : Mode → List ℕ
 named_by_element_mode (Mode.active table offset) = named_in offset
 named_by_element_mode _ = []
 
+-- the functions that an element segment names (Structure, Element Segments)
 abbrev pub named_by_element : Elem → List ℕ
 named_by_element segment = flat_map named_in segment.items ++ named_by_element_mode segment.mode
 
+-- the functions that the offset of a data segment names (Structure, Data Segments)
 abbrev pub named_by_data_mode : DataMode → List ℕ
 named_by_data_mode (DataMode.active memory offset) = named_in offset
 named_by_data_mode DataMode.passive = []
 
--- the functions that a module names outside of its functions and its start function, each as often as
--- it is named (Validation, Modules, C.refs)
+-- the functions that occur in a module outside of its bodies and its start function, each once for
+-- each occurrence (Validation, Modules, C.refs)
 abbrev pub references_of : Syntax → List ℕ
 references_of m =
     flat_map (λ (item : List ℕ × ExportKind × ℕ). exported_by item.1 item.2) m.exports

@@ -1,7 +1,7 @@
 -- Whether a module is valid: the sections Validation, Modules, and Validation, Functions, of the
--- WebAssembly Core Specification 3.0. Types are compared by canonical indices, so that equal types are
--- one type. The conditions on features, sharedness and exact types are rules of this project. Which
--- instructions of bodies are of which features is no part of this: a decoder has refused the others.
+-- WebAssembly Core Specification 3.0. Types are compared by canonical indices, so that equal types
+-- are one type. The conditions on features, sharedness and exact types are rules of this project.
+-- The features of a body's instructions are not checked here, because the decoder checks them.
 use Rattle.std.specs.Prelude.{◌≡◌, ℕ, ◌<◌, List, [], ◌++◌, Some, length, map, slice_get, All}
 use Rattle.smith_syntax.specs.Features.{Features}
 use Rattle.smith_syntax.specs.declared.composite_type.FuncType.{FuncType}
@@ -28,8 +28,8 @@ use Rattle.smith_check.specs.References.{references_of}
 abbrev pub element_types : List ℕ → List Elem → List RefType
 element_types indices segments = map (λ (segment : Elem). renamed_ref (canonical_index indices) segment.ty) segments
 
--- the context of a function of this type, with these locals after its parameters, by canonical indices
--- (Validation, Functions; Modules)
+-- the context of a function of this type, whose locals are its parameters followed by `locals`, by
+-- canonical indices (Validation, Functions; Modules)
 abbrev pub context_of_function : Features → List ℕ → Syntax → FuncType → List ValType → BodyContext
 context_of_function features indices m function locals = record {
   features = features;
@@ -49,8 +49,8 @@ context_of_function features indices m function locals = record {
   results = function.results;
 }
 
--- the function that a module defines at a place: its type, its locals and its instructions, by
--- canonical indices (Structure, Functions)
+-- the defined function at `place` has this type, these locals and this body, by canonical indices
+-- (Structure, Functions)
 pub record IsFunctionAt (indices : List ℕ) (m : Syntax) (place : ℕ) (function : FuncType) (locals : List ValType)
     (body : List Instr) : Type 0 where
   pub index : ℕ
@@ -61,11 +61,11 @@ pub record IsFunctionAt (indices : List ℕ) (m : Syntax) (place : ℕ) (functio
   pub locals_are : locals ≡ map (renamed_val (canonical_index indices)) code.0
   pub body_is : body ≡ renamed_body (canonical_index indices) code.1
 
--- valid value types over the types of a module (Validation, Value Types)
+-- value types are valid over the types of a module (Validation, Value Types)
 abbrev pub AreValuesValid : Features → List ℕ → Syntax → List ValType → Type 0
 AreValuesValid features indices m values = All (IsValTypeValid features (length (types_in indices m))) values
 
--- the function that a module defines at a place is valid: its locals are, and its body is typed in its
+-- the defined function at `place` is valid: its locals are valid, and its body is typed in its
 -- context (Validation, Functions)
 pub record IsFunctionValid (features : Features) (indices : List ℕ) (m : Syntax) (place : ℕ) : Type 0 where
   pub function : FuncType
@@ -75,7 +75,7 @@ pub record IsFunctionValid (features : Features) (indices : List ℕ) (m : Synta
   pub locals_valid : AreValuesValid features indices m locals
   pub body_typed : IsBodyTyped (context_of_function features indices m function locals) body
 
--- a valid module, with the bodies of its functions (Validation, Modules)
+-- a module is valid, with the bodies of its functions (Validation, Modules)
 pub record IsValidProgram (features : Features) (m : Syntax) : Type 0 where
   pub scope : AreGroupsInScope 0 m.types
   pub indices : List ℕ

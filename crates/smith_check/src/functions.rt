@@ -1,6 +1,8 @@
 ghost use Rattle.std.specs.Prelude.{◌≡◌, ℕ, ◌<◌, ◌≤◌, length, IfOk, IfErr, MatchOption};
 ghost use Rattle.smith_syntax.specs.FeatureBits.{features_in};
-ghost use Rattle.smith_check_operands.specs.Scopes.{bare};
+ghost use Rattle.smith_check_types.specs.TypeSections.{canonical_index};
+ghost use Rattle.smith_check_operands.specs.Scopes.{bare, IsScope};
+ghost use Rattle.smith_check_renamed.specs.RenamedInstructions.{renamed_body};
 ghost use Rattle.smith_check_body.specs.Verdicts.{IsVerdict};
 ghost use Rattle.smith_decode.specs.Modules.{syntax_of};
 ghost use Rattle.smith_explain.specs.Causes.{IsExplanation};
@@ -24,12 +26,34 @@ use smith_bytes::Error;
 use smith_check_body::{Verdict, check_body};
 use smith_check_operands::Scope;
 use smith_check_operands::lookups::func_at;
-use smith_check_renamed::canonical_body;
+use smith_check_renamed::{canonical_body, is_canonical_body};
 use smith_check_types::{CheckedTypes, canonical_index};
 use smith_decode::{Body, Module};
 use smith_explain::Explanation;
+use smith_instr::Instr;
 use smith_types::{EntitySpaces, FuncType, Items, RefType, ValType, WasmFeatures};
 use std::alloc::Global;
+
+// Checks `body` by the canonical `indices` of types. It is copied only if they change it.
+fn check_canonical(
+    alloc: Global,
+    indices: &[u32],
+    scope: &Scope,
+    results: Items<ValType>,
+    body: &[Instr],
+) -> Result<Verdict, Error>
+    requires scope { IsScope (bare scope.now) }
+    requires results { results ≡ scope.now.results.now }
+    ensures ok { IfOk result
+        (IsVerdict (bare scope.now) (renamed_body (canonical_index indices.now) body.now)) }
+    ensures memory { IfErr result (λ e. e ≡ Error.Memory) }
+{
+    if is_canonical_body(indices, body) {
+        return check_body(alloc, scope, results, body);
+    }
+    let instructions = canonical_body(alloc, indices, body)?;
+    check_body(alloc, scope, results, instructions.as_slice())
+}
 
 /// What the functions of a module are judged by.
 #[derive(Clone, Copy)]
@@ -100,10 +124,15 @@ impl<'a> FunctionJudge<'a> {
         let indices = self.types.indices.as_slice();
         let params = function.params.as_slice();
         let locals = locals_of(alloc, indices, params, body.locals.as_slice())?;
-        let instructions = canonical_body(alloc, indices, body.instructions.as_slice())?;
         let results = Items::from_slice(alloc, function.results.as_slice())?;
         let scope = self.scope(function, locals.as_slice());
-        check_body(alloc, &scope, results, instructions.as_slice())
+        check_canonical(
+            alloc,
+            indices,
+            &scope,
+            results,
+            body.instructions.as_slice(),
+        )
     }
 
     // Returns what there is to say of the function at a place, whose locals are valid, unless it is

@@ -1,4 +1,4 @@
--- How far the check of a body has come, and what its steps say.
+-- The states of the check of a body, and its steps.
 use Rattle.std.specs.Prelude.{◌≡◌, ℕ, ◌≤◌, List, [], ◌∷◌, ◌++◌, length, take, reverse}
 use Rattle.smith_check_rules.specs.Sequences.{IsBodyTyped}
 use Rattle.smith_syntax.specs.declared.value_type.ValType.{ValType}
@@ -13,7 +13,7 @@ use Rattle.smith_check_rules.specs.Slots.{AreSlotsValid}
 use Rattle.smith_check_operands.specs.Covers.{held}
 use Rattle.smith_check_operands.specs.Closes.{Finishes}
 
--- instructions make a typed body of those that were checked
+-- `rest` completes the checked instructions to a typed body
 abbrev pub CanFinish : BodyContext → Checker → List Instr → Type 0
 CanFinish context checker rest =
     Finishes context checker.shape (held checker.operands) checker.log.items (take checker.height checker.log.items)
@@ -23,7 +23,7 @@ pub record IsShapeValid (context : BodyContext) (shape : Shape) : Type 0 where
   pub params : AreValid context shape.params
   pub results : AreValid context shape.results
 
--- the blocks around one that began at this height of the log, the innermost first
+-- the blocks around a block that began at `height` of the log, the innermost first, are well-formed
 abbrev pub AreWell : BodyContext → ℕ → List Frame → Type 0
 AreWell context height [] = Unit {0}
 AreWell context height (outer ∷ outers) =
@@ -36,13 +36,14 @@ pub record IsWell (context : BodyContext) (checker : Checker) : Type 0 where
   pub height : checker.height ≤ length checker.log.items
   pub outers : AreWell context checker.height (reverse checker.outers.items)
 
--- an instruction takes the check on: exactly what finishes after it finishes with it before
+-- an instruction takes the check from `old` to `new`: the rest completes the body after it exactly
+-- if the instruction and the rest complete the body before it
 pub record Goes (context : BodyContext) (instruction : Instr) (old new : Checker) : Type 0 where
   pub complete : (rest : List Instr) → CanFinish context old (instruction ∷ rest) → CanFinish context new rest
   pub sound : (rest : List Instr) → CanFinish context new rest → CanFinish context old (instruction ∷ rest)
   pub well : IsWell context new
 
--- nothing finishes with an instruction
+-- no rest that begins with the instruction completes the body
 abbrev pub Stops : BodyContext → Instr → Checker → Type 0
 Stops context instruction old = (rest : List Instr) → CanFinish context old (instruction ∷ rest) → ⊥
 
@@ -54,7 +55,8 @@ pub record IsShapeOf (context : BodyContext) (kind : Kind) (ty : BlockType) (sha
   pub fits : IsBlockType context ty shape.params shape.results
   pub valid : IsShapeValid context shape
 
--- the instructions so far, and what is left: exactly what finishes makes a typed body of them
+-- the check has reached the end of `done`: `rest` completes `done` to a typed body exactly if it
+-- completes the check
 pub record IsReached (context : BodyContext) (checker : Checker) (done : List Instr) : Type 0 where
   pub well : IsWell context checker
   pub complete : (rest : List Instr) → IsBodyTyped context (done ++ rest) → CanFinish context checker rest

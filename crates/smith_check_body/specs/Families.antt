@@ -13,7 +13,7 @@ IsBranch (instr.BrOnCast cast) = Unit {0}
 IsBranch (instr.BrOnCastFail cast) = Unit {0}
 IsBranch _ = ⊥
 
--- calls, and the return (Structure, Control Instructions)
+-- calls and `return` (Structure, Control Instructions)
 abbrev pub IsCall : Instr → Type 0
 IsCall instr.Return = Unit {0}
 IsCall (instr.Call index) = Unit {0}
@@ -42,8 +42,8 @@ IsConstant (instr.F64Const bits) = Unit {0}
 IsConstant (instr.V128Const bits) = Unit {0}
 IsConstant _ = ⊥
 
--- memory instructions, with those on vectors and the atomic ones (Structure, Memory Instructions;
--- atomic ones are an own rule)
+-- memory instructions, including accesses to vectors and atomic accesses (Structure, Memory
+-- Instructions; atomic accesses: own rule)
 abbrev pub IsMemoryInstr : Instr → Type 0
 IsMemoryInstr (instr.Load op at) = Unit {0}
 IsMemoryInstr (instr.Store op at) = Unit {0}

@@ -14,7 +14,7 @@ opening kind.Block ty = instr.Block ty
 opening kind.Loop ty = instr.Loop ty
 opening kind.If ty = instr.If ty
 
--- the operands of that instruction
+-- the operand types of that instruction
 abbrev pub taken_by : Kind → List ValType → List ValType
 taken_by kind.If params = params ++ I32 ∷ []
 taken_by _ params = params

@@ -1,4 +1,4 @@
--- What a check says of a body.
+-- Verdicts on a body.
 use Rattle.std.specs.Prelude.{ℕ, ◌+◌, ◌<◌, List, ◌++◌, length, take}
 use Rattle.smith_instr.specs.declared.instr.Instr.{Instr}
 use Rattle.smith_instr.specs.Contexts.{BodyContext}
@@ -6,13 +6,13 @@ use Rattle.smith_check_rules.specs.Sequences.{IsBodyTyped}
 use Rattle.smith_check_body.specs.declared.verdict.Verdict.{Verdict}
 use Rattle.smith_check_body.specs.declared.verdict.Verdict.TheVariants as verdict
 
--- a body is not typed (Validation, Functions), and where an instruction of it is named, no body is
--- that begins as it does up to that instruction
+-- a body is not typed (Validation, Functions); if it has an instruction at `at`, no body that
+-- begins with the instructions up to it is typed
 pub record IsRefused (context : BodyContext) (body : List Instr) (at : ℕ) : Type 0 where
   pub untyped : IsBodyTyped context body → ⊥
   pub earliest : at < length body → (rest : List Instr) → IsBodyTyped context (take (at + 1) body ++ rest) → ⊥
 
--- a verdict is right (Validation, Functions)
+-- a verdict is correct (Validation, Functions)
 abbrev pub IsVerdict : BodyContext → List Instr → Verdict → Type 0
 IsVerdict context body verdict.Typed = IsBodyTyped context body
 IsVerdict context body (verdict.Refused at) = IsRefused context body at

@@ -1,4 +1,4 @@
--- The types of references that are taken and left by branches.
+-- The types of references that branches pop and push.
 use Rattle.std.specs.Prelude.{◌≡◌, ℕ, true, false, List, [], ◌∷◌, ◌++◌, Option, Some, None, slice_get, if◌then◌else◌}
 use Rattle.smith_types.specs.Subtyping.{IsRefBelow}
 use Rattle.smith_syntax.specs.declared.value_type.RefType.{RefType}
@@ -9,13 +9,13 @@ use Rattle.smith_instr.specs.declared.control.BranchCast.{BranchCast}
 use Rattle.smith_check_rules.specs.declared.slot.Slot.{Slot}
 use Rattle.smith_check_rules.specs.declared.slot.Slot.TheVariants as slot
 
--- the least valid type that a reference type with a valid heap type matches: a non-nullable one
+-- the least valid supertype of a reference type with a valid heap type; a non-nullable reference
 -- requires its feature (own rule)
 abbrev pub least_valid : BodyContext → RefType → RefType
 least_valid context reference =
     record reference { nullable = if context.features.function_references then reference.nullable else true }
 
--- the reference type that a value type is (Structure, Value Types)
+-- the reference type that a value type is, if any (Structure, Value Types)
 abbrev pub reference_of : ValType → Option RefType
 reference_of (Ref reference) = Some reference
 reference_of _ = None
@@ -24,8 +24,8 @@ reference_of _ = None
 abbrev pub EndsInNoReference : List ValType → Type 0
 EndsInNoReference types = (others : List ValType) (reference : RefType) → types ≡ others ++ Ref reference ∷ [] → ⊥
 
--- the least valid type of a reference that is not null, where its type may be null (Validation,
--- Reference Instructions, ref.as_non_null)
+-- the least valid type of a non-null reference of this type (Validation, Reference Instructions,
+-- ref.as_non_null)
 abbrev pub least_non_null : BodyContext → Slot → Option Slot
 least_non_null context slot.Bottom = Some slot.SomeRef
 least_non_null context slot.SomeRef = Some slot.SomeRef
@@ -41,8 +41,8 @@ pub record IsCastValid (context : BodyContext) (cast : BranchCast) : Type 0 wher
   pub to_valid : IsRefValid context cast.to
   pub below : IsRefBelow context.types cast.to cast.from
 
--- a branch to a label takes a reference whose type this one matches, above others (Validation,
--- Control Instructions, br_on_cast and br_on_cast_fail)
+-- a label takes `others`, and then a reference type that `reference` matches (Validation, Control
+-- Instructions, br_on_cast and br_on_cast_fail)
 pub record TakesReference (context : BodyContext) (labels : List (List ValType)) (index : ℕ) (reference : RefType)
     (others : List ValType) : Type 0 where
   pub wanted : RefType

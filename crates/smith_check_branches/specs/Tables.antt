@@ -9,11 +9,12 @@ use Rattle.smith_syntax.specs.declared.composite_type.SubType.{SubType}
 use Rattle.smith_instr.specs.Contexts.{BodyContext}
 use Rattle.smith_instr.specs.InstrTypes.{IsFunctionTable}
 
--- nullable references to any functions, which may be shared (own rule)
+-- the type of nullable references to functions, shared or not (own rule)
 abbrev pub functions : Bool → RefType
 functions shared = record { nullable = true; heap_type = Abstract shared abstract.Func }
 
--- references to functions (Validation, Control Instructions, call_indirect)
+-- an element type is a type of references to functions (Validation, Control Instructions,
+-- call_indirect)
 abbrev pub AreFunctions : List SubType → RefType → Type 0
 AreFunctions types element = (shared : Bool) × IsRefBelow types element (functions shared)
 

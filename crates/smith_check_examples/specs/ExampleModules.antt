@@ -16,22 +16,22 @@ use Rattle.smith_check_examples.specs.ExampleSyntax.{final_and_below}
 abbrev pub fourth_type : ValType
 fourth_type = Ref (nullable (Concrete 3))
 
--- runs of which the second and the third are of the fourth type
+-- three runs of locals, the second and the third of the fourth type
 abbrev pub three_runs : List LocalRun
 three_runs = local_run 2 I32 ∷ local_run 1 fourth_type ∷ local_run 1 fourth_type ∷ []
 
--- a type below a final one, and a function to start with that isn't there
+-- a type below a final type, and a start function that does not exist
 abbrev pub below_final : Module
 below_final = record no_item { types = final_and_below; start = Some 0 }
 
 abbrev pub starts_missing : Module
 starts_missing = record no_item { start = Some 0 }
 
--- a tag and a function, both of a type that isn't there
+-- a tag and a function of a type that does not exist
 abbrev pub two_faults : Module
 two_faults = record no_item { tags = record { 0 = 0 } ∷ []; functions = 0 ∷ [] }
 
--- a function without parameters and results, which has no body, or this body
+-- a function without parameters and results, which has no body, these locals, or this body
 abbrev pub without_body : Module
 without_body = record no_item { types = (function_type [] ∷ []) ∷ []; functions = 0 ∷ [] }
 

@@ -22,7 +22,7 @@ use Rattle.smith_check_module.specs.ExampleSyntax.{nothing, one}
 use Rattle.smith_check_types.specs.ExampleGroups.{struct_of}
 use Rattle.smith_check.specs.ExamplePrograms.{does_nothing}
 
--- the expression that is a reference to a function
+-- the expression `ref.func`
 abbrev pub reference_to : ℕ → List Instr
 reference_to function = instr.Reference (reference.Func function) ∷ []
 
@@ -30,7 +30,7 @@ reference_to function = instr.Reference (reference.Func function) ∷ []
 abbrev pub exports : ExportKind → ℕ → Syntax
 exports kind index = record nothing { exports = ([], kind, index) ∷ [] }
 
--- a module that exports one memory twice, by the same name
+-- a module that exports one memory twice with the same name
 abbrev pub small_memory : MemoryType
 small_memory = record { minimum = 1; maximum = Some 2; memory64 = false; shared = false; page_size_log2 = None }
 
@@ -44,7 +44,7 @@ function_global function = (record { val_type = Ref funcref; mutable = false; sh
 abbrev pub holds : ℕ → Syntax
 holds function = record nothing { globals = function_global function ∷ [] }
 
--- a declared segment of a reference to a function, and a segment whose offset is one
+-- a declared segment with a reference to a function, and a segment with such a reference as offset
 abbrev pub declares : ℕ → Syntax
 declares function = record nothing { elems = elem (func_ref false) (func_items (function ∷ [])) Mode.declared ∷ [] }
 
@@ -76,7 +76,7 @@ imported_memory = imports (entity.Memory small_memory)
 abbrev pub crossed_limits : Syntax
 crossed_limits = imports (entity.Memory (record small_memory { minimum = 3 }))
 
--- a final type of functions, and one that is declared below it, in two groups
+-- a final function type and a declared subtype of it, in two groups
 abbrev pub below_first : SubType
 below_first = record (final_type plain_func) { supertype = Some 0 }
 
@@ -86,18 +86,18 @@ final_and_below = (final_type plain_func ∷ []) ∷ (below_first ∷ []) ∷ []
 abbrev pub below_a_final_type : Syntax
 below_a_final_type = record nothing { types = final_and_below }
 
--- a type that refers to one of a later group
+-- a type that refers to a type of a later group
 abbrev pub refers_to_a_later_group : Syntax
 refers_to_a_later_group = record nothing { types = (struct_of 1 ∷ []) ∷ (struct_of 0 ∷ []) ∷ [] }
 
--- a passive segment of a byte, and one that is copied into a memory, where there is none
+-- a passive data segment, and an active one in a module without memories
 abbrev pub passive_bytes : Syntax
 passive_bytes = record nothing { datas = record { bytes = 7 ∷ []; mode = DataMode.passive } ∷ [] }
 
 abbrev pub copied_bytes : Syntax
 copied_bytes = record nothing { datas = record { bytes = 7 ∷ []; mode = DataMode.active 0 one } ∷ [] }
 
--- an element segment that is copied into a table, where there is none
+-- an active element segment in a module without tables
 abbrev pub copied_functions : Syntax
 copied_functions = record nothing { elems = elem (func_ref false) [] (Mode.active 0 one) ∷ [] }
 
@@ -105,6 +105,6 @@ copied_functions = record nothing { elems = elem (func_ref false) [] (Mode.activ
 abbrev pub bodiless : Syntax
 bodiless = record does_nothing { bodies = [] }
 
--- a function with so many locals
+-- a function with `count` locals
 abbrev pub with_locals : ℕ → Syntax
 with_locals count = record does_nothing { bodies = (replicate count I32, []) ∷ [] }

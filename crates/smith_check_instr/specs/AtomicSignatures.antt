@@ -1,4 +1,4 @@
--- The operands and the results of atomic accesses: those of the threads proposal.
+-- The operands and the results of atomic accesses, in the threads proposal.
 use Rattle.std.specs.Prelude.{◌≡◌, ℕ, Bool, List, [], ◌∷◌}
 use Rattle.smith_syntax.specs.declared.value_type.ValType.{ValType}
 use Rattle.smith_syntax.specs.declared.value_type.ValType.TheVariants.{I32, I64}
@@ -8,11 +8,11 @@ use Rattle.smith_instr.specs.declared.memory.MemArg.{MemArg}
 use Rattle.smith_instr.specs.declared.atomic.AtomicAccess.{AtomicAccess}
 use Rattle.smith_instr.specs.declared.atomic.AtomicAccess.TheVariants as atomic
 
--- there is no such access to bytes of exactly this binary logarithm (threads proposal)
+-- there is no access to exactly 2^`log2_bytes` bytes with this memory argument (threads proposal)
 abbrev pub HasNoAtomicAccess : List MemoryType → MemArg → ℕ → Type 0
 HasNoAtomicAccess memories at log2_bytes = (wide : Bool) → IsAccess memories at wide → at.align ≡ log2_bytes → ⊥
 
--- the binary logarithm of the bytes that are accessed (threads proposal)
+-- the binary logarithm of the number of bytes of an access (threads proposal)
 abbrev pub atomic_bytes : AtomicAccess → ℕ
 atomic_bytes atomic.Notify = 2
 atomic_bytes atomic.Wait32 = 2

@@ -1,4 +1,4 @@
--- What `select` without a type may leave: the section Validation, Parametric Instructions, of the
+-- The results of `select` without a type: the section Validation, Parametric Instructions, of the
 -- WebAssembly Core Specification 3.0.
 use Rattle.std.specs.Prelude.{List, Option, Some, None}
 use Rattle.smith_syntax.specs.declared.value_type.ValType.{ValType}
@@ -9,7 +9,8 @@ use Rattle.smith_check_rules.specs.StackTypes.{IsNumeric}
 use Rattle.smith_check_rules.specs.declared.slot.Slot.{Slot}
 use Rattle.smith_check_rules.specs.declared.slot.Slot.TheVariants.{Bottom, Value}
 
--- the least numeric type that two types match (Validation, Parametric Instructions, select)
+-- `given` is the least numeric type that two types match (Validation, Parametric Instructions,
+-- select)
 pub record IsJoin (types : List SubType) (first second given : Slot) : Type 0 where
   pub numeric : IsNumeric given
   pub above_first : IsBelow types first given
@@ -20,12 +21,12 @@ pub record IsJoin (types : List SubType) (first second given : Slot) : Type 0 wh
 abbrev pub HaveNoJoin : List SubType → Slot → Slot → Type 0
 HaveNoJoin types first second = (v : Slot) → IsNumeric v → IsBelow types first v → IsBelow types second v → ⊥
 
--- a number type or a vector type itself (Structure, Value Types)
+-- a value type that is a number type or a vector type (Structure, Value Types)
 abbrev pub number : ValType → Option Slot
 number (Ref reference) = None
 number value = Some (Value value)
 
--- the number type or vector type that both are (Structure, Value Types)
+-- two equal number types or vector types (Structure, Value Types)
 abbrev pub both : ValType → ValType → Option Slot
 both I32 I32 = Some (Value I32)
 both I64 I64 = Some (Value I64)
@@ -34,7 +35,8 @@ both F64 F64 = Some (Value F64)
 both V128 V128 = Some (Value V128)
 both _ _ = None
 
--- the least numeric type that both match, as a table (Validation, Parametric Instructions, select)
+-- the least numeric type that two types match, as a table (Validation, Parametric Instructions,
+-- select)
 abbrev pub join : Slot → Slot → Option Slot
 join Bottom Bottom = Some Bottom
 join Bottom (Value value) = number value

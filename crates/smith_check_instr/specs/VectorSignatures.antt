@@ -28,7 +28,7 @@ vector_operands (vector.RelaxedFloatBinary op) = V128 ∷ V128 ∷ []
 vector_operands (vector.RelaxedTernary op) = V128 ∷ V128 ∷ V128 ∷ []
 vector_operands (vector.RelaxedFloatTernary op) = V128 ∷ V128 ∷ V128 ∷ []
 
--- the only result of a vector instruction (Validation, Vector Instructions)
+-- the result of a vector instruction (Validation, Vector Instructions)
 abbrev pub vector_result : VectorInstr → ValType
 vector_result vector.AnyTrue = I32
 vector_result (vector.AllTrue shape) = I32
@@ -36,7 +36,7 @@ vector_result (vector.Bitmask shape) = I32
 vector_result (vector.ExtractLane op lane) = (lanes (extracted op)).1
 vector_result _ = V128
 
--- the lanes that a vector instruction names exist (Validation, Vector Instructions)
+-- the lanes in an instruction's immediates exist (Validation, Vector Instructions)
 abbrev pub HasLanes : VectorInstr → Type 0
 HasLanes (vector.ExtractLane op lane) = lane < (lanes (extracted op)).0
 HasLanes (vector.ReplaceLane shape lane) = lane < (lanes shape).0

@@ -21,7 +21,7 @@ use Rattle.smith_check_types.specs.TypeSections.{canonical_index}
 use Rattle.smith_check_module.specs.CanonicalModules.{renamed_const}
 use Rattle.smith_check_module.specs.Typings.{IsBestStep, HasNoStep}
 
--- the constant instruction that an instruction is, if it is one
+-- the constant instruction that an instruction is, if any
 abbrev pub const_of_i32 : IntBinary → Option ConstInstr
 const_of_i32 Add = Some constant.I32Add
 const_of_i32 Sub = Some constant.I32Sub
@@ -68,13 +68,14 @@ const_of (instr.Reference op) = const_of_reference op
 const_of (instr.Aggregate op) = const_of_aggregate op
 const_of _ = None
 
--- the constant instruction by canonical indices that an instruction is, if it is enabled (Validation,
+-- an instruction is a constant instruction, which is enabled by canonical indices (Validation,
 -- Constant Expressions; features: own rule)
 pub record IsConstInstr (context : Context) (indices : List ℕ) (instruction : Instr) (constant : ConstInstr) : Type 0 where
   pub spelled : instruction ≡ as_instr constant
   pub enabled : IsInstrEnabled context.features context.imported_globals (renamed_const (canonical_index indices) constant)
 
--- an instruction takes the stack to that of the least types (Validation, Instruction Sequences)
+-- a constant instruction takes the stack `before` to the stack of the least types (Validation,
+-- Instruction Sequences)
 pub record Goes (context : Context) (indices : List ℕ) (instruction : Instr) (before after : List ValType) : Type 0 where
   pub constant : ConstInstr
   pub is : IsConstInstr context indices instruction constant

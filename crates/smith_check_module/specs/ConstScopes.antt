@@ -1,4 +1,4 @@
--- The context in which constant expressions are judged.
+-- The context in which constant expressions are checked.
 use Rattle.std.specs.Prelude.{ℕ, ◌<◌, List, length, All}
 use Rattle.smith_syntax.specs.FeatureBits.{features_in}
 use Rattle.smith_syntax.specs.declared.composite_type.SubType.{SubType}
@@ -21,7 +21,7 @@ context_of scope = record {
   visible = scope.visible;
 }
 
--- what types, functions and globals refer to exists, and supertypes precede their subtypes
+-- the types that types, functions and globals refer to exist, and supertypes precede their subtypes
 -- (Validation, Modules)
 pub record AreStanding (types : List SubType) (funcs : List ℕ) (globals : List GlobalType) : Type 0 where
   pub orderly : IsOrderly types

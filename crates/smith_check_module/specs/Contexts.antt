@@ -12,7 +12,8 @@ use Rattle.smith_decode.specs.Modules.{Syntax}
 use Rattle.smith_check_types.specs.TypeSections.{canonical_index, canonical_groups}
 use Rattle.smith_check_module.specs.CanonicalModules.{renamed_spaces}
 
--- the index spaces of a module as it is written: imports first, then definitions (Structure, Indices)
+-- the index spaces of a module in terms of its own type indices: imports first, then definitions
+-- (Structure, Indices)
 abbrev pub spaces_of : Syntax → EntitySpaces
 spaces_of m =
     let imports = imported_spaces m.imports in
@@ -24,14 +25,15 @@ spaces_of m =
       globals = imports.globals ++ map (λ (global : GlobalType × List Instr). global.0) m.globals;
     }
 
--- the types and the index spaces, by canonical indices (Validation, Modules)
+-- the type space of a module, by canonical indices (Validation, Modules)
 abbrev pub types_in : List ℕ → Syntax → List SubType
 types_in indices m = (space_of (canonical_groups indices m.types)).types
 
+-- the other index spaces of a module, by canonical indices (Validation, Modules)
 abbrev pub spaces_in : List ℕ → Syntax → EntitySpaces
 spaces_in indices m = renamed_spaces (canonical_index indices) (spaces_of m)
 
--- the context of constant expressions, with no global visible (Validation, Modules)
+-- the context of a module's constant expressions, with no visible globals (Validation, Modules)
 abbrev pub context_in : Features → List ℕ → Syntax → Context
 context_in features indices m = record {
   features = features;

@@ -5,7 +5,7 @@ use Rattle.smith_instr.specs.declared.instr.Instr.{Instr}
 use Rattle.smith_instr.specs.declared.instr.Instr.TheVariants as instr
 use Rattle.smith_decode.specs.Modules.{Syntax}
 
--- a module in which nothing is defined
+-- an empty module
 abbrev pub nothing : Syntax
 nothing = record {
   types = [];
@@ -23,7 +23,7 @@ nothing = record {
   customs = [];
 }
 
--- a module that exports a function, and one that starts with a function, where there is none
+-- modules without a function: one exports a function, one has a start function
 abbrev pub exports_missing : Syntax
 exports_missing = record nothing { exports = ([], kind.Func, 0) ∷ [] }
 

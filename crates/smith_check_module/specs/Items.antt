@@ -10,11 +10,12 @@ use Rattle.smith_types.specs.Expressions.{Context}
 use Rattle.smith_types.specs.Segments.{IsItem}
 use Rattle.smith_check_module.specs.ValidModules.{IsConstant}
 
--- an expression that is the reference to a function of the type of the segment
+-- an item is a `ref.func` of a function whose reference has the segment's type
 abbrev pub IsFunction : Context → RefType → List Instr → Type 0
 IsFunction context ty item = (function : ℕ) × (item ≡ Reference (Func function) ∷ []) × IsItem context ty function
 
--- an item is such a reference, or an expression, which requires reference types (own rule)
+-- an item is such a `ref.func`, or a constant expression of the segment's type, which requires
+-- reference types (own rule)
 abbrev pub IsItemValid : Context → List ℕ → RefType → List Instr → Type 0
 IsItemValid context indices ty item =
     IsFunction context ty item ⊎ (IsTrue context.features.reference_types × IsConstant context indices (Ref ty) item)

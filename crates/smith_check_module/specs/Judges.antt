@@ -1,4 +1,4 @@
--- What the items of a module are judged by.
+-- The parts of a module by which its items are judged.
 use Rattle.std.specs.Prelude.{◌≡◌, ℕ, ◌+◌, ◌<◌, List, Some, length, slice_get}
 use Rattle.smith_syntax.specs.FeatureBits.{features_in}
 use Rattle.smith_syntax.specs.declared.entity_type.ExportKind.{ExportKind}
@@ -17,21 +17,23 @@ use Rattle.smith_check_module.specs.declared.faults.Part.{Part}
 use Rattle.smith_check_module.specs.declared.faults.Part.TheVariants as part
 use Rattle.smith_check_module.specs.declared.judge.Judge.{Judge}
 
--- no earlier export has the name of the export at an index (Validation, Modules)
+-- no export before `index` has this name (Validation, Modules)
 abbrev pub IsNameUnused : List (List ℕ × ExportKind × ℕ) → ℕ → List ℕ → Type 0
 IsNameUnused exports index name = (earlier : ℕ) (other : List ℕ × ExportKind × ℕ) → earlier < index
     → slice_get exports earlier ≡ Some other → other.0 ≡ name → ⊥
 
--- the index of the first export whose name an earlier one has, or the number of exports if there is none
+-- `index` is the first export with the name of an earlier export, or the number of exports if names
+-- are distinct
 pub record IsFirstRepeated (exports : List (List ℕ × ExportKind × ℕ)) (index : ℕ) : Type 0 where
   pub before : (k : ℕ) (one : List ℕ × ExportKind × ℕ) → k < index → slice_get exports k ≡ Some one → IsNameUnused exports k one.0
   pub repeated : (one : List ℕ × ExportKind × ℕ) → slice_get exports index ≡ Some one → IsNameUnused exports index one.0 → ⊥
 
--- an item of a part is right, and all items are
+-- the item at this index of a part is valid
 abbrev pub IsRight : Judge → Part → ℕ → Type 0
 IsRight judge kind index =
     IsItemRight (context_of judge.scope) judge.scope.indices.now (spaces_in judge.spaces.now) (syntax_of judge.module.now) kind index
 
+-- all items of a part are valid
 abbrev pub AreRight : Judge → Part → Type 0
 AreRight judge kind = (index : ℕ) → IsRight judge kind index
 
@@ -49,7 +51,7 @@ count_in judge part.Start = 1
 count_in judge part.Elements = length judge.module.now.elements
 count_in judge part.Datas = length judge.module.now.datas
 
--- the items of a part refer to entities
+-- the items of a part refer to entities of index spaces
 abbrev pub RefersToEntities : Part → Type 0
 RefersToEntities part.Tags = ⊥
 RefersToEntities part.Functions = ⊥
@@ -62,7 +64,7 @@ RefersToEntities _ = Unit {0}
 abbrev pub AreJudgedValid : Judge → Type 0
 AreJudgedValid judge = AreEntitiesValid (features_in judge.scope.features) judge.scope.types.now.types (spaces_in judge.spaces.now)
 
--- the parts of a judge are those of one module, and its types are valid
+-- the parts of the judge belong to one module, and its types are valid
 pub record IsJudge (judge : Judge) : Type 0 where
   pub types : AreTypesValid (features_in judge.scope.features) judge.scope.types.now
   pub funcs : judge.scope.funcs.now ≡ judge.spaces.now.funcs
@@ -71,7 +73,7 @@ pub record IsJudge (judge : Judge) : Type 0 where
   pub counted : length judge.scope.globals.now ≡ judge.scope.imported_globals + length judge.module.now.globals
   pub repeated : IsFirstRepeated (syntax_of judge.module.now).exports judge.repeated
 
--- the types of tables and globals that are defined
+-- the type of a defined table, and of a defined global
 abbrev pub table_type : TableDefinition → TableType
 table_type table = table.ty
 

@@ -1,6 +1,6 @@
--- The first item of a module that is not valid, its types and the bodies of its functions aside. The
--- order of the parts is a rule of this project; each item is judged as in the section Validation,
--- Modules, of the WebAssembly Core Specification 3.0.
+-- The first invalid item of a module, apart from its types and bodies. The order of the parts is a
+-- rule of this project; each item is checked as in the section Validation, Modules, of the
+-- WebAssembly Core Specification 3.0.
 use Rattle.std.specs.Prelude.{◌≡◌, ℕ, ◌+◌, ◌<◌, IsTrue, List, [], ◌∷◌, ◌++◌, Some, length, slice_get, All}
 use Rattle.smith_syntax.specs.Features.{Features}
 use Rattle.smith_syntax.specs.declared.entity_type.EntityType.{EntityType}
@@ -21,21 +21,21 @@ use Rattle.smith_check_module.specs.declared.faults.Part.{Part}
 use Rattle.smith_check_module.specs.declared.faults.Part.TheVariants as part
 use Rattle.smith_check_module.specs.declared.faults.SectionFault.{SectionFault}
 
--- the item at an index, if there is one, has a property
+-- if there is an item at `index`, it has the property `P`
 abbrev pub IsRightAt : {A : Type 0} → List A → ℕ → (A → Type 0) → Type 0
 IsRightAt items index P = (item : _) → slice_get items index ≡ Some item → P item
 
--- an export refers to an entity that exists, and no earlier one has its name (Validation, Exports;
--- Modules)
+-- an export refers to an entity that exists, and no earlier export has its name (Validation,
+-- Exports; Modules)
 pub record IsExportRight (spaces : EntitySpaces) (exports : List (List ℕ × ExportKind × ℕ)) (index : ℕ)
     (one : List ℕ × ExportKind × ℕ) : Type 0 where
   pub stands : (ty : EntityType) × IsEntityAt spaces one.1 one.2 ty
   pub unused : (earlier : ℕ) (other : List ℕ × ExportKind × ℕ) → earlier < index → slice_get exports earlier ≡ Some other
       → other.0 ≡ one.0 → ⊥
 
--- an item of a part of a module: entities by their index, with imports first, other items by their
--- place in their section (Validation, Modules). The first tag, the second table and the second memory
--- require their features (own rule)
+-- The item at an index of a part is valid (Validation, Modules). Entities are counted in their
+-- index space, other items in their section. The first tag, the second table and the second memory
+-- require their features (own rule).
 abbrev pub IsItemRight : Context → List ℕ → EntitySpaces → Syntax → Part → ℕ → Type 0
 IsItemRight context indices spaces m part.Tags index =
     IsRightAt spaces.tags index (λ tag. IsFuncTypeIndex context.types tag × IsTrue context.features.exceptions)
@@ -63,18 +63,18 @@ IsItemRight context indices spaces m part.Datas index =
 abbrev pub IsPartRight : Context → List ℕ → EntitySpaces → Syntax → Part → Type 0
 IsPartRight context indices spaces m kind = (index : ℕ) → IsItemRight context indices spaces m kind index
 
--- the parts, in the order in which they are judged (own rule)
+-- the parts of a module, in the order in which they are checked (own rule)
 abbrev pub parts : List Part
 parts =
     part.Tags ∷ part.Functions ∷ part.Tables ∷ part.Memories ∷ part.Globals ∷ part.TableInitials ∷ part.GlobalInitials ∷ part.Exports
     ∷ part.Start ∷ part.Elements ∷ part.Datas ∷ []
 
--- an item is wrong, and all items before it are right
+-- the item at `index` is invalid, and all items before it are valid
 pub record IsFirstWrong (IsRight : ℕ → Type 0) (index : ℕ) : Type 0 where
   pub wrong : IsRight index → ⊥
   pub before : (other : ℕ) → other < index → IsRight other
 
--- a fault is the first item that is wrong: all parts before its part are right
+-- a fault is the first invalid item; all items of earlier parts are valid
 pub record IsFirstBy (IsRight : Part → ℕ → Type 0) (fault : SectionFault) : Type 0 where
   pub before : List Part
   pub after : List Part
@@ -82,6 +82,6 @@ pub record IsFirstBy (IsRight : Part → ℕ → Type 0) (fault : SectionFault) 
   pub earlier : All (λ kind. (index : ℕ) → IsRight kind index) before
   pub first : IsFirstWrong (IsRight fault.part) fault.index
 
--- the first item of a module that is wrong (own rule)
+-- a fault is the first invalid item of a module, apart from types and bodies (own rule)
 abbrev pub IsFirstFault : Features → List ℕ → Syntax → SectionFault → Type 0
 IsFirstFault features indices m fault = IsFirstBy (IsItemRight (context_in features indices m) indices (spaces_in indices m) m) fault

@@ -1,6 +1,5 @@
--- The operands and the result of an instruction of a constant expression, on the types that are on the
--- stack: the section Validation, Instructions, Constant Expressions, of the WebAssembly Core
--- Specification 3.0.
+-- The operands and the result of a constant instruction, given the types on the stack: the section
+-- Validation, Instructions, Constant Expressions, of the WebAssembly Core Specification 3.0.
 use Rattle.std.specs.Prelude.{◌≡◌, ℕ, ◌<◌, Bool, false, true, List, [], ◌∷◌, ◌++◌, Option, Some, None, length, All}
 use Rattle.std.specs.List.{AllZip}
 use Rattle.smith_syntax.specs.declared.const_instr.ConstInstr.{ConstInstr}
@@ -16,7 +15,8 @@ use Rattle.smith_types.specs.Expressions.{Context, HasType, IsArrayAt, IsConvers
 use Rattle.smith_types.specs.Subtyping.{IsValBelow, IsValInRange}
 use Rattle.smith_check_module.specs.declared.signature.Signature.{Signature}
 
--- the operands and the result of an instruction that depends on nothing (Validation, Instructions)
+-- the operands and the result of a constant instruction that has only one type in every context
+-- (Validation, Instructions)
 abbrev pub fixed_signature : ConstInstr → Option Signature
 fixed_signature (constant.I32Const value) = Some (record { operands = []; result = I32 })
 fixed_signature (constant.I64Const value) = Some (record { operands = []; result = I64 })
@@ -33,7 +33,7 @@ fixed_signature constant.RefI31 = Some (record { operands = I32 ∷ []; result =
 fixed_signature constant.RefI31Shared = Some (record { operands = I32 ∷ []; result = reference_to (Abstract true abstract.I31) })
 fixed_signature _ = None
 
--- an instruction has these operands and this result, and no others (Validation, Instructions)
+-- an instruction has this type and no other (Validation, Instructions)
 pub record IsOnly (context : Context) (instruction : ConstInstr) (operands : List ValType) (result : ValType) : Type 0 where
   pub typed : HasType context instruction operands result
   pub only : (others : List ValType) (other : ValType) → HasType context instruction others other
@@ -52,13 +52,14 @@ HasNoArray types index = (element : FieldType) → IsArrayAt types index element
 abbrev pub HasNoType : Context → ConstInstr → Type 0
 HasNoType context instruction = (operands : List ValType) (result : ValType) → HasType context instruction operands result → ⊥
 
--- an instruction has no type, or more operands than there are values (Validation, Instructions)
+-- an instruction has no type, or more than `most` operands (Validation, Instructions)
 abbrev pub HasMore : Context → ConstInstr → ℕ → Type 0
 HasMore context instruction most = (operands : List ValType) (result : ValType) → HasType context instruction operands result
     → most < length operands
 
--- an instruction has operands that accept any values from the top of a stack that it can take, and the
--- least result (Validation, Instruction Sequences)
+-- an instruction has this type, and it is the least: whatever type the instruction has with values
+-- from the top of the stack, these values match `operands`, and `result` matches its result
+-- (Validation, Instruction Sequences)
 pub record IsBest (context : Context) (instruction : ConstInstr) (before operands : List ValType) (result : ValType) : Type 0 where
   pub typed : HasType context instruction operands result
   pub least : (rest taken others : List ValType) (other : ValType) → before ≡ rest ++ taken
@@ -67,16 +68,16 @@ pub record IsBest (context : Context) (instruction : ConstInstr) (before operand
   pub operands_stand : All (IsValInRange context.types) operands
   pub result_stands : IsValInRange context.types result
 
--- an instruction takes no values from the top of a stack (Validation, Instruction Sequences)
+-- no operands of an instruction are on top of the stack (Validation, Instruction Sequences)
 abbrev pub TakesNothing : Context → ConstInstr → List ValType → Type 0
 TakesNothing context instruction before = (rest taken operands : List ValType) (result : ValType) → before ≡ rest ++ taken
     → AllZip (IsValBelow context.types) taken operands → HasType context instruction operands result → ⊥
 
--- a reference to a value of an abstract type (Structure, Reference Types)
+-- the type of a reference to an abstract heap type (Structure, Reference Types)
 abbrev pub converted : Bool → Bool → AbstractHeapType → ValType
 converted nullable shared ty = Ref (record { nullable = nullable; heap_type = Abstract shared ty })
 
--- the operand and the result of a conversion, as those of any instruction (Validation, Instructions)
+-- the operand and the result of a conversion, with the properties above (Validation, Instructions)
 abbrev pub Converts : AbstractHeapType → AbstractHeapType → List ValType → ValType → Type 0
 Converts from into operands result = IsConversion operands result (λ shared. Abstract shared from) (λ shared. Abstract shared into)
 
@@ -93,8 +94,8 @@ abbrev pub TakesNoConversion : Context → AbstractHeapType → AbstractHeapType
 TakesNoConversion context from into before = (rest taken operands : List ValType) (result : ValType) → before ≡ rest ++ taken
     → AllZip (IsValBelow context.types) taken operands → Converts from into operands result → ⊥
 
--- a stack whose top is of the operands of a signature, with the result in their place (Validation,
--- Instruction Sequences)
+-- the stack with the operands of a signature replaced by its result (Validation, Instruction
+-- Sequences)
 pub record IsApplied (context : Context) (signature : Signature) (before after : List ValType) : Type 0 where
   pub rest : List ValType
   pub taken : List ValType
@@ -102,12 +103,12 @@ pub record IsApplied (context : Context) (signature : Signature) (before after :
   pub accepted : AllZip (IsValBelow context.types) taken signature.operands
   pub pushed : after ≡ rest ++ signature.result ∷ []
 
--- the top of a stack is not of the operands of a signature (Validation, Instruction Sequences)
+-- the operands of a signature are not on top of the stack (Validation, Instruction Sequences)
 abbrev pub IsApart : Context → Signature → List ValType → Type 0
 IsApart context signature before = (rest taken : List ValType) → before ≡ rest ++ taken
     → AllZip (IsValBelow context.types) taken signature.operands → ⊥
 
--- a step to the stack of the least types (Validation, Instruction Sequences)
+-- a step of an instruction to the stack of the least types (Validation, Instruction Sequences)
 pub record IsBestStep (context : Context) (instruction : ConstInstr) (before after : List ValType) : Type 0 where
   pub step : IsStackStep context instruction before after
   pub least : (other : List ValType) → IsStackStep context instruction before other → AllZip (IsValBelow context.types) after other

@@ -33,7 +33,7 @@ use Rattle.smith_check_types.specs.TypeSections.{canonical_index, canonical_grou
 use Rattle.smith_check_module.specs.CanonicalModules.{renamed_const}
 use Rattle.smith_check_module.specs.Contexts.{spaces_in, context_in, types_in}
 
--- every entity, imported or defined, is valid (Validation, External Types)
+-- each entity, imported or defined, is valid (Validation, External Types)
 pub record AreEntitiesValid (features : Features) (types : List SubType) (spaces : EntitySpaces) : Type 0 where
   pub tags : All (IsFuncTypeIndex types) spaces.tags
   pub funcs : All (IsFuncTypeIndex types) spaces.funcs
@@ -41,51 +41,54 @@ pub record AreEntitiesValid (features : Features) (types : List SubType) (spaces
   pub memories : All (IsMemoryValid features) spaces.memories
   pub globals : All (IsGlobalValid features types) spaces.globals
 
--- an expression of constant instructions that produces a value of this type (Validation, Constant
--- Expressions)
+-- an expression consists of constant instructions, and produces a value of type `wanted`
+-- (Validation, Constant Expressions)
 pub record IsConstant (context : Context) (indices : List ℕ) (wanted : ValType) (expression : List Instr) : Type 0 where
   pub constants : List ConstInstr
   pub spelled : expression ≡ as_expr constants
   pub typed : IsConstExpr context wanted (map (renamed_const (canonical_index indices)) constants)
 
--- the first elements of a table: null, if its element type allows that, or an expression of that type
--- (Validation, Tables), which requires garbage collection (own rule)
+-- the initialiser of a table is the `ref.null` of its nullable element type, or a constant
+-- expression of its element type (Validation, Tables), which requires garbage collection (own rule)
 abbrev pub IsTableInitialised : Context → List ℕ → TableType × List Instr → Type 0
 IsTableInitialised context indices table =
     (IsTrue table.0.element_type.nullable × (table.1 ≡ null_of table.0.element_type))
     ⊎ (IsTrue context.features.gc × IsConstant context indices (renamed_val (canonical_index indices) (Ref table.0.element_type)) table.1)
 
--- globals from this index on, each initialised over the globals before it (Validation, Globals)
+-- each global from `index` on has a valid initialiser, which may read the globals before it
+-- (Validation, Globals)
 abbrev pub AreGlobalsInitialised : Context → List ℕ → ℕ → List (GlobalType × List Instr) → Type 0
 AreGlobalsInitialised context indices index [] = Unit {0}
 AreGlobalsInitialised context indices index (global ∷ globals) =
     IsConstant (seeing context (seen_by_global context index)) indices (renamed_val (canonical_index indices) global.0.val_type) global.1
     × AreGlobalsInitialised context indices (index + 1) globals
 
--- the definitions of tables and globals (Validation, Tables; Globals)
+-- each defined table and global is valid (Validation, Tables; Globals)
 pub record AreDefinitionsValid (context : Context) (indices : List ℕ) (m : Syntax) : Type 0 where
   pub tables : All (IsTableInitialised (seeing context (seen_by_tables context)) indices) m.tables
   pub globals : AreGlobalsInitialised context indices (length (imported_spaces m.imports).globals) m.globals
 
--- the items of a segment: references to functions, or expressions of its type (Validation, Element
--- Segments), which require reference types (own rule)
+-- the items of a segment are each a `ref.func` of the segment's type (Validation, Element Segments)
 pub record AreFunctions (context : Context) (ty : RefType) (items : List (List Instr)) : Type 0 where
   pub functions : List ℕ
   pub spelled : items ≡ func_items functions
   pub typed : All (IsItem context ty) functions
 
+-- the items of a segment are each a `ref.func` of the segment's type, or all are constant
+-- expressions of that type (Validation, Element Segments), which requires reference types (own
+-- rule)
 abbrev pub AreItemsValid : Context → List ℕ → RefType → List (List Instr) → Type 0
 AreItemsValid context indices ty items =
     AreFunctions context ty items ⊎ (IsTrue context.features.reference_types × All (IsConstant context indices (Ref ty)) items)
 
--- the type of a segment: that of function lists, or an enabled reference type (Validation, Element
--- Segments; features: own rule)
+-- the type of a segment is `(ref func)`, the type of function lists, or is valid (Validation,
+-- Element Segments) and enabled (own rule)
 abbrev pub IsElementTypeValid : Context → RefType → Type 0
 IsElementTypeValid context ty =
     (ty ≡ func_ref false) ⊎ (IsRefTypeValid context.features (length context.types) ty × IsElementTypeEnabled context.features ty)
 
--- an active segment is copied into a table that accepts its items, at an offset of the type of the
--- table's addresses (Validation, Element Segments)
+-- the table of an active segment exists and accepts its type, and the offset has the table's
+-- address type (Validation, Element Segments)
 pub record IsCopiedToTable (context : Context) (indices : List ℕ) (spaces : EntitySpaces) (ty : RefType) (index : ℕ)
     (offset : List Instr) : Type 0 where
   pub table : TableType
@@ -93,35 +96,35 @@ pub record IsCopiedToTable (context : Context) (indices : List ℕ) (spaces : En
   pub below : IsRefBelow context.types ty table.element_type
   pub offset_typed : IsConstant context indices (address_type table.table64) offset
 
--- the mode of an element segment (Validation, Element Segments); the other modes require bulk memory
--- (own rule)
+-- the mode of an element segment is valid (Validation, Element Segments); passive and declared
+-- segments require bulk memory (own rule)
 abbrev pub IsElementModeValid : Context → List ℕ → EntitySpaces → RefType → Mode → Type 0
 IsElementModeValid context indices spaces ty Mode.passive = IsTrue context.features.bulk_memory
 IsElementModeValid context indices spaces ty Mode.declared = IsTrue context.features.bulk_memory
 IsElementModeValid context indices spaces ty (Mode.active table offset) = IsCopiedToTable context indices spaces ty table offset
 
--- an element segment (Validation, Element Segments)
+-- an element segment is valid (Validation, Element Segments)
 pub record IsElementValid (context : Context) (indices : List ℕ) (spaces : EntitySpaces) (segment : Elem) : Type 0 where
   pub ty : IsElementTypeValid context (renamed_ref (canonical_index indices) segment.ty)
   pub items : AreItemsValid context indices (renamed_ref (canonical_index indices) segment.ty) segment.items
   pub mode : IsElementModeValid context indices spaces (renamed_ref (canonical_index indices) segment.ty) segment.mode
 
--- the mode of a data segment: an active one is copied into a memory, at an offset of the type of its
--- addresses (Validation, Data Segments); passive segments require bulk memory (own rule)
+-- the memory of an active data segment exists, and the offset has its address type (Validation,
+-- Data Segments); a passive segment requires bulk memory (own rule)
 abbrev pub IsDataModeValid : Context → List ℕ → EntitySpaces → DataMode → Type 0
 IsDataModeValid context indices spaces DataMode.passive = IsTrue context.features.bulk_memory
 IsDataModeValid context indices spaces (DataMode.active index offset) =
     (memory : MemoryType) × (slice_get spaces.memories index ≡ Some memory) × IsConstant context indices (address_type memory.memory64)
     offset
 
--- element and data segments (Validation, Element Segments; Data Segments)
+-- each element and data segment is valid (Validation, Element Segments; Data Segments)
 pub record AreSegmentsValid (context : Context) (indices : List ℕ) (spaces : EntitySpaces) (m : Syntax) : Type 0 where
   pub elements : All (IsElementValid (seeing context (seen_by_segments context)) indices spaces) m.elems
   pub datas : All (λ (data_segment : Data). IsDataModeValid (seeing context (seen_by_segments context)) indices spaces data_segment.mode)
       m.datas
 
--- all of a module but its types and the bodies of its functions, by these canonical indices of its
--- types (Validation, Modules)
+-- a module is valid apart from its types and bodies, by these canonical indices (Validation,
+-- Modules)
 pub record AreSectionsValid (features : Features) (indices : List ℕ) (m : Syntax) : Type 0 where
   pub entities : AreEntitiesValid features (types_in indices m) (spaces_in indices m)
   pub counts : AreCountsEnabled features (spaces_in indices m)
@@ -130,7 +133,7 @@ pub record AreSectionsValid (features : Features) (indices : List ℕ) (m : Synt
   pub start : IsStartValid (types_in indices m) (spaces_in indices m).funcs m.start
   pub segments : AreSegmentsValid (context_in features indices m) indices (spaces_in indices m) m
 
--- a valid module, apart from the bodies of its functions (Validation, Modules)
+-- a module is valid apart from its bodies (Validation, Modules)
 pub record IsValidApart (features : Features) (m : Syntax) : Type 0 where
   pub scope : AreGroupsInScope 0 m.types
   pub indices : List ℕ

@@ -15,23 +15,24 @@ pub record AppliesFrom (context : BodyContext) (operands results : List Slot) (o
   pub covered : Covers context old before
   pub framed : IsFramed context operands results [] (stacked before []) (stacked after [])
 
--- the stacks of `new` are exactly those of `old` with operands taken off and results put on
+-- the stacks of `new` are exactly the stacks of `old` with the operands popped and the results
+-- pushed
 pub record Applies (context : BodyContext) (operands results : List Slot) (old new : Held) : Type 0 where
   pub sound : (after : List Slot) → Covers context new after → AppliesFrom context operands results old after
   pub complete : (before after : List Slot) → Covers context old before → IsFramed context operands results [] (stacked before [])
       (stacked after []) → Covers context new after
   pub valid : AreSlotsValid context new.known
 
--- an instruction has these operands and results, and no others
+-- an instruction has this type and no other
 pub record HasOnly (context : BodyContext) (set : List ℕ) (instruction : Instr) (operands results : List Slot) : Type 0 where
   pub typed : HasStackType context set instruction operands results
   pub only : (these those : List Slot) → HasStackType context set instruction these those → (these ≡ operands) × (those ≡ results)
 
--- an instruction has no operands and results
+-- an instruction has no type
 abbrev pub HasNone : BodyContext → List ℕ → Instr → Type 0
 HasNone context set instruction = (these those : List Slot) → HasStackType context set instruction these those → ⊥
 
--- whether an instruction steps, and where to
+-- whether an instruction applies, and the stacks after it
 pub record IsTaken (context : BodyContext) (labels : List (List ValType)) (instruction : Instr) (set : List ℕ) (old new : Held)
     : Type 0 where
   pub steps : Steps context labels instruction set old new
@@ -41,7 +42,7 @@ abbrev pub IsTried : BodyContext → List (List ValType) → Instr → List ℕ 
 IsTried context labels instruction set taken old new = MatchBool taken (IsTaken context labels instruction set old new)
     (StepsNowhere context labels instruction set old)
 
--- an instruction takes operands of these types, and goes on in dead code
+-- an instruction pops operands of these types, and dead code follows it
 pub record LeavesBy (context : BodyContext) (taken : List Slot) (old new : Held) : Type 0 where
   pub known : new.known ≡ []
   pub dead : new.dead ≡ true

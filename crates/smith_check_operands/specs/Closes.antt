@@ -1,4 +1,4 @@
--- What is left of a body at a point of it: the instructions that close the blocks that are open.
+-- The rest of a body from a point on: the instructions that close the open blocks.
 use Rattle.std.specs.Prelude.{◌≡◌, ◌⊎◌, ℕ, List, [], ◌∷◌, ◌++◌, map, take}
 use Rattle.smith_syntax.specs.declared.value_type.ValType.{ValType}
 use Rattle.smith_check_rules.specs.declared.slot.Slot.{Slot}
@@ -14,7 +14,7 @@ use Rattle.smith_instr.specs.InstrTypes.{sets}
 use Rattle.smith_check_rules.specs.Sequences.{Stacked, stacked, CountsAs, IsStep, AreTyped}
 use Rattle.smith_check_operands.specs.Covers.{Held, held, Covers, CoversGiven}
 
--- the types of the operands of a branch to a block
+-- the operand types of a branch to a block
 abbrev pub label_by : Kind → List ValType → List ValType → List ValType
 label_by kind.Loop params results = params
 label_by _ params results = results
@@ -29,17 +29,17 @@ labels_of frames = map (λ (frame : Frame). label_of frame.shape) frames
 abbrev pub with_labels : BodyContext → List (List ValType) → BodyContext
 with_labels context labels = record context { labels = labels }
 
--- the first part of an if
+-- a block is the first part of an `if`
 abbrev pub IsFirst : Kind → Type 0
 IsFirst kind.If = Unit {0}
 IsFirst _ = ⊥
 
--- a block may end here: an if without an else passes its parameters on
+-- a block may end here; an `if` without `else` passes its parameters on
 abbrev pub MayEnd : BodyContext → Kind → List ValType → List ValType → Type 0
 MayEnd context kind.If params results = CountsAs context (values params) (values results)
 MayEnd context _ params results = Unit {0}
 
--- instructions that lead to these results, and then others
+-- instructions that lead to these results, and then `Tail`
 pub record ClosesWith (context : BodyContext) (results : List ValType) (Tail : List Instr → Type 0) (before : Stacked)
     (rest : List Instr) : Type 0 where
   pub body : List Instr
@@ -49,7 +49,7 @@ pub record ClosesWith (context : BodyContext) (results : List ValType) (Tail : L
   pub typed : AreTyped context body before (stacked (values results) end)
   pub after : Tail tail
 
--- the end of a block, and then others
+-- the `end` of a block, and then `Next`
 pub record EndsAt (context : BodyContext) (kind : Kind) (params results : List ValType) (Next : List Instr → Type 0)
     (tail : List Instr) : Type 0 where
   pub more : List Instr
@@ -57,7 +57,7 @@ pub record EndsAt (context : BodyContext) (kind : Kind) (params results : List V
   pub may : MayEnd context kind params results
   pub next : Next more
 
--- the else of an if, its second part with its end, and then others
+-- the `else` of an `if`, its second part with its `end`, and then `Next`
 pub record ElseAt (context : BodyContext) (kind : Kind) (params results : List ValType) (set : List ℕ) (Next : List Instr → Type 0)
     (tail : List Instr) : Type 0 where
   pub other : List Instr
@@ -72,14 +72,15 @@ abbrev pub Ends : BodyContext → Kind → List ValType → List ValType → Lis
 Ends context kind params results set Next tail = EndsAt context kind params results Next tail ⊎ ElseAt context kind params results set Next
     tail
 
--- the results of a block are put on the stack, and then others
+-- the results of a block are pushed, and then `Closes`
 pub record Resumes (context : BodyContext) (results : List ValType) (old : Held) (Closes : List Slot → List Instr → Type 0)
     (more : List Instr) : Type 0 where
   pub between : List Slot
   pub covered : CoversGiven context (values results) old between
   pub closes : Closes between more
 
--- what follows the instructions of the innermost block, at whose start the locals of `base` were set
+-- the instructions after those of the innermost block; at the start of that block, the locals of
+-- `base` are set
 abbrev pub IsTail : BodyContext → Shape → List ℕ → List Frame → List Instr → Type 0
 IsTail context shape base [] tail = tail ≡ []
 IsTail context shape base (outer ∷ outers) tail =
@@ -90,7 +91,7 @@ IsTail context shape base (outer ∷ outers) tail =
     (stacked between base) rest) more)
     tail
 
--- instructions close the open blocks, from some stack that is covered
+-- instructions close the open blocks, from some stack that `old` covers
 pub record Finishes (context : BodyContext) (shape : Shape) (old : Held) (set base : List ℕ) (outers : List Frame)
     (rest : List Instr) : Type 0 where
   pub stack : List Slot
@@ -98,7 +99,7 @@ pub record Finishes (context : BodyContext) (shape : Shape) (old : Held) (set ba
   pub closes : ClosesWith (with_labels context (label_of shape ∷ labels_of outers)) shape.results (IsTail context shape base outers)
       (stacked stack set) rest
 
--- an instruction, blocks aside, takes the stacks of `old` exactly to those of `new`
+-- an instruction other than a block takes the stacks of `old` exactly to the stacks of `new`
 pub record Reaches (context : BodyContext) (labels : List (List ValType)) (instruction : Instr) (set : List ℕ) (old : Held)
     (after : List Slot) : Type 0 where
   pub before : List Slot
@@ -126,7 +127,7 @@ IsPlain instr.Else = ⊥
 IsPlain instr.End = ⊥
 IsPlain _ = Unit {0}
 
--- the innermost block may end here, its stack being as its results ask
+-- the innermost block may end here, because some stack has its results
 pub record EndsHere (context : BodyContext) (results : List ValType) (old : Held) : Type 0 where
   pub stack : List Slot
   pub covered : Covers context old stack

@@ -1,4 +1,4 @@
--- Values where others are expected, type by type.
+-- Values and the types that are expected of them.
 use Rattle.std.specs.Prelude.{List, [], ◌∷◌}
 use Rattle.smith_syntax.specs.declared.value_type.ValType.{ValType}
 use Rattle.smith_syntax.specs.declared.composite_type.SubType.{SubType}
@@ -12,15 +12,14 @@ abbrev pub IsSlotInRange : List SubType → Slot → Type 0
 IsSlotInRange types (Value value) = IsValInRange types value
 IsSlotInRange types _ = Unit {0}
 
--- as many values as are expected, each of a type that matches its expected type (Validation,
--- Matching, Result Types)
+-- the values have the expected types, one by one (Validation, Matching, Result Types)
 abbrev pub AreFit : List SubType → List Slot → List ValType → Type 0
 AreFit types [] [] = Unit {0}
 AreFit types (slot ∷ slots) (expected ∷ more) = IsBelow types slot (Value expected) × AreFit types slots more
 AreFit types _ _ = ⊥
 
--- as many types, each of which matches that at its place in the others (Validation, Matching,
--- Result Types)
+-- each type matches its counterpart in a list of the same length (Validation, Matching, Result
+-- Types)
 abbrev pub AreMatched : List SubType → List ValType → List ValType → Type 0
 AreMatched types [] [] = Unit {0}
 AreMatched types (a ∷ these) (b ∷ others) = IsValBelow types a b × AreMatched types these others

@@ -1,4 +1,4 @@
--- Items that an index doesn't have.
+-- Indices without an item.
 use Rattle.std.specs.Prelude.{ℕ, ◌≤◌, Bool, List}
 use Rattle.smith_syntax.specs.declared.composite_type.FuncType.{FuncType}
 use Rattle.smith_syntax.specs.declared.composite_type.SubType.{SubType}
@@ -7,7 +7,8 @@ use Rattle.smith_instr.specs.MemoryTypes.{IsAccess}
 use Rattle.smith_instr.specs.declared.memory.MemArg.{MemArg}
 use Rattle.smith_types.specs.Entities.{IsFuncAt}
 
--- there is no such access to bytes of this binary logarithm (Validation, Memory Instructions, memarg)
+-- there is no access to 2^`log2_bytes` bytes with this memory argument (Validation, Memory
+-- Instructions, memarg)
 abbrev pub HasNoAccess : List MemoryType → MemArg → ℕ → Type 0
 HasNoAccess memories at log2_bytes = (wide : Bool) → IsAccess memories at wide → at.align ≤ log2_bytes → ⊥
 

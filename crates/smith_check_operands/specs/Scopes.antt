@@ -1,4 +1,4 @@
--- The context of a body that is checked.
+-- The context in which a body is checked.
 use Rattle.std.specs.Prelude.{[], ℕ, All}
 use Rattle.smith_syntax.specs.FeatureBits.{features_in}
 use Rattle.smith_syntax.specs.declared.composite_type.FuncType.{FuncType}
@@ -33,8 +33,9 @@ bare scope = record {
   results = scope.results.now;
 }
 
--- the parts of a context are valid (Validation, Types), and its types are enabled (own rule). The type of a
--- segment of functions is `(ref func)`, also where the features have no such type: its heap type alone matters
+-- The parts of a context are valid (Validation, Types), and its types are enabled (own rule). A
+-- segment of function indices has the type `(ref func)`, even if non-nullable references are not
+-- enabled; only its heap type matters.
 pub record IsScope (context : BodyContext) : Type 0 where
   pub enabled : All (IsSubTypeEnabled context.features) context.types
   pub types : All (λ (ty : SubType). AreValid context (values_of ty.composite_type.inner)) context.types

@@ -1,4 +1,4 @@
--- Operands and results of instructions that take several types.
+-- Operands and results of instructions with several types.
 use Rattle.std.specs.Prelude.{◌≡◌, Bool, List}
 use Rattle.smith_instr.specs.Contexts.{BodyContext, IsHeapValid, nullable_to}
 use Rattle.smith_check_rules.specs.Slots.{IsBelow}

@@ -22,19 +22,18 @@ top_kind abstract.Exn = abstract.Exn
 top_kind abstract.NoExn = abstract.Exn
 top_kind _ = abstract.Any
 
--- the top of the hierarchy of a heap type (Validation, Matching, Heap Types)
+-- `top` is the top of the hierarchy of a heap type (Validation, Matching, Heap Types)
 abbrev pub IsTop : List SubType → HeapType → HeapType → Type 0
 IsTop types (Abstract s a) top = top ≡ Abstract s (top_kind a)
 IsTop types (Concrete i) top = (t : SubType) × (slice_get types i ≡ Some t) × (top ≡ Abstract (shared t) (top_kind (kind t)))
 IsTop types (Exact i) top = (t : SubType) × (slice_get types i ≡ Some t) × (top ≡ Abstract (shared t) (top_kind (kind t)))
 
--- the nullable reference to the top of the hierarchy of a reference (Validation, Matching, Heap
--- Types)
+-- `widest` is the nullable reference to the top of a reference's hierarchy (Validation, Matching,
+-- Heap Types)
 abbrev pub IsWidest : List SubType → RefType → ValType → Type 0
 IsWidest types reference widest = (top : HeapType) × IsTop types reference.heap_type top × (widest ≡ nullable_to top)
 
--- the heap type of references to functions of a type: an exact one only with custom descriptors
--- (own rule)
+-- a heap type refers to a function type; an exact one requires custom descriptors (own rule)
 abbrev pub IsFunctionHeap : BodyContext → HeapType → Type 0
 IsFunctionHeap context (Abstract s a) = ⊥
 IsFunctionHeap context (Concrete i) = IsFuncTypeIndex context.types i

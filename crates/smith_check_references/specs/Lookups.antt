@@ -1,4 +1,4 @@
--- Types, fields and segments that an index doesn't have.
+-- Indices without a type, field or segment.
 use Rattle.std.specs.Prelude.{◌≡◌, ◌⊎◌, ℕ, true, List}
 use Rattle.smith_instr.specs.AggregateTypes.{IsFieldAt}
 use Rattle.smith_instr.specs.Contexts.{BodyContext}
@@ -14,7 +14,8 @@ HasNoArray types index = (element : FieldType) → IsArrayAt types index element
 abbrev pub HasNoStruct : List SubType → ℕ → Type 0
 HasNoStruct types index = (fields : List FieldType) → IsStructAt types index fields → ⊥
 
--- there is no such field of a struct type (Validation, Aggregate Instructions, struct.get)
+-- the type at `ty` is no struct type with this field (Validation, Aggregate Instructions,
+-- struct.get)
 abbrev pub HasNoField : BodyContext → ℕ → ℕ → Type 0
 HasNoField context ty index = (field : FieldType) → IsFieldAt context ty index field → ⊥
 
@@ -23,7 +24,8 @@ HasNoField context ty index = (field : FieldType) → IsFieldAt context ty index
 abbrev pub HasNoMutableArray : List SubType → ℕ → Type 0
 HasNoMutableArray types index = (element : FieldType) → IsArrayAt types index element → element.mutable ≡ true → ⊥
 
--- there is no such mutable field of a struct type (Validation, Aggregate Instructions, struct.set)
+-- the type at `ty` is no struct type with this field, or the field is not mutable (Validation,
+-- Aggregate Instructions, struct.set)
 abbrev pub HasNoMutableField : BodyContext → ℕ → ℕ → Type 0
 HasNoMutableField context ty index = (field : FieldType) → IsFieldAt context ty index field → field.mutable ≡ true → ⊥
 

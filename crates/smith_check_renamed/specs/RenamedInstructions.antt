@@ -1,7 +1,7 @@
--- Instructions with other indices in place of those of the types that they name. The standard compares
--- types once each index is replaced by the type that it names, so that equal types are one type: the
--- section Validation, Conventions, of the WebAssembly Core Specification 3.0. With the canonical index
--- in place of each index, types are compared by their indices.
+-- Instructions with each type index replaced. The standard replaces each index by its type before
+-- it compares types, so that equal types are one type: the section Validation, Conventions, of the
+-- WebAssembly Core Specification 3.0. With canonical indices, types can be compared by their
+-- indices.
 use Rattle.std.specs.Prelude.{ℕ, Bool, true, false, List, map}
 use Rattle.smith_instr.specs.declared.aggregate.AggregateInstr.{AggregateInstr}
 use Rattle.smith_instr.specs.declared.aggregate.AggregateInstr.TheVariants as aggregate
@@ -14,23 +14,26 @@ use Rattle.smith_instr.specs.declared.reference.ReferenceInstr.{ReferenceInstr}
 use Rattle.smith_instr.specs.declared.reference.ReferenceInstr.TheVariants as reference
 use Rattle.smith_check_types.specs.Renamed.{renamed_heap, renamed_ref, renamed_val}
 
--- the type of a block, and the types of a cast of a branch (Structure, Control Instructions)
+-- a block type with each type index replaced by `name` (Structure, Control Instructions)
 abbrev pub renamed_block : (ℕ → ℕ) → BlockType → BlockType
 renamed_block name block.Empty = block.Empty
 renamed_block name (block.Value value) = block.Value (renamed_val name value)
 renamed_block name (block.Func index) = block.Func (name index)
 
+-- the types of a cast with each type index replaced by `name` (Structure, Control Instructions)
 abbrev pub renamed_cast : (ℕ → ℕ) → BranchCast → BranchCast
 renamed_cast name cast = record cast { from = renamed_ref name cast.from; to = renamed_ref name cast.to }
 
--- a reference instruction (Structure, Reference Instructions)
+-- a reference instruction with each type index replaced by `name` (Structure, Reference
+-- Instructions)
 abbrev pub renamed_reference : (ℕ → ℕ) → ReferenceInstr → ReferenceInstr
 renamed_reference name (reference.Null heap_type) = reference.Null (renamed_heap name heap_type)
 renamed_reference name (reference.Test to) = reference.Test (renamed_ref name to)
 renamed_reference name (reference.Cast to) = reference.Cast (renamed_ref name to)
 renamed_reference name op = op
 
--- an aggregate instruction (Structure, Aggregate Instructions)
+-- an aggregate instruction with each type index replaced by `name` (Structure, Aggregate
+-- Instructions)
 abbrev pub renamed_aggregate : (ℕ → ℕ) → AggregateInstr → AggregateInstr
 renamed_aggregate name (aggregate.StructNew ty) = aggregate.StructNew (name ty)
 renamed_aggregate name (aggregate.StructNewDefault ty) = aggregate.StructNewDefault (name ty)
@@ -49,7 +52,7 @@ renamed_aggregate name (aggregate.ArrayInitData ty segment) = aggregate.ArrayIni
 renamed_aggregate name (aggregate.ArrayInitElem ty segment) = aggregate.ArrayInitElem (name ty) segment
 renamed_aggregate name op = op
 
--- an instruction (Structure, Instructions)
+-- an instruction with each type index replaced by `name` (Structure, Instructions)
 abbrev pub renamed_instr : (ℕ → ℕ) → Instr → Instr
 renamed_instr name (instr.Block ty) = instr.Block (renamed_block name ty)
 renamed_instr name (instr.Loop ty) = instr.Loop (renamed_block name ty)
@@ -66,12 +69,12 @@ renamed_instr name (instr.Reference op) = instr.Reference (renamed_reference nam
 renamed_instr name (instr.Aggregate op) = instr.Aggregate (renamed_aggregate name op)
 renamed_instr name instruction = instruction
 
--- instructions (Structure, Expressions)
+-- the instructions of a body with each type index replaced by `name` (Structure, Expressions)
 abbrev pub renamed_body : (ℕ → ℕ) → List Instr → List Instr
 renamed_body name body = map (renamed_instr name) body
 
--- instructions that are copied apart: on variables and numbers, on memories and vectors, and branches,
--- calls and exceptions (own rules)
+-- three groups of instructions that are copied by functions of their own: on variables and numbers;
+-- on memories and vectors; and branches, calls and exceptions (own rules)
 abbrev pub is_variable : Instr → Bool
 is_variable (instr.LocalGet index) = true
 is_variable (instr.LocalSet index) = true

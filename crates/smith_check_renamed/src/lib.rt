@@ -7,6 +7,8 @@ mod aggregates;
 mod body;
 mod examples;
 mod instructions;
+mod kept;
 mod types;
 
 pub use body::canonical_body;
+pub use kept::is_canonical_body;

@@ -14,8 +14,8 @@ use Rattle.smith_instr.specs.declared.reference.ReferenceInstr.TheVariants as re
 use Rattle.smith_check_rules.specs.StackTypes.{HasStackType}
 use Rattle.smith_check_rules.specs.declared.slot.Slot.{Slot}
 
--- a function without parameters, locals and results, with these labels, in a module without
--- anything else
+-- the context of a function without parameters, locals and results, with these labels, in an
+-- otherwise empty module
 abbrev pub with_two_labels : ValType → ValType → BodyContext
 with_two_labels first second = record {
   features = usual_features;
@@ -52,19 +52,19 @@ some_internal = reference_to (Abstract false abstract.Any)
 abbrev pub shared_internal : ValType
 shared_internal = reference_to (Abstract true abstract.Any)
 
--- the type of what is selected in dead code is that of a number and that of a reference
+-- in dead code, `select` gives a value that is used as a number and as a reference
 abbrev pub selects_any : List Instr
 selects_any = instr.Unreachable ∷ instr.Select ∷ instr.Reference reference.IsNull ∷ instr.Drop ∷ []
 
--- a table of branches whose labels take values of different types
+-- a `br_table` whose labels take different types
 abbrev pub branches_apart : List Instr
 branches_apart = instr.Unreachable ∷ instr.BrTable (0 ∷ []) 1 ∷ []
 
--- a table of branches whose labels take references to different values
+-- a `br_table` whose labels take different reference types
 abbrev pub branches_with_reference : List Instr
 branches_with_reference = instr.Unreachable ∷ instr.Reference reference.AsNonNull ∷ instr.I32Const (pos 0) ∷ instr.BrTable (0 ∷ []) 1 ∷ []
 
--- a table of branches whose labels take an unshared and a shared reference
+-- a `br_table` whose labels take an unshared and a shared reference
 abbrev pub branches_with_conversion : List Instr
 branches_with_conversion =
     instr.Unreachable ∷ instr.Aggregate aggregate.AnyConvertExtern ∷ instr.I32Const (pos 0) ∷ instr.BrTable (0 ∷ []) 1 ∷ []

@@ -22,7 +22,7 @@ TypedSequencesStayTyped =
     → AreValuesTyped context sequence before after
     → AreTyped context sequence (stacked (values before.stack) before.set) (stacked (values after.stack) after.set)
 
--- without shared-everything-threads, a reference that is shared or not matches the valid types that
+-- without shared-everything-threads, a reference of either sharedness matches the valid types that
 -- an unshared one matches
 abbrev pub EitherIsUnshared : Type 0
 EitherIsUnshared =

@@ -13,25 +13,25 @@ use Rattle.smith_check_rules.specs.Slots.{AreBelow, AreSlotsValid, values}
 use Rattle.smith_check_rules.specs.StackTypes.{HasStackType}
 use Rattle.smith_check_rules.specs.declared.slot.Slot.{Slot}
 
--- the types of the values on the stack, the last on top, and the locals that were set (Validation,
+-- the types of the values on the stack, the last on top, and the locals that are set (Validation,
 -- Conventions, Types)
 pub record Stacked : Type 0 where
   pub stack : List Slot
   pub set : List ℕ
 
--- these types and these set locals (Validation, Conventions, Types)
+-- a stack with these types, and these set locals (Validation, Conventions, Types)
 abbrev pub stacked : List Slot → List ℕ → Stacked
 stacked stack set = record { stack = stack; set = set }
 
--- values count as values of these valid types, which they match (Validation, Instruction Sequences,
--- subsumption)
+-- `given` are valid types, and `these` match them (Validation, Instruction Sequences, subsumption)
 pub record CountsAs (context : BodyContext) (these given : List Slot) : Type 0 where
   pub below : AreBelow context.types these given
   pub valid : AreSlotsValid context given
 
--- an instruction with these operands and results applies to a stack with values on top that match
--- the operands; its results count as values of types that they match; the rest of the stack stays,
--- and some locals are set (Validation, Instruction Sequences, frame and subsumption)
+-- An instruction with these operands and results takes the stack `before` to `after`: it pops
+-- values of subtypes of the operands, pushes values of supertypes of the results, and leaves the
+-- rest of the stack. The locals in `set` are set after it (Validation, Instruction Sequences, frame
+-- and subsumption).
 pub record IsFramed (context : BodyContext) (operands results : List Slot) (set : List ℕ) (before after : Stacked) : Type 0 where
   pub rest : List Slot
   pub taken : List Slot
@@ -42,18 +42,19 @@ pub record IsFramed (context : BodyContext) (operands results : List Slot) (set 
   pub over : after.stack ≡ rest ++ given
   pub set_then : after.set ≡ before.set ++ set
 
--- an instruction, blocks aside, takes one stack to another (Validation, Instruction Sequences)
+-- an instruction other than a block takes the stack `before` to `after` (Validation, Instruction
+-- Sequences)
 pub record IsStep (context : BodyContext) (instruction : Instr) (before after : Stacked) : Type 0 where
   pub operands : List Slot
   pub results : List Slot
   pub typed : HasStackType context before.set instruction operands results
   pub framed : IsFramed context operands results (sets instruction) before after
 
--- instructions take one stack to another, from the first to the last. The body of a block has one
--- more label, for a branch to its end, or for a loop to its start; the locals that it sets are not
--- set after it (Validation, Instruction Sequences; Control Instructions, block, loop, if,
--- try_table). An empty sequence leaves the stack, which may count as another. An if without an else
--- is an if whose else is empty
+-- Instructions in order take one stack to another; an empty sequence may give the values supertypes
+-- (Validation, Instruction Sequences). The body of a block, loop, if or try_table has one more
+-- label, which takes the results, or for a loop the parameters. A local that the body sets is not
+-- set after it. An if without an else has an empty else (Validation, Control Instructions, block,
+-- loop, if, try_table).
 pub data AreTyped : BodyContext → List Instr → Stacked → Stacked → Type 0 where
   nothing : {context : BodyContext} {before after : Stacked}
       → CountsAs context before.stack after.stack → after.set ≡ before.set → AreTyped context [] before after
@@ -92,10 +93,9 @@ pub data AreTyped : BodyContext → List Instr → Stacked → Stacked → Type 
       → IsFramed context (values params) (values results) [] before between → AreTyped context more between after
       → AreTyped context all before after
 
--- a body, its last `end` aside, leaves the results of its function and nothing else. At its start
--- only the locals that are always set are set, and its only label is that of the function, to which
--- a branch is a return (Validation, Functions). The types of the context, its locals among them,
--- are not required to be valid here
+-- A body, without its last `end`, takes the empty stack to the results of its function. At its
+-- start no local is set except parameters and locals with a default value, and the only label takes
+-- the results (Validation, Functions). The types in the context need not be valid here.
 pub record IsBodyTyped (context : BodyContext) (body : List Instr) : Type 0 where
   pub set : List ℕ
   pub typed : AreTyped (record context { labels = context.results ∷ [] }) body (stacked [] []) (stacked (values context.results) set)

@@ -1,5 +1,5 @@
--- The types of values on the stack, and which of them are below others: the sections Validation,
--- Types, and Validation, Matching, of the WebAssembly Core Specification 3.0.
+-- The types of values on the stack, and matching of these types: the sections Validation, Types,
+-- and Validation, Matching, of the WebAssembly Core Specification 3.0.
 use Rattle.std.specs.Prelude.{◌≡◌, Bool, false, List, map, All}
 use Rattle.std.specs.List.{AllZip}
 use Rattle.smith_syntax.specs.declared.value_type.AbstractHeapType.{AbstractHeapType}
@@ -14,14 +14,15 @@ use Rattle.smith_instr.specs.Contexts.{BodyContext, IsValid, IsHeapValid}
 use Rattle.smith_check_rules.specs.declared.slot.Slot.{Slot}
 use Rattle.smith_check_rules.specs.declared.slot.Slot.TheVariants.{Bottom, SomeRef, EitherRef, Value}
 
--- a reference type (Structure, Reference Types)
+-- a value type is a reference type (Structure, Reference Types)
 abbrev pub IsReference : ValType → Type 0
 IsReference (Ref reference) = Unit {0}
 IsReference _ = ⊥
 
--- one type matches another: the bottom type every type, and a non-null reference to the bottom heap
--- type every reference type (Validation, Matching, Value Types and Heap Types); a non-null reference
--- that is shared or not matches what a shared or an unshared one matches (own rule)
+-- one type matches another: the bottom type matches every type, and a non-null reference to the
+-- bottom heap type every reference type (Validation, Matching, Value Types and Heap Types); a
+-- non-null reference of either sharedness matches what the shared or the unshared reference matches
+-- (own rule)
 abbrev pub IsBelow : List SubType → Slot → Slot → Type 0
 IsBelow types Bottom _ = Unit {0}
 IsBelow types SomeRef SomeRef = Unit {0}
@@ -34,8 +35,8 @@ IsBelow types (EitherRef a) _ = ⊥
 IsBelow types (Value a) (Value b) = IsValBelow types a b
 IsBelow types (Value a) _ = ⊥
 
--- types, each of which matches the type at its place in `upper` (Validation, Matching, Result
--- Types)
+-- each type matches the type at its position in `upper`, a list of the same length (Validation,
+-- Matching, Result Types)
 abbrev pub AreBelow : List SubType → List Slot → List Slot → Type 0
 AreBelow types lower upper = AllZip (IsBelow types) lower upper
 
@@ -43,19 +44,20 @@ AreBelow types lower upper = AllZip (IsBelow types) lower upper
 abbrev pub values : List ValType → List Slot
 values types = map Value types
 
--- the heap types of references that are converted (Validation, External Reference Instructions)
+-- a heap type is `any` or `extern`, whose references are converted to one another (Validation,
+-- External Reference Instructions)
 abbrev pub IsConvertible : AbstractHeapType → Type 0
 IsConvertible abstract.Any = Unit {0}
 IsConvertible abstract.Extern = Unit {0}
 IsConvertible _ = ⊥
 
--- a valid type: the bottom types are (Validation, Value Types), and that of a reference which is
--- shared or not, if it refers to a valid type of those that conversions leave (own rule)
+-- a type is valid: a valid value type or a bottom type (Validation, Value Types), or a reference of
+-- either sharedness to a valid, convertible heap type (own rule)
 abbrev pub IsSlotValid : BodyContext → Slot → Type 0
 IsSlotValid context (Value value) = IsValid context value
 IsSlotValid context (EitherRef ty) = IsConvertible ty × IsHeapValid context (Abstract false ty)
 IsSlotValid context _ = Unit {0}
 
--- valid types (Validation, Result Types)
+-- each type is valid (Validation, Result Types)
 abbrev pub AreSlotsValid : BodyContext → List Slot → Type 0
 AreSlotsValid context slots = All (IsSlotValid context) slots

@@ -20,7 +20,8 @@ use Rattle.smith_check_rules.specs.Slots.{AreBelow, AreSlotsValid, values}
 use Rattle.smith_check_rules.specs.declared.slot.Slot.{Slot}
 use Rattle.smith_check_rules.specs.declared.slot.Slot.TheVariants as slot
 
--- a number type, a vector type or the bottom type (Validation, Parametric Instructions, select)
+-- a type is a number type, a vector type or the bottom type (Validation, Parametric Instructions,
+-- select)
 abbrev pub IsNumeric : Slot → Type 0
 IsNumeric slot.Bottom = Unit {0}
 IsNumeric slot.SomeRef = ⊥
@@ -28,54 +29,54 @@ IsNumeric (slot.EitherRef ty) = ⊥
 IsNumeric (slot.Value (Ref reference)) = ⊥
 IsNumeric (slot.Value _) = Unit {0}
 
--- operands and results are those of the rule for value types, which names them (Validation,
+-- the rule for value types gives the instruction these operands and results (Validation,
 -- Instruction Types)
 abbrev pub HasValueType : BodyContext → List ℕ → Instr → List Slot → List Slot → Type 0
 HasValueType context set instruction operands results =
     (these : List ValType) × (those : List ValType) × HasInstrType context set instruction these those × (operands ≡ values these)
     × (results ≡ values those)
 
--- an instruction after which control does not continue takes its operands from the top of any
--- others, and leaves any valid types (Validation, Instructions, polymorphic instructions)
+-- a stack-polymorphic instruction: its operands are any types followed by `taken`, and its results
+-- any valid types (Validation, Instructions, polymorphic instructions)
 abbrev pub Leaves : BodyContext → List Slot → List Slot → List Slot → Type 0
 Leaves context operands results taken = (below : List Slot) × (operands ≡ below ++ taken) × AreSlotsValid context results
 
--- a branch to a label may take these (Validation, Control Instructions, br_table)
+-- the label exists, and these types match its operand types (Validation, Control Instructions,
+-- br_table)
 abbrev pub IsTaken : BodyContext → List Slot → ℕ → Type 0
 IsTaken context given label = (taken : List ValType) × IsLabel context label taken × AreBelow context.types given (values taken)
 
--- the bottom types of references, which are not null (Validation, Heap Types; own rule)
+-- a type is a bottom type of references, which are not null (Validation, Heap Types; own rule)
 abbrev pub IsBottomRef : Slot → Type 0
 IsBottomRef slot.SomeRef = Unit {0}
 IsBottomRef (slot.EitherRef ty) = Unit {0}
 IsBottomRef _ = ⊥
 
--- a reference of one type is not null, or is one of the other: the types of references to one heap
--- type, which may be bottom (Validation, Reference Instructions, ref.as_non_null)
+-- `to` is the non-null type of `from`: both are references to one heap type, or the same bottom
+-- type (Validation, Reference Instructions, ref.as_non_null)
 abbrev pub HasNonNull : BodyContext → Slot → Slot → Type 0
 HasNonNull context from to =
     ((heap_type : HeapType) × IsHeapValid context heap_type × (from ≡ slot.Value (nullable_to heap_type))
     × (to ≡ slot.Value (reference_to heap_type)))
     ⊎ (IsBottomRef from × (to ≡ from))
 
--- the type of references to an abstract heap type (Structure, Reference Types)
+-- the type of a reference to an abstract heap type (Structure, Reference Types)
 abbrev pub referring : Bool → Bool → AbstractHeapType → ValType
 referring shared nullable ty = Ref (record { nullable = nullable; heap_type = Abstract shared ty })
 
--- a reference to `outer` becomes one to `inner`, which may be null if it may (Validation, External
--- Reference Instructions), and which is shared if it is, or, like it, shared or not (own rule)
+-- a reference to `outer` becomes a reference to `inner` of the same nullability (Validation,
+-- External Reference Instructions) and the same sharedness, which may be either (own rule)
 abbrev pub IsConverted : AbstractHeapType → AbstractHeapType → Slot → Slot → Type 0
 IsConverted outer inner from to =
     ((shared : Bool) × (nullable : Bool) × (from ≡ slot.Value (referring shared nullable outer))
     × (to ≡ slot.Value (referring shared nullable inner)))
     ⊎ ((from ≡ slot.EitherRef outer) × (to ≡ slot.EitherRef inner))
 
--- an instruction takes operands of the first list of types, the last on top, and leaves results of
--- the second list, if the given locals are set (Validation, Instructions). A rule that names its
--- operands and results has these, also in dead code, where values of the bottom types match them.
--- The other rules are those below: instructions after which control does not continue, those whose
--- operands have any type, or the type of any reference, and conversions, whose operands may be shared
--- or not
+-- An instruction has the type [operands] → [results], with the last operand on top, where the
+-- locals in `set` are set (Validation, Instructions). Most instructions have the types of the rule
+-- for value types; in dead code, the bottom types match their operands. The rules below are for the
+-- others: stack-polymorphic instructions, instructions whose operand has any type or any reference
+-- type, and conversions, whose operand may be shared or not.
 abbrev pub HasStackType : BodyContext → List ℕ → Instr → List Slot → List Slot → Type 0
 HasStackType context set instr.Unreachable operands results = Leaves context operands results []
 HasStackType context set (instr.Throw tag) operands results =

@@ -1,4 +1,4 @@
--- The types of a valid module, as they are kept.
+-- The types of a valid module, as the check keeps them.
 use Rattle.std.specs.Prelude.{◌≡◌, List}
 use Rattle.smith_syntax.specs.Features.{Features}
 use Rattle.smith_syntax.specs.declared.composite_type.SubType.{SubType}
@@ -7,7 +7,8 @@ use Rattle.smith_check_types.specs.Canonical.{AreCanonical}
 use Rattle.smith_check_types.specs.TypeSections.{canonical_groups, IsTypeSectionValid}
 use Rattle.smith_check_types.specs.declared.check.CheckedTypes.{CheckedTypes}
 
--- the types of valid groups: their canonical indices, and the types by these indices
+-- the groups are valid, and `types` has their canonical indices, and the types in terms of these
+-- indices
 pub record AreChecked (features : Features) (groups : List (List SubType)) (types : CheckedTypes) : Type 0 where
   pub valid : IsTypeSectionValid features groups
   pub canonical : AreCanonical groups types.indices

@@ -1,5 +1,5 @@
--- A rolled group as a list of numbers, from which it can be read again: the key under which a group is
--- found. The numbers are rules of this project.
+-- A rolled group as a list of numbers, which determines the group and is its key in a map. The
+-- numbers are rules of this project.
 use Rattle.std.specs.Prelude.{ℕ, Bool, true, false, List, [], ◌∷◌, ◌++◌, length, Option, Some, None}
 use Rattle.std.specs.List.{flat_map}
 use Rattle.smith_syntax.specs.declared.value_type.AbstractHeapType.{AbstractHeapType}

@@ -10,7 +10,7 @@ use Rattle.smith_types.specs.ExampleTypes.{final_type, plain_func, struct, const
 abbrev pub struct_of : ℕ → SubType
 struct_of index = final_type (struct (constant (Val (Ref (nullable (Concrete index)))) ∷ []))
 
--- two groups of a function type
+-- two groups, each of one function type
 abbrev pub two_functions : List (List SubType)
 two_functions = (final_type plain_func ∷ []) ∷ (final_type plain_func ∷ []) ∷ []
 

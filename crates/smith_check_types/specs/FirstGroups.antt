@@ -1,4 +1,4 @@
--- Where groups are first, by the numbers of the rolled groups.
+-- The first of several equal groups, found by the numbers of rolled groups.
 use Rattle.std.specs.Prelude.{ℕ, zero, suc, ◌+◌, List, [], ◌∷◌, Option, length, unwrap_or}
 use Rattle.std.specs.Global.{Vec}
 use Rattle.std.specs.BTreeMap.{BTreeMap, get_by}
@@ -8,7 +8,8 @@ use Rattle.smith_syntax.specs.declared.composite_type.SubType.{SubType}
 use Rattle.smith_check_types.specs.Canonical.{rolled}
 use Rattle.smith_check_types.specs.Codes.{group_codes}
 
--- the numbers of the group after the types with these canonical indices (Rolling and Unrolling)
+-- the numbers of a group that follows the types with these canonical indices (Rolling and
+-- Unrolling)
 abbrev pub codes_after : List ℕ → List SubType → List ℕ
 codes_after indices group = group_codes (rolled indices (length indices) group)
 
@@ -16,12 +17,12 @@ codes_after indices group = group_codes (rolled indices (length indices) group)
 abbrev pub known_start : BTreeMap (Vec ℕ) ℕ → List ℕ → Option ℕ
 known_start starts codes = get_by (λ (key : Vec ℕ). slice_cmp nat_cmp codes key.items) starts
 
--- the start of the first group that is equal to the group after these types: its own, if none is known
--- (own rule)
+-- the start of the first group that is equal to a group after these types, which may be that group
+-- itself (own rule)
 abbrev pub start_among : BTreeMap (Vec ℕ) ℕ → List ℕ → List SubType → ℕ
 start_among starts indices group = unwrap_or (known_start starts (codes_after indices group)) (length indices)
 
--- so many numbers from this one on
+-- `count` consecutive numbers from `start` on
 abbrev pub numbers_from : ℕ → ℕ → List ℕ
 numbers_from start zero = []
 numbers_from start (suc count) = start ∷ numbers_from (start + 1) count

@@ -1,8 +1,8 @@
 -- Whether the types of a module are valid: the sections Validation, Types, Recursive Types, and
--- Validation, Modules, of the WebAssembly Core Specification 3.0. What a type refers to, and in which
--- order types are declared, is judged by the indices of the module; everything else by canonical
--- indices, so that equal types are one type. The conditions on features and sharedness are rules of
--- this project.
+-- Validation, Modules, of the WebAssembly Core Specification 3.0. References between types and the
+-- order of types are checked with the module's own indices. Everything else is checked with
+-- canonical indices, so that equal types are one type. The conditions on features and sharedness
+-- are rules of this project.
 use Rattle.std.specs.Prelude.{◌≡◌, ℕ, ◌+◌, ◌<◌, List, [], ◌∷◌, Some, length, map, slice_get, unwrap_or, All}
 use Rattle.smith_syntax.specs.Features.{Features}
 use Rattle.smith_syntax.specs.declared.composite_type.SubType.{SubType}
@@ -15,43 +15,44 @@ use Rattle.smith_types.specs.ValidTypes.{values_of, AreTypesValid}
 use Rattle.smith_check_types.specs.Renamed.{renamed}
 use Rattle.smith_check_types.specs.Canonical.{AreCanonical}
 
--- the canonical index of a type; an index past all types stays as it is
+-- the canonical index of a type; an index above all types is unchanged
 abbrev pub canonical_index : List ℕ → ℕ → ℕ
 canonical_index indices index = unwrap_or (slice_get indices index) index
 
--- groups whose types refer to one another by canonical indices
+-- groups with canonical indices in place of their own
 abbrev pub canonical_groups : List ℕ → List (List SubType) → List (List SubType)
 canonical_groups indices groups = map (map (renamed (canonical_index indices))) groups
 
--- a heap type and a value type refer to a type before `end`, if to any (Validation, Heap Types)
+-- a heap type refers only to types before `end` (Validation, Heap Types)
 abbrev pub IsHeapInScope : ℕ → HeapType → Type 0
 IsHeapInScope end (Abstract shared ty) = Unit {0}
 IsHeapInScope end (Concrete index) = index < end
 IsHeapInScope end (Exact index) = index < end
 
+-- a value type refers only to types before `end` (Validation, Value Types)
 abbrev pub IsInScope : ℕ → ValType → Type 0
 IsInScope end (Ref reference) = IsHeapInScope end reference.heap_type
 IsInScope end _ = Unit {0}
 
--- the type `index` of a group that ends at `end` refers to types before that end, and declares a
--- supertype before itself, if any (Validation, Recursive Types)
+-- a type with this index, in a group that ends at `end`, refers only to types before `end`, and its
+-- declared supertype, if any, precedes it (Validation, Recursive Types)
 pub record IsTypeInScope (end index : ℕ) (t : SubType) : Type 0 where
   pub values : All (IsInScope end) (values_of t.composite_type.inner)
   pub before : (supertype : ℕ) → t.supertype ≡ Some supertype → supertype < index
 
--- the types of a group from `index` on (Validation, Recursive Types)
+-- each type of a group from `index` on is in scope (Validation, Recursive Types)
 abbrev pub AreMembersInScope : ℕ → ℕ → List SubType → Type 0
 AreMembersInScope end index [] = Unit {0}
 AreMembersInScope end index (t ∷ types) = IsTypeInScope end index t × AreMembersInScope end (index + 1) types
 
--- groups, the first of which starts at `start` (Validation, Modules)
+-- each type of the groups, the first of which starts at `start`, is in scope (Validation, Modules)
 abbrev pub AreGroupsInScope : ℕ → List (List SubType) → Type 0
 AreGroupsInScope start [] = Unit {0}
 AreGroupsInScope start (group ∷ groups) = AreMembersInScope (start + length group) start group × AreGroupsInScope (start + length group)
     groups
 
--- a valid type section: what it refers to is in scope, and its types are valid by their canonical
--- indices: enabled, each below a supertype that is not final, and in matching it (Validation, Modules)
+-- a type section is valid: its types are in scope, and by canonical indices they are valid
+-- (Validation, Modules)
 pub record IsTypeSectionValid (features : Features) (groups : List (List SubType)) : Type 0 where
   pub scope : AreGroupsInScope 0 groups
   pub indices : List ℕ

@@ -95,7 +95,7 @@ instruction_kinds_at config bytes = in_turn (
     coin (λ config b. record config { allowed_instructions = with_kind config.allowed_instructions b Aggregate }) ∷
     []) config bytes
 
--- the further rules
+-- the other rules
 unfoldable pub rules_at : Config → List ℕ → Config × List ℕ
 rules_at config bytes = in_turn (
     coin (λ config b. record config { table_max_size_required = b }) ∷
@@ -107,8 +107,8 @@ rules_at config bytes = in_turn (
     coin (λ config b. record config { limit_arrays_in_const_exprs = b }) ∷
     []) config bytes
 
--- the fields that are not drawn: minimums are 0, and proposals with little support in engines are
--- off
+-- the default of the fields that are not drawn: minimums are 0, and proposals with little support
+-- in engines are disabled
 abbrev pub undrawn_config : Config
 undrawn_config = record default_config {
   max_components = 0;
@@ -119,7 +119,7 @@ undrawn_config = record default_config {
   wide_arithmetic_enabled = false;
 }
 
--- the configuration drawn from bytes, and the remaining bytes
+-- the configuration drawn from bytes, and the bytes left
 unfoldable pub config_at : List ℕ → Config × List ℕ
 config_at bytes =
     let drawn = in_turn (maximums_at ∷ sizes_at ∷ proposals_at ∷ instruction_kinds_at ∷ rules_at ∷ []) undrawn_config bytes in

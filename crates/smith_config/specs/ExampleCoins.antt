@@ -10,17 +10,17 @@ changing_bytes =
     0 ∷ 21 ∷ 0 ∷ 22 ∷ 0 ∷ 23 ∷ 0 ∷ 24 ∷ 0 ∷ 25 ∷ 0 ∷ 26 ∷ 0 ∷ 27 ∷ 0 ∷ 28 ∷ 0 ∷ 29 ∷ 0 ∷ 30 ∷
     -- memories, tables, bytes, lengths of numbers
     31 ∷ 32 ∷ 0 ∷ 0 ∷ 0 ∷ 0 ∷ 33 ∷ 0 ∷ 0 ∷ 0 ∷ 0 ∷ 0 ∷ 0 ∷ 0 ∷ 0 ∷ 34 ∷ 5 ∷
-    -- of the first four proposals, reference types and multi-value; aliases, depth
+    -- reference types and multi-value, the second and the fourth proposal; aliases, depth
     0 ∷ 1 ∷ 0 ∷ 1 ∷ 0 ∷ 35 ∷ 6 ∷
-    -- the first, third, fifth, seventh and ninth of the other nine proposals, of which the third
-    -- requires SIMD
+    -- the first, third, fifth, seventh and ninth of the other nine proposals; the third requires
+    -- SIMD
     1 ∷ 0 ∷ 1 ∷ 0 ∷ 1 ∷ 0 ∷ 1 ∷ 0 ∷ 1 ∷
     -- numeric, vector, parametric, table, memory and aggregate instructions
     0 ∷ 1 ∷ 0 ∷ 1 ∷ 0 ∷ 1 ∷ 0 ∷ 1 ∷ 0 ∷ 1 ∷ 0 ∷ 1 ∷
     -- rules
     0 ∷ 0 ∷ 0 ∷ 36 ∷ 1 ∷ 0 ∷ 1 ∷ 37 ∷ 0 ∷ []
 
--- the numbers drawn from them
+-- the configuration with the numbers drawn from these bytes
 abbrev counted_config : Config
 counted_config = record least_config {
   max_types = 21;
@@ -43,7 +43,7 @@ counted_config = record least_config {
   const_expr_fuel = 37;
 }
 
--- the configuration drawn from them
+-- the configuration drawn from these bytes
 abbrev pub changing_config : Config
 changing_config = record counted_config {
   max_tables = 32;
@@ -68,7 +68,7 @@ turned_bytes =
     1 ∷ 0 ∷ 1 ∷ 0 ∷ 1 ∷ 0 ∷ 1 ∷ 0 ∷ 1 ∷ 0 ∷ 1 ∷ 0 ∷
     1 ∷ 0 ∷ 0 ∷ 36 ∷ 0 ∷ 1 ∷ 0 ∷ 37 ∷ 1 ∷ []
 
--- the configuration drawn from these
+-- the configuration drawn from the inverted bytes
 abbrev pub turned_config : Config
 turned_config = record counted_config {
   max_tables = 1;

@@ -4,7 +4,7 @@ use Rattle.smith_syntax.specs.Instructions.{no_kind}
 use Rattle.smith_config.specs.Config.{default_config}
 use Rattle.smith_config.specs.declared.config.Config.{Config}
 
--- everything that is drawn is zero or off
+-- each field that is drawn is 0 or false
 abbrev pub least_config : Config
 least_config = record default_config {
   max_types = 0;
@@ -49,7 +49,7 @@ least_config = record default_config {
   max_values = 0;
 }
 
--- bytes for every draw, most of which yield distinct numbers, and two more bytes
+-- bytes for all draws, which give mostly distinct numbers, and two more bytes
 abbrev pub counting_bytes : List ℕ
 counting_bytes =
     -- counts
@@ -67,7 +67,7 @@ counting_bytes =
     -- remaining bytes
     98 ∷ 99 ∷ []
 
--- the configuration drawn from them
+-- the configuration drawn from these bytes
 abbrev pub counting_config : Config
 counting_config = record least_config {
   max_types = 1;

@@ -57,7 +57,7 @@ giving_two = Func (record { params = []; results = I32 ∷ I32 ∷ [] })
 abbrev pub field_of : ℕ → FieldType
 field_of index = variable (Val (Ref (nullable (Concrete index))))
 
--- a struct of one such field
+-- a struct with one such field
 abbrev pub struct_of : ℕ → CompositeInnerType
 struct_of index = Struct (record { fields = field_of index ∷ [] })
 
@@ -65,7 +65,7 @@ struct_of index = Struct (record { fields = field_of index ∷ [] })
 abbrev pub array_and_struct : List (List SubType)
 array_and_struct = alone bytes_array ∷ alone (struct_of 0) ∷ []
 
--- a struct of a number of bytes
+-- a struct with `count` byte fields
 abbrev pub struct_of_bytes : ℕ → CompositeInnerType
 struct_of_bytes count = Struct (record { fields = replicate count (constant I8) })
 
@@ -93,11 +93,11 @@ taking param = Func (record { params = param ∷ []; results = [] })
 abbrev pub array_and_struct_together : List (List SubType)
 array_and_struct_together = (final bytes_array ∷ final (struct_of 0) ∷ []) ∷ []
 
--- a struct of one constant non-nullable reference to this heap type
+-- a struct with one constant field, a non-nullable reference to this heap type
 abbrev pub struct_with : HeapType → CompositeInnerType
 struct_with ty = Struct (record { fields = constant (Val (Ref (not_null ty))) ∷ [] })
 
--- a struct without fields, and in a group of its own a struct of a non-nullable reference to it
+-- a struct without fields, and in a group of its own a struct with a non-nullable reference to it
 abbrev pub struct_and_holder : List (List SubType)
 struct_and_holder = alone (struct_of_bytes 0) ∷ alone (struct_with (Concrete 0)) ∷ []
 
@@ -145,7 +145,7 @@ nothing_may_be = record default_config {
   max_tables = 0;
 }
 
--- bytes that spell one function, of a type without parameters and results
+-- bytes that spell one function without parameters and results
 abbrev pub function_bytes : List ℕ
 function_bytes = 1 ∷ 1 ∷ 1 ∷ 1 ∷ 0 ∷ 0 ∷ 0 ∷ 0 ∷ 0 ∷ 0 ∷ 1 ∷ 0 ∷ []
 
@@ -157,11 +157,11 @@ full_bytes = 1 ∷ 1 ∷ 0 ∷ 0 ∷ 0 ∷ 0 ∷ 0 ∷ 0 ∷ 1 ∷ []
 abbrev pub array_and_struct_bytes : List ℕ
 array_and_struct_bytes = 1 ∷ 1 ∷ 1 ∷ 0 ∷ 0 ∷ 0 ∷ 1 ∷ 1 ∷ 1 ∷ 1 ∷ 2 ∷ 1 ∷ 2 ∷ 5 ∷ 1 ∷ 0 ∷ 1 ∷ 0 ∷ 0 ∷ 0 ∷ []
 
--- a struct without fields and, in a group of its own, a struct of a non-nullable reference to it
+-- a struct without fields and, in a group of its own, a struct with a non-nullable reference to it
 abbrev pub struct_and_holder_bytes : List ℕ
 struct_and_holder_bytes = 1 ∷ 1 ∷ 1 ∷ 2 ∷ 0 ∷ 1 ∷ 1 ∷ 1 ∷ 1 ∷ 2 ∷ 1 ∷ 2 ∷ 5 ∷ 1 ∷ 0 ∷ 1 ∷ 0 ∷ 0 ∷ 0 ∷ 0 ∷ []
 
--- after no types, a global of the number 7
+-- after no types, a global with the number 7
 abbrev pub number_bytes : List ℕ
 number_bytes = 0 ∷ 0 ∷ 1 ∷ 0 ∷ 1 ∷ 0 ∷ 7 ∷ 0 ∷ 0 ∷ 0 ∷ 0 ∷ 0 ∷ 0 ∷ 0 ∷ 0 ∷ []
 
@@ -169,13 +169,13 @@ number_bytes = 0 ∷ 0 ∷ 1 ∷ 0 ∷ 1 ∷ 0 ∷ 7 ∷ 0 ∷ 0 ∷ 0 ∷ 0 ∷
 abbrev pub data_bytes : List ℕ
 data_bytes = 0 ∷ 0 ∷ 0 ∷ 0 ∷ 0 ∷ 0 ∷ 1 ∷ 1 ∷ 42 ∷ 0 ∷ 0 ∷ []
 
--- bytes with another byte at this place
+-- the bytes with another byte at `place`
 abbrev pub with_byte : ℕ → ℕ → List ℕ → List ℕ
 with_byte place other [] = []
 with_byte zero other (byte ∷ bytes) = other ∷ bytes
 with_byte (suc place) other (byte ∷ bytes) = byte ∷ with_byte place other bytes
 
--- after each of these changes, of the byte at a place to another, the bytes no longer spell this
+-- each of these changes of one byte gives bytes that `Spells` rejects
 abbrev pub EachChangeCounts : (List ℕ → Type 0) → List ℕ → List (ℕ × ℕ) → Type 0
 EachChangeCounts Spells bytes [] = Unit {0}
 EachChangeCounts Spells bytes (change ∷ changes) = (¬ Spells (with_byte change.0 change.1 bytes)) × EachChangeCounts Spells bytes changes

@@ -15,7 +15,7 @@ use Rattle.smith_types.specs.Flags.{funcref}
 use Rattle.smith_types.specs.ExampleEntities.{memory, table, constant_global}
 use Rattle.smith_config.specs.declared.shape.Shape.{Shape}
 
--- nothing is required
+-- a shape without items
 abbrev pub empty_shape : Shape
 empty_shape = record { groups = []; imports = []; funcs = []; tags = []; tables = []; memories = []; globals = []; exports = [] }
 
@@ -72,12 +72,12 @@ one_of_each_kind = record {
       [];
 }
 
--- the type before this index
+-- the index before this one, if any
 abbrev pub before : ℕ → Option ℕ
 before zero = None
 before (suc index) = Some index
 
--- a number of struct types, each declared as a subtype of the one before
+-- `count` struct types, each declared as a subtype of the type before it
 abbrev pub chain : ℕ → List SubType
 chain zero = []
 chain (suc count) = chain count ++ open_type (before count) empty_struct ∷ []

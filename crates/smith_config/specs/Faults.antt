@@ -52,37 +52,37 @@ maximum_of config DataSegments = config.max_data_segments
 maximum_of config Memories = config.max_memories
 maximum_of config Tables = config.max_tables
 
--- the bounds of a count are in effect: not for imports if a shape fixes them, and not for exports
--- if a shape fixes them or everything is exported
+-- the bounds of a count apply; the bounds of imports do not if a shape fixes the imports, and those
+-- of exports do not if a shape fixes the exports or everything is exported
 abbrev pub BoundsApply : Config → Count → Type 0
 BoundsApply config Imports = FixesImports config → ⊥
 BoundsApply config Exports = (FixesExports config → ⊥) × (config.export_everything ≡ false)
 BoundsApply config count = ⊤
 
--- a configuration for which a module can be drawn
+-- a configuration passes its check, so that a module can be drawn for it
 pub record Passes (config : Config) : Type 0 where
   pub ordered : (count : Count) → BoundsApply config count → minimum_of config count ≤ maximum_of config count
   pub few : (count : Count) → maximum_of config count ≤ 2 ^ 31
   pub memory32 : config.max_memory32_bytes ≤ 2 ^ 32
   pub memory64 : config.max_memory64_bytes ≤ 2 ^ 64
 
--- the meaning of each fault
+-- the condition of each fault of a configuration
 abbrev pub HasFault : Config → ConfigFault → Type 0
 HasFault config (MinAboveMax count) = BoundsApply config count × (maximum_of config count < minimum_of config count)
 HasFault config (MaxTooLarge count) = 2 ^ 31 < maximum_of config count
 HasFault config Memory32Bytes = 2 ^ 32 < config.max_memory32_bytes
 HasFault config Memory64Bytes = 2 ^ 64 < config.max_memory64_bytes
 
--- the counts, in order
+-- the counts of a configuration, in the order of the check
 abbrev pub counts : List Count
 counts =
     Types ∷ Imports ∷ Tags ∷ Funcs ∷ Globals ∷ Exports ∷ ElementSegments ∷ Elements ∷ DataSegments ∷ Memories ∷ Tables ∷ []
 
--- the faults, in order
+-- the faults of a configuration, in the order of the check
 abbrev pub faults : List ConfigFault
 faults = map MinAboveMax counts ++ map MaxTooLarge counts ++ Memory32Bytes ∷ Memory64Bytes ∷ []
 
--- the configuration has this fault, and none of those before it
+-- the fault is the first that the configuration has
 pub record IsFirstFault (config : Config) (fault : ConfigFault) : Type 0 where
   pub before : List ConfigFault
   pub after : List ConfigFault

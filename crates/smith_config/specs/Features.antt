@@ -4,9 +4,9 @@ use Rattle.smith_syntax.specs.Features.{Features}
 use Rattle.smith_syntax.specs.FeatureBits.{feature_rows}
 use Rattle.smith_config.specs.declared.config.Config.{Config}
 
--- mutable globals and the first version of the standard always; multi-memory if several memories
--- are permitted; function references with garbage collection; each other feature according to its
--- field
+-- the features that a configuration enables: always mutable globals and version 1.0 of the
+-- standard; multi-memory if it allows several memories; function references if garbage collection
+-- is enabled; each other feature if its field is true
 abbrev pub features_of : Config → Features
 features_of config = record {
   mutable_global = true;

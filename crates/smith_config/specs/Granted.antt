@@ -1,4 +1,4 @@
--- Types whose non-nullable references are grounded. Rules of this project.
+-- Granted value types: their non-nullable references are grounded. Rules of this project.
 use Rattle.std.specs.Prelude.{All, ◌≡◌, false, IsTrue}
 use Rattle.smith_types.specs.Expressions.{Context}
 use Rattle.smith_types.specs.ValidTypes.{values_of}
@@ -11,39 +11,38 @@ use Rattle.smith_syntax.specs.declared.entity_type.TableType.{TableType}
 use Rattle.smith_syntax.specs.declared.segments.ElementSegment.{ElementSegment}
 use Rattle.smith_config.specs.declared.config.Config.{Config}
 
--- a non-nullable reference
+-- a value type is a non-nullable reference
 abbrev pub IsNonNullable : ValType → Type 0
 IsNonNullable (Ref reference) = reference.nullable ≡ false
 IsNonNullable _ = ⊥
 
--- a non-nullable reference, unless `non_nullable_enabled` is on and it is grounded
+-- a value type is a non-nullable reference that is not grounded, or `non_nullable_enabled` is off
 abbrev pub IsUngrounded : Config → Context → ValType → Type 0
 IsUngrounded config context (Ref reference) = (reference.nullable ≡ false) × (IsTrue config.non_nullable_enabled
     → ¬ IsGrounded context reference.heap_type)
 IsUngrounded config context _ = ⊥
 
--- a value type that is not a non-nullable reference, or is a grounded one with
--- `non_nullable_enabled` on
+-- a value type is granted: it is no non-nullable reference, or it is grounded and
+-- `non_nullable_enabled` is on
 abbrev pub IsGranted : Config → Context → ValType → Type 0
 IsGranted config context value = ¬ IsUngrounded config context value
 
--- a type whose parameters, results and fields are such value types
+-- the parameters, results and fields of a type are granted
 abbrev pub HasGranted : Config → Context → SubType → Type 0
 HasGranted config context t = All (IsGranted config context) (values_of t.composite_type.inner)
 
--- all types of a context are such types
+-- the types of a context have only granted parameters, results and fields
 abbrev pub AreTypesGranted : Config → Context → Type 0
 AreTypesGranted config context = All (HasGranted config context) context.types
 
--- the elements of a table are nullable, or `non_nullable_enabled` is on and they are grounded
+-- the element type of a table is granted
 abbrev pub HasGroundedElements : Config → Context → TableType → Type 0
 HasGroundedElements config context table = ¬ IsUngrounded config context (Ref table.element_type)
 
--- the value of a global is no reference, a nullable one, or one that is grounded if
--- `non_nullable_enabled` is on
+-- the value type of a global is granted
 abbrev pub HasGroundedValue : Config → Context → GlobalType → Type 0
 HasGroundedValue config context global = ¬ IsUngrounded config context global.val_type
 
--- the items of a segment are nullable, or `non_nullable_enabled` is on and they are grounded
+-- the type of a segment is granted
 abbrev pub HasGroundedItems : Config → Context → ElementSegment → Type 0
 HasGroundedItems config context segment = ¬ IsUngrounded config context (Ref segment.ty)

@@ -1,9 +1,9 @@
--- The shapes in effect in a configuration, and the parts that they fix. Rules of this project.
+-- The shapes in use in a configuration, and the parts that they fix. Rules of this project.
 use Rattle.std.specs.Prelude.{◌≡◌, ◌⊎◌, None, IsSome}
 use Rattle.smith_config.specs.declared.config.Config.{Config}
 use Rattle.smith_config.specs.Shapes.{Shapes, in_use}
 
--- the shapes in effect: a module shape replaces the others
+-- the shapes in use: a module shape replaces the others
 abbrev pub shapes_of : Config → Shapes
 shapes_of config = in_use (record {
   available_imports = config.available_imports;
@@ -17,9 +17,10 @@ pub record HasNoShapes (config : Config) : Type 0 where
   pub exports : config.exports ≡ None
   pub module_shape : config.module_shape ≡ None
 
--- a shape fixes the imports, or the exports
+-- a shape fixes the imports
 abbrev pub FixesImports : Config → Type 0
 FixesImports config = IsSome config.available_imports ⊎ IsSome config.module_shape
 
+-- a shape fixes the exports
 abbrev pub FixesExports : Config → Type 0
 FixesExports config = IsSome config.exports ⊎ IsSome config.module_shape

@@ -6,7 +6,7 @@ use Rattle.smith_config.specs.declared.shape.Shape.{Shape}
 use Rattle.smith_config.specs.Shapes.{IsShapeValid}
 use Rattle.smith_config.specs.ShapeFaults.{HasShapeFault}
 
--- a valid shape has no fault, and a shape without a fault is not invalid
+-- a shape is valid exactly if it has no fault
 pub record ShapesAreValidOrFaulty : Type 0 where
   pub faultless : (which : Which) (config : Config) (shape : Shape) → IsShapeValid which config shape → (fault : ShapeFault)
       → ¬ HasShapeFault which config shape fault

@@ -7,7 +7,7 @@ use Rattle.smith_config.specs.declared.offset_choices.MemoryOffsetChoices.{Memor
 use Rattle.smith_config.specs.declared.offset_choices.OffsetChoicesFault.{OffsetChoicesFault}
 use Rattle.smith_config.specs.declared.offset_choices.OffsetChoicesFault.TheVariants.{NeedThree, Number, TooMany, AllZero}
 
--- 90 of 100 offsets are below the minimum size, 9 up to the maximum size, and 1 past it
+-- of 100 offsets, 90 are below the minimum size, 9 are up to the maximum size, and 1 is above it
 abbrev pub default_choices : MemoryOffsetChoices
 default_choices = record { 0 = 90; 1 = 9; 2 = 1 }
 
@@ -19,11 +19,11 @@ zero_choices = record { 0 = 0; 1 = 0; 2 = 0 }
 abbrev pub IsNumber : List ℕ → ℕ → Type 0
 IsNumber text number = ParsesUnsigned {E = Unit {0}} 32 10 text (Ok number)
 
--- each of the texts is a number
+-- each text is a number
 abbrev pub AllNumbers : List (List ℕ) → Type 0
 AllNumbers texts = (numbers : List ℕ) × AllZip IsNumber texts numbers
 
--- the part at this position is not a number, and each part before it is one
+-- the part at `place`, one of the first three, is the first that is not a number
 pub record IsFirstWrong (parts : List (List ℕ)) (place : ℕ) : Type 0 where
   pub early : place < 3
   pub text : List ℕ
@@ -31,7 +31,7 @@ pub record IsFirstWrong (parts : List (List ℕ)) (place : ℕ) : Type 0 where
   pub wrong : (number : ℕ) → ¬ IsNumber text number
   pub before : AllNumbers (take place parts)
 
--- the result of parsing: three numbers, not all zero, or the first fault from the left
+-- the result of parsing: three numbers that are not all zero, or the first fault from the left
 abbrev pub AreReadChoices : List ℕ → Result MemoryOffsetChoices OffsetChoicesFault → Type 0
 AreReadChoices text (Ok choices) =
     AllZip IsNumber (split_at_commas text) (choices.0 ∷ choices.1 ∷ choices.2 ∷ []) × (choices ≢ zero_choices)

@@ -2,8 +2,8 @@
 use Rattle.std.specs.Prelude.{◌≡◌, ◌≤◌, ◌⊎◌, false, ◌&&◌, IsTrue, IsSome, None, is_some, min, if◌then◌else◌}
 use Rattle.smith_config.specs.declared.config.Config.{Config}
 
--- each field that requires others is on only if these are; without reference types there is at most
--- one table; a module shape replaces the other shapes
+-- a configuration in which a field that requires another is on only if that is on, there is at most
+-- one table without reference types, and a module shape replaces the other shapes
 abbrev pub sanitized : Config → Config
 sanitized config =
     let gc = config.reference_types_enabled && config.gc_enabled in
@@ -20,7 +20,7 @@ sanitized config =
       exports = if is_some config.module_shape then None else config.exports;
     }
 
--- no field is on that requires a field that is off; several tables require reference types; a
+-- no field that is on requires a field that is off, several tables require reference types, and a
 -- module shape excludes the other shapes
 pub record IsSanitized (config : Config) : Type 0 where
   pub one_table : config.reference_types_enabled ≡ false → config.max_tables ≤ 1
@@ -35,8 +35,7 @@ pub record IsSanitized (config : Config) : Type 0 where
   pub imports : IsSome config.module_shape → config.available_imports ≡ None
   pub exports : IsSome config.module_shape → config.exports ≡ None
 
--- in new, each of these ten fields of old is turned off, lowered, cleared or unchanged; none is
--- turned on, raised or set
+-- `new` is `old` with each of these ten fields turned off, lowered, cleared or unchanged
 pub record IsLowered (old new : Config) : Type 0 where
   pub tables : new.max_tables ≤ old.max_tables
   pub gc : IsTrue new.gc_enabled → IsTrue old.gc_enabled

@@ -1,5 +1,5 @@
--- Shapes that a module may be required to have. The conditions on the module are those of the
--- standard, by the definitions of validity; which shapes are accepted is a rule of this project.
+-- Shapes that a module may be required to have. A shape is valid by the definitions of the
+-- standard; which shapes are accepted is a rule of this project.
 use Rattle.std.specs.Prelude.{◌≡◌, ℕ, ◌≤◌, ◌^◌, false, IsTrue, List, ◌++◌, Option, None, is_some, length, All, if◌then◌else◌}
 use Rattle.smith_bytes.specs.declared.error.Which.{Which}
 use Rattle.smith_bytes.specs.declared.error.Which.TheVariants.{AvailableImports, Exports, ModuleShape}
@@ -37,8 +37,8 @@ pub record Shapes : Type 0 where
 abbrev pub no_shapes : Shapes
 no_shapes = record { available_imports = None; exports = None; module_shape = None }
 
--- the shapes in effect: a module shape replaces the others. The definitions of modules refer to
--- these, or to fields that are equal to these in a sanitised configuration
+-- The shapes in use: a module shape replaces the others. The definitions of modules refer to these
+-- shapes, or to fields that equal them in a sanitised configuration.
 abbrev pub in_use : Shapes → Shapes
 in_use shapes = if is_some shapes.module_shape then record no_shapes { module_shape = shapes.module_shape } else shapes
 
@@ -46,7 +46,7 @@ in_use shapes = if is_some shapes.module_shape then record no_shapes { module_sh
 abbrev pub shape_types : Shape → List SubType
 shape_types shape = (space_of shape.groups).types
 
--- the imports of a shape, one by one; empty groups have none
+-- the imports of a shape, one by one
 abbrev pub shape_imports : Shape → List Import
 shape_imports shape = flattened shape.imports
 
@@ -66,13 +66,13 @@ shape_spaces shape =
 abbrev pub most_listed : ℕ
 most_listed = 2 ^ 29
 
--- the lists of a composite type are short enough
+-- no list of a composite type is too long
 abbrev pub IsInnerShort : CompositeInnerType → Type 0
 IsInnerShort (Array array) = Unit {0}
 IsInnerShort (Func function) = (length function.params ≤ most_listed) × (length function.results ≤ most_listed)
 IsInnerShort (Struct structure) = length structure.fields ≤ most_listed
 
--- no list is too long, and neither are the types or the imports of all groups together
+-- no list of a shape is too long, and neither are the types and the imports of all groups together
 pub record IsShort (shape : Shape) : Type 0 where
   pub groups : length shape.groups ≤ most_listed
   pub types : length (shape_types shape) ≤ most_listed
@@ -86,81 +86,82 @@ pub record IsShort (shape : Shape) : Type 0 where
   pub globals : length shape.globals ≤ most_listed
   pub exports : length shape.exports ≤ most_listed
 
--- no type is more than 62 steps below its topmost supertype
+-- the path from a type along its declared supertypes has at most 62 steps
 pub record IsShallow (types : List SubType) : Type 0 where
   pub each : (index depth : ℕ) → HasDepth types index depth → depth ≤ 63
 
--- the value types in a shape: those of its types, tables and globals
+-- the value types in the types, tables and globals of a shape
 abbrev pub shape_values : Shape → List ValType
 shape_values shape = values_in (shape_types shape) (shape_spaces shape)
 
--- a heap type that may occur in a shape: neither exact nor shared
+-- a heap type may occur in a shape: it is neither exact nor shared
 abbrev pub IsHeapTypeIncluded : HeapType → Type 0
 IsHeapTypeIncluded (Abstract shared ty) = shared ≡ false
 IsHeapTypeIncluded (Concrete index) = Unit {0}
 IsHeapTypeIncluded (Exact index) = ⊥
 
--- a value type that may occur in a shape
+-- a value type may occur in a shape
 abbrev pub IsValTypeIncluded : ValType → Type 0
 IsValTypeIncluded (Ref reference) = IsHeapTypeIncluded reference.heap_type
 IsValTypeIncluded _ = Unit {0}
 
--- nothing in the types and index spaces is shared except memories, and no reference is exact
+-- no type, table or global is shared, and no reference is shared or exact
 pub record IsNothingLeftOut (listed : List SubType) (spaces : EntitySpaces) : Type 0 where
   pub types : All (λ (t : SubType). t.composite_type.shared ≡ false) listed
   pub values : All IsValTypeIncluded (values_in listed spaces)
   pub tables : All (λ (table : TableType). table.shared ≡ false) spaces.tables
   pub globals : All (λ (global : GlobalType). global.shared ≡ false) spaces.globals
 
--- as above, for the types and index spaces of a shape
+-- no type, table or global of a shape is shared, and no reference is shared or exact
 abbrev pub HasNothingLeftOut : Shape → Type 0
 HasNothingLeftOut shape = IsNothingLeftOut (shape_types shape) (shape_spaces shape)
 
--- a type that may occur in a shape for exports: a final function type without a supertype
+-- a type may occur in a shape for exports: it is a final function type without a supertype
 pub record IsTypePlain (t : SubType) : Type 0 where
   pub final : IsTrue t.is_final
   pub root : t.supertype ≡ None
   pub function : kind t ≡ heap.Func
 
--- not a concrete heap type; exact types are excluded by another condition
+-- a heap type is not concrete; another condition excludes exact types
 abbrev pub IsNotConcrete : HeapType → Type 0
 IsNotConcrete (Abstract shared ty) = Unit {0}
 IsNotConcrete (Concrete index) = ⊥
 IsNotConcrete (Exact index) = Unit {0}
 
--- not a concrete reference
+-- a value type is not a reference to a concrete type
 abbrev pub HasNoConcrete : ValType → Type 0
 HasNoConcrete (Ref reference) = IsNotConcrete reference.heap_type
 HasNoConcrete _ = Unit {0}
 
--- only plain types, and no concrete references
+-- all types are plain, and no reference is to a concrete type
 pub record ArePlain (listed : List SubType) (spaces : EntitySpaces) : Type 0 where
   pub types : All IsTypePlain listed
   pub values : All HasNoConcrete (values_in listed spaces)
 
--- a shape that is accepted for exports: its types are plain
+-- the types and references of a shape are plain, as a shape for exports requires
 abbrev pub IsPlain : Shape → Type 0
 IsPlain shape = ArePlain (shape_types shape) (shape_spaces shape)
 
--- the items of a shape are consistent with one another and with the features
+-- the items of a shape are valid under the features, and types are not too deep
 pub record IsConsistent (features : Features) (shape : Shape) : Type 0 where
   pub types : AreTypesValid features (space_of shape.groups)
   pub shallow : IsShallow (shape_types shape)
   pub entities : AreEntitiesValid features (shape_types shape) (shape_spaces shape)
   pub exports : AreExportsValid (shape_spaces shape) shape.exports
 
--- tags, and several tables or memories, have their features; available imports are exempt, since
--- some of them may not be imported
+-- tags, a second table and a second memory have their features; available imports are exempt,
+-- because a module may leave some of them out
 abbrev pub AreCountsFor : Which → Features → EntitySpaces → Type 0
 AreCountsFor AvailableImports features spaces = Unit {0}
 AreCountsFor Exports features spaces = AreCountsEnabled features spaces
 AreCountsFor ModuleShape features spaces = AreCountsEnabled features spaces
 
--- as above, for the index spaces of a shape
+-- tags, a second table and a second memory of a shape have their features, except in available
+-- imports
 abbrev pub AreCountsFit : Which → Features → Shape → Type 0
 AreCountsFit which features shape = AreCountsFor which features (shape_spaces shape)
 
--- a shape that is accepted for this use in this configuration
+-- a shape is accepted for this use in this configuration
 pub record IsShapeValid (which : Which) (config : Config) (shape : Shape) : Type 0 where
   pub short : IsShort shape
   pub nothing_left_out : HasNothingLeftOut shape

@@ -13,7 +13,7 @@ impl CloneIn for Shape {
     }
 }
 
-// Makes the parts of `copy` copies of those of `shape`.
+// Copies the parts of `shape` into `copy`.
 fn copy_parts(shape: &Shape, alloc: Global, copy: &mut Shape) -> Result<(), Error>
     ensures ok { OnOk result (copy.new ≡ shape.now) }
     ensures memory { IfErr result (λ e. e ≡ Error.Memory) }
@@ -70,7 +70,7 @@ impl Config {
     }
 }
 
-// Makes the shapes of `copy` copies of those of `config`.
+// Copies the shapes of `config` into `copy`.
 fn copy_shapes(config: &Config, alloc: Global, copy: &mut Config) -> Result<(), Error>
     ensures ok { OnOk result (copy.new ≡ record copy.old {
       available_imports = config.now.available_imports;
@@ -88,7 +88,7 @@ fn copy_shapes(config: &Config, alloc: Global, copy: &mut Config) -> Result<(), 
     put(copy_of(&config.module_shape, alloc), &mut copy.module_shape)
 }
 
-// Puts the value that is made into `slot`.
+// Puts the new value into `slot`.
 fn put<T: Drop>(made: Result<T, Error>, slot: &mut T) -> Result<(), Error>
     ensures ok { OnOk result (made ≡ Ok slot.new) }
     ensures err { IfErr result (λ e. made ≡ Err e) }

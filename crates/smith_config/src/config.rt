@@ -23,7 +23,7 @@ pub struct Config {
     pub min_types: usize,
 
     /// The maximum number of types. Defaults to 100. With 0 there are no functions and no tags
-    /// either, since these need function types; a shape may still add some.
+    /// either, because these need function types; a shape may still add some.
     pub max_types: usize,
 
     /// The minimum number of imports, including each item of a compact group. Defaults to 0.
@@ -222,13 +222,13 @@ pub struct Config {
     /// `gc_enabled`. Affects only the features of the module.
     pub multibyte_array_access_enabled: bool,
 
-    /// Non-nullable references, to heap types for which an existing struct type or function
-    /// provides one without operands. Defaults to `false`; off without `gc_enabled`.
+    /// Non-nullable references, to heap types for which an existing struct type or function gives
+    /// such a reference without operands. Defaults to `false`; off without `gc_enabled`.
     /// [`Config::arbitrary`] leaves it `false`.
     pub non_nullable_enabled: bool,
 
-    /// The kinds of instructions that bodies of a program may have, without those on floats if
-    /// `allow_floats` is `false`. Defaults to all. Ignored for a module, whose bodies have no drawn
+    /// The kinds of instructions that bodies of a program may have; without `allow_floats`, kinds
+    /// on floats are excluded. Defaults to all. Ignored for a module, whose bodies have no drawn
     /// instructions.
     pub allowed_instructions: InstructionKinds,
 
@@ -245,7 +245,7 @@ pub struct Config {
     pub canonicalize_nans: bool,
 
     /// Whether custom sections are drawn. Defaults to `false`. Only the bytes of a module in the
-    /// binary format can depend on it: the sections stand between those of the module.
+    /// binary format can depend on it: the custom sections are among the module's sections.
     pub generate_custom_sections: bool,
 
     /// The minimum length of an encoded unsigned integer, in bytes, up to five. Defaults to 1. Only

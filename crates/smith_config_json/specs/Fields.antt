@@ -1,5 +1,5 @@
--- The fields of a configuration, by their names in a text, each with the function that sets it.
--- Rules of this project.
+-- The fields of a configuration by their names in JSON, each with the function that sets it. Rules
+-- of this project.
 use Rattle.std.specs.Prelude.{◌≡◌, ℕ, ◌-◌, ◌^◌, Bool, List, [], ◌∷◌, Option, Some, None, cond, codes}
 use Rattle.std.specs.Str.{bytes_eq}
 use Rattle.smith_config.specs.declared.config.Config.{Config}
@@ -30,7 +30,7 @@ pub data Field : Type 0 where
   file : Field
   preset : Field
 
--- numbers within the bounds of their type: `u8`
+-- a number field with the bounds of its type: `u8`
 abbrev pub byte : Setter ℕ → Field
 byte set = whole (2 ^ 8 - 1) set
 
@@ -134,7 +134,7 @@ fields =
 abbrev pub field_named : List ℕ → Option Field
 field_named name = named name fields
 
--- whether a kind is that of a field's values; whole numbers of `n` bits are those below `2^n`
+-- a kind is the kind of a field's values; whole numbers of `n` bits are below `2^n`
 abbrev pub HasKind : Field → FieldKind → Type 0
 HasKind (whole most set) (kind.Whole bits) = most ≡ 2 ^ bits - 1
 HasKind (truth set) kind.Flag = Unit {0}
@@ -144,7 +144,7 @@ HasKind file kind.File = Unit {0}
 HasKind preset kind.Preset = Unit {0}
 HasKind f k = ⊥
 
--- whether a field and a kind are both none, or the kind is the field's
+-- neither exists, or the kind is the field's
 abbrev pub AreOfKind : Option Field → Option FieldKind → Type 0
 AreOfKind (Some f) (Some k) = HasKind f k
 AreOfKind None None = Unit {0}

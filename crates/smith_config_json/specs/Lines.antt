@@ -1,13 +1,13 @@
--- The line and the column of a place in a text, by the bytes before it: both from 1, and a column is a
--- character. Rules of this project.
+-- The line and the column of a place in a text, given the bytes before it. Both are counted from 1,
+-- columns in characters. Rules of this project.
 use Rattle.std.specs.Prelude.{ℕ, ◌+◌, List, [], ◌∷◌, Bool, not, ◌==◌, bit_and, if◌then◌else◌, count_by}
 use Rattle.std.specs.List.{list_any}
 
--- a line feed, which ends a line
+-- whether a byte is a line feed, which ends a line
 abbrev pub is_feed : ℕ → Bool
 is_feed byte = byte == 10
 
--- the first byte of a character: in UTF-8 any byte but 10xxxxxx
+-- whether a byte is the first of a character: in UTF-8, any byte except 10xxxxxx
 abbrev pub begins : ℕ → Bool
 begins byte = not (bit_and byte 192 == 128)
 

@@ -1,4 +1,4 @@
--- The members of an object that no field of a configuration has. Rules of this project.
+-- The members of an object that are not fields of a configuration. Rules of this project.
 use Rattle.std.specs.Prelude.{ℕ, ◌-◌, ◌^◌, List, [], ◌∷◌, Bool, false, Option, None, Result, Ok, Err, cond, codes}
 use Rattle.std.specs.Str.{bytes_eq}
 use Rattle.json.specs.Token.{Token, key, string, boolean, null}
@@ -17,26 +17,25 @@ abbrev pub value_of : List ℕ → List Token → Token
 value_of name [] = null
 value_of name (t ∷ ts) = cond (is_key name t) (first ts) (value_of name ts)
 
--- the preset that a value names, if it names one
+-- the preset that a value names, if any
 abbrev pub named_preset : Token → Option Preset
 named_preset (string name) = preset_named name
 named_preset t = None
 
--- the preset of an object: the one that its member `preset` names, wherever the member is
+-- the preset that the member `preset` of an object names, if any
 abbrev pub preset_in : List Token → Option Preset
 preset_in ts = named_preset (value_of (codes "preset") ts)
 
--- a number that was read, if there is one
+-- the number that was read, if any
 abbrev pub or_none : Result (Option ℕ) Fault → Option ℕ
 or_none (Ok n) = n
 or_none (Err fault) = None
 
--- the fuel of an object: the number of its member `fuel`, wherever the member is
+-- the number of the member `fuel` of an object, if any
 abbrev pub fuel_in : List Token → Option ℕ
 fuel_in ts = or_none (whole_value (2 ^ 32 - 1) (value_of (codes "fuel") ts))
 
--- whether the counter of an object's fuel is exported: so says its member `fuel-export`, wherever
--- the member is
+-- whether the member `fuel-export` of an object is true, so that the fuel counter is exported
 abbrev pub is_true : Token → Bool
 is_true (boolean b) = b
 is_true t = false

@@ -1,4 +1,4 @@
--- The configuration that an object makes of another. Rules of this project.
+-- The change of a configuration by an object. Rules of this project.
 use Rattle.std.specs.Prelude.{◌≡◌, ℕ, List, [], ◌∷◌, ◌++◌, Some, None, Result, Ok, Err, Bool, true, false}
 use Rattle.std.specs.List.{list_any}
 use Rattle.std.specs.Str.{bytes_eq}
@@ -14,17 +14,16 @@ use Rattle.smith_config_json.specs.Members.{preset_in}
 use Rattle.smith_config_json.specs.Presets.{changed_by}
 use Rattle.smith_config_json.specs.Sets.{Sets}
 
--- whether an earlier member has the name
+-- whether an earlier member has this name
 abbrev pub is_given : List (List ℕ) → List ℕ → Bool
 is_given given name = list_any (λ other. bytes_eq other name) given
 
--- the configuration and the tokens after an object, or the first fault, the name of its member and
--- the configuration with the members before it
+-- the configuration and the tokens after an object; or the first fault, the name of its member, and
+-- the configuration after the members before it
 abbrev pub Reading : Type 0
 Reading = Result (Config × List Token) (Fault × List ℕ × Config)
 
--- the result of the members from here to the end of the object, after members with the names
--- `given`
+-- the result of the members up to the end of the object, after members with the names `given`
 pub data ReadsMembers : List (List ℕ) → Config → List Token → Reading → Type 0 where
   ends : {given : List (List ℕ)} {config : Config} {ts rest : List Token} →
       read_key ts ≡ Some (None, rest) → ReadsMembers given config ts (Ok (config, rest))
@@ -45,13 +44,13 @@ ReadsObject config [] r = r ≡ Err (NotAnObject, [], config)
 ReadsObject config (begin_object ∷ ts) r = ReadsMembers [] config ts r
 ReadsObject config (t ∷ ts) r = r ≡ Err (NotAnObject, [], config)
 
--- nothing may follow the object
+-- the result for an object that nothing may follow
 abbrev pub alone : Reading → Reading
 alone (Ok (config, [])) = Ok (config, [])
 alone (Ok (config, t ∷ ts)) = Err (TextAfter, [], config)
 alone (Err e) = Err e
 
--- the result of a whole text for a configuration, which its preset changes before any member is read
+-- the result of a whole text for a configuration; a preset changes it before any member is read
 abbrev pub ReadsAlone : Config → List ℕ → Reading → Type 0
 ReadsAlone config text r = (s : Reading) × ReadsObject (changed_by (preset_in (tokens text)) config) (tokens text) s × (r ≡ alone s)
 

@@ -62,19 +62,19 @@ with_size MaxModules config n = record config { max_modules = n }
 with_size MaxNestingDepth config n = record config { max_nesting_depth = n }
 with_size MaxValues config n = record config { max_values = n }
 
--- the same for `u32`
+-- a configuration with a number of type `u32` set
 abbrev pub with_word : Word → Setter ℕ
 with_word MinMemories config n = record config { min_memories = n }
 with_word MinTables config n = record config { min_tables = n }
 with_word MaxTypeSize config n = record config { max_type_size = n }
 with_word ConstExprFuel config n = record config { const_expr_fuel = n }
 
--- the same for `u64`
+-- a configuration with a number of type `u64` set
 abbrev pub with_long : Long → Setter ℕ
 with_long MaxMemory32Bytes config n = record config { max_memory32_bytes = n }
 with_long MaxTableElements config n = record config { max_table_elements = n }
 
--- the same for a flag
+-- a configuration with a flag set
 abbrev pub with_flag : Flag → Setter Bool
 with_flag MemoryMaxSizeRequired config b = record config { memory_max_size_required = b }
 with_flag TableMaxSizeRequired config b = record config { table_max_size_required = b }
@@ -108,19 +108,19 @@ with_flag NonNullableEnabled config b = record config { non_nullable_enabled = b
 with_flag CanonicalizeNans config b = record config { canonicalize_nans = b }
 with_flag GenerateCustomSections config b = record config { generate_custom_sections = b }
 
--- the configuration ends with the field at the place set to the last value of the reference
+-- when the borrow ends, the field of type `usize` has the last value of the reference
 abbrev pub LendsSize : MutBor Config → Size → MutBor ℕ → Fml
 LendsSize config s r = Lends the_row usize config r (with_size s config.now)
 
--- the same for `u32`
+-- when the borrow ends, the field of type `u32` has the last value of the reference
 abbrev pub LendsWord : MutBor Config → Word → MutBor ℕ → Fml
 LendsWord config w r = Lends the_row u32 config r (with_word w config.now)
 
--- the same for `u64`
+-- when the borrow ends, the field of type `u64` has the last value of the reference
 abbrev pub LendsLong : MutBor Config → Long → MutBor ℕ → Fml
 LendsLong config l r = Lends the_row u64 config r (with_long l config.now)
 
--- the same for a flag
+-- when the borrow ends, the flag has the last value of the reference
 abbrev pub LendsFlag : MutBor Config → Flag → MutBor Bool → Fml
 LendsFlag config f r = Lends the_row bool config r (with_flag f config.now)
 
@@ -133,7 +133,7 @@ with_number number.MinUlebSize = λ config n. record config { min_uleb_size = n 
 with_number number.MaxMemory64Bytes = λ config n. record config { max_memory64_bytes = n }
 with_number number.Fuel = λ config n. config
 
--- the greatest number that a field takes
+-- the greatest value of a field
 abbrev pub most_of : Number → ℕ
 most_of (number.Size s) = 2 ^ 64 - 1
 most_of (number.Word w) = 2 ^ 32 - 1

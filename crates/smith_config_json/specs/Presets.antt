@@ -1,5 +1,5 @@
--- The presets: configurations by name, each for a version of the standard, for a tool, or for modules
--- to run. A preset changes another configuration. Rules of this project.
+-- The presets, by name: each changes a configuration to suit a version of the standard, a tool, or
+-- modules that are run. Rules of this project.
 use Rattle.std.specs.Prelude.{ℕ, List, [], ◌∷◌, ◌^◌, true, false, Option, Some, None, codes, map}
 use Rattle.std.specs.Borrow.{Bor}
 use Rattle.smith_config.specs.declared.config.Config.{Config}
@@ -8,7 +8,7 @@ use Rattle.smith_config_json.specs.declared.preset.Preset.TheVariants.{Run, Vers
 use Rattle.smith_config_json.specs.declared.preset.Preset.TheVariants.{SpiderMonkey, JavaScriptCore}
 use Rattle.smith_config_json.specs.Fields.{Table, named}
 
--- version 3.0 of the standard: all of its features and none of a proposal beyond it
+-- version 3.0 of the standard: all its features, and no proposal beyond it
 abbrev pub third_version : Config → Config
 third_version config = record config {
   max_memories = 4;
@@ -70,7 +70,7 @@ with_proposals config = let c = third_version config in record c {
   wide_arithmetic_enabled = true;
 }
 
--- what no engine has by default is off; a 64-bit memory has at most 262,144 pages
+-- proposals that no engine enables by default are off; a 64-bit memory has at most 262,144 pages
 abbrev pub within_engines : Config → Config
 within_engines config = record config {
   max_memory64_bytes = 2 ^ 34;
@@ -81,7 +81,8 @@ within_engines config = record config {
   wide_arithmetic_enabled = false;
 }
 
--- the same for JavaScriptCore, and nothing with branches on references
+-- as for engines, with at most one memory, and without garbage collection, and so without branches
+-- on references, 64-bit memories and relaxed vector instructions: what JavaScriptCore accepts
 abbrev pub within_javascriptcore : Config → Config
 within_javascriptcore config = let c = within_engines config in record c {
   max_memories = 1;
@@ -90,7 +91,8 @@ within_javascriptcore config = let c = within_engines config in record c {
   relaxed_simd_enabled = false;
 }
 
--- the same for wabt, and no references
+-- as for engines, and without reference types, garbage collection, exceptions and 64-bit memories:
+-- what wabt accepts
 abbrev pub within_wabt : Config → Config
 within_wabt config = let c = within_engines config in record c {
   reference_types_enabled = false;
@@ -99,8 +101,10 @@ within_wabt config = let c = within_engines config in record c {
   memory64_enabled = false;
 }
 
--- the same for Binaryen, which also takes few names, no passive segment, no segment that is too
--- long for its memory or table, and no `atomic.fence` without a memory
+-- as for wabt, with no imports, at most one export and exactly one memory, and without traps,
+-- multi-value, bulk memory and relaxed vector instructions. Binaryen accepts only few names, no
+-- passive segments, no segments beyond the end of their memory or table, and no `atomic.fence`
+-- without a memory.
 abbrev pub within_binaryen : Config → Config
 within_binaryen config = let c = within_wabt config in record c {
   max_imports = 0;
@@ -113,8 +117,8 @@ within_binaryen config = let c = within_wabt config in record c {
   relaxed_simd_enabled = false;
 }
 
--- modules without imports that export each of their functions, of which there is at least one; their
--- memories, tables and segments are small and few, so that engines instantiate most of them
+-- modules without imports that have a function and export all functions; memories, tables and
+-- segments are small and few, so that engines instantiate most modules
 abbrev pub to_run : Config → Config
 to_run config = let c = within_engines config in record c {
   min_types = 12;
@@ -132,7 +136,7 @@ to_run config = let c = within_engines config in record c {
   export_everything = true;
 }
 
--- the configuration that a preset makes of another
+-- the change of a configuration by a preset
 unfoldable pub with_preset : Preset → Config → Config
 with_preset Run = to_run
 with_preset Version1 = first_version

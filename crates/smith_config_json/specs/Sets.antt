@@ -1,4 +1,4 @@
--- What a value makes of a configuration, as the value of one of its fields. Rules of this project.
+-- The change of a configuration by the value of a field. Rules of this project.
 use Rattle.std.specs.Prelude.{◌≡◌, List, drop, Option, Some, None, Result, Ok, Err}
 use Rattle.json.specs.Token.{Token, begin_array, null}
 use Rattle.smith_syntax.specs.declared.instruction_kind.InstructionKinds.{InstructionKinds}
@@ -13,7 +13,7 @@ use Rattle.smith_config_json.specs.Values.{map_ok, first, unwanted, whole_value,
 abbrev pub Outcome : Type 0
 Outcome = Result (Config × List Token) Fault
 
--- the tokens after a value that was taken or refused
+-- the outcome of a value that sets nothing
 abbrev pub outcome : Result (Unit {0}) Fault → Config → List Token → Outcome
 outcome (Ok u) config rest = Ok (config, rest)
 outcome (Err fault) config rest = Err fault
@@ -24,14 +24,14 @@ set_to set config rest (Ok None) = Ok (config, rest)
 set_to set config rest (Ok (Some x)) = Ok (set config x, rest)
 set_to set config rest (Err fault) = Err fault
 
--- the same for the value that begins with a token: null, or a list of three weights
+-- the field is set to the value that begins with a token: null leaves it unchanged, a list of three
+-- weights sets it
 abbrev pub set_choices : Setter MemoryOffsetChoices → Config → Token → List Token → Outcome
 set_choices set config null rest = Ok (config, rest)
 set_choices set config begin_array rest = set_to set config (drop 4 rest) (map_ok Some (weights rest))
 set_choices set config t rest = Err (unwanted t)
 
--- `r` is the result of the value at the front of the tokens, as the value of a field of a
--- configuration
+-- `r` is the outcome of setting a field to the value at the front of the tokens
 abbrev pub Sets : Option Field → Config → List Token → Outcome → Type 0
 Sets None config ts r = r ≡ Err UnknownField
 Sets (Some (whole most set)) config ts r = r ≡ set_to set config (drop 1 ts) (whole_value most (first ts))

@@ -1,4 +1,4 @@
--- The values that tokens denote, for the fields that take them. Rules of this project.
+-- The values of tokens, by the type of the field. Rules of this project.
 use Rattle.std.specs.Prelude.{◌≡◌, ℕ, ◌-◌, ◌^◌, nat_lt, List, [], ◌∷◌, drop, Bool, false, true, ◌==◌, ◌&&◌, if◌then◌else◌, Option, Some}
 use Rattle.std.specs.Prelude.{None, option_map, Result, Ok, Err, length}
 use Rattle.std.specs.List.{list_all}
@@ -23,12 +23,12 @@ abbrev pub and_then : {A B E : Type 0} → Result A E → (A → Result B E) →
 and_then (Ok x) f = f x
 and_then (Err e) f = Err e
 
--- the first token; the end of the tokens counts as a bad one
+-- the first token, or a bad token at the end
 abbrev pub first : List Token → Token
 first [] = bad
 first (t ∷ ts) = t
 
--- the fault of a token that a field doesn't take: a value of another type, or none at all
+-- the fault of a token that is not a value of the field's type
 abbrev pub unwanted : Token → Fault
 unwanted begin_object = WrongType
 unwanted end_object = NotAnObject
@@ -41,7 +41,7 @@ unwanted (boolean b) = WrongType
 unwanted null = WrongType
 unwanted bad = NotAnObject
 
--- whether a text has a digit, and only digits
+-- whether a text is not empty and has only digits
 abbrev pub are_digits : List ℕ → Bool
 are_digits text = if length text == 0 then false else list_all is_ascii_digit text
 
@@ -50,24 +50,24 @@ abbrev pub number_of : ℕ → List ℕ → Result ℕ Fault
 number_of most text = if are_digits text then (if nat_lt most (digits_value 10 text) then Err OutOfRange else Ok (digits_value 10 text))
     else Err WrongType
 
--- a whole number of at most `most`, or none at null
+-- a whole number up to `most`, or none for null
 abbrev pub whole_value : ℕ → Token → Result (Option ℕ) Fault
 whole_value most null = Ok None
 whole_value most (number text) = map_ok Some (number_of most text)
 whole_value most t = Err (unwanted t)
 
--- true or false, or none at null
+-- true or false, or none for null
 abbrev pub truth_value : Token → Result (Option Bool) Fault
 truth_value null = Ok None
 truth_value (boolean b) = Ok (Some b)
 truth_value t = Err (unwanted t)
 
--- null in place of a path
+-- the value of a path, which must be null
 abbrev pub file_value : Token → Result (Unit {0}) Fault
 file_value null = Ok tt
 file_value t = Err (unwanted t)
 
--- a preset is there
+-- the preset exists, or it is out of range
 abbrev pub of_preset : Option Preset → Result (Unit {0}) Fault
 of_preset None = Err OutOfRange
 of_preset (Some preset) = Ok tt
@@ -78,7 +78,7 @@ preset_value null = Ok tt
 preset_value (string name) = of_preset (preset_named name)
 preset_value t = Err (unwanted t)
 
--- a text that names no kind, or no kinds, is out of range
+-- the kinds that a text names, or a fault if it names none
 abbrev pub of_names : {A : Type 0} → Result A UnknownKind → Result (Option A) Fault
 of_names (Ok all) = Ok (Some all)
 of_names (Err e) = Err OutOfRange
@@ -89,8 +89,7 @@ IsListed end_array v = v ≡ Ok None
 IsListed (string text) v = (r : Result InstructionKind UnknownKind) × IsReadKind text r × (v ≡ of_names r)
 IsListed t v = v ≡ Err (unwanted t)
 
--- the kinds of a list of names whose rest comes first, beside those of a set, and the tokens after
--- the list
+-- the set with the kinds named in the rest of a list, and the tokens after the list
 pub data AreListed : InstructionKinds → List Token → Result InstructionKinds Fault → List Token → Type 0 where
   ends : {all : InstructionKinds} {ts : List Token} → IsListed (first ts) (Ok None) → AreListed all ts (Ok all) (drop 1 ts)
   refuses : {all : InstructionKinds} {ts : List Token} {fault : Fault} → IsListed (first ts) (Err fault)
@@ -98,8 +97,8 @@ pub data AreListed : InstructionKinds → List Token → Result InstructionKinds
   names : {all : InstructionKinds} {ts rest : List Token} {v : Result InstructionKinds Fault} (kind : InstructionKind) →
       IsListed (first ts) (Ok (Some kind)) → AreListed (with_kind all true kind) (drop 1 ts) v rest → AreListed all ts v rest
 
--- a set of kinds of instructions, which begins with a token before others, and the tokens after it:
--- its twelve bits, the names of the kinds in a text or in a list, or none at null
+-- a set of instruction kinds, and the tokens after it: twelve bits as a number, the names of kinds
+-- in a text or in a list, or none for null
 abbrev pub AreKinds : Token → List Token → Result (Option InstructionKinds) Fault → List Token → Type 0
 AreKinds null ts v rest = (v ≡ Ok None) × (rest ≡ ts)
 AreKinds (number text) ts v rest = (map_ok (option_map kinds_bits) v ≡ map_ok Some (number_of (2 ^ 12 - 1) text)) × (rest ≡ ts)
@@ -107,18 +106,18 @@ AreKinds (string text) ts v rest = ((r : Result InstructionKinds UnknownKind) ×
 AreKinds begin_array ts v rest = (r : Result InstructionKinds Fault) × AreListed no_kind ts r rest × (v ≡ map_ok Some r)
 AreKinds t ts v rest = (v ≡ Err (unwanted t)) × (rest ≡ ts)
 
--- one of the three weights; at the end of the list, the list is too short
+-- a weight; the end of the list is a fault
 abbrev pub weight : Token → Result ℕ Fault
 weight (number text) = number_of (2 ^ 32 - 1) text
 weight end_array = Err WrongType
 weight t = Err (unwanted t)
 
--- the end of the list; at another value, the list is too long
+-- the end of the list; another value is a fault
 abbrev pub list_end : Token → Result (Unit {0}) Fault
 list_end end_array = Ok tt
 list_end t = Err (unwanted t)
 
--- three weights, of which one is above zero
+-- three weights, at least one of them above zero
 abbrev pub some_weight : ℕ → ℕ → ℕ → Result MemoryOffsetChoices Fault
 some_weight inside between past =
     if inside == 0 && between == 0 && past == 0 then Err OutOfRange else Ok (record { 0 = inside; 1 = between; 2 = past })

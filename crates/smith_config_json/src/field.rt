@@ -15,9 +15,9 @@ pub enum FieldKind {
     /// A set of kinds of instructions: a list of their names, a string of the names with commas
     /// between them, or the bits of the set as a number below `2^12`.
     InstructionKinds,
-    /// A list of three whole numbers below `2^32`, of which one is above zero.
+    /// A list of three whole numbers below `2^32`, at least one of them above zero.
     OffsetChoices,
-    /// The path of a file in the Rust crate. No file is read, so only `null` is taken.
+    /// The path of a file in the Rust crate. No file is read, so only `null` is accepted.
     File,
     /// The name of a preset.
     Preset,
@@ -42,8 +42,8 @@ impl fmt::Display for FieldKind {
     }
 }
 
-/// Makes an array of the fields, in the order of `Config`: of what the macro `$row` writes for the
-/// name, the place and one sentence of each, and then of the items `$more`.
+/// Makes an array of the fields, in the order of `Config`: the result of the macro `$row` for the
+/// name, the place and the description of each field, and then the items `$more`.
 #[macro_export]
 macro_rules! fields {
     ($row:ident $(, $more:expr)*) => {

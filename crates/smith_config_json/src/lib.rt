@@ -1,8 +1,8 @@
 //! Reads a configuration from a JSON object whose members are named after the fields of `Config`.
 //!
 //! A name has hyphens in place of the field's underscores, as in `max-types`. The macro [`fields`]
-//! lists the names, with a sentence on each field. A field that no member names keeps its default,
-//! and so does a field whose member is `null`.
+//! lists the names, with a description of each field. A field keeps its default if no member names
+//! it, or if its member is `null`.
 //!
 //! Three members are no fields. `preset` names a [`Preset`], which changes the configuration before
 //! the other members do, wherever it is. `fuel` is the number of calls and iterations of loops after

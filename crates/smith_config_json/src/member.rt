@@ -33,8 +33,8 @@ fn value_of<'a>(reader: &mut Reader<'a>, name: &str) -> Token<'a>
     Token::Null
 }
 
-/// Finds the preset of the object in `text`. A value of the member `preset` that names none is
-/// refused when the members are read.
+/// Finds the preset of the object in `text`. If the member `preset` names no preset, an error
+/// follows when the members are read.
 pub(crate) fn preset_in<'a>(
     text: &'a str,
     scratch: &'a mut Scratch,
@@ -48,9 +48,9 @@ pub(crate) fn preset_in<'a>(
     }
 }
 
-/// Finds the fuel of the object in `text`, which [`config`](crate::config) has read: the number of
-/// its member `fuel`, of calls and iterations of loops after which a program traps. Returns `None`
-/// if nothing is to be counted.
+/// Finds the fuel of the object in `text`, which [`config`](crate::config) has read: the number in
+/// its member `fuel` of calls and loop iterations after which a program traps. Returns `None` if
+/// there is no fuel.
 pub fn fuel(alloc: Global, text: &str) -> Result<Option<u32>, AllocError>
     ensures { IfOk result (λ fuel. fuel ≡ fuel_in (tokens text.now)) }
 {
@@ -75,7 +75,7 @@ pub fn is_fuel_exported(alloc: Global, text: &str) -> Result<bool, AllocError>
     }
 }
 
-/// Returns the fuel that digits write, if they write one.
+/// Returns the fuel that the digits state, if they are in range.
 fn fuel_of(digits: &str) -> Option<u32>
     ensures { result ≡ or_none (map_ok Some (number_of (2 ^ 32 - 1) digits.now)) }
 {

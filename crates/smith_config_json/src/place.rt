@@ -82,7 +82,7 @@ pub(crate) enum Flag {
     GenerateCustomSections,
 }
 
-/// A field that is a whole number, or the fuel, which no field holds.
+/// A field that is a whole number, or the fuel, which is not a field.
 #[derive(Clone, Copy)]
 pub(crate) enum Number {
     Size(Size),

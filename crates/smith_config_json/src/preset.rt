@@ -18,14 +18,15 @@ ghost use Rattle.smith_config_json.specs.Presets.{
 
 use smith_config::Config;
 
-/// A change of a configuration that suits a version of the standard or a tool, or modules to run.
+/// A change of a configuration for a version of the standard, for a tool, or for modules that are
+/// run.
 ///
-/// That of a tool turns off what the tool lacks, and keeps its limits: in the version that its
-/// variant names, the tool accepts at least 99 of 100 modules.
+/// The preset of a tool turns off the features that the tool lacks, and keeps its limits: in the
+/// version that the variant states, the tool accepts at least 99 of 100 modules.
 #[derive(Clone, Copy, Debug, PartialEq, Eq)]
 pub enum Preset {
-    /// `run`: modules without imports that export each of their functions, of which there is at
-    /// least one. At least 98 of 100 can be instantiated by an engine of version 3.0 of the standard.
+    /// `run`: modules without imports that have a function and export all functions. At least 98 of
+    /// 100 can be instantiated by an engine of version 3.0 of the standard.
     Run,
     /// `mvp`: version 1.0 of the standard.
     Version1,

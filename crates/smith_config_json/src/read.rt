@@ -38,15 +38,15 @@ pub fn config(alloc: Global, text: &str) -> Result<Config, ConfigRefusal>
     }
 }
 
-/// Reads an object from `text`, which holds nothing else, and sets the fields of `config` that its
-/// members name. The preset of a member `preset`, wherever it is, changes `config` before that.
+/// Reads `text`, which must be one object, and sets the fields of `config` that its members name.
+/// The preset of a member `preset`, wherever it is, changes `config` first.
 ///
 /// # Errors
 ///
-/// Refuses the text at its first fault, reading from the start. The members before the fault are
-/// set then. The place of the fault is an offset in `text`, for which [`Refusal::in_text`] finds
-/// the line and the column. Refuses the text with `OutOfMemory` if an allocation fails; no clause
-/// states the place then, nor which members are set.
+/// Refuses the text at its first fault, reading from the start. The fields of the members before
+/// the fault are set. The place of the fault is an offset in `text`, for which [`Refusal::in_text`]
+/// finds the line and the column. Returns `OutOfMemory` if an allocation fails; no clause states
+/// the place in this case, nor the fields that are set.
 pub fn read_text(alloc: Global, text: &str, config: &mut Config) -> Result<(), Refusal>
     ensures ok { OnOk result (ReadsAlone config.old text.now (Ok (config.new, []))) }
     ensures refused { IfErr result (λ refusal. refusal.fault ≢ Fault.OutOfMemory
@@ -69,15 +69,15 @@ pub fn read_text(alloc: Global, text: &str, config: &mut Config) -> Result<(), R
     }
 }
 
-/// Reads an object from the place of `reader`, and sets the fields of `config` that its members
-/// name. The reader is then past the object. A preset is looked up and not applied: [`read_text`]
-/// does that.
+/// Reads an object from the position of `reader`, and sets the fields of `config` that its members
+/// name. The reader is then after the object. The name of a preset is checked, but the preset is
+/// not applied: [`read_text`] does that.
 ///
 /// # Errors
 ///
-/// Refuses the object at its first fault. The members before the fault are set then, and the
-/// reader is in the middle of the object. Refuses it with `OutOfMemory` if an allocation fails; no
-/// clause states which members are set then.
+/// Refuses the object at its first fault. The fields of the members before the fault are set, and
+/// the reader is in the middle of the object. Returns `OutOfMemory` if an allocation fails; no
+/// clause states the fields that are set in this case.
 pub fn read_config(
     alloc: Global,
     reader: &mut Reader<'_>,

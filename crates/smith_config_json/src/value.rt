@@ -35,7 +35,7 @@ use smith_config::{Config, MemoryOffsetChoices};
 use smith_types::{InstructionKind, InstructionKinds};
 use std::str::FromStr;
 
-/// Takes the next token. The end of the text counts as a bad one.
+/// Takes the next token, or a bad token at the end of the text.
 pub(crate) fn next<'a>(reader: &mut Reader<'a>) -> Token<'a>
     ensures token { token_of result ≡ first reader.old }
     ensures rest { reader.new ≡ drop 1 reader.old }
@@ -43,7 +43,7 @@ pub(crate) fn next<'a>(reader: &mut Reader<'a>) -> Token<'a>
     reader.next().unwrap_or(Token::Bad)
 }
 
-/// Returns the fault of a token that a field doesn't take.
+/// Returns the fault of a token that is not a value of the field's type.
 fn fault_of_token(token: Token<'_>) -> Fault
     ensures { result ≡ unwanted (token_of token.entry) }
 {
@@ -58,7 +58,7 @@ fn fault_of_token(token: Token<'_>) -> Fault
     }
 }
 
-/// Returns whether a text has a digit, and only digits.
+/// Returns whether a text is not empty and has only digits.
 fn are_digits(text: &str) -> bool
     ensures { result ≡ are_digits text.now }
 {
@@ -77,7 +77,7 @@ fn all_digits(text: &[u8]) -> bool
     true
 }
 
-/// Returns the number, at most `most`, that the text of a JSON number writes in digits only.
+/// Returns the number that a JSON number states, if it has only digits and is at most `most`.
 pub(crate) fn number(text: &str, most: u128) -> Result<u128, Fault>
     ensures exact { result ≡ number_of most text.now }
     ensures bounded { IfOk result (λ n. n ≤ most) }
@@ -116,7 +116,7 @@ fn truth(reader: &mut Reader<'_>) -> Result<Option<bool>, Fault>
     }
 }
 
-/// Reads only `null`, in place of a path.
+/// Reads the value of a path, which must be `null`.
 fn no_file(reader: &mut Reader<'_>) -> Result<(), Fault>
     ensures value { result ≡ file_value (first reader.old) }
     ensures rest { reader.new ≡ drop 1 reader.old }
@@ -240,8 +240,8 @@ fn choices_of(inside: u32, between: u32, past: u32) -> Result<MemoryOffsetChoice
 ///
 /// # Errors
 ///
-/// Refuses a name that no field has, before it reads anything, and a value that the field doesn't
-/// take. `config` is then unchanged, and `reader` is within the value or past it.
+/// Refuses a name that no field has, before it reads anything, and a value that does not suit the
+/// field. `config` is then unchanged, and `reader` is within the value or past it.
 pub fn set_field(config: &mut Config, name: &str, reader: &mut Reader<'_>) -> Result<(), Fault>
     ensures exact { Sets (field_named name.now) config.old reader.old
         (outcome result config.new reader.new) }
@@ -260,7 +260,7 @@ pub fn set_field(config: &mut Config, name: &str, reader: &mut Reader<'_>) -> Re
     }
 }
 
-/// Returns the greatest number that a field takes.
+/// Returns the greatest value of a field.
 fn most_of(number: Number) -> u128
     ensures { result ≡ most_of number }
 {
@@ -274,7 +274,7 @@ fn most_of(number: Number) -> u128
     }
 }
 
-/// Sets a field to a number that it takes.
+/// Sets a field to a number in its range.
 fn set_number(config: &mut Config, number: Number, value: u128)
     requires { value ≤ most_of number }
     ensures { config.new ≡ with_number number config.old value }

@@ -1,11 +1,11 @@
--- Custom sections as they are drawn: rules of this project.
+-- Drawn custom sections. Rules of this project.
 use Rattle.std.specs.Prelude.{ℕ, ◌+◌, ◌≤◌, ◌==◌, min, Bool, true, false, List, [], ◌∷◌, length, take, drop, codes, if◌then◌else◌}
 use Rattle.smith_bytes.specs.Draws.{len_at, range_at}
 use Rattle.smith_bytes.specs.Growth.{grow_at}
 use Rattle.smith_bytes.specs.Names.{text_at}
 use Rattle.smith_custom_sections.specs.declared.custom_section.CustomSection.{CustomSection}
 
--- as many bytes as a drawn length, at most a thousand
+-- bytes of a drawn length, at most a thousand
 unfoldable pub bytes_at : List ℕ → List ℕ × List ℕ
 bytes_at bytes =
     let size = len_at bytes in
@@ -17,7 +17,7 @@ bytes_at bytes =
 abbrev pub function_name : ℕ → List ℕ → List ℕ
 function_name index name = 1 ∷ (length name + 3) ∷ 1 ∷ index ∷ length name ∷ name
 
--- such a subsection of a drawn index and a drawn name
+-- such a subsection with a drawn index and a drawn name
 unfoldable pub function_name_at : List ℕ → List ℕ × List ℕ
 function_name_at bytes =
     let index = range_at 0 9 bytes in
@@ -30,14 +30,14 @@ name_section_at place is_formed bytes =
     let content = if is_formed then function_name_at bytes else bytes_at bytes in
     (record { place = place; name = codes "name"; bytes = content.0 }, content.1)
 
--- a custom section of any name and any bytes
+-- a custom section with any name and any bytes
 unfoldable pub plain_section_at : ℕ → List ℕ → CustomSection × List ℕ
 plain_section_at place bytes =
     let name = text_at 100 bytes in
     let content = bytes_at name.1 in
     (record { place = place; name = name.0; bytes = content.0 }, content.1)
 
--- a custom section: its place, its kind, and what it says
+-- a custom section: its place, its kind and its content
 unfoldable pub custom_section_at : List ℕ → CustomSection × List ℕ
 custom_section_at bytes =
     let place = range_at 0 13 bytes in

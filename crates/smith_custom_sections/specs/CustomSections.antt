@@ -12,8 +12,8 @@ use Rattle.smith_custom_sections.specs.declared.custom_section.CustomSection.{Cu
 abbrev pub IsContentIn : Spelling → CustomSection → List ℕ → Type 0
 IsContentIn spelling custom = Joined (IsNameIn spelling custom.name) (Is custom.bytes)
 
--- whether a custom section comes right before the section of a file at a place, or after the last
--- section, if the place is the end (own rule)
+-- whether a custom section comes directly before the section at `place`, or at the end, after the
+-- last section (own rule)
 abbrev pub is_due : Bool → ℕ → CustomSection → Bool
 is_due at_end place custom = (custom.place == place) || (at_end && nat_lt place custom.place)
 
@@ -47,7 +47,7 @@ IsPlainFile sections = Joined IsPreamble (Each IsPlainSection sections)
 abbrev pub IsPlain : List ℕ → Type 0
 IsPlain file = (sections : List (List ℕ)) × IsPlainFile sections file
 
--- bytes are a section that is not custom, then the rest (Modules)
+-- the bytes are a section that is not custom, then the rest (Modules)
 pub record StartsWith (section rest bytes : List ℕ) : Type 0 where
   pub plain : IsPlainSection section section
   pub whole : bytes ≡ section ++ rest

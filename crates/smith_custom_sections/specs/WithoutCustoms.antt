@@ -11,12 +11,12 @@ pub record IsNamed (content : List ℕ) : Type 0 where
   pub name : List ℕ
   pub form : Joined (IsName name) IsAny content
 
--- a section, and what is left of it: no byte of a custom one, all bytes of another
+-- a section without custom sections: no byte if it is custom, and else all its bytes
 pub data IsLeftOf (left piece : List ℕ) : Type 0 where
   custom : IsSection 0 IsNamed piece → left ≡ [] → IsLeftOf left piece
   other : (id : ℕ) → id ≢ 0 → IsSection id IsAny piece → left ≡ piece → IsLeftOf left piece
 
--- a file of sections, and the file without those that are custom (Modules)
+-- a file, and the file without its custom sections (Modules)
 pub record IsWithoutCustoms (bytes file : List ℕ) : Type 0 where
   pub left : List (List ℕ)
   pub sections : Joined IsPreamble (Each IsLeftOf left) bytes

@@ -1,6 +1,7 @@
 use smith_syntax::{Items, Name};
 
-/// A custom section (Custom Section), and its place among the sections of a file that has none.
+/// A custom section (Custom Section), and its place among the sections of a file without custom
+/// sections.
 #[derive(Debug, Drop)]
 pub struct CustomSection {
     /// The number of sections of the file before it. If the file has fewer, it comes after the last.

@@ -18,7 +18,7 @@ const LAST_PLACE: usize = 13;
 // The greatest number of bytes of a drawn name.
 const LONGEST_NAME: usize = 100;
 
-// The greatest number of bytes after a name, those of a function name aside.
+// The greatest number of bytes after a name, except a subsection of function names.
 const MOST_BYTES: usize = 1000;
 
 // Draws at most a thousand bytes.
@@ -86,7 +86,7 @@ fn draw_plain_section(
     Ok(CustomSection { place, name, bytes })
 }
 
-// Draws a custom section: its place, its kind, and what it says.
+// Draws a custom section: its place, its kind and its content.
 #[tactic(auto, unfolding(crate::specs::CustomDraws::custom_section_at))]
 fn draw_custom_section(alloc: Global, u: &mut Unstructured<'_>) -> Result<CustomSection, Error>
     ensures exact { IfOk result (λ custom. custom_section_at u.old ≡ (custom, u.new)) }
@@ -103,8 +103,8 @@ fn draw_custom_section(alloc: Global, u: &mut Unstructured<'_>) -> Result<Custom
 
 /// Draws at most eight custom sections from the bytes of `u`, allocated from `alloc`. Each comes
 /// after up to thirteen sections of a file. One in four is a name section (Appendix, Custom
-/// Sections, Name Section): half of these have a name for one of the first ten functions, the others
-/// any bytes.
+/// Sections, Name Section): half of these have a name for one of the first ten functions, the other
+/// half any bytes.
 pub fn draw_custom_sections(
     alloc: Global,
     u: &mut Unstructured<'_>,

@@ -16,7 +16,7 @@ use std::alloc::Global;
 // The number of bytes of the magic number and the version.
 const PREAMBLE: usize = 8;
 
-/// Spelled by its content: its name, then its bytes.
+/// Spelled as its content: the name, then the bytes.
 impl Encode for CustomSection {
     ghost use Rattle.smith_binary_sections.specs.Long.{IsLongText};
     ghost use Rattle.smith_custom_sections.specs.CustomSections.{IsContentIn};
@@ -39,7 +39,7 @@ fn is_due(custom: &CustomSection, at_end: bool, place: usize) -> bool
     custom.place == place || (at_end && place < custom.place)
 }
 
-// Writes those of `customs` that come at `place`.
+// Writes the sections of `customs` at `place`.
 fn write_due(
     customs: &[CustomSection],
     at_end: bool,
@@ -71,7 +71,7 @@ fn read_section<'a>(reader: &mut Reader<'a>) -> Result<&'a [u8], EncodeError>
     }
 }
 
-// Writes `sections`, those of a file, with `customs` among them.
+// Writes the sections `sections` of a file, with `customs` among them.
 fn write_woven(
     alloc: Global,
     sections: &[u8],
@@ -95,7 +95,7 @@ fn write_woven(
 }
 
 /// Returns `file` with the custom sections `customs` among its own, allocated from `alloc`: each at
-/// its place, and those of one place in order. Sizes and lengths have at least `least` bytes, but at
+/// its place, and in order at the same place. Sizes and lengths have at least `least` bytes, but at
 /// most five if fewer are enough.
 ///
 /// # Errors

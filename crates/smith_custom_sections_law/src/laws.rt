@@ -6,15 +6,15 @@ ghost use Rattle.smith_custom_sections.specs.WithoutCustoms.{IsWithoutCustoms};
 ghost use Rattle.smith_decode.specs.Modules.{IsModuleBinary, Syntax};
 ghost use Rattle.smith_custom_sections_law.specs.SameModules.{IsApartFromCustoms};
 
-/// States that a file of a module is one of the same module when custom sections are put among its
-/// sections, apart from the custom sections of the module.
+/// States that putting custom sections among the sections of a file leaves it a file of the same
+/// module, apart from the custom sections of the module.
 pub fn custom_sections_keep_modules()
     ensures { (m : Syntax) (customs : List CustomSection) (file bytes : List ℕ)
         → IsModuleBinary m file → IsWithCustomsIn any customs file bytes
         → IsApartFromCustoms m bytes }
 {}
 
-/// States that bytes are one file, at most, without their custom sections.
+/// States that leaving out the custom sections of bytes gives at most one file.
 pub fn files_without_customs_are_unambiguous()
     ensures { (bytes file other : List ℕ) → IsWithoutCustoms bytes file
         → IsWithoutCustoms bytes other → file ≡ other }

@@ -1,5 +1,5 @@
-//! Laws on files with custom sections: they stay files of the same module, and without their custom
-//! sections they are one file.
+//! Laws on files with custom sections: each stays a file of the same module, and leaving out its
+//! custom sections gives one file.
 #![tactic(auto)]
 
 /// Laws: functions with empty bodies whose clauses state theorems.

@@ -1,5 +1,5 @@
--- Modules of constant expressions, as an encoder has them, in the abstract syntax of decoded modules,
--- whose expressions are any: the sections Structure, Modules and Expressions, of the WebAssembly Core
+-- An encoder's modules, which have constant expressions, as modules of the decoder, which have any
+-- expressions: the sections Structure, Modules and Expressions, of the WebAssembly Core
 -- Specification 3.0.
 use Rattle.std.specs.Prelude.{ℕ, List, [], map}
 use Rattle.smith_syntax.specs.declared.const_instr.ConstInstr.{ConstInstr}
@@ -21,7 +21,7 @@ use Rattle.smith_decode.specs.Data.{Data, DataMode}
 use Rattle.smith_decode.specs.Elements.{Elem, Mode}
 use Rattle.smith_decode.specs.Modules.{Syntax}
 
--- a constant instruction, and a constant expression (Structure, Expressions)
+-- a constant instruction as an instruction (Structure, Expressions)
 abbrev pub as_instr : ConstInstr → Instr
 as_instr (constant.I32Const value) = instr.I32Const value
 as_instr (constant.I64Const value) = instr.I64Const value
@@ -47,10 +47,11 @@ as_instr (constant.ArrayNewFixed index size) = instr.Aggregate (aggregate.ArrayN
 as_instr constant.AnyConvertExtern = instr.Aggregate aggregate.AnyConvertExtern
 as_instr constant.ExternConvertAny = instr.Aggregate aggregate.ExternConvertAny
 
+-- a constant expression as an expression (Structure, Expressions)
 abbrev pub as_expr : List ConstInstr → List Instr
 as_expr = map as_instr
 
--- a table, a global and segments (Structure, Modules)
+-- the tables, globals and segments of an encoder's module (Structure, Modules)
 abbrev pub as_table : TableType × List ConstInstr → TableType × List Instr
 as_table table = (table.0, as_expr table.1)
 
@@ -72,7 +73,7 @@ as_data_mode (ConstDataMode.active memory offset) = DataMode.active memory (as_e
 abbrev pub as_data : ConstData → Data
 as_data d = record { bytes = d.bytes; mode = as_data_mode d.mode }
 
--- a module with these bodies, and no custom sections (Structure, Modules)
+-- an encoder's module with these bodies and without custom sections (Structure, Modules)
 abbrev pub with_bodies : Contents → List (List ValType × List Instr) → Syntax
 with_bodies m bodies = record {
   types = m.types;
@@ -90,14 +91,13 @@ with_bodies m bodies = record {
   customs = [];
 }
 
--- an optional section is there (Sections)
+-- an optional section is present (Sections)
 abbrev pub IsPresent : {id : ℕ} {SaysNothing : Type 0} {Content : List ℕ → Type 0} {piece : List ℕ}
     → IsOptionalSection id SaysNothing Content piece → Type 0
 IsPresent (IsOptionalSection.present section) = Unit {0}
 IsPresent (IsOptionalSection.absent nothing empty) = ⊥
 
--- a module states the number of its data segments, after its preamble and ten sections (Data Count
--- Section)
+-- a module has a data count section (Data Count Section)
 abbrev pub StatesCount : {m : Contents} {bytes : List ℕ} → IsModule m bytes → Type 0
 StatesCount h =
     let tables = h.form.is_second.is_second.is_second.is_second in

@@ -1,4 +1,4 @@
--- Element segments, whose offsets and items are any expressions: the section Binary Format, Modules,
+-- Element segments whose offset and items are any expressions: the section Binary Format, Modules,
 -- Element Section, of the WebAssembly Core Specification 3.0.
 use Rattle.std.specs.Prelude.{◌≡◌, ℕ, false, true, List, [], ◌∷◌, map}
 use Rattle.smith_binary.specs.Numbers.{IsUnsigned}
@@ -14,46 +14,52 @@ use Rattle.smith_instr.specs.declared.instr.Instr.TheVariants.{Reference}
 use Rattle.smith_instr.specs.declared.reference.ReferenceInstr.TheVariants.{Func}
 use Rattle.smith_binary_read_instr.specs.Expressions.{IsNestedExpr}
 
--- the mode of a segment (Structure, Element Segments)
+-- the mode of an element segment (Structure, Element Segments)
 pub data Mode : Type 0 where
   passive : Mode
   declared : Mode
   active : ℕ → List Instr → Mode
 
--- a segment in the abstract syntax, in which functions are expressions too (Structure, Element
--- Segments)
+-- an element segment in the abstract syntax, where function indices are expressions too (Structure,
+-- Element Segments)
 pub record Elem : Type 0 where
   pub ty : RefType
   pub items : List (List Instr)
   pub mode : Mode
 
+-- an element segment of this type, these items and this mode (Structure, Element Segments)
 abbrev pub elem : RefType → List (List Instr) → Mode → Elem
 elem ty items mode = record { ty = ty; items = items; mode = mode }
 
--- functions as expressions (Element Section)
+-- function indices as expressions (Element Section)
 abbrev pub func_items : List ℕ → List (List Instr)
 func_items funcs = map (λ (index : ℕ). Reference (Func index) ∷ []) funcs
 
--- expressions, and functions and expressions after an offset or a type (Element Section)
+-- a list of expressions (Element Section)
 abbrev pub IsItems : List (List Instr) → List ℕ → Type 0
 IsItems items = IsList IsNestedExpr items
 
+-- an offset, then function indices (Element Section)
 abbrev pub IsFirstFuncs : List Instr → List ℕ → List ℕ → Type 0
 IsFirstFuncs offset funcs = Joined (IsNestedExpr offset) (IsFuncs funcs)
 
+-- a table index, an offset, the element kind, then function indices (Element Section)
 abbrev pub IsTableFuncs : ℕ → List Instr → List ℕ → List ℕ → Type 0
 IsTableFuncs table offset funcs = Joined (IsIndex table) (Joined (IsNestedExpr offset) (IsKindFuncs funcs))
 
+-- an offset, then expressions (Element Section)
 abbrev pub IsFirstItems : List Instr → List (List Instr) → List ℕ → Type 0
 IsFirstItems offset items = Joined (IsNestedExpr offset) (IsItems items)
 
+-- a reference type, then expressions (Element Section)
 abbrev pub IsTypedItems : RefType → List (List Instr) → List ℕ → Type 0
 IsTypedItems ty items = Joined (IsRefType ty) (IsItems items)
 
+-- a table index, an offset, a reference type, then expressions (Element Section)
 abbrev pub IsTableItems : ℕ → List Instr → RefType → List (List Instr) → List ℕ → Type 0
 IsTableItems table offset ty items = Joined (IsIndex table) (Joined (IsNestedExpr offset) (IsTypedItems ty items))
 
--- a segment in one of the eight forms, after the number of the form (Element Section)
+-- an element segment in one of the eight forms, after the number of the form (Element Section)
 abbrev pub IsInForm : Form → Elem → List ℕ → Type 0
 IsInForm first_funcs e piece =
     (offset : List Instr) × (funcs : List ℕ) × (e ≡ elem (func_ref false) (func_items funcs) (active 0 offset))
@@ -74,7 +80,7 @@ IsInForm table_items e piece =
 IsInForm declared_items e piece =
     (ty : RefType) × (items : List (List Instr)) × (e ≡ elem ty items declared) × IsTypedItems ty items piece
 
--- the number of a form, then a segment in it (Element Section)
+-- the number of a form, then an element segment in that form (Element Section)
 abbrev pub IsElemIn : Form → Elem → List ℕ → Type 0
 IsElemIn form e = Joined (IsUnsigned 32 (form_number form)) (IsInForm form e)
 

@@ -9,7 +9,7 @@ use Rattle.smith_instr.specs.declared.numeric.NumericInstr.TheVariants.{I32Unary
 use Rattle.smith_decode.specs.BodyReadings.{body_of}
 use Rattle.smith_decode.specs.declared.modules.Module.{Module}
 
--- a module in which nothing is defined
+-- an empty module
 abbrev pub no_item : Module
 no_item = record {
   types = [];
@@ -32,15 +32,15 @@ no_item = record {
 abbrev pub after_preamble : List ℕ → List ℕ
 after_preamble bytes = 0x00 ∷ 0x61 ∷ 0x73 ∷ 0x6D ∷ 0x01 ∷ 0x00 ∷ 0x00 ∷ 0x00 ∷ bytes
 
--- an expression with an instruction that no constant expression has
+-- an expression with an instruction that is not constant
 abbrev pub ctz : List Instr
 ctz = instr.I32Const (pos 1) ∷ instr.Numeric (I32Unary Ctz) ∷ []
 
--- a code section of one body, which is `data.drop 0`
+-- a code section with one body, `data.drop 0`
 abbrev pub one_drop : List ℕ
 one_drop = 0x0A ∷ 0x07 ∷ 0x01 ∷ 0x05 ∷ 0x00 ∷ 0xFC ∷ 0x09 ∷ 0x00 ∷ 0x0B ∷ []
 
--- a module of one function with that body, which states that it has no data segment
+-- a module with that body and a data count section with the number 0
 abbrev pub dropping : Module
 dropping = record no_item {
   functions = 0 ∷ [];
@@ -52,7 +52,7 @@ dropping = record no_item {
 abbrev pub dropping_bytes : List ℕ
 dropping_bytes = after_preamble (0x03 ∷ 0x02 ∷ 0x01 ∷ 0x00 ∷ 0x0C ∷ 0x01 ∷ 0x00 ∷ one_drop)
 
--- a memory with 64-bit addresses, and a module of it
+-- a memory with 64-bit addresses, and a module with that memory
 abbrev pub wide_memory : MemoryType
 wide_memory = record { minimum = 0; maximum = None; memory64 = true; shared = false; page_size_log2 = None }
 

@@ -1,6 +1,6 @@
--- The features that the forms of a module require: its types, instructions, definitions and segments.
--- That a module may have a form only if its feature is on is a rule of this project; the standard has
--- one language.
+-- The features that the forms of a module require: its types, instructions, definitions and
+-- segments. By a rule of this project, a module may have a form only if its features are enabled;
+-- the standard defines one language.
 use Rattle.std.specs.Prelude.{◌≡◌, ◌≤◌, ◌^◌, ℕ, ◌⊎◌, IsTrue, IsSome, Option, Some, List, [], ◌∷◌, All, slice_get, take}
 use Rattle.smith_syntax.specs.Features.{Features}
 use Rattle.smith_syntax.specs.declared.entity_type.ExportKind.{ExportKind}
@@ -41,21 +41,25 @@ use Rattle.smith_decode.specs.Definitions.{null_of}
 use Rattle.smith_decode.specs.TypeForms.{IsGlobalTypeEnabled, IsGroupEnabled, IsImportGroupEnabled, IsMemoryTypeEnabled}
 use Rattle.smith_decode.specs.TypeForms.{IsRefTypeEnabled, IsTableTypeEnabled, IsValTypeEnabled}
 
--- the types that an instruction states (Control Instructions; Reference Instructions; Parametric
--- Instructions)
+-- a block type is enabled: the value type that it may have as its result is (Control Instructions)
 abbrev pub IsBlockTypeEnabled : Features → BlockType → Type 0
 IsBlockTypeEnabled features (block.Value value) = IsValTypeEnabled features value
 IsBlockTypeEnabled features _ = Unit {0}
 
+-- both types of a cast are enabled (Control Instructions)
 abbrev pub IsCastEnabled : Features → BranchCast → Type 0
 IsCastEnabled features cast = IsRefTypeEnabled features cast.from × IsRefTypeEnabled features cast.to
 
+-- the heap type or the reference type that a reference instruction has as an immediate is enabled
+-- (Reference Instructions)
 abbrev pub AreReferencesEnabled : Features → ReferenceInstr → Type 0
 AreReferencesEnabled features (reference.Null heap_type) = IsHeapTypeEnabled features heap_type
 AreReferencesEnabled features (reference.Test to) = IsRefTypeEnabled features to
 AreReferencesEnabled features (reference.Cast to) = IsRefTypeEnabled features to
 AreReferencesEnabled features _ = Unit {0}
 
+-- the types that an instruction has as immediates are enabled (Control Instructions; Reference
+-- Instructions; Parametric Instructions)
 abbrev pub AreStatedEnabled : Features → Instr → Type 0
 AreStatedEnabled features (instr.Block ty) = IsBlockTypeEnabled features ty
 AreStatedEnabled features (instr.Loop ty) = IsBlockTypeEnabled features ty
@@ -67,21 +71,21 @@ AreStatedEnabled features (instr.SelectTyped values) = All (IsValTypeEnabled fea
 AreStatedEnabled features (instr.Reference op) = AreReferencesEnabled features op
 AreStatedEnabled features _ = Unit {0}
 
--- a memory and a table that are named: one other than the first requires several memories, and
--- reference types (Indices)
+-- a memory index is enabled: any but 0 requires multi-memory (Indices)
 abbrev pub IsMemoryNameEnabled : Features → ℕ → Type 0
 IsMemoryNameEnabled features index = (index ≡ 0 → ⊥) → IsTrue features.multi_memory
 
+-- a table index is enabled: any but 0 requires reference types (Indices)
 abbrev pub IsTableNameEnabled : Features → ℕ → Type 0
 IsTableNameEnabled features index = (index ≡ 0 → ⊥) → IsTrue features.reference_types
 
--- the place of an access, whose offset requires 64-bit memories if it has more than 32 bits (Memory
+-- a memory argument is enabled: an offset of 2^32 or more requires 64-bit memories (Memory
 -- Instructions)
 pub record IsMemArgEnabled (features : Features) (at : MemArg) : Type 0 where
   pub memory : IsMemoryNameEnabled features at.memory
   pub offset : 2 ^ 32 ≤ at.offset → IsTrue features.memory64
 
--- the memories and tables that an instruction names (Instructions)
+-- the memory indices of a memory instruction are enabled (Memory Instructions)
 abbrev pub AreMemoriesEnabled : Features → MemoryInstr → Type 0
 AreMemoriesEnabled features (memory.Size index) = IsMemoryNameEnabled features index
 AreMemoriesEnabled features (memory.Grow index) = IsMemoryNameEnabled features index
@@ -90,11 +94,14 @@ AreMemoriesEnabled features (memory.Copy to from) = IsMemoryNameEnabled features
 AreMemoriesEnabled features (memory.Init index segment) = IsMemoryNameEnabled features index
 AreMemoriesEnabled features (memory.DataDrop segment) = Unit {0}
 
+-- the table indices of `table.copy` and `table.init` are enabled (Table Instructions)
 abbrev pub AreTablesEnabled : Features → TableInstr → Type 0
 AreTablesEnabled features (table.Copy to from) = IsTableNameEnabled features to × IsTableNameEnabled features from
 AreTablesEnabled features (table.Init index segment) = IsTableNameEnabled features index
 AreTablesEnabled features _ = Unit {0}
 
+-- the table indices of an instruction, and its memory indices and offset, are enabled
+-- (Instructions)
 abbrev pub AreNamedEnabled : Features → Instr → Type 0
 AreNamedEnabled features (instr.CallIndirect table ty) = IsTableNameEnabled features table
 AreNamedEnabled features (instr.ReturnCallIndirect table ty) = IsTableNameEnabled features table
@@ -109,87 +116,92 @@ AreNamedEnabled features (instr.VectorStoreLane log2_bytes at lane) = IsMemArgEn
 AreNamedEnabled features (instr.Atomic access at) = IsMemArgEnabled features at
 AreNamedEnabled features _ = Unit {0}
 
--- an instruction, with the types that it states and the memories and tables that it names
--- (Instructions)
+-- an instruction is enabled, with the types, memories and tables in its immediates (Instructions)
 pub record IsInstrEnabled (features : Features) (instruction : Instr) : Type 0 where
   pub own : IsTrue (has_features features instruction)
   pub stated : AreStatedEnabled features instruction
   pub named : AreNamedEnabled features instruction
 
--- an instruction of an expression of constants, in which numeric instructions are extended constants
+-- a numeric instruction of a constant expression is enabled: it requires extended constants
 -- (Expressions)
 abbrev pub IsExtendedEnabled : Features → Instr → Type 0
 IsExtendedEnabled features (instr.Numeric op) = IsTrue features.extended_const
 IsExtendedEnabled features _ = Unit {0}
 
+-- an instruction of a constant expression is enabled (Expressions)
 pub record IsConstantEnabled (features : Features) (instruction : Instr) : Type 0 where
   pub form : IsInstrEnabled features instruction
   pub extended : IsExtendedEnabled features instruction
 
+-- each instruction of a constant expression is enabled (Expressions)
 abbrev pub IsExprEnabled : Features → List Instr → Type 0
 IsExprEnabled features expression = All (IsConstantEnabled features) expression
 
--- a table: an expression of its elements requires garbage collection, unless it is the null of the
--- table's type (Table Section)
+-- a table is enabled: an initialiser other than the `ref.null` of its type requires garbage
+-- collection (Table Section)
 pub record IsTableEnabled (features : Features) (table : TableDefinition) : Type 0 where
   pub ty : IsTableTypeEnabled features table.ty
   pub initial : (table.initial ≡ null_of table.ty.element_type) ⊎ (IsTrue features.gc × IsExprEnabled features table.initial)
 
--- a tag (Tag Section)
+-- a tag is enabled (Tag Section)
 abbrev pub IsTagEnabled : Features → TagDefinition → Type 0
 IsTagEnabled features tag = IsTrue features.exceptions
 
--- a global (Global Section)
+-- a global is enabled (Global Section)
 pub record IsGlobalEnabled (features : Features) (global : GlobalDefinition) : Type 0 where
   pub ty : IsGlobalTypeEnabled features global.ty
   pub initial : IsExprEnabled features global.initial
 
--- an export (Export Section)
+-- the kind of an export is enabled: tags require exceptions (Export Section)
 abbrev pub IsKindEnabled : Features → ExportKind → Type 0
 IsKindEnabled features kind.Tag = IsTrue features.exceptions
 IsKindEnabled features _ = Unit {0}
 
+-- an export is enabled: its kind is (Export Section)
 abbrev pub IsExportEnabled : Features → Export → Type 0
 IsExportEnabled features item = IsKindEnabled features item.kind
 
--- an element segment: expressions as items, which have a type, and a table other than the first require
--- reference types, and segments that are not copied into a table require bulk memory; functions as items
--- are of every feature (Element Section)
+-- the items of an element segment are enabled: expressions require reference types, function
+-- indices no feature (Element Section)
 abbrev pub AreItemsEnabled : Features → RefType → ElementItems → Type 0
 AreItemsEnabled features ty (element_items.Functions functions) = Unit {0}
 AreItemsEnabled features ty (element_items.Expressions expressions) =
     IsTrue features.reference_types × IsRefTypeEnabled features ty × All (IsExprEnabled features) expressions
 
+-- the mode of an element segment is enabled: modes other than active require bulk memory, and a
+-- table index other than 0 reference types (Element Section)
 abbrev pub IsElementModeEnabled : Features → ElementMode → Type 0
 IsElementModeEnabled features element_mode.Passive = IsTrue features.bulk_memory
 IsElementModeEnabled features element_mode.Declared = IsTrue features.bulk_memory
 IsElementModeEnabled features (element_mode.Active table offset) =
     IsTableNameEnabled features table × IsExprEnabled features offset
 
+-- an element segment is enabled: its items and its mode are (Element Section)
 pub record IsElementEnabled (features : Features) (segment : ElementSegment) : Type 0 where
   pub items : AreItemsEnabled features segment.ty segment.items
   pub mode : IsElementModeEnabled features segment.mode
 
--- a data segment: a memory other than the first requires several memories, and segments that are not
--- copied into a memory require bulk memory (Data Section)
+-- the mode of a data segment is enabled: a passive segment requires bulk memory, and a memory index
+-- other than 0 multi-memory (Data Section)
 abbrev pub IsDataModeEnabled : Features → DataMode → Type 0
 IsDataModeEnabled features data_mode.Passive = IsTrue features.bulk_memory
 IsDataModeEnabled features (data_mode.Active memory offset) =
     IsMemoryNameEnabled features memory × IsExprEnabled features offset
 
+-- a data segment is enabled: its mode is (Data Section)
 abbrev pub IsDataEnabled : Features → DataSegment → Type 0
 IsDataEnabled features segment = IsDataModeEnabled features segment.mode
 
--- a body (Code Section)
+-- a body is enabled (Code Section)
 pub record IsBodyEnabled (features : Features) (body : Body) : Type 0 where
   pub locals : All (λ (run : LocalRun). IsValTypeEnabled features run.ty) body.locals
   pub instructions : All (IsInstrEnabled features) body.instructions
 
--- the number of data segments (Data Count Section)
+-- a data count section is enabled (Data Count Section)
 abbrev pub IsCountEnabled : Features → Option ℕ → Type 0
 IsCountEnabled features count = IsSome count → IsTrue features.bulk_memory
 
--- that the forms of each section are enabled, in the order of the sections (Modules)
+-- for each section in order, the proposition that its forms are enabled (Modules)
 abbrev pub forms_of : Features → Module → List (Type 0)
 forms_of features m =
     All (IsGroupEnabled features) m.types
@@ -204,22 +216,23 @@ forms_of features m =
     ∷ All (IsBodyEnabled features) m.bodies
     ∷ All (IsDataEnabled features) m.datas ∷ []
 
+-- each of these propositions holds
 abbrev pub Each : List (Type 0) → Type 0
 Each [] = Unit {0}
 Each (P ∷ properties) = P × Each properties
 
--- the forms of a module (Modules)
+-- the forms of a module are enabled (Modules)
 abbrev pub AreFormsEnabled : Features → Module → Type 0
 AreFormsEnabled features m = Each (forms_of features m)
 
--- the first item that lacks a property
+-- the item at `index` is the first that lacks the property `P`
 pub record IsFirstOff {A : Type 0} (P : A → Type 0) (items : List A) (index : ℕ) : Type 0 where
   pub item : A
   pub stands : slice_get items index ≡ Some item
   pub off : P item → ⊥
   pub before : All P (take index items)
 
--- the first place whose form is off: the forms of the sections before it are on
+-- the item at a place is the first whose form is not enabled; all sections before it are enabled
 abbrev pub IsOffAt : Features → Module → Place → Type 0
 IsOffAt features m (place.Types index) = IsFirstOff (IsGroupEnabled features) m.types index
 IsOffAt features m (place.Imports index) = Each (take 1 (forms_of features m)) × IsFirstOff (IsImportGroupEnabled features) m.imports index

@@ -28,69 +28,82 @@ use Rattle.smith_decode.specs.DataReadings as data_segment
 use Rattle.smith_decode.specs.DefinitionReadings.{global_at, table_at}
 use Rattle.smith_decode.specs.ElementReadings as element
 
--- these bytes
+-- reads exactly the bytes `literal`
 abbrev pub literal_at : List ℕ → List ℕ → Result (List ℕ) Fault
 literal_at [] bytes = Ok bytes
 literal_at (byte ∷ literal) bytes =
     byte_at bytes >>= (λ front. if front.0 == byte then literal_at literal front.1 else fault_at UnknownByte bytes)
 
--- the magic number and the version
+-- the magic number and the version (Modules)
 abbrev pub preamble : List ℕ
 preamble = 0x00 ∷ 0x61 ∷ 0x73 ∷ 0x6D ∷ 0x01 ∷ 0x00 ∷ 0x00 ∷ 0x00 ∷ []
 
+-- reads the preamble (Modules)
 unfoldable pub preamble_at : List ℕ → Result (List ℕ) Fault
 preamble_at bytes = literal_at preamble bytes
 
--- a number that a section states (Start Section, Data Count Section)
+-- reads the content of a start or data count section, a number (Start Section, Data Count Section)
 unfoldable pub index_whole : List ℕ → Result (Option ℕ) Fault
 index_whole bytes = whole_at (mapped_at (λ n. Some n) (unsigned_at 32)) bytes
 
--- the parts of a module, from the last on: bodies and data segments; the number of data segments;
--- the start function and element segments; globals and exports; memories and tags; functions and tables; types and
--- imports
+-- the bodies and the data segments of a module
 abbrev pub Bodies : Type 0
 Bodies = List Body × (List DataSegment × Unit {0})
 
+-- the data count of a module, and the parts after it
 abbrev pub Counts : Type 0
 Counts = Option ℕ × Bodies
 
+-- the start function and the element segments of a module, and the parts after them
 abbrev pub Starts : Type 0
 Starts = Option ℕ × (List ElementSegment × Counts)
 
+-- the globals and the exports of a module, and the parts after them
 abbrev pub Globals : Type 0
 Globals = List GlobalDefinition × (List Export × Starts)
 
+-- the memories and the tags of a module, and the parts after them
 abbrev pub Memories : Type 0
 Memories = List MemoryType × (List TagDefinition × Globals)
 
+-- the functions and the tables of a module, and the parts after them
 abbrev pub Functions : Type 0
 Functions = List ℕ × (List TableDefinition × Memories)
 
+-- the parts of a module in the order of its sections: the types, the imports and the parts after
+-- them
 abbrev pub Parts : Type 0
 Parts = List (List SubType) × (List Imports × Functions)
 
+-- reads the code section and the data section
 unfoldable pub bodies_at : List ℕ → Result Bodies Fault
 bodies_at bytes = more_at 10 [] (whole_at (list_at body_at)) (more_at 11 [] (whole_at (list_at data_segment.segment_at)) end_at) bytes
 
+-- reads the data count section and the sections after it
 unfoldable pub counts_at : List ℕ → Result Counts Fault
 counts_at bytes = more_at 12 None index_whole bodies_at bytes
 
+-- reads the start section, the element section and the sections after them
 unfoldable pub starts_at : List ℕ → Result Starts Fault
 starts_at bytes = more_at 8 None index_whole (more_at 9 [] (whole_at (list_at element.segment_at)) counts_at) bytes
 
+-- reads the global section, the export section and the sections after them
 unfoldable pub globals_at : List ℕ → Result Globals Fault
 globals_at bytes = more_at 6 [] (whole_at (list_at global_at)) (more_at 7 [] (whole_at (list_at export_at)) starts_at) bytes
 
+-- reads the memory section, the tag section and the sections after them
 unfoldable pub memories_at : List ℕ → Result Memories Fault
 memories_at bytes = more_at 5 [] (whole_at (list_at memory_type_at)) (more_at 13 [] (whole_at (list_at tag_at)) globals_at) bytes
 
+-- reads the function section, the table section and the sections after them
 unfoldable pub functions_at : List ℕ → Result Functions Fault
 functions_at bytes = more_at 3 [] (whole_at (list_at (unsigned_at 32))) (more_at 4 [] (whole_at (list_at table_at)) memories_at) bytes
 
+-- reads all sections of a module
 unfoldable pub parts_at : List ℕ → Result Parts Fault
 parts_at bytes = more_at 1 [] (whole_at (list_at group_at)) (more_at 2 [] (whole_at (list_at import_group_at)) functions_at) bytes
 
--- a module, by its parts, and with its custom sections
+-- a module with these parts and without custom sections
 abbrev pub module_of : Parts → Module
 module_of p = record {
   types = p.0;
@@ -109,41 +122,45 @@ module_of p = record {
   customs = [];
 }
 
+-- a module with these custom sections
 abbrev pub with_customs : Module → List Custom → Module
 with_customs m customs = record m { customs = customs }
 
+-- reads all sections of a module as a module without custom sections
 unfoldable pub sections_at : List ℕ → Result Module Fault
 sections_at bytes = parts_at bytes >>= (λ parts. Ok (module_of parts))
 
--- whether there is a body for each function, and as many data segments as are stated, if their number
--- is stated (Modules)
+-- whether a stated number, if there is one, is `n`
 abbrev pub is_number : Option ℕ → ℕ → Bool
 is_number None n = true
 is_number (Some stated) n = stated == n
 
+-- whether the module has a body for each function, and as many data segments as its data count
+-- section states, if it has one (Modules)
 abbrev pub counts_agree : Module → Bool
 counts_agree m = (length m.functions == length m.bodies) && is_number m.data_count (length m.datas)
 
--- whether the number of data segments is stated, if a body names one (Modules)
+-- whether a number is stated, if `named` is true
 abbrev pub is_stated_if : Bool → Option ℕ → Bool
 is_stated_if named None = not named
 is_stated_if named (Some stated) = true
 
+-- whether the module has a data count section, if a body names a data segment (Modules)
 abbrev pub count_suffices : Module → Bool
 count_suffices m = is_stated_if (name_data m.bodies) m.data_count
 
--- a module, if its numbers of items agree, and it states the number of data segments if it must: else
--- a fault at the end (Modules)
+-- the module, or a fault at the end of the bytes if the numbers of its items disagree or a data
+-- count section is missing (Modules)
 abbrev pub if_counts_agree : Module → Result Module Fault
 if_counts_agree m =
     if counts_agree m then (if count_suffices m then Ok m else Err (record { left = 0; reason = DataCountMissing }))
     else Err (record { left = 0; reason = CountMismatch })
 
--- a module after its preamble, without its custom sections (Modules)
+-- reads a module after its preamble, without its custom sections (Modules)
 unfoldable pub checked_at : List ℕ → Result Module Fault
 checked_at bytes = customs_at bytes >>= (λ settled. sections_at settled >>= (λ m. if_counts_agree m))
 
--- a module (Modules)
+-- reads a module (Modules)
 unfoldable pub module_at : List ℕ → Result Module Fault
 module_at bytes =
     preamble_at bytes >>= (λ rest. checked_at rest >>= (λ m. kept_at rest >>= (λ customs. Ok (with_customs m customs))))

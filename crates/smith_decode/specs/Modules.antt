@@ -36,14 +36,15 @@ use Rattle.smith_decode.specs.ElementReadings.{element_view}
 use Rattle.smith_decode.specs.Elements.{Elem, IsElem}
 use Rattle.smith_decode.specs.Customs.{AreCustoms, IsThen, HasCustoms}
 
--- a number that a section states (Start Section, Data Count Section)
+-- the content of a start or data count section: a number (Start Section, Data Count Section)
 pub record IsStated (stated : Option ℕ) (piece : List ℕ) : Type 0 where
   pub number : ℕ
   pub is : stated ≡ Some number
   pub form : IsUnsigned 32 number piece
 
--- a module in the abstract syntax (Structure, Modules), with its custom sections. A function is its type
--- and its body, which are two lists here, as in the bytes; a body is its locals and its instructions
+-- A module in the abstract syntax, with its custom sections (Structure, Modules). Functions are two
+-- lists, as in the binary format: `functions` has their type indices, `bodies` their locals and
+-- instructions.
 pub record Syntax : Type 0 where
   pub types : List (List SubType)
   pub imports : List Import
@@ -59,12 +60,12 @@ pub record Syntax : Type 0 where
   pub datas : List Data
   pub customs : List Custom
 
--- a body after its size: its locals, then its expression (Code Section)
+-- the size of a body, its locals, then its expression (Code Section)
 abbrev pub IsFunctionBody : List ValType × List Instr → List ℕ → Type 0
 IsFunctionBody body = IsSized (Joined (IsLocals body.0) (IsNestedExpr body.1))
 
--- the sections of a module that states this number of data segments, in order, with custom sections
--- before, between and after them (Modules)
+-- the sections in order, with custom sections before, between and after them; `count` is the number
+-- in the data count section, if there is one (Modules)
 abbrev pub AreSections : Syntax → Option ℕ → List ℕ → Type 0
 AreSections m count =
     IsThen 1 (m.types ≡ []) (IsList IsRecGroup m.types)
@@ -81,13 +82,13 @@ AreSections m count =
     (IsThen 10 (m.bodies ≡ []) (IsList IsFunctionBody m.bodies)
     (IsThen 11 (m.datas ≡ []) (IsList IsData m.datas) AreCustoms))))))))))))
 
--- whether an instruction of a body names a data segment (Data Count Section)
+-- whether an instruction of the body names a data segment (Data Count Section)
 abbrev pub body_names_data : List ValType × List Instr → Bool
 body_names_data body = list_any names_data body.1
 
--- a module: the preamble, then its sections; it has a body for each function, and as many data
--- segments as it states, if it states their number; if it doesn't, no body names a data segment; and
--- these are its custom sections (Modules)
+-- The bytes are a module: the preamble, then its sections (Modules). It has a body for each
+-- function, and as many data segments as its data count section states. Without a data count
+-- section, no body names a data segment. `customs` are its custom sections.
 pub record IsModuleBinary (m : Syntax) (bytes : List ℕ) : Type 0 where
   pub count : Option ℕ
   pub form : Joined IsPreamble (AreSections m count) bytes
@@ -96,21 +97,25 @@ pub record IsModuleBinary (m : Syntax) (bytes : List ℕ) : Type 0 where
   pub named : count ≡ None → list_any body_names_data m.bodies ≡ false
   pub customs : HasCustoms m.customs form.second
 
--- tables, tags, globals and exports in the abstract syntax (Structure, Modules)
+-- a table in the abstract syntax: its type and its initialiser (Structure, Tables)
 abbrev pub table_pair : TableDefinition → TableType × List Instr
 table_pair table = (table.ty, table.initial)
 
+-- a tag in the abstract syntax: its type index (Structure, Tags)
 abbrev pub tag_index : TagDefinition → ℕ
 tag_index tag = tag.0
 
+-- a global in the abstract syntax: its type and its initialiser (Structure, Globals)
 abbrev pub global_pair : GlobalDefinition → GlobalType × List Instr
 global_pair global = (global.ty, global.initial)
 
+-- an export in the abstract syntax: its name, and the kind and the index of its item (Structure,
+-- Exports)
 abbrev pub export_triple : Export → List ℕ × ExportKind × ℕ
 export_triple item = (item.name, item.kind, item.index)
 
--- a decoded module in the abstract syntax (Structure, Modules): imports one by one, locals one by one,
--- and functions in element segments as expressions
+-- a decoded module in the abstract syntax, where imports and locals are listed one by one, and
+-- function indices in element segments are expressions (Structure, Modules)
 abbrev pub syntax_of : Module → Syntax
 syntax_of m = record {
   types = m.types;
@@ -128,8 +133,7 @@ syntax_of m = record {
   customs = m.customs;
 }
 
--- bodies whose locals are those of bodies with bytes, and whose expressions are these bytes (Code
--- Section)
+-- each body has the locals of its counterpart, whose bytes spell its expression (Code Section)
 abbrev pub AreBodiesOf : List (List ValType × List Instr) → List (List ValType × List ℕ) → Type 0
 AreBodiesOf [] [] = Unit {0}
 AreBodiesOf (body ∷ bodies) (raw ∷ raws) = (body.0 ≡ raw.0) × IsNestedExpr body.1 raw.1 × AreBodiesOf bodies raws

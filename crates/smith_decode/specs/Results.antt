@@ -1,4 +1,4 @@
--- What a call of the decoder returned.
+-- The results of the decoder.
 use Rattle.std.specs.Prelude.{◌≡◌, ◌-◌, ℕ, List, length, unwrap_or, Result, Ok, Err}
 use Rattle.smith_syntax.specs.Features.{Features}
 use Rattle.smith_binary_read.specs.declared.error.Fault.{Fault}
@@ -10,19 +10,20 @@ use Rattle.smith_decode.specs.Forms.{AreFormsEnabled, IsOffAt}
 use Rattle.smith_decode.specs.Locations.{located}
 use Rattle.smith_decode.specs.Modules.{Syntax, syntax_of}
 
--- a call returned this module if its forms are of these features, or memory was refused
+-- the decoder returned this module, refused a form that is not enabled, or was refused memory
 abbrev pub Returns : Features → Syntax → Result Module DecodeError → Type 0
 Returns features m (Ok decoded) = syntax_of decoded ≡ m
 Returns features m (Err Memory) = Unit {0}
 Returns features m (Err (Malformed offset reason)) = ⊥
 Returns features m (Err (FeatureOff offset)) = (decoded : Module) × (syntax_of decoded ≡ m) × (AreFormsEnabled features decoded → ⊥)
 
--- the offset of a place, or of the end if there is no such place
+-- the offset of a place, or of the end of the bytes if the place does not exist
 abbrev pub offset_in : List ℕ → Place → ℕ
 offset_in bytes place = unwrap_or (located place bytes) (length bytes)
 
--- a call returned what is read of bytes, whose forms are of these features, or the fault with its offset
--- in them, or the offset of the first form that is not of these features, unless memory was refused
+-- The decoder returned the module that the reading gives, whose forms are enabled; or the fault of
+-- the reading with its offset; or the offset of the first form that is not enabled; or it was
+-- refused memory.
 abbrev pub Locates : Features → Result Module DecodeError → List ℕ → Result Module Fault → Type 0
 Locates features (Ok m) bytes reading = (reading ≡ Ok m) × AreFormsEnabled features m
 Locates features (Err Memory) bytes reading = Unit {0}

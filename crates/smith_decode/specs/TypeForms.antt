@@ -1,5 +1,5 @@
--- The features that the forms of types require. That a module may have a form only if its feature is
--- on is a rule of this project; the standard has one language.
+-- The features that the forms of types require. By a rule of this project, a module may have a form
+-- only if its features are enabled; the standard defines one language.
 use Rattle.std.specs.Prelude.{◌≡◌, false, IsTrue, IsSome, List, length, All}
 use Rattle.smith_syntax.specs.Features.{Features}
 use Rattle.smith_syntax.specs.declared.value_type.RefType.{RefType}
@@ -17,46 +17,47 @@ use Rattle.smith_syntax.specs.declared.imports.ImportItem.{ImportItem}
 use Rattle.smith_types.specs.Flags.{IsElementTypeEnabled, IsHeapTypeEnabled, IsImportsEnabled, IsSubTypeEnabled}
 use Rattle.smith_types.specs.ValidTypes.{values_of}
 
--- a reference type (Reference Types)
+-- a reference type is enabled; a non-nullable one requires its feature (Reference Types)
 pub record IsRefTypeEnabled (features : Features) (reference : RefType) : Type 0 where
   pub heap_type : IsHeapTypeEnabled features reference.heap_type
   pub nullable : reference.nullable ≡ false → IsTrue features.function_references
 
--- a value type (Value Types)
+-- a value type is enabled (Value Types)
 abbrev pub IsValTypeEnabled : Features → ValType → Type 0
 IsValTypeEnabled features V128 = IsTrue features.simd
 IsValTypeEnabled features (Ref reference) = IsTrue features.reference_types × IsRefTypeEnabled features reference
 IsValTypeEnabled features _ = Unit {0}
 
--- a sub type, and the value types in it (Recursive Types)
+-- a subtype and the value types in it are enabled (Recursive Types)
 pub record IsTypeEnabled (features : Features) (t : SubType) : Type 0 where
   pub form : IsSubTypeEnabled features t
   pub values : All (IsValTypeEnabled features) (values_of t.composite_type.inner)
 
--- a recursive group, which has one type without garbage collection (Recursive Types)
+-- a recursive group is enabled; without garbage collection, it has exactly one type (Recursive
+-- Types)
 pub record IsGroupEnabled (features : Features) (group : List SubType) : Type 0 where
   pub members : All (IsTypeEnabled features) group
   pub single : features.gc ≡ false → length group ≡ 1
 
--- the type of a table (Table Types)
+-- a table type is enabled (Table Types)
 pub record IsTableTypeEnabled (features : Features) (table : TableType) : Type 0 where
   pub element : IsRefTypeEnabled features table.element_type
   pub element_enabled : IsElementTypeEnabled features table.element_type
   pub table64 : IsTrue table.table64 → IsTrue features.memory64
   pub shared : IsTrue table.shared → IsTrue features.shared_everything_threads
 
--- the type of a memory (Memory Types)
+-- a memory type is enabled (Memory Types)
 pub record IsMemoryTypeEnabled (features : Features) (memory : MemoryType) : Type 0 where
   pub page_size : IsSome memory.page_size_log2 → IsTrue features.custom_page_sizes
   pub memory64 : IsTrue memory.memory64 → IsTrue features.memory64
   pub shared : IsTrue memory.shared → IsTrue features.threads
 
--- the type of a global (Global Types)
+-- a global type is enabled (Global Types)
 pub record IsGlobalTypeEnabled (features : Features) (global : GlobalType) : Type 0 where
   pub value : IsValTypeEnabled features global.val_type
   pub shared : IsTrue global.shared → IsTrue features.shared_everything_threads
 
--- the type of an import (External Types)
+-- the type of an import is enabled (External Types)
 abbrev pub IsEntityTypeEnabled : Features → EntityType → Type 0
 IsEntityTypeEnabled features (entity.Func index) = Unit {0}
 IsEntityTypeEnabled features (entity.Table table) = IsTableTypeEnabled features table
@@ -64,13 +65,13 @@ IsEntityTypeEnabled features (entity.Memory memory) = IsMemoryTypeEnabled featur
 IsEntityTypeEnabled features (entity.Global global) = IsGlobalTypeEnabled features global
 IsEntityTypeEnabled features (entity.Tag index) = IsTrue features.exceptions
 
--- the types in a group of imports (Import Section)
+-- the types in a group of imports are enabled (Import Section)
 abbrev pub AreImportTypesEnabled : Features → Imports → Type 0
 AreImportTypesEnabled features (Single imported) = IsEntityTypeEnabled features imported.entity_type
 AreImportTypesEnabled features (Compact1 from items) = All (λ (item : ImportItem). IsEntityTypeEnabled features item.entity_type) items
 AreImportTypesEnabled features (Compact2 from entity_type names) = IsEntityTypeEnabled features entity_type
 
--- a group of imports (Import Section)
+-- a group of imports is enabled (Import Section)
 pub record IsImportGroupEnabled (features : Features) (group : Imports) : Type 0 where
   pub form : IsImportsEnabled features group
   pub types : AreImportTypesEnabled features group

@@ -18,8 +18,8 @@ abbrev pub field_count : CompositeInnerType → ℕ
 field_count (Struct structure) = length structure.fields
 field_count _ = 0
 
--- the greater of 3 and the greatest number of fields of a struct: the maximum number of operands of
--- an instruction
+-- the maximum number of operands of an instruction: the greater of 3 and the greatest number of
+-- fields of a struct
 unfoldable pub widest : List SubType → ℕ
 widest [] = 3
 widest (t ∷ types) = max (field_count t.composite_type.inner) (widest types)
@@ -28,10 +28,10 @@ widest (t ∷ types) = max (field_count t.composite_type.inner) (widest types)
 abbrev pub most_instructions : Config → List SubType → ℕ
 most_instructions config types = 23 * (1 + config.const_expr_fuel * widest types)
 
--- there may be nothing to choose from
+-- there may be no candidate for an instruction of the expression
 abbrev pub MayLack : Config → Context → ValType → Type 0
 MayLack config context wanted = IsUngrounded config context wanted ⊎ HoldsUngroundedField config context
 
--- the errors of drawing an expression
+-- the errors of drawing a constant expression
 abbrev pub MayRefuseConstExpr : Config → Context → ValType → Error → Type 0
 MayRefuseConstExpr config context wanted e = (e ≡ Memory) ⊎ ((e ≡ EmptyChoose) × MayLack config context wanted)

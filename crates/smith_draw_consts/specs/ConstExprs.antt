@@ -17,7 +17,7 @@ use Rattle.smith_draw_consts.specs.declared.node_choice.Choice.{Choice}
 use Rattle.smith_draw_consts.specs.declared.node.Operand.{Operand}
 use Rattle.smith_draw_consts.specs.declared.node.Operand.TheVariants.{Value, Length}
 
--- the instructions so far, the remaining fuel and the remaining bytes
+-- the instructions so far, the fuel left and the bytes left
 pub record State : Type 0 where
   pub made : List ConstInstr
   pub fuel : ℕ
@@ -31,21 +31,21 @@ state_of made fuel bytes = record { made = made; fuel = fuel; bytes = bytes }
 abbrev pub add_instruction : ConstInstr → State → State
 add_instruction instruction s = record s { made = s.made ++ instruction ∷ [] }
 
--- a length that is at most the fuel, and is subtracted from it
+-- draws a length that is at most the fuel, and subtracts it from the fuel
 abbrev pub length_at : State → State
 length_at s = let n = range_at 0 s.fuel s.bytes in state_of (s.made ++ instr.I32Const (cast_signed w32 n.0) ∷ []) (s.fuel - n.0) n.1
 
--- an operand, given the draw of a value: a length is drawn as an i32, unless lengths are limited
+-- draws an operand; a length is drawn as an i32, unless lengths are limited
 abbrev pub operand_at : Config → (ValType → State → Option State) → Operand → State → Option State
 operand_at config draw (Value value) s = draw value s
 operand_at config draw Length s = if config.limit_arrays_in_const_exprs then Some (length_at s) else draw I32 s
 
--- operands in order
+-- draws operands in order
 abbrev pub operands_at : (Operand → State → Option State) → List Operand → State → Option State
 operands_at draw [] s = Some s
 operands_at draw (operand ∷ operands) s = option_and_then (operands_at draw operands) (draw operand s)
 
--- the draw after a choice: an extended constant, or operands followed by the instruction
+-- draws an extended constant, or the operands of a choice and then its instruction
 abbrev pub made_at : Context → Config → (ValType → State → Option State) → ValType → State → Choice → Option State
 made_at context config draw wanted s choice =
     let extended = extended_at wanted s.bytes in
@@ -54,31 +54,30 @@ made_at context config draw wanted s choice =
     else option_map (add_instruction node.0.instruction) (operands_at (operand_at config draw) node.0.operands
     (state_of s.made (s.fuel - 1) node.1))
 
--- the draw after a choice, if there is one
+-- draws according to a choice, if there is one
 abbrev pub after_choice : Context → Config → (ValType → State → Option State) → ValType → State → Option Choice → Option State
 after_choice context config draw wanted s None = None
 after_choice context config draw wanted s (Some choice) = made_at context config draw wanted s choice
 
--- a value of a type, by recursion on a depth above the fuel; none if there is nothing to choose
--- from
+-- draws a value of a type, by recursion on a depth above the fuel; none if there is no candidate
 unfoldable pub expression_at : Context → Config → ℕ → ValType → State → Option State
 expression_at context config zero wanted s = None
 expression_at context config (suc depth) wanted s =
     let chosen = choose_at (offers config context wanted s.fuel) s.bytes in
     after_choice context config (expression_at context config depth) wanted (state_of s.made s.fuel chosen.1) chosen.0
 
--- an expression from an empty start, and the remaining bytes
+-- the expression of a type with this fuel, and the bytes left
 unfoldable pub expression_alone_at : Context → Config → ℕ → ValType → List ℕ → Option (List ConstInstr × List ℕ)
 expression_alone_at context config fuel wanted bytes =
     option_map (λ (s : State). (s.made, s.bytes)) (expression_at context config (suc fuel) wanted (state_of [] fuel bytes))
 
--- the expression of a type drawn from bytes in a context, with the configured fuel
+-- the expression of a type with the configured fuel, and the bytes left
 abbrev pub const_expr_at : Config → Context → ValType → List ℕ → Option (List ConstInstr × List ℕ)
 const_expr_at config context wanted bytes =
     expression_alone_at context config config.const_expr_fuel wanted bytes
 
--- the initialiser of a table: none without garbage collection; for nullable elements, a bool
--- decides whether there is none
+-- the initialiser of a table: none without garbage collection; for nullable elements, a drawn bool
+-- decides whether there is one
 unfoldable pub table_init_at : Config → Context → RefType → List ℕ → Option (Option (List ConstInstr) × List ℕ)
 table_init_at config context element bytes =
     let null = if element.nullable then bool_at bytes else (false, bytes) in

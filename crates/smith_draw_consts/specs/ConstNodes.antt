@@ -29,7 +29,7 @@ fields_there (Some t) = fields_of t.composite_type.inner
 abbrev pub field_operands : List SubType → ℕ → List Operand
 field_operands types index = map Value (field_values (fields_there (slice_get types index)))
 
--- a number of copies of a list, concatenated
+-- `count` copies of a list, concatenated
 abbrev pub repeated : {A : Type 0} → ℕ → List A → List A
 repeated zero xs = []
 repeated (suc n) xs = xs ++ repeated n xs
@@ -39,8 +39,8 @@ abbrev pub is_shared_heap : HeapType → Bool
 is_shared_heap (Abstract shared ty) = shared
 is_shared_heap _ = false
 
--- the reference type to convert to the wanted type: to this heap type, with the same nullability
--- and sharedness
+-- the reference type from which a value is converted to the wanted type: this heap type, with the
+-- same nullability and sharedness
 abbrev pub converted : ValType → AbstractHeapType → ValType
 converted (Ref reference) ty = Ref (record { nullable = reference.nullable; heap_type = Abstract (is_shared_heap reference.heap_type) ty })
 converted value ty = value

@@ -30,7 +30,7 @@ context_of scope = record {
   visible = scope.visible;
 }
 
--- the items defined so far are valid, and few enough for indices
+-- the items defined so far are valid, and their indices have 32 bits
 pub record IsScope (context : Context) : Type 0 where
   pub orderly : IsOrderly context.types
   pub few_types : length context.types < 2 ^ 32
@@ -44,8 +44,8 @@ pub record IsScope (context : Context) : Type 0 where
   pub fields : (index : ℕ) (t : SubType) → slice_get context.types index ≡ Some t
       → All (IsValTypeValid context.features (length context.types)) (field_values (fields_of t.composite_type.inner))
 
--- the end of the globals that may be read: after the imported globals, or after all globals if that
--- is allowed (Validation, Modules) with garbage collection (own rule)
+-- the end of the globals that an expression may read: the imported globals, or with garbage
+-- collection all globals if that is allowed (Validation, Modules; own rule)
 abbrev pub visible_end : Config → Spaces → Bool → ℕ
 visible_end config spaces allow_defined = if config.gc_enabled && allow_defined then length spaces.entities.globals.now else
     spaces.entities.imported_globals
@@ -62,8 +62,8 @@ seen_by config spaces allow_defined = record {
   visible = visible_end config spaces allow_defined;
 }
 
--- the types defined so far are valid, the functions and globals are valid over them, and all are
--- few enough for indices
+-- the types defined so far are valid, the functions and globals are valid over them, and indices
+-- have 32 bits
 pub record AreSpacesValid (config : Config) (spaces : Spaces) : Type 0 where
   pub types : AreTypesValid (features_of config) spaces.types.now
   pub funcs : All (IsFuncTypeIndex spaces.types.now.types) spaces.entities.funcs.now
@@ -72,7 +72,7 @@ pub record AreSpacesValid (config : Config) (spaces : Spaces) : Type 0 where
   pub few_funcs : length spaces.entities.funcs.now < 2 ^ 32
   pub few_globals : length spaces.entities.globals.now < 2 ^ 32
 
--- a visible global whose type is a subtype of the wanted type (Validation, Constant Expressions;
--- own rules of subtyping as in `IsStep`)
+-- the global is visible, and its type is a subtype of the wanted type (Validation, Constant
+-- Expressions; own rules of subtyping as in `IsStep`)
 abbrev pub IsReadable : Context → ValType → ℕ → Type 0
 IsReadable context wanted index = (value : ValType) × IsVisible context index value × IsValBelow context.types value wanted

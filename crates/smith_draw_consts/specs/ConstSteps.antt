@@ -1,4 +1,4 @@
--- The instructions added by each step of drawing a constant expression.
+-- The instructions that each step of drawing a constant expression adds.
 use Rattle.std.specs.Prelude.{◌≡◌, ◌⊎◌, ℕ, ◌+◌, ◌*◌, ◌≤◌, ◌<◌, true, IsTrue, Option, List, Some, None, Result, Ok, Err, length, map}
 use Rattle.std.specs.Prelude.{slice_get, All}
 use Rattle.smith_types.specs.Expressions.{Context, HasType}
@@ -25,14 +25,16 @@ abbrev pub operand_type : Operand → ValType
 operand_type (Value value) = value
 operand_type Length = I32
 
--- values of these types are appended to the old instructions, and the fuel that this takes
+-- instructions that push values of these types are appended to the old ones; `left` is the fuel
+-- left
 pub record IsDrawn (context : Context) (values : List ValType) (old : List ConstInstr) (fuel : ℕ) (new : List ConstInstr) (left : ℕ) : Type
     0 where
   pub puts : Puts context values old new
   pub spent : left ≤ fuel
   pub short : length new + 23 * widest context.types * left ≤ length old + 23 * length values + 23 * widest context.types * fuel
 
--- a node produces a value of the wanted type from its operands, which are few, valid and paid for
+-- a node gives a value of the wanted type from its operands, which are few and valid, and for which
+-- there is enough fuel
 pub record IsNode (config : Config) (context : Context) (wanted : ValType) (fuel : ℕ) (node : Node) : Type 0 where
   pub result : ValType
   pub typed : HasType context node.instruction (map operand_type node.operands) result
@@ -50,15 +52,15 @@ pub record IsFit (config : Config) (context : Context) (wanted : ValType) (fuel 
   pub node : (bytes : List ℕ) → IsNode config context wanted fuel (node_at context.types wanted choice bytes).0
   pub extended : is_extended choice ≡ true → ((wanted ≡ I32) ⊎ (wanted ≡ I64)) × IsTrue context.features.extended_const
 
--- a successful step leaves the state that its definition returns; if a step had no choice, its
--- definition returns none
+-- a successful step leaves the state that its definition gives; without a choice, its definition
+-- gives none
 abbrev pub Reads : Result (Unit {0}) Error → State → Option State → Type 0
 Reads (Ok done) new read = read ≡ Some new
 Reads (Err errors.Memory) new read = Unit {0}
 Reads (Err errors.EmptyChoose) new read = read ≡ None
 Reads (Err _) new read = ⊥
 
--- a value, by its definition at any depth above the fuel
+-- a value is drawn, by its definition at any depth above the fuel
 pub record ReadsValue (context : Context) (config : Config) (wanted : ValType) (old new : State) (result : Result (Unit {0}) Error)
     : Type 0 where
   pub exact : (depth : ℕ) → old.fuel < depth → Reads result new (expression_at context config depth wanted old)

@@ -1,4 +1,5 @@
--- The effect of one task of drawing a constant expression. Lists of tasks start with the next task.
+-- The effect of one task of drawing a constant expression. A list of tasks begins with the next
+-- task.
 use Rattle.std.specs.Prelude.{◌≡◌, ◌⊎◌, ℕ, ◌+◌, ◌-◌, ◌<◌, ◌≤◌, List, [], ◌∷◌, ◌++◌, Some, None, map, length}
 use Rattle.std.specs.Option.{option_map}
 use Rattle.smith_types.specs.Expressions.{Context}
@@ -14,18 +15,18 @@ use Rattle.smith_draw_consts.specs.declared.node.Node.{Node}
 use Rattle.smith_draw_consts.specs.declared.task.Task.{Task}
 use Rattle.smith_draw_consts.specs.declared.task.Task.TheVariants.{Draw, Write}
 
--- the type that a task draws is valid
+-- the type of the operand that a task draws is valid
 abbrev pub IsTaskValid : Context → Task → Type 0
 IsTaskValid context (Draw operand) = IsValTypeValid context.features (length context.types) (operand_type operand)
 IsTaskValid context (Write instruction) = Unit {0}
 
--- an operand was drawn, by its definition at any depth above the fuel
+-- an operand is drawn, by its definition at any depth above the fuel
 pub record IsOperandDrawn (context : Context) (config : Config) (operand : Operand) (old new : State) : Type 0 where
   pub read : (depth : ℕ) → old.fuel < depth → operand_at config (expression_at context config depth) operand old ≡ Some new
   pub drawn : IsDrawn context (operand_type operand ∷ []) old.made old.fuel new.made new.fuel
 
--- a node was chosen for an operand: its operands are drawn next, and its instruction is appended
--- after them
+-- a node is chosen for an operand: the tasks for its operands come next, then the task that appends
+-- its instruction
 pub record IsOperandBegun (context : Context) (config : Config) (operand : Operand) (todo : List Task) (old : State) (todo' : List Task)
     (new : State) : Type 0 where
   pub node : Node
@@ -39,19 +40,19 @@ pub record IsOperandBegun (context : Context) (config : Config) (operand : Opera
       (operands_at (operand_at config (expression_at context config (depth - 1))) node.operands
       (state_of old.made (old.fuel - 1) bytes))
 
--- a task was carried out, and the remaining tasks became these
+-- a task is done, and `todo'` are the tasks left
 abbrev pub IsStep : Context → Config → Task → List Task → State → List Task → State → Type 0
 IsStep context config (Draw operand) todo old todo' new = ((todo' ≡ todo) × IsOperandDrawn context config operand old new)
     ⊎ IsOperandBegun context config operand todo old todo' new
 IsStep context config (Write instruction) todo old todo' new = (todo' ≡ todo) × (new ≡ add_instruction instruction old)
 
--- a step adds at most the operands of one node and its instruction to the tasks, and makes them
--- more only if it spends fuel
+-- a step adds at most the tasks of one node, and increases the number of tasks only if it spends
+-- fuel
 pub record IsGrowthPaid (context : Context) (todo : List Task) (fuel : ℕ) (todo' : List Task) (left : ℕ) : Type 0 where
   pub few : length todo' ≤ length todo + (widest context.types + 1)
   pub paid : length todo < length todo' → left < fuel
 
--- no choice is offered for an operand, and its definition returns none
+-- there is no choice for an operand, and its definition gives none
 pub record IsOperandLacking (context : Context) (config : Config) (operand : Operand) (old : State) : Type 0 where
   pub lacks : MayLack config context (operand_type operand)
   pub none : (depth : ℕ) → old.fuel < depth → operand_at config (expression_at context config depth) operand old ≡ None

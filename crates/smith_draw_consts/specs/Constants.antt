@@ -1,4 +1,4 @@
--- Constants, and extended constants: a constant expression of add, sub and mul.
+-- Constants, and extended constants: constant expressions with add, sub and mul.
 use Rattle.std.specs.Prelude.{ℕ, zero, suc, ◌||◌, Bool, true, false, nat_lt, ◌==◌, Option, Some, None, List, [], ◌∷◌, length, if◌then◌else◌}
 use Rattle.std.specs.Int.{cast_signed, w32, w64, w128}
 use Rattle.smith_bytes.specs.Draws.{whole_at, range_at}
@@ -36,15 +36,15 @@ operation true Mul = instr.I64Mul
 abbrev pub operator_of : ℕ → Option Operator
 operator_of number = if number == 0 then None else if number == 1 then Some Add else if number == 2 then Some Sub else Some Mul
 
--- the operator to put before `count` instructions: none if the source is empty or `count` is above
--- 10
+-- the operator to put in front of `count` instructions: none if the source is empty or `count` is
+-- above 10
 unfoldable pub operator_at : ℕ → List ℕ → Option Operator × List ℕ
 operator_at count bytes =
     if (length bytes == 0) || nat_lt 10 count then (None, bytes)
     else (let number = range_at 0 3 bytes in (operator_of number.0, number.1))
 
--- an instruction put before the existing ones, then the rest of the draw; the instruction is a
--- constant if there is no operator
+-- an instruction put in front of others, then the rest of the draw; without an operator, the
+-- instruction is a constant
 abbrev pub extended_by : (ℕ → List ConstInstr → List ℕ → List ConstInstr × List ℕ) → ValType → ℕ → List ConstInstr → Option Operator
     → List ℕ → List ConstInstr × List ℕ
 extended_by rest wanted needed made None bytes = let constant = constant_at wanted bytes in rest needed (constant.0 ∷ made) constant.1

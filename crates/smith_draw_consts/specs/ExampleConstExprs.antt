@@ -14,7 +14,7 @@ use Rattle.smith_draw_types.specs.declared.spaces.Spaces.{Spaces}
 use Rattle.smith_draw_consts.specs.ConstScopes.{AreSpacesValid}
 use Rattle.smith_draw_consts.specs.ConstOffers.{readable_globals}
 
--- only these types
+-- the context with only these types
 abbrev pub context_of_types : List SubType → Context
 context_of_types types = record {
   features = usual_features;

@@ -1,11 +1,11 @@
--- Lists grown by draws that may be refused. Rules of this project.
+-- Lists grown by draws that may fail. Rules of this project.
 use Rattle.std.specs.Prelude.{ℕ, zero, suc, List, [], ◌∷◌, ◌++◌, length, nat_lt, Result, Ok, if◌then◌else◌}
 use Rattle.smith_bytes.specs.Growth.{goes_at}
 use Rattle.smith_bytes.specs.Steps.{◌>>=◌}
 use Rattle.smith_bytes.specs.declared.error.Error.{Error}
 
--- a list after at most `most` more items, each drawn after the items before it; refused as soon as
--- one of these draws is
+-- a list after at most `most` more items, each drawn with the items before it; or the error of the
+-- first draw that fails
 unfoldable pub try_grow_at : {A : Type 0} → (List A → List ℕ → Result (A × List ℕ) Error) → ℕ → ℕ → List A → List ℕ
     → Result (List A × List ℕ) Error
 try_grow_at draw least zero made bytes = Ok (made, bytes)

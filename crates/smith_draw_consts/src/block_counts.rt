@@ -9,16 +9,17 @@ use std::alloc::Global;
 /// The number of items in a block.
 const BLOCK: usize = 8;
 
-/// The number of items on offer among those read so far, and before each block of these.
+/// The number of offered items among the items read so far, and before each block of them.
 ///
-/// The item at a place among those on offer is found in one block, without a list of them.
+/// The search for the item at a place among the offered ones reads one block, without a list of
+/// them.
 #[derive(Drop)]
 pub(crate) struct BlockCounts {
     /// The number of items read so far, from the first.
     pub seen: usize,
-    // The number of those that are on offer.
+    // The number of offered items among them.
     total: usize,
-    // The number of those on offer before each block.
+    // The number of offered items before each block.
     starts: Items<usize>,
 }
 
@@ -43,8 +44,8 @@ impl BlockCounts {
         (self.seen / BLOCK + 1) * BLOCK
     }
 
-    /// Reads the items up to the index `end`, of which `offered` are on offer. They belong to one
-    /// block.
+    /// Reads the items up to the index `end`, which belong to one block. `offered` of them are
+    /// offered.
     pub fn read_to(&mut self, end: usize, offered: usize) -> Result<(), Error>
         requires some { self.old.seen < end }
         requires one_block { end ≤ 8 * (self.old.seen / 8 + 1) }
@@ -63,7 +64,7 @@ impl BlockCounts {
         Ok(())
     }
 
-    /// Returns the number of items on offer before the block `block`, or among all items read if
+    /// Returns the number of offered items before the block `block`, or among all items read if
     /// there are fewer blocks.
     fn start_of(&self, block: usize) -> usize
         ensures { (before : ℕ → ℕ) → IsCounted before self.now
@@ -76,8 +77,9 @@ impl BlockCounts {
         self.total
     }
 
-    /// Returns whether an item from the index `first` up to `end` may be on offer. They belong to
-    /// one block, and either not all of them have been read or an item of their block is on offer.
+    /// Returns whether an item from the index `first` up to `end` may be offered: if not all of
+    /// these items have been read, or if an item of their block is offered. Requires them to belong
+    /// to one block.
     pub fn may_offer(&self, first: usize, end: usize) -> bool
         requires { first < end × end ≤ 8 * (first / 8 + 1) }
         ensures none { (before : ℕ → ℕ) → IsCounted before self.now
@@ -93,9 +95,9 @@ impl BlockCounts {
         self.start_of(block) != self.start_of(block + 1)
     }
 
-    /// Returns the index from which to search for the item at `place` among those on offer, and the
-    /// place of that item among those on offer from there. The index is that of the first item of
-    /// its block, or the number of items read if there are too few on offer.
+    /// Returns the index from which to search for the item at `place` among the offered items, and
+    /// its place among the offered items from there on. The index is that of the first item of its
+    /// block, or the number of items read if too few are offered.
     pub fn search_from(&self, place: usize) -> (usize, usize)
         requires { (before : ℕ → ℕ) × (before 0 ≡ 0) × IsCounted before self.now }
         ensures index { result.0 ≤ self.now.seen }
@@ -111,7 +113,7 @@ impl BlockCounts {
     }
 }
 
-/// Returns the last block that starts, by `starts`, with at most `place` items on offer before it.
+/// Returns the last block that has, by `starts`, at most `place` offered items before it.
 fn block_of(starts: &[usize], place: usize) -> usize
     requires some { 0 < length starts.now }
     requires first { slice_index starts.now 0 ≤ place }

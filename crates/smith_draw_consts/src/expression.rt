@@ -63,7 +63,7 @@ pub(crate) fn draw_whole_expression(
 }
 
 /// Draws a value of the type `wanted` and appends its instructions to `out`. The remaining work is
-/// a list of tasks, of which the last is the next.
+/// a list of tasks. The last of them is carried out next.
 fn draw_expression(
     alloc: Global,
     scope: &Scope<'_>,

@@ -81,7 +81,7 @@ impl FewItems {
     }
 }
 
-/// Appends to `kinds` those of the visible globals of `scope` that have not been read.
+/// Appends to `kinds` the visible globals of `scope` that have not been read.
 fn record_globals(scope: &Scope<'_>, kinds: &mut ArrayVec<Option<ValType>, MOST>)
     requires scope { IsScope (context_of scope.now) }
     requires few { scope.now.visible ≤ 31 }

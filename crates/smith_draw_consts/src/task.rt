@@ -14,8 +14,8 @@ pub(crate) enum Task {
     Write(ConstInstr),
 }
 
-/// Adds `node` to `tasks`, of which the last is the next. The operands of `node` become the next
-/// tasks, in order, and its instruction follows them.
+/// Adds `node` to `tasks`, whose last task is carried out next. The operands of `node` become the
+/// next tasks, in order, and its instruction follows them.
 pub(crate) fn push_node(node: &Node, tasks: &mut Vec<Task>) -> Result<(), Error>
     ensures ok { OnOk result (reverse tasks.new.items
         ≡ map Draw node.now.operands ++ (Write node.now.instruction ∷ reverse tasks.old.items)) }

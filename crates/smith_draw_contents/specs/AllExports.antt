@@ -8,7 +8,7 @@ use Rattle.smith_config.specs.declared.config.Config.{Config}
 use Rattle.smith_module_rules.specs.ExportedItems.{Export, exported_size, Item, every_item}
 use Rattle.smith_draw_contents.specs.Exporting.{export_name_at, free_exports_at}
 
--- exports of these items after others, each with a name; refused if imports and exports together
+-- exports of these items after others, each with a name; an error if imports and exports together
 -- exceed the type size
 unfoldable pub exports_of_items : Config → List SubType → EntitySpaces → ℕ → List Item → List Export → List ℕ
     → Result (List Export × List ℕ) Why
@@ -19,12 +19,12 @@ exports_of_items config types spaces imports (item ∷ items) exports bytes =
     if nat_lt config.max_type_size (imports + exported_size types spaces more) then Err TypeSize
     else exports_of_items config types spaces imports items more name.1
 
--- the exports of every item
+-- the exports of all items
 unfoldable pub everything_at : Config → List SubType → EntitySpaces → ℕ → List ℕ → Result (List Export × List ℕ) Why
 everything_at config types spaces imports bytes = exports_of_items config types spaces imports (every_item spaces) [] bytes
 
--- the exports of a module, for the amount that its imports add to the type size: of every item with
--- `export_everything`, else drawn freely
+-- the exports of a module whose imports add this amount to the type size: of all items with
+-- `export_everything`, else freely drawn
 unfoldable pub exports_at : Config → List SubType → EntitySpaces → ℕ → List ℕ → Result (List Export × List ℕ) Why
 exports_at config types spaces imports bytes =
     if config.export_everything then everything_at config types spaces imports bytes

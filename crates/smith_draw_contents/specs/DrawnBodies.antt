@@ -1,4 +1,4 @@
--- The bodies that the bytes produce. Rules of this project.
+-- The bodies that the bytes give. Rules of this project.
 use Rattle.std.specs.Prelude.{ℕ, Bool, false, List, [], take, drop, if◌then◌else◌}
 use Rattle.smith_bytes.specs.Draws.{bool_at, len_at}
 use Rattle.smith_bytes.specs.Growth.{grow_at}

@@ -1,4 +1,4 @@
--- Requirements, invariants and refusals of the step of exports. Rules of this project.
+-- Preconditions, invariants and errors of the step of exports. Rules of this project.
 use Rattle.std.specs.Prelude.{◌≡◌, true, false, ℕ, ◌+◌, ◌*◌, ◌^◌, ◌<◌, ◌≤◌, ◌⊎◌, List, length, All}
 use Rattle.smith_bytes.specs.declared.error.Error.{Error}
 use Rattle.smith_bytes.specs.declared.error.Error.TheVariants as errors
@@ -29,8 +29,8 @@ pub record IsIndexed (spaces : EntitySpaces) : Type 0 where
 abbrev pub HasSizeIn32Bits : SubType → Type 0
 HasSizeIn32Bits t = value_count t.composite_type.inner + 2 < 2 ^ 32
 
--- items of index spaces may be exported over these types: sizes of functions, and indices, have 32
--- bits
+-- items of index spaces may be exported over these types: the sizes of functions, and indices, have
+-- 32 bits
 pub record MayExport (types : List SubType) (spaces : EntitySpaces) : Type 0 where
   pub sized : All HasSizeIn32Bits types
   pub funcs : All (IsFuncTypeIndex types) spaces.funcs
@@ -40,7 +40,7 @@ pub record MayExport (types : List SubType) (spaces : EntitySpaces) : Type 0 whe
 abbrev pub IsFuncWithin : List SubType → ℕ → ℕ → Type 0
 IsFuncWithin types most func = size_in types (entity.Func func) + 1 ≤ most
 
--- items may be offered for exports, and the size of each function, plus 1, is at most `most`
+-- items may be exported, and the size of each function, plus 1, is at most `most`
 pub record MayOffer (types : List SubType) (spaces : EntitySpaces) (most : ℕ) : Type 0 where
   pub items : MayExport types spaces
   pub within : All (IsFuncWithin types most) spaces.funcs
@@ -58,50 +58,48 @@ pub record MayExportFreely (config : Config) (types : List SubType) (spaces : En
   pub memories : config.min_memories ≤ length spaces.memories
   pub globals : config.min_globals ≤ length spaces.globals
 
--- an item may be exported if `left` of the type size is left: it exists, and its size plus 1 is
+-- an item may be exported with `left` of the type size left: it exists, and its size plus 1 is
 -- below `left`
 pub record IsCandidate (types : List SubType) (spaces : EntitySpaces) (left : ℕ) (of_kind : ExportKind) (index : ℕ) : Type 0 where
   pub stands : IsStanding spaces of_kind index
   pub fits : item_size types spaces of_kind index + 1 < left
 
--- exports are valid; the type size is that of imports and exports, and within the bound
+-- exports are valid; the type size of imports and exports is correct and within its bound
 pub record AreExportsFit (config : Config) (types : List SubType) (spaces : EntitySpaces) (imports : ℕ) (exports : List Export)
     (size : ℕ) : Type 0 where
   pub valid : AreExportsValid spaces exports
   pub type_size : size ≡ imports + exported_size types spaces exports
   pub within : size ≤ config.max_type_size
 
--- exports that are drawn freely: no more than the maximum
+-- freely drawn exports fit, and are no more than the maximum
 pub record AreExported (config : Config) (types : List SubType) (spaces : EntitySpaces) (imports : ℕ) (exports : List Export)
     (size : ℕ) : Type 0 where
   pub fit : AreExportsFit config types spaces imports exports size
   pub most : length exports ≤ config.max_exports
 
--- exports may end below the minimum without shapes: they may be too large together, or there may be
--- no item
+-- without shapes there may be fewer exports than the minimum: they may exceed the type size, or
+-- there may be no item
 abbrev pub MayRunOut : Config → Type 0
 MayRunOut config = (config.max_type_size ≤ 42 * (config.max_imports + config.min_exports)) ⊎ MayHaveNoExports config
 
--- errors of exports that are drawn freely: lack of memory, or a minimum above zero that may stay
--- unmet
+-- the errors of freely drawn exports: lack of memory, or a minimum above zero that may not be met
 abbrev pub MayRefuseFree : Config → Error → Type 0
 MayRefuseFree config e = (e ≡ errors.Memory) ⊎ ((e ≡ errors.IncorrectFormat (Unmet counts.Exports)) × (0 < config.min_exports)
     × (HasNoShapes config → MayRunOut config))
 
--- errors of the exports of every item: lack of memory, or exports that are too large together
+-- the errors of exporting every item: lack of memory, or exports that exceed the type size
 abbrev pub MayRefuseAll : Error → Type 0
 MayRefuseAll e = (e ≡ errors.Memory) ⊎ (e ≡ errors.IncorrectFormat TypeSize)
 
--- exports may be drawn, for the amount that the imports add to the type size, and no shape fixes
--- them
+-- exports may be drawn, where imports add this amount to the type size, and no shape fixes them
 pub record MayDrawExports (config : Config) (types : List SubType) (spaces : EntitySpaces) (imports : ℕ) : Type 0 where
   pub not_fixed : FixesExports config → ⊥
   pub items : MayExport types spaces
   pub within : imports ≤ config.max_type_size
   pub freely : config.export_everything ≡ false → MayExportFreely config types spaces imports
 
--- errors of the step of exports: those of every item if everything is exported, else those of
--- exports that are drawn freely
+-- the errors of the step of exports: those of exporting every item if everything is exported, else
+-- those of freely drawn exports
 abbrev pub MayRefuseExports : Config → Error → Type 0
 MayRefuseExports config e = ((config.export_everything ≡ true) × MayRefuseAll e)
     ⊎ ((config.export_everything ≡ false) × MayRefuseFree config e)

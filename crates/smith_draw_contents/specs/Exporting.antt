@@ -1,4 +1,4 @@
--- The exports that are drawn. Rules of this project.
+-- Drawn exports. Rules of this project.
 use Rattle.std.specs.Prelude.{◌≡◌, ℕ, zero, suc, ◌+◌, ◌-◌, Bool, ◌&&◌, max, nat_lt, List, [], ◌∷◌, ◌++◌, length, Result, Ok, Err}
 use Rattle.std.specs.Prelude.{if◌then◌else◌}
 use Rattle.std.specs.Fmt.{decimal}
@@ -38,19 +38,19 @@ abbrev pub longest_export : List Export → ℕ
 longest_export [] = 0
 longest_export (one ∷ exports) = max (length one.0) (longest_export exports)
 
--- the name of an export after others: a text of at most 1000 bytes, to which the number of these
--- exports is appended until no export has the name
+-- the name of an export after others: a text of at most 1000 bytes, with the number of these
+-- exports appended until no export has the name
 unfoldable pub export_name_at : List Export → List ℕ → List ℕ × List ℕ
 export_name_at exports bytes =
     let text = text_at 1000 bytes in
     (new_name (is_exported exports) (decimal (length exports)) (longest_export exports + 1) text.0, text.1)
 
--- whether the size of a function of a type, plus 1, is below the rest of the type size
+-- whether the size of a function of a type, plus 1, is below the type size left
 abbrev pub is_func_below : List SubType → ℕ → ℕ → Bool
 is_func_below types left func = nat_lt (size_in types (entity.Func func) + 1) left
 
--- the indices of the items of a kind whose size, plus 1, is below the rest of the type size; tags
--- are not offered
+-- the indices of the items of a kind whose size, plus 1, is below the type size left; tags are not
+-- offered
 abbrev pub candidates : List SubType → EntitySpaces → ℕ → ExportKind → List ℕ
 candidates types spaces left kind.Func = places_from (is_func_below types left) 0 spaces.funcs
 candidates types spaces left kind.Table = places_from (λ table. nat_lt 2 left) 0 spaces.tables
@@ -73,7 +73,7 @@ candidate_rows types spaces left =
 abbrev pub offered_kinds : List SubType → EntitySpaces → ℕ → List ExportKind
 offered_kinds types spaces left = enabled (candidate_rows types spaces left)
 
--- an export after others: its name, its kind among those that have a candidate, and one of these
+-- an export after others: its name, its kind among the kinds with a candidate, and a candidate
 unfoldable pub export_at : List SubType → EntitySpaces → ℕ → List Export → List ℕ → Export × List ℕ
 export_at types spaces left exports bytes =
     let name = export_name_at exports bytes in
@@ -81,8 +81,8 @@ export_at types spaces left exports bytes =
     let index = chosen_at 0 (candidates types spaces left of_kind.0) of_kind.1 in
     ((name.0, of_kind.0, index.0), index.1)
 
--- at most `most` more exports after others, for the amount that the imports add to the type size:
--- without a drawn bool while there are too few, and only while there is a candidate
+-- at most `most` more exports after others, where imports add this amount to the type size: while
+-- there are too few, without a drawn bool, and only while there is a candidate
 unfoldable pub exports_from : Config → List SubType → EntitySpaces → ℕ → ℕ → List Export → List ℕ → List Export × List ℕ
 exports_from config types spaces imports zero exports bytes = (exports, bytes)
 exports_from config types spaces imports (suc most) exports bytes =
@@ -93,7 +93,7 @@ exports_from config types spaces imports (suc most) exports bytes =
     then exports_from config types spaces imports most (exports ++ one.0 ∷ []) one.1
     else (exports, go.1)
 
--- the exports that are drawn freely; refused if they end below the minimum
+-- the freely drawn exports; an error if they are fewer than the minimum
 unfoldable pub free_exports_at : Config → List SubType → EntitySpaces → ℕ → List ℕ → Result (List Export × List ℕ) Why
 free_exports_at config types spaces imports bytes =
     let drawn = exports_from config types spaces imports config.max_exports [] bytes in

@@ -1,4 +1,4 @@
--- The kinds of element segments that are offered over tables of some indices. Rules of this
+-- The modes of element segments that are offered over tables with some indices. Rules of this
 -- project.
 use Rattle.std.specs.Prelude.{ℕ, zero, Bool, true, false, ◌&&◌, Some, None, List, [], ◌∷◌, ◌++◌, map, slice_index_or, if◌then◌else◌}
 use Rattle.smith_types.specs.Flags.{funcref}
@@ -7,19 +7,19 @@ use Rattle.smith_config.specs.declared.config.Config.{Config}
 use Rattle.smith_draw_contents.specs.ElementSegments.{KindChoice, is_funcref, kept_kinds}
 use Rattle.smith_draw_contents.specs.declared.element_kinds.KindChoice.TheVariants as choice
 
--- a table without an element, for an index without a table
+-- a table without elements, for an index without a table
 abbrev pub no_table : TableType
 no_table = record { element_type = funcref; minimum = 0; maximum = None; table64 = false; shared = false }
 
 abbrev pub table_at : List TableType → ℕ → TableType
 table_at tables index = slice_index_or tables index no_table
 
--- the first of the indices is that of the first table
+-- whether the first of the indices is 0
 abbrev pub begin_first : List ℕ → Bool
 begin_first (zero ∷ indices) = true
 begin_first _ = false
 
--- the first table, without its index, if it is offered and of functions
+-- the first table without its index, if it is offered and its elements are function references
 abbrev pub unnamed_kinds : List TableType → List ℕ → List KindChoice
 unnamed_kinds tables indices =
     if begin_first indices && is_funcref (table_at tables 0).element_type then choice.Active None (table_at tables 0) ∷ [] else []
@@ -29,6 +29,6 @@ abbrev pub named_kinds : Config → List TableType → List ℕ → List KindCho
 named_kinds config tables indices = if config.bulk_memory_enabled then map (λ index. choice.Active (Some index) (table_at tables index))
     indices else []
 
--- the kinds that are offered if the tables of these indices are
+-- the modes that are offered if the tables with these indices are
 abbrev pub kinds_over : Config → List TableType → List ℕ → List KindChoice
 kinds_over config tables indices = kept_kinds config ++ unnamed_kinds tables indices ++ named_kinds config tables indices

@@ -6,7 +6,7 @@ use Rattle.smith_syntax.specs.declared.segments.DataSegmentKind.TheVariants.{Pas
 use Rattle.smith_config.specs.declared.config.Config.{Config}
 use Rattle.smith_draw_types.specs.SpelledParts.{SpellsBytes}
 
--- bytes that are not copied anywhere
+-- a passive segment
 abbrev pub passive_data : List ℕ → DataSegment
 passive_data bytes = record { kind = Passive; init = bytes }
 

@@ -1,4 +1,4 @@
--- The function that starts a module. Rules of this project.
+-- The start function. Rules of this project.
 use Rattle.std.specs.Prelude.{ℕ, Bool, false, ◌&&◌, nat_lt, List, length, Option, Some, None, if◌then◌else◌}
 use Rattle.smith_bytes.specs.Draws.{bool_at}
 use Rattle.smith_syntax.specs.declared.composite_type.SubType.{SubType}
@@ -6,17 +6,16 @@ use Rattle.smith_config.specs.declared.config.Config.{Config}
 use Rattle.smith_draw_types.specs.Choices.{chosen_at}
 use Rattle.smith_draw_types.specs.TypeUses.{places_from, is_start_type}
 
--- the indices of the functions that may start a module, imported ones too: those without parameters
+-- the indices of the possible start functions, imported or defined: functions without parameters
 -- and results
 abbrev pub start_funcs : List SubType → List ℕ → List ℕ
 start_funcs types funcs = places_from (is_start_type types) 0 funcs
 
--- whether one of a number of functions starts the module: a drawn bool if that is allowed and there
--- is one, else false
+-- whether there is a start function: a drawn bool if that is allowed and possible, else false
 unfoldable pub start_wanted_at : Config → ℕ → List ℕ → Bool × List ℕ
 start_wanted_at config count bytes = if config.allow_start_export && nat_lt 0 count then bool_at bytes else (false, bytes)
 
--- a function that starts the module, chosen among those that may
+-- the start function, chosen among the possible ones
 unfoldable pub start_at : Config → List SubType → List ℕ → List ℕ → Option ℕ × List ℕ
 start_at config types funcs bytes =
     let choices = start_funcs types funcs in

@@ -22,7 +22,7 @@ pub(crate) enum KindChoice {
     Passive,
     /// Declares the functions that the segment names.
     Declared,
-    /// Copied into a table of this type. The index is left out only for the first table.
+    /// Copied into a table of this type. The index is left out only for table 0.
     Active(Option<u32>, TableType),
 }
 

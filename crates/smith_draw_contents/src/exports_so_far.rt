@@ -14,7 +14,7 @@ pub struct Exports {
     pub type_size: u32,
 }
 
-/// Returns the size of the item of the kind `kind` at `index`: that of its type for a function,
+/// Returns the size of the item of the kind `kind` at `index`: the size of its type for a function,
 /// else 1.
 pub(crate) fn item_size(
     types: &TypeSpace,

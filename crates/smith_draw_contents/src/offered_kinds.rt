@@ -11,8 +11,8 @@ use smith_config::Config;
 use smith_types::TableType;
 use std::marker::Model;
 
-/// The kinds of element segments that are offered, in order: those without a table, the first table
-/// without its index, and tables by their indices.
+/// The offered kinds of element segments, in order: the kinds without a table, table 0 without its
+/// index, and tables by their indices.
 #[derive(Drop)]
 pub(crate) struct OfferedKinds<'a> {
     config: &'a Config,
@@ -34,7 +34,7 @@ impl<'a> Model for OfferedKinds<'a> {
 }
 
 impl<'a> OfferedKinds<'a> {
-    /// Offers the kinds over those of `tables` whose indices are `offered`.
+    /// Offers the kinds over the tables of `tables` with the indices `offered`.
     pub(crate) fn new(
         config: &'a Config,
         tables: &'a [TableType],

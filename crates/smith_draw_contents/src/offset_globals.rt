@@ -15,14 +15,14 @@ use std::marker::Model;
 
 /// The indices of the globals that an offset may be read from, in order.
 ///
-/// Does not allocate: the globals are counted, and each search passes over them again.
+/// Does not allocate: the globals are counted, and each search reads them again.
 #[derive(Drop)]
 pub(crate) struct OffsetGlobals<'a> {
     /// The globals that a segment may read, of any type.
     globals: &'a [GlobalType],
     /// Whether an offset has 64 bits instead of 32.
     wide: bool,
-    /// The number of those of `globals` that such an offset may be read from.
+    /// The number of globals in `globals` that the offset may be read from.
     count: usize,
 }
 
@@ -128,8 +128,8 @@ fn tells_offset(global: GlobalType, wide: bool) -> bool
     }
 }
 
-/// Counts those of `globals` that an offset may be read from: of 64 bits if `wide` is set, else of
-/// 32 bits.
+/// Counts the globals in `globals` that an offset may be read from: of 64 bits if `wide` is set,
+/// else of 32 bits.
 fn count_telling(globals: &[GlobalType], wide: bool) -> usize
     ensures exact { result ≡ length (telling_from wide 0 globals.now) }
     ensures within { result ≤ length globals.now }
@@ -144,8 +144,8 @@ fn count_telling(globals: &[GlobalType], wide: bool) -> usize
     count
 }
 
-/// Finds the index at `place` among those of `globals` that [`count_telling`] counts. Returns 0
-/// past their end.
+/// Finds the index of the global at `place` among the globals that [`count_telling`] counts.
+/// Returns 0 past their end.
 fn find_telling(globals: &[GlobalType], wide: bool, place: usize) -> u32
     requires { length globals.now < 2 ^ 32 }
     ensures { result ≡ slice_index_or (telling_from wide 0 globals.now) place 0 }

@@ -1,4 +1,4 @@
--- Properties of an index space with its definitions after its imports.
+-- Properties of index spaces with imports first, then definitions.
 use Rattle.std.specs.Prelude.{◌≡◌, ℕ, ◌+◌, ◌-◌, ◌<◌, ◌≤◌, ◌^◌, ◌⊎◌, max, Option, Some, List, [], ◌++◌, map, length, slice_get, All}
 use Rattle.std.specs.Prelude.{if◌then◌else◌}
 use Rattle.std.specs.List.{flat_map}
@@ -30,20 +30,20 @@ use Rattle.smith_module_rules.specs.Promises.{initial_of}
 use Rattle.smith_module_rules.specs.Refusals.{MayRefuse}
 use Rattle.smith_draw_definitions.specs.declared.definitions.Definitions.{Definitions}
 
--- the items before come first, and the number of items is within these bounds, or is the number
--- before
+-- the space begins with `before`, and its number of items is within these bounds, or is that of
+-- `before`
 pub record IsFilled {A : Type 0} (least most : ℕ) (before space : List A) : Type 0 where
   pub extends : Extends before space
   pub enough : least ≤ length space
   pub within : length space ≤ max most (length before)
 
--- each item that was added after those before has this property
+-- the space is `before` followed by items with this property
 pub record AreAdded {A : Type 0} (Holds : A → Type 0) (before space : List A) : Type 0 where
   pub more : List A
   pub parts : space ≡ before ++ more
   pub each : All Holds more
 
--- the indices of all entities have 32 bits, with `more` additional entities of each kind
+-- the indices of all entities have 32 bits, even with `more` additional entities of each kind
 pub record HasRoom (spaces : EntitySpaces) (more : ℕ) : Type 0 where
   pub tags : length spaces.tags + more < 2 ^ 32
   pub funcs : length spaces.funcs + more < 2 ^ 32
@@ -66,8 +66,8 @@ pub record MayInitialise (config : Config) (space : GroupedTypes) (standing : In
 abbrev pub drawn_over : Config → InitialiserScope → Context
 drawn_over config standing = without_globals (table_scope config standing)
 
--- the context of drawn entities over these types and index spaces; the functions that are not
--- defined are imported
+-- the context of drawn entities over these types and index spaces; functions that are not defined
+-- are imported
 abbrev pub drawn_beside : Config → List SubType → EntitySpaces → Definitions → Context
 drawn_beside config types spaces defined = record {
   features = features_of config;
@@ -79,7 +79,7 @@ drawn_beside config types spaces defined = record {
   visible = 0;
 }
 
--- errors of an initialiser that is drawn: lack of memory, or there may be nothing to choose from
+-- the errors of drawing an initialiser: lack of memory, or no candidate
 abbrev pub MayRefuseDrawn : Config → Context → Error → Type 0
 MayRefuseDrawn config context e = (e ≡ errors.Memory) ⊎ ((e ≡ errors.EmptyChoose) × HoldsUngroundedField config context)
 
@@ -93,7 +93,7 @@ scope_of_spaces spaces = record {
   imported_globals = spaces.entities.globals.now;
 }
 
--- an initialiser is that of the global of this index, which comes after the imported ones
+-- the initialiser belongs to the global at this index, which follows the imported ones
 pub record IsGlobalInitialised (config : Config) (standing : InitialiserScope) (globals : List GlobalType) (place index : ℕ)
     (initial : List ConstInstr) : Type 0 where
   pub in_order : index ≡ length standing.imported_globals + place
@@ -102,7 +102,7 @@ pub record IsGlobalInitialised (config : Config) (standing : InitialiserScope) (
   pub initialised : IsConstExpr (context_at config standing globals (if config.gc_enabled then index else length standing.imported_globals))
       global.val_type initial
 
--- each initialiser is that of a global after the imported ones
+-- each initialiser belongs to a global that follows the imported ones
 pub record AreGlobalsDefined (config : Config) (standing : InitialiserScope) (globals : List GlobalType)
     (initials : List (ℕ × List ConstInstr)) : Type 0 where
   pub count : length globals ≡ length standing.imported_globals + length initials
@@ -113,14 +113,14 @@ pub record AreGlobalsDefined (config : Config) (standing : InitialiserScope) (gl
 abbrev pub nothing_defined : Definitions
 nothing_defined = record { num_tags = 0; num_funcs = 0; tables = []; num_memories = 0; globals = [] }
 
--- no more is defined than exists
+-- there are no more definitions than entities
 pub record AreWithin (spaces : EntitySpaces) (defined : Definitions) : Type 0 where
   pub tags : defined.num_tags ≤ length spaces.tags
   pub funcs : defined.num_funcs ≤ length spaces.funcs
   pub memories : defined.num_memories ≤ length spaces.memories
   pub globals : length defined.globals ≤ length spaces.globals
 
--- items may be defined after these entities, of which some are defined already
+-- items may be defined after these entities, some of which are already defined
 pub record MayDefine (config : Config) (space : GroupedTypes) (spaces : EntitySpaces) (defined : Definitions) : Type 0 where
   pub passes : Passes config
   pub sanitized : IsSanitized config
@@ -132,7 +132,7 @@ pub record MayDefine (config : Config) (space : GroupedTypes) (spaces : EntitySp
   pub room : HasRoom spaces 0
   pub within : AreWithin spaces defined
 
--- errors of definitions: those of a module, or those of an initialiser that is drawn
+-- the errors of definitions: those of a module, or of drawing an initialiser
 abbrev pub MayRefuseDefined : Config → Context → Error → Type 0
 MayRefuseDefined config context e = MayRefuse config e ⊎ MayRefuseDrawn config context e
 
@@ -140,7 +140,7 @@ MayRefuseDefined config context e = MayRefuse config e ⊎ MayRefuseDrawn config
 abbrev pub scope_in : List SubType → EntitySpaces → EntitySpaces → InitialiserScope
 scope_in types imported spaces = scope_over types spaces.funcs (length imported.funcs) imported.globals
 
--- the types, the entities that follow these imports, and each initialiser at its place are valid
+-- the types, the entities that follow these imports, and each initialiser are valid
 pub record StandsAfter (config : Config) (imported : EntitySpaces) (space : GroupedTypes) (spaces : EntitySpaces)
     (defined : Definitions) : Type 0 where
   pub types : AreTypesValid (features_of config) space
@@ -157,7 +157,7 @@ pub record StandsAfter (config : Config) (imported : EntitySpaces) (space : Grou
   pub each_global : (place index : ℕ) (initial : List ConstInstr) → slice_get defined.globals place ≡ Some (index, initial)
       → IsGlobalInitialised config (scope_in space.types imported spaces) spaces.globals place index initial
 
--- index spaces have, after the items before, as many as the configuration requires and allows
+-- index spaces have, after `before`, as many items as the configuration requires and allows
 pub record AreFilled (config : Config) (before spaces : EntitySpaces) : Type 0 where
   pub tags : IsFilled config.min_tags config.max_tags before.tags spaces.tags
   pub funcs : IsFilled config.min_funcs config.max_funcs before.funcs spaces.funcs
@@ -167,7 +167,7 @@ pub record AreFilled (config : Config) (before spaces : EntitySpaces) : Type 0 w
   pub each_table : AreAdded (IsTableWithin config) before.tables spaces.tables
   pub each_memory : AreAdded (IsMemoryWithin config) before.memories spaces.memories
 
--- index spaces have definitions after the items before, valid whatever was imported
+-- index spaces have valid definitions after `before`
 pub record AreDefinedMore (config : Config) (space : GroupedTypes) (before : EntitySpaces) (so_far : Definitions) (spaces : EntitySpaces)
     (defined : Definitions) : Type 0 where
   pub filled : AreFilled config before spaces

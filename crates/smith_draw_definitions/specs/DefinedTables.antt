@@ -1,5 +1,4 @@
--- Invariants of the step of tables while it defines tables after those before. Rules of this
--- project.
+-- Invariants of the step of tables while it defines tables after others. Rules of this project.
 use Rattle.std.specs.Prelude.{◌≡◌, Option, List, ◌++◌, map, All}
 use Rattle.smith_types.specs.Entities.{IsTableValid}
 use Rattle.smith_types.specs.Floats.{HasNoFloat, GivesNoFloat}

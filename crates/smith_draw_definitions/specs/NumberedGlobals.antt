@@ -1,4 +1,4 @@
--- The bytes that spell globals that are mutable numbers of 32 bits. Rules of this project.
+-- The bytes that spell mutable 32-bit globals. Rules of this project.
 use Rattle.std.specs.Prelude.{◌≡◌, ℕ, ℤ, List, [], ◌∷◌, map}
 use Rattle.smith_bytes.specs.Spelling.{Listed}
 use Rattle.smith_syntax.specs.declared.entity_type.GlobalType.{GlobalType}

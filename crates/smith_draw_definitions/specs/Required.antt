@@ -1,5 +1,4 @@
--- Requirements and invariants of the exports that a shape fixes, and their refusals. Rules of this
--- project.
+-- Preconditions, invariants and errors of the exports that a shape fixes. Rules of this project.
 use Rattle.std.specs.Prelude.{◌≡◌, false, ℕ, ◌+◌, ◌<◌, ◌≤◌, ◌⊎◌, Bool, true, Option, Some, None, List, length, slice_get, All}
 use Rattle.std.specs.List.{Any, AllZip, Contains}
 use Rattle.smith_bytes.specs.declared.error.Count.{Count}
@@ -51,14 +50,12 @@ pub record MayDefineMore (config : Config) (space : GroupedTypes) (spaces : Enti
 abbrev pub HasNoSupertypes : List SubType → Type 0
 HasNoSupertypes types = (index : ℕ) (t : SubType) → slice_get types index ≡ Some t → t.supertype ≡ None
 
--- the entity of an export of a shape is over existing types, or has a type of its own, which is the
--- same
+-- the entity of an export of a shape is over existing types, or has an equal type of its own
 abbrev pub IsKeptType : Bool → List SubType → List SubType → EntityType → EntityType → Type 0
 IsKeptType true ours theirs mine yours = IsSameType ours theirs mine yours
 IsKeptType false ours theirs mine yours = mine ≡ yours
 
--- the definitions with one more entity, which follows these: a table and a global have an
--- initialiser
+-- the definitions with one more entity; a table and a global have an initialiser
 abbrev pub IsInitialised : Config → List SubType → EntitySpaces → (old new : Definitions) → EntityType → Type 0
 IsInitialised config types spaces old new (entity.Tag index) = new ≡ record old { num_tags = old.num_tags + 1 }
 IsInitialised config types spaces old new (entity.Func index) = new ≡ record old { num_funcs = old.num_funcs + 1 }
@@ -77,18 +74,18 @@ pub record IsDefinedMore (config : Config) (types : List SubType) (spaces : Enti
   pub initialised : IsInitialised config types spaces defined more added
   pub alone : several config spaces added ≡ None
 
--- a table or a global that holds references that are not nullable
+-- a table or a global has a non-nullable reference type
 abbrev pub IsNeverNull : EntityType → Type 0
 IsNeverNull (entity.Table table) = IsNonNullable (Ref table.element_type)
 IsNeverNull (entity.Global global) = IsNonNullable global.val_type
 IsNeverNull _ = ⊥
 
--- errors of an initialiser of an entity: lack of memory, or there may be nothing to choose from
+-- the errors of an entity's initialiser: lack of memory, or no candidate
 abbrev pub MayRefuseInitial : Config → Context → EntityType → Error → Type 0
 MayRefuseInitial config context added e = (e ≡ errors.Memory)
     ⊎ ((e ≡ errors.EmptyChoose) × (IsNeverNull added ⊎ HoldsUngroundedField config context))
 
--- errors of an entity: those of its initialiser, and a second memory or a second table without its
+-- the errors of an entity: those of its initialiser, and a second memory or table without its
 -- feature
 abbrev pub MayRefuseEntity : Config → Context → EntityType → Error → Type 0
 MayRefuseEntity config context added (errors.IncorrectFormat SeveralMemories) = (counts_as counts.Memories (entity_kind added) ≡ 1)
@@ -97,22 +94,22 @@ MayRefuseEntity config context added (errors.IncorrectFormat SeveralTables) = (c
     × (config.reference_types_enabled ≡ false)
 MayRefuseEntity config context added e = MayRefuseInitial config context added e
 
--- the use of the shape of a module, by whether an entity has its own type
+-- the use of the shape, by whether entities have their own types
 abbrev pub use_of : Bool → Which
 use_of true = which.Exports
 use_of false = which.ModuleShape
 
--- the exports of a shape may be made: it passes its check, and without own types its types are the
--- first existing ones
+-- the exports of a shape may be made: it passes its check, and without own types the module begins
+-- with its types
 pub record MayRequire (own_types : Bool) (config : Config) (shape : Shape) (space : GroupedTypes) : Type 0 where
   pub valid : IsShapeValid (use_of own_types) config shape
   pub present : own_types ≡ false → Extends (shape_types shape) space.types
 
--- types that are added are the shape's
+-- added types are the shape's
 abbrev pub AddsTypesOf : Shape → List SubType → List SubType → Type 0
 AddsTypesOf shape old new = All (λ t. Contains old t ⊎ Contains (shape_types shape) t) new
 
--- tables, memories and globals that are added have types of the shape's
+-- added tables, memories and globals have types from the shape
 pub record AddsLimitsOf (shape : Shape) (old new : EntitySpaces) : Type 0 where
   pub tables : All (λ table. Contains old.tables table ⊎ Contains (shape_spaces shape).tables table) new.tables
   pub memories : All (λ memory. Contains old.memories memory ⊎ Contains (shape_spaces shape).memories memory) new.memories
@@ -138,7 +135,8 @@ pub record IsRequiredMore (own_types : Bool) (config : Config) (shape : Shape) (
   pub stands : (imported : EntitySpaces) → StandsAfter config imported old_types old old_defined
       → StandsAfter config imported types spaces defined
 
--- the exports of a shape are made: the same in order, valid, of entities defined after those before
+-- the exports of a shape are made: they are the same in order, valid, and refer to entities defined
+-- after others
 pub record AreRequired (own_types : Bool) (config : Config) (shape : Shape) (old_types : GroupedTypes) (old : EntitySpaces)
     (old_defined : Definitions) (types : GroupedTypes) (spaces : EntitySpaces) (defined : Definitions) (exports : List Export)
     : Type 0 where
@@ -158,12 +156,11 @@ pub record AreRequired (own_types : Bool) (config : Config) (shape : Shape) (old
   pub stands : (imported : EntitySpaces) → StandsAfter config imported old_types old old_defined
       → StandsAfter config imported types spaces defined
 
--- a shape holds a reference that is not nullable, or a type holds one that is neither nullable nor,
--- with `non_nullable_enabled`, grounded
+-- a shape has a non-nullable reference, or a type has one that is not granted
 abbrev pub MayLackIn : Config → Context → Shape → Type 0
 MayLackIn config context shape = Any IsNonNullable (shape_values shape) ⊎ HoldsUngroundedField config context
 
--- errors of an export of a shape, over these types and functions
+-- the errors of an export of a shape, over these types and functions
 abbrev pub MayRefuseExported : Config → Context → Shape → Export → Error → Type 0
 MayRefuseExported config context shape one (errors.IncorrectFormat SeveralMemories) = (counts_as counts.Memories one.1 ≡ 1)
     × (config.max_memories ≤ 1)
@@ -171,8 +168,8 @@ MayRefuseExported config context shape one (errors.IncorrectFormat SeveralTables
     × (config.reference_types_enabled ≡ false)
 MayRefuseExported config context shape one e = (e ≡ errors.Memory) ⊎ ((e ≡ errors.EmptyChoose) × MayLackIn config context shape)
 
--- errors of the exports of a shape, over these types and functions: there is such a reference, or
--- the shape has a memory or a table that may not follow others
+-- the errors of the exports of a shape, over these types and functions: no candidate, or a memory
+-- or a table of the shape may not follow others
 abbrev pub MayRefuseRequired : Config → Context → Shape → Error → Type 0
 MayRefuseRequired config context shape (errors.IncorrectFormat SeveralMemories) = (0 < items_of_exports counts.Memories shape)
     × (config.max_memories ≤ 1)

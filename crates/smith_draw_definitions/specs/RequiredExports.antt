@@ -1,5 +1,5 @@
--- The exports that the bytes produce if a shape fixes them: each is of an entity that is defined
--- for it. Rules of this project.
+-- The exports if a shape fixes them: each refers to an entity that is defined for it. Rules of this
+-- project.
 use Rattle.std.specs.Prelude.{ℕ, ◌+◌, ◌-◌, Bool, true, false, not, ◌&&◌, nat_lt, nat_le, List, [], ◌∷◌, ◌++◌, Option, Some, None}
 use Rattle.std.specs.Prelude.{option_map, length, slice_get, Result, Ok, Err, if◌then◌else◌}
 use Rattle.smith_bytes.specs.declared.error.Error.{Error}
@@ -25,7 +25,7 @@ use Rattle.smith_draw_consts.specs.ConstExprs.{const_expr_at, table_init_at}
 use Rattle.smith_module_rules.specs.ExportedItems.{Export}
 use Rattle.smith_draw_definitions.specs.declared.definitions.Definitions.{Definitions}
 
--- the entity of a kind and an index, if it exists
+-- the entity with a kind and an index, if it exists
 abbrev pub entity_of : EntitySpaces → ExportKind → ℕ → Option EntityType
 entity_of spaces kind.Func index = option_map entity.Func (slice_get spaces.funcs index)
 entity_of spaces kind.Table index = option_map entity.Table (slice_get spaces.tables index)
@@ -50,8 +50,8 @@ several config spaces (entity.Table table) = if nat_lt 0 (length spaces.tables) 
     SeveralTables else None
 several config spaces _ = None
 
--- the context of an initialiser after these entities; those that are not defined are imported;
--- defined globals are read with garbage collection, if allowed
+-- the context of an initialiser after these entities; entities that are not defined are imported;
+-- with garbage collection, defined globals may be read if that is allowed
 abbrev pub scope_beside : Config → List SubType → EntitySpaces → Definitions → Bool → Context
 scope_beside config types spaces defined allow_defined =
     let imported = length spaces.globals - length defined.globals in
@@ -65,7 +65,7 @@ scope_beside config types spaces defined allow_defined =
       visible = if config.gc_enabled && allow_defined then length spaces.globals else imported;
     }
 
--- the result of a draw, if there was something to choose from
+-- the result of a draw, or an error if there is no candidate
 abbrev pub made_of : {A B : Type 0} → (A → B) → Option (A × List ℕ) → Result (B × List ℕ) Error
 made_of make None = Err errors.EmptyChoose
 made_of make (Some drawn) = Ok (make drawn.0, drawn.1)
@@ -77,8 +77,7 @@ with_table defined initial = record defined { tables = defined.tables ++ initial
 abbrev pub with_global : Definitions → ℕ → List ConstInstr → Definitions
 with_global defined index initial = record defined { globals = defined.globals ++ (index, initial) ∷ [] }
 
--- the definitions with one more entity, which follows these: a table and a global have an
--- initialiser
+-- the definitions with one more entity; a table and a global have an initialiser
 unfoldable pub defined_with_at : Config → List SubType → EntitySpaces → Definitions → EntityType → List ℕ
     → Result (Definitions × List ℕ) Error
 defined_with_at config types spaces defined (entity.Tag index) bytes = Ok (record defined { num_tags = defined.num_tags + 1 }, bytes)
@@ -93,7 +92,7 @@ defined_with_at config types spaces defined (entity.Global global) bytes =
     made_of (with_global defined (length spaces.globals)) (const_expr_at config (scope_beside config types spaces defined true)
     global.val_type bytes)
 
--- the result of a step, or the refusal for this reason, if any
+-- the result of a step, or the error for this reason, if any
 abbrev pub unless : {A : Type 0} → Option Why → Result A Error → Result A Error
 unless None answer = answer
 unless (Some why) answer = Err (errors.IncorrectFormat why)
@@ -110,13 +109,13 @@ entity_required_at config types spaces defined one bytes =
     unless (several config spaces one) (then_with (λ more. (with_entity spaces one, more))
     (defined_with_at config types spaces defined one bytes))
 
--- types with one more, in a group of its own
+-- the types with one more, in a group of its own
 abbrev pub with_own_group : GroupedTypes → Option SubType → GroupedTypes
 with_own_group space None = space
 with_own_group space (Some t) = let types = space.types ++ t ∷ [] in
     record { types = types; groups = space.groups ++ next_group types space.groups ∷ [] }
 
--- the types, with that of an entity over other types added: the type of a function or a tag
+-- the types with the type of an entity of other types, if it is a function or a tag
 abbrev pub with_type_of : List SubType → GroupedTypes → EntityType → GroupedTypes
 with_type_of theirs space (entity.Func index) = with_own_group space (slice_get theirs index)
 with_type_of theirs space (entity.Tag index) = with_own_group space (slice_get theirs index)
@@ -128,8 +127,8 @@ of_own_type space (entity.Func index) = entity.Func (length space.types)
 of_own_type space (entity.Tag index) = entity.Tag (length space.types)
 of_own_type space one = one
 
--- the types and the entity for an entity of a shape: with own types the entity's type is added,
--- else it exists already
+-- the types and the entity for an entity of a shape; with own types its type is added, else it
+-- exists already
 abbrev pub types_over : Bool → List SubType → GroupedTypes → EntityType → GroupedTypes
 types_over true theirs space one = with_type_of theirs space one
 types_over false theirs space one = space
@@ -145,11 +144,11 @@ pub record Required : Type 0 where
   pub defined : Definitions
   pub exports : List Export
 
--- the state of these parts
+-- the state with these parts
 abbrev pub standing_with : GroupedTypes → EntitySpaces → Definitions → List Export → Required
 standing_with types spaces defined exports = record { types = types; spaces = spaces; defined = defined; exports = exports }
 
--- the state with one more export of a shape, of an entity that is defined for it
+-- the state with one more export of a shape, which refers to an entity that is defined for it
 abbrev pub export_required_at : Bool → Config → Shape → Export → Required → List ℕ → Option EntityType → Result (Required × List ℕ) Error
 export_required_at own_types config shape one now bytes None = Ok (now, bytes)
 export_required_at own_types config shape one now bytes (Some theirs) =
@@ -158,7 +157,7 @@ export_required_at own_types config shape one now bytes (Some theirs) =
     (now.exports ++ (one.0, one.1, next_index now.spaces one.1) ∷ []))
     (entity_required_at config types.types now.spaces now.defined (entity_over own_types now.types theirs) bytes)
 
--- the rest of the draws, after the result of a step
+-- the next step after the result of a step
 abbrev pub and_then : {A B : Type 0} → (A → List ℕ → Result B Error) → Result (A × List ℕ) Error → Result B Error
 and_then f (Ok drawn) = f drawn.0 drawn.1
 and_then f (Err e) = Err e

@@ -27,7 +27,7 @@ use smith_draw_types::{Entities, ReferenceScope, Spaces, draw_global_type};
 use smith_types::{ConstInstr, GlobalType, Items, TypeSpace};
 use std::alloc::Global;
 
-/// Draws a global to follow those of `spaces`, with its index and its initialiser.
+/// Draws the global after the globals of `spaces`, with its index and its initialiser.
 #[tactic(auto, unfolding(crate::specs::Definitions::initialised_at))]
 fn draw_initialised_global(
     alloc: Global,

@@ -31,8 +31,8 @@ pub(crate) fn reference_scope<'a>(
     }
 }
 
-/// Returns the types, functions and globals that the initialiser of a table may refer to: of the
-/// globals, only the first `imported_globals`.
+/// Returns the types, functions and globals that the initialiser of a table may refer to, with only
+/// the first `imported_globals` globals.
 pub(crate) fn reference_scope_of_imports<'a>(
     types: &'a TypeSpace,
     funcs: &'a [u32],

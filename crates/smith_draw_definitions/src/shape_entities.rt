@@ -9,8 +9,7 @@ ghost use Rattle.smith_draw_definitions.specs.RequiredExports.{entity_of};
 use smith_config::Shape;
 use smith_types::{EntitySpaces, EntityType, ExportKind};
 
-/// Finds the item at `index` of an index space that has the items `imported`, then the items
-/// `defined`.
+/// Finds the item at `index` of an index space of the items `imported`, then the items `defined`.
 fn item_after<T: Copy>(imported: &[T], defined: &[T], index: usize) -> T
     requires { index < length (imported.now ++ defined.now) }
     ensures { slice_get (imported.now ++ defined.now) index ≡ Some result }

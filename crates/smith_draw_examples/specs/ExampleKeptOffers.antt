@@ -15,7 +15,8 @@ use Rattle.smith_draw_consts.specs.declared.kept_offers.KeptOffers.{KeptOffers}
 use Rattle.smith_draw_consts.specs.declared.kept_offers.ManyItems.{ManyItems}
 use Rattle.smith_draw_consts.specs.declared.kept_ways.KeptWays.{KeptWays}
 
--- the counts of items read: all, those offered, and those offered before each block
+-- the counts of items: all read items, the offered items among them, and the offered items before
+-- each block
 abbrev pub counts : ℕ → ℕ → List ℕ → BlockCounts
 counts seen total starts = record { seen = seen; total = total; starts = starts }
 
@@ -41,16 +42,16 @@ functions = kept_for to_functions (counts 3 0 (0 ∷ [])) (counts 2 2 (0 ∷ [])
 abbrev pub too_few_functions : KeptOffer
 too_few_functions = kept_for to_functions (counts 3 0 (0 ∷ [])) (counts 2 1 (0 ∷ []))
 
--- classes of the given types, and the class of each item
+-- classes of these types, and the class of each item
 abbrev pub HasClasses : Classes → List (Option ValType) → List ℕ → Type 0
 HasClasses classes kinds of = (classes.kinds ≡ kinds) × (classes.of ≡ of)
 
--- they are correct for an immutable, a mutable and an immutable global
+-- the classes are correct for an immutable, a mutable and an immutable global
 abbrev pub AreGlobalClasses : Classes → Type 0
 AreGlobalClasses classes = AreClasses context_types (λ index global. readable global)
     (constant_global I32 ∷ variable_global I32 ∷ constant_global I32 ∷ []) classes
 
--- each number of the list is recorded as its sum with its place
+-- for each number of the list, its sum with its position is recorded
 abbrev pub AreSums : List ℕ → List ℕ → Type 0
 AreSums = AreRecorded (λ place number. place + number)
 
@@ -58,11 +59,11 @@ AreSums = AreRecorded (λ place number. place + number)
 abbrev pub HasFew : FewItems → List (Option ValType) → List ℕ → Type 0
 HasFew few globals funcs = (few.globals.items ≡ globals) × (few.funcs.items ≡ funcs)
 
--- these alone are recorded, and there are no classes
+-- only these are recorded, and there are no classes
 abbrev pub HasFewAlone : KeptOffers → List (Option ValType) → List ℕ → Type 0
 HasFewAlone kept globals funcs = HasFew kept.few globals funcs × (kept.many ≡ None)
 
--- no global and no function is in a class, and the entries are given
+-- no global and no function is in a class, and these are the entries
 abbrev pub HasEntries : ManyItems → List KeptOffer → Type 0
 HasEntries many entries = HasClasses many.items.globals [] [] × HasClasses many.items.funcs [] [] × (many.kept.items ≡ entries)
 
@@ -70,6 +71,6 @@ HasEntries many entries = HasClasses many.items.globals [] [] × HasClasses many
 abbrev pub to_any : ValType
 to_any = Ref (nullable (plain heap.Any))
 
--- the entry for a type: the counts of ways by structs without fuel, by structs and by arrays
+-- the entry for a type: the counts of choices of structs without fuel, of structs and of arrays
 abbrev pub ways_for : ValType → BlockCounts → BlockCounts → BlockCounts → KeptWays
 ways_for wanted bare_structs structs arrays = record { wanted = wanted; bare_structs = bare_structs; structs = structs; arrays = arrays }

@@ -13,8 +13,7 @@ kind_of_number number =
     else if third == 1 then OfOneModule
     else OfOneType
 
--- the kind of a group: that of a drawn number, or a single import without a draw if compact imports
--- are off
+-- the kind of a group: drawn, or a single import without a draw if compact imports are disabled
 unfoldable pub group_kind_at : Config → List ℕ → GroupKind × List ℕ
 group_kind_at config bytes =
     if config.compact_imports_enabled

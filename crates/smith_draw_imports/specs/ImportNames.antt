@@ -1,5 +1,5 @@
--- The names of imports: the name drawn after other imports, and the set of their pairs of names.
--- Rules of this project.
+-- The names of imports: a name that is drawn after other imports, and the set of their pairs of
+-- names. Rules of this project.
 use Rattle.std.specs.Prelude.{◌≡◌, ℕ, ◌+◌, Bool, ◌&&◌, ◌||◌, IsTrue, max, List, [], ◌∷◌, length, string_bytes, if◌then◌else◌}
 use Rattle.std.specs.List.{list_any}
 use Rattle.std.specs.HashSet.{HashSet, contains_by, hash_set_len}
@@ -10,7 +10,7 @@ use Rattle.std.specs.declared.alloc.Global.{Global}
 use Rattle.smith_bytes.specs.Names.{text_at, new_name}
 use Rattle.smith_syntax.specs.declared.imports.Import.{Import}
 
--- whether an import has this pair of names: that of its module, and its own
+-- whether an import has this pair of names: of its module, and of the import itself
 abbrev pub has_names : List ℕ → List ℕ → Import → Bool
 has_names from name one = bytes_eq from one.«module» && bytes_eq name one.name
 
@@ -24,7 +24,7 @@ longest_name [] = 0
 longest_name (one ∷ imports) = max (length one.name) (longest_name imports)
 
 -- the name of an import from a module, after other imports: a text of at most 1000 bytes; if pairs
--- of names must be distinct, the number of these imports is appended until the pair is not taken
+-- of names must be distinct, with the number of these imports appended until no import has the pair
 unfoldable pub import_name_at : Bool → List Import → List ℕ → List ℕ → List ℕ × List ℕ
 import_name_at distinct imports from bytes =
     let text = text_at 1000 bytes in
@@ -44,7 +44,8 @@ module _ {S : Type 0} where
     pub has : (from name : List ℕ) → has_pair pairs from name ≡ is_taken imports from name
     pub size : hash_set_len pairs ≡ length imports
 
-  -- a set has them if pairs of names must be distinct; otherwise it is not maintained
+  -- if pairs of names must be distinct, the set has the pairs of the imports; else it is not
+  -- maintained
   abbrev pub KnowsPairs : Bool → HashSet (String Global × String Global) S → List Import → Type 0
   KnowsPairs distinct pairs imports = IsTrue distinct → HasPairs pairs imports
 

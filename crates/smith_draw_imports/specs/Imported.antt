@@ -1,4 +1,4 @@
--- Invariants of the step of imports while it adds imports, and its refusals. Rules of this project.
+-- Invariants and errors of the step of imports. Rules of this project.
 use Rattle.std.specs.Prelude.{◌≡◌, ℕ, ◌+◌, ◌*◌, ◌^◌, ◌<◌, ◌≤◌, ◌⊎◌, Bool, true, false, ◌&&◌, IsTrue, List, [], length, map, All}
 use Rattle.std.specs.HashSet.{IsEmpty}
 use Rattle.smith_bytes.specs.declared.error.Error.{Error}
@@ -65,14 +65,14 @@ pub record AreImportsCounted (types : List SubType) (added : EntityType) (old ne
   pub type_size : new.type_size ≡ old.type_size + (size_in types added + 1)
   pub pairs : new.pairs ≡ old.pairs
 
--- the counts of `imported` are those of these imports
+-- `imported` has the counts of these imports
 pub record Counts (types : List SubType) (distinct : Bool) (imported : Imported) (imports : List Import) : Type 0 where
   pub spaces : spaces_of imported ≡ imported_spaces imports
   pub count : imported.count ≡ length imports
   pub type_size : imported.type_size ≡ sizes types imports
   pub pairs : KnowsPairs distinct imported.pairs imports
 
--- index spaces have no more of each kind than the configuration allows
+-- index spaces have at most as many entities of each kind as the configuration allows
 pub record AreNumbersWithin (config : Config) (spaces : EntitySpaces) : Type 0 where
   pub tags : length spaces.tags ≤ config.max_tags
   pub funcs : length spaces.funcs ≤ config.max_funcs
@@ -80,7 +80,8 @@ pub record AreNumbersWithin (config : Config) (spaces : EntitySpaces) : Type 0 w
   pub memories : length spaces.memories ≤ config.max_memories
   pub globals : length spaces.globals ≤ config.max_globals
 
--- index spaces have no more of each kind, and no larger tables and memories, than are allowed
+-- index spaces have at most as many entities of each kind, and as large tables and memories, as the
+-- configuration allows
 pub record AreSpacesWithin (config : Config) (spaces : EntitySpaces) : Type 0 where
   pub tags : length spaces.tags ≤ config.max_tags
   pub funcs : length spaces.funcs ≤ config.max_funcs
@@ -90,8 +91,8 @@ pub record AreSpacesWithin (config : Config) (spaces : EntitySpaces) : Type 0 wh
   pub each_table : All (IsTableWithin config) spaces.tables
   pub each_memory : All (IsMemoryWithin config) spaces.memories
 
--- imports are valid and within the bounds; they add at most 42 each, taken together, to the type
--- size; their pairs of names are distinct if required
+-- imports are valid and within the bounds; on average they add at most 42 to the type size; their
+-- pairs of names are distinct if required
 pub record AreImportsFit (config : Config) (types : List SubType) (distinct : Bool) (imports : List Import) : Type 0 where
   pub entities : AreEntitiesValid (features_of config) types (imported_spaces imports)
   pub tags : 0 < length (imported_spaces imports).tags → IsTrue config.exceptions_enabled
@@ -129,16 +130,17 @@ pub record IsNext (config : Config) (types : List SubType) (spaces : EntitySpace
   pub fits : size + (size_in types added + 1) ≤ config.max_type_size
   pub sum : size + (size_in types added + 1) < 2 ^ 32
 
--- one more of a kind may be imported
+-- one more entity of a kind may be imported
 abbrev pub MayImportKind : Config → List SubType → EntitySpaces → ExportKind → Type 0
 MayImportKind config types spaces of_kind = (may_import config types of_kind && has_room config spaces of_kind) ≡ true
 
--- imports may end at these index spaces and this type size: an import may be too large, or a kind
--- is full
+-- imports may end at these index spaces and this type size: an import may exceed the type size, or
+-- a kind is full
 abbrev pub MayEndAt : Config → EntitySpaces → ℕ → Type 0
 MayEndAt config spaces size = (config.max_type_size < size + 42) ⊎ ((of_kind : ExportKind) × (has_room config spaces of_kind ≡ false))
 
--- imports may end at `count` imports: the next one may be too large, or they may fill some kind
+-- imports may end at `count` imports: the next import may exceed the type size, or they may fill
+-- some kind
 abbrev pub MayEnd : Config → ℕ → Type 0
 MayEnd config count =
     (config.max_type_size < 42 * (count + 1))
@@ -150,8 +152,7 @@ abbrev pub IsCompact : Imports → Type 0
 IsCompact (Single imported) = ⊥
 IsCompact _ = Unit {0}
 
--- the type shared by all imports of a group, if there is one, may be imported after these index
--- spaces
+-- the type of all imports of a group, if it has one, may be imported after these index spaces
 abbrev pub HasFitEntity : Config → List SubType → EntitySpaces → Imports → Type 0
 HasFitEntity config types spaces (Compact2 from entity_type names) = IsFitBeside config types spaces entity_type
 HasFitEntity config types spaces _ = Unit {0}
@@ -173,7 +174,7 @@ pub record IsImported (config : Config) (types : List SubType) (distinct : Bool)
   pub fit : AreImportsFit config types distinct (flattened imported.groups)
   pub groups : All (IsImportsValid (features_of config)) imported.groups
 
--- errors of the step of imports: lack of memory, or a minimum above zero that may stay unmet
+-- the errors of the step of imports: lack of memory, or a minimum above zero that may not be met
 abbrev pub MayRefuseImports : Config → Error → Type 0
 MayRefuseImports config e = (e ≡ errors.Memory) ⊎ ((e ≡ errors.IncorrectFormat (Unmet counts.Imports)) × (0 < config.min_imports)
     × MayLackImports config)

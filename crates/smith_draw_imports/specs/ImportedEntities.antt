@@ -1,4 +1,4 @@
--- The entity that is imported next, after the imports so far. Rules of this project.
+-- The next imported entity, after the imports so far. Rules of this project.
 use Rattle.std.specs.Prelude.{ℕ, ◌+◌, Bool, true, ◌&&◌, nat_lt, nat_le, Option, Some, None, List, [], ◌∷◌, length, sum_by, if◌then◌else◌}
 use Rattle.std.specs.Option.{option_map_or}
 use Rattle.smith_types.specs.Expressions.{Context}
@@ -34,7 +34,7 @@ may_import config types kind.Tag = config.exceptions_enabled && nat_lt 0 (length
 may_import config types kind.Func = nat_lt 0 (length (types_for uses.ImportedFunc types))
 may_import config types _ = true
 
--- a kind, and whether one more of it may be imported
+-- a kind, and whether one more entity of it may be imported
 abbrev pub kind_row : Config → List SubType → EntitySpaces → ExportKind → ExportKind × Bool
 kind_row config types spaces of_kind = (of_kind, may_import config types of_kind && has_room config spaces of_kind)
 
@@ -45,7 +45,7 @@ kind_rows config types spaces =
     ∷ (kind_row config types spaces kind.Global ∷
     (kind_row config types spaces kind.Memory ∷ (kind_row config types spaces kind.Table ∷ []))))
 
--- a kind of which one more may be imported, if there is one
+-- a kind of which one more entity may be imported, if any
 unfoldable pub kind_at : Config → List SubType → EntitySpaces → List ℕ → Option ExportKind × List ℕ
 kind_at config types spaces bytes =
     let offered = enabled (kind_rows config types spaces) in
@@ -74,7 +74,7 @@ entity_of_kind_at config context kind.Global bytes = let global = global_type_at
 entity_of_kind_at config context kind.Memory bytes = let memory = memtype_at config bytes in (entity.Memory memory.0, memory.1)
 entity_of_kind_at config context kind.Table bytes = let table = table_type_at config context bytes in (entity.Table table.0, table.1)
 
--- the amount that imports add to the type size: their sizes, and one more each
+-- what imports add to the type size: their sizes, and 1 for each
 abbrev pub sizes : List SubType → List Import → ℕ
 sizes types imports = sum_by (λ (one : Import). size_in types one.entity_type + 1) imports
 
@@ -82,7 +82,7 @@ sizes types imports = sum_by (λ (one : Import). size_in types one.entity_type +
 abbrev pub fits : Config → List SubType → ℕ → EntityType → Bool
 fits config types size added = nat_le (size + (size_in types added + 1)) config.max_type_size
 
--- an entity of a kind that has room, if there is such a kind and the entity fits
+-- an entity of a kind with room, if there is such a kind and the entity fits
 unfoldable pub entity_at : Config → List SubType → EntitySpaces → ℕ → List ℕ → Option EntityType × List ℕ
 entity_at config types spaces size bytes =
     let chosen = kind_at config types spaces bytes in
@@ -91,7 +91,7 @@ entity_at config types spaces size bytes =
     ((if fits config types size drawn.0 then Some drawn.0 else None), drawn.1))
     chosen.0 (None, chosen.1)
 
--- the same entity once more, if its kind has room and it fits
+-- the same entity once more, if its kind has room and the entity fits
 abbrev pub again : Config → List SubType → EntitySpaces → ℕ → EntityType → Option EntityType
 again config types spaces size added = if has_room config spaces (entity_kind added) && fits config types size added then Some added else
     None

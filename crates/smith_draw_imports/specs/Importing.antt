@@ -1,6 +1,5 @@
--- The groups of imports that the bytes produce in the step of imports, and the bytes left. The
--- index spaces, the type size and the names taken so far are computed from the imports drawn
--- before.
+-- The groups of imports that the bytes give in the step of imports, and the bytes left. The index
+-- spaces, the type size and the names so far are computed from the imports so far.
 use Rattle.std.specs.Prelude.{ℕ, zero, suc, ◌+◌, ◌-◌, Bool, true, false, nat_lt, ◌==◌, Option, List, [], ◌∷◌, ◌++◌, length, Result, Ok, Err}
 use Rattle.std.specs.Prelude.{if◌then◌else◌}
 use Rattle.std.specs.Option.{option_map_or}
@@ -34,14 +33,14 @@ with_import (Single imported) name added = Single imported
 with_import (Compact1 from items) name added = Compact1 from (items ++ record { name = name; entity_type = added } ∷ [])
 with_import (Compact2 from entity_type names) name added = Compact2 from entity_type (names ++ name ∷ [])
 
--- the entity that a compact group imports next: the same entity again if the group has one type,
--- else a drawn one
+-- the next entity of a compact group: the same entity again if the group has one type, else a drawn
+-- one
 abbrev pub next_entity_at : Config → List SubType → EntitySpaces → ℕ → Imports → List ℕ → Option EntityType × List ℕ
 next_entity_at config types spaces size (Compact2 from entity_type names) bytes = (again config types spaces size entity_type, bytes)
 next_entity_at config types spaces size _ bytes = entity_at config types spaces size bytes
 
 -- a compact group after other imports, with at most `most` more imports: whether more may follow,
--- the group, and the bytes
+-- the group, and the bytes left
 unfoldable pub fill_at : Config → List SubType → Bool → List Import → ℕ → Imports → List ℕ → Bool × (Imports × List ℕ)
 fill_at config types distinct before zero group bytes = (true, (group, bytes))
 fill_at config types distinct before (suc most) group bytes =
@@ -54,11 +53,11 @@ fill_at config types distinct before (suc most) group bytes =
     (false, (group, next.1))
     else (true, (group, go.1))
 
--- groups followed by another, unless that one has no import
+-- groups followed by another group, unless it has no imports
 abbrev pub with_filled : List Imports → Imports → List Imports
 with_filled made group = if length (imports_of group) == 0 then made else made ++ group ∷ []
 
--- whether more imports may follow, the groups, and the bytes, after a compact group is filled
+-- after a compact group is filled: whether more imports may follow, the groups, and the bytes left
 unfoldable pub filled_at : Config → List SubType → Bool → List Imports → Imports → List ℕ → Bool × (List Imports × List ℕ)
 filled_at config types distinct made group bytes =
     let drawn = fill_at config types distinct (flattened made) (config.max_imports - length (flattened made)) group bytes in
@@ -84,7 +83,7 @@ group_at config types distinct made bytes =
     let from = text_at 1000 drawn.1 in
     group_of_kind_at config types distinct made from.0 drawn.0 from.1
 
--- at most `turns` more groups, while there is room and imports go on
+-- at most `turns` more groups, while there is room and more imports may follow
 unfoldable pub groups_at : Config → List SubType → Bool → ℕ → List Imports → List ℕ → List Imports × List ℕ
 groups_at config types distinct zero made bytes = (made, bytes)
 groups_at config types distinct (suc turns) made bytes =
@@ -95,7 +94,8 @@ groups_at config types distinct (suc turns) made bytes =
     then (if go.0 then (if turn.0 then groups_at config types distinct turns turn.1.0 turn.1.1 else turn.1) else (made, go.1))
     else (made, bytes)
 
--- the imports, or a refusal if they end below the minimum. A turn adds an import or takes a byte
+-- the imports, or an error if they are fewer than the minimum; each turn adds an import or takes a
+-- byte
 unfoldable pub imports_at : Config → List SubType → Bool → List ℕ → Result (List Imports × List ℕ) Why
 imports_at config types distinct bytes =
     let drawn = groups_at config types distinct (config.max_imports + length bytes + 1) [] bytes in

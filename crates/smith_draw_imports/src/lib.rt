@@ -1,4 +1,4 @@
-//! The imports of a module so far, with their counts, and those that are drawn freely.
+//! The imports of a module so far with their counts, and the draws of imports that no shape fixes.
 //!
 //! A call that returns a `Result` fails only if an allocation fails, apart from the errors in its
 //! section `# Errors`.

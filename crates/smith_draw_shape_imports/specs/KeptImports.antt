@@ -1,4 +1,4 @@
--- The imports that a module takes from its shape. Rules of this project.
+-- The imports that a module has from its shape. Rules of this project.
 use Rattle.std.specs.Prelude.{◌≡◌, Bool, List, [], ◌∷◌, map, length, All, if◌then◌else◌}
 use Rattle.smith_types.specs.Entities.{AreEntitiesValid, AreCountsEnabled}
 use Rattle.smith_types.specs.Imports.{IsImportsValid, imports_of, flattened, imported_spaces}
@@ -12,12 +12,11 @@ use Rattle.smith_draw_imports.specs.Imported.{spaces_of}
 use Rattle.smith_module_rules.specs.ShapeImports.{is_filled, kept_groups}
 use Rattle.smith_draw_imports.specs.declared.imports_so_far.Imported.{Imported}
 
--- a group in the form in which a module has it: unless empty, whole if imports are compact, else
--- one by one
+-- a group as a module has it: whole with compact imports, unless it is empty, else one by one
 abbrev pub kept_of : Bool → Imports → List Imports
 kept_of compact group = if compact then (if is_filled group then group ∷ [] else []) else map Single (imports_of group)
 
--- the imports of a shape are kept in valid groups and counted; they add nothing to the type size
+-- the imports of a shape are in valid groups and counted; they add nothing to the type size
 pub record AreKept (config : Config) (shape : Shape) (imported : Imported) : Type 0 where
   pub groups : imported.groups ≡ kept_groups config shape
   pub flat : flattened imported.groups ≡ shape_imports shape

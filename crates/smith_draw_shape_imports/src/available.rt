@@ -18,8 +18,8 @@ use smith_draw_imports::Imported;
 use smith_types::TypeSpace;
 use std::alloc::Global;
 
-/// Takes those imports of `shape` that fit and for which a drawn bool is true into `imported`, which
-/// has none. Puts them into groups of drawn kinds. `types` are those of `shape`.
+/// Takes the imports of `shape` that fit and for which a drawn bool is true into `imported`, which
+/// has none. Puts them into groups of drawn kinds. `types` are the types of `shape`.
 #[tactic(auto, unfolding(crate::specs::AvailableImports::available_at))]
 fn take_into(
     alloc: Global,
@@ -46,8 +46,8 @@ fn take_into(
     Ok(())
 }
 
-/// Takes the types of `shape`, and those of its imports that fit and for which a drawn bool is
-/// true. Puts the imports taken into groups of drawn kinds.
+/// Takes the types of `shape`, and the imports of `shape` that fit and for which a drawn bool is
+/// true. Puts these imports into groups of drawn kinds.
 ///
 /// An import fits if it stays within the maximums and the type size of `config`. A tag also needs
 /// exceptions. Requires `shape` to pass [`Shape::check`] as available imports for `config`.

@@ -65,8 +65,7 @@ fn take(
     Ok(())
 }
 
-/// Takes those imports of `offered` that fit and for which the drawn bool is true. Draws one bool
-/// for each import.
+/// Draws a bool for each import of `offered`, and takes the import if it fits and the bool is true.
 pub(crate) fn take_imports(
     alloc: Global,
     config: &Config,

@@ -11,18 +11,18 @@ use Rattle.smith_syntax.specs.declared.value_type.ValType.TheVariants.{I32, I64,
 use Rattle.smith_syntax.specs.declared.composite_type.SubType.{SubType}
 use Rattle.smith_draw_types.specs.Offered.{ancestors}
 
--- the concrete type with this index is in the list
+-- whether the list has the concrete type with this index
 abbrev pub names : ℕ → List HeapType → Bool
 names index [] = false
 names index (Concrete other ∷ types) = (other == index) || names index types
 names index (_ ∷ types) = names index types
 
--- the type, if it exists, is a subtype of an abstract type
+-- whether the type exists and is a subtype of an abstract type
 abbrev pub is_under : Option SubType → Bool → AbstractHeapType → Bool
 is_under None is_shared upper = false
 is_under (Some t) is_shared upper = beq (shared t) is_shared && is_abstract_below (kind t) upper
 
--- the abstract type is the bottom of the type, if it exists
+-- whether the type exists and the abstract type is its bottom type
 abbrev pub is_bottom_of : Option SubType → Bool → AbstractHeapType → Bool
 is_bottom_of None is_shared lower = false
 is_bottom_of (Some t) is_shared lower = beq is_shared (shared t) && is_abstract_below lower (bottom t)

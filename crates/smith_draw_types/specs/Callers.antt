@@ -3,7 +3,6 @@ use Rattle.std.specs.Prelude.{ℕ}
 use Rattle.smith_config.specs.declared.config.Config.{Config}
 use Rattle.smith_config.specs.Faults.{Passes}
 
--- a configuration that passes its check, possibly except for the pair of `min_imports` and
--- `max_imports`: it passes with some `min_imports`
+-- a configuration passes its check with some value of `min_imports`
 abbrev pub PassesButImports : Config → Type 0
 PassesButImports config = (least : ℕ) × Passes (record config { min_imports = least })

@@ -45,11 +45,11 @@ inner_of_number_at config context must_share limit (suc zero) bytes =
 inner_of_number_at config context must_share limit _ bytes =
     let structure = struct_type_at config context must_share limit bytes in (Struct structure.0, structure.1)
 
--- the number of a composite type; without garbage collection that of functions (own rule)
+-- the number of a composite type; without garbage collection, that of function types (own rule)
 abbrev pub inner_number_at : Config → List ℕ → ℕ × List ℕ
 inner_number_at config bytes = if config.gc_enabled then range_at 0 2 bytes else (1, bytes)
 
--- sharedness, then a composite type for a number; if it is shared, so is everything in it (own
+-- sharedness, then a composite type for a drawn number; everything in a shared type is shared (own
 -- rule)
 unfoldable pub composite_type_at : Config → Context → ℕ → List ℕ → CompositeType × List ℕ
 composite_type_at config context limit bytes =

@@ -1,4 +1,4 @@
--- Types over which the examples draw.
+-- Types of the examples.
 use Rattle.std.specs.Prelude.{ℕ, zero, suc, ◌+◌, List, [], ◌∷◌, None, Some}
 use Rattle.smith_syntax.specs.declared.composite_type.SubType.{SubType}
 use Rattle.smith_syntax.specs.declared.composite_type.StorageType.TheVariants.{I8}
@@ -11,12 +11,12 @@ of_each_kind =
     shared_type empty_struct ∷ shared_type (array (constant I8)) ∷ shared_type plain_func ∷
     final_type empty_struct ∷ final_type (array (constant I8)) ∷ []
 
--- `count` structs: the first a subtype of the type at this index, each other a subtype of the one
--- before
+-- `count` structs: the first a subtype of the type at this index, each other a subtype of the
+-- struct before it
 abbrev pub structs_below : ℕ → ℕ → List SubType
 structs_below zero index = []
 structs_below (suc count) index = open_type (Some index) empty_struct ∷ structs_below count (index + 1)
 
--- a struct, and `count` more, each a subtype of the one before
+-- a struct, and `count` more, each a subtype of the struct before it
 abbrev pub chain : ℕ → List SubType
 chain count = open_type None empty_struct ∷ structs_below count 0

@@ -5,24 +5,26 @@ use Rattle.smith_syntax.specs.declared.composite_type.CompositeInnerType.TheVari
 use Rattle.smith_syntax.specs.declared.composite_type.FuncType.{FuncType}
 use Rattle.smith_syntax.specs.declared.composite_type.SubType.{SubType}
 
--- a function type with at most `most` parameters and at most `most` results
+-- a function type has at most `most` parameters and at most `most` results
 pub record IsFunctionWithin (most : ℕ) (function : FuncType) : Type 0 where
   pub params : length function.params ≤ most
   pub results : length function.results ≤ most
 
--- as above, for a composite type if it is a function
+-- a composite type is not a function type, or has at most `most` parameters and at most `most`
+-- results
 abbrev pub IsInnerWithin : ℕ → CompositeInnerType → Type 0
 IsInnerWithin most (Func function) = IsFunctionWithin most function
 IsInnerWithin most _ = Unit {0}
 
--- as above, for a subtype if it is a function type
+-- a subtype is not a function type, or has at most `most` parameters and at most `most` results
 abbrev pub HasFewValues : ℕ → SubType → Type 0
 HasFewValues most t = IsInnerWithin most t.composite_type.inner
 
--- at most 20 of each, as in a function type that is drawn on its own
+-- a composite type is not a function type, or has at most 20 parameters and at most 20 results, as
+-- each drawn function type has
 abbrev pub IsSmallInner : CompositeInnerType → Type 0
 IsSmallInner inner = IsInnerWithin 20 inner
 
--- as above, for a subtype
+-- a subtype is not a function type, or has at most 20 parameters and at most 20 results
 abbrev pub IsSmall : SubType → Type 0
 IsSmall t = HasFewValues 20 t

@@ -1,4 +1,4 @@
--- The lists of the concrete types that functions ground.
+-- Lists of the concrete types that functions ground.
 use Rattle.std.specs.Prelude.{◌≡◌, ℕ, ◌≤◌, Bool, true, false, ◌&&◌, Option, Some, None, List, [], length, slice_get, Vec}
 use Rattle.std.specs.declared.alloc.Global.{Global}
 use Rattle.smith_syntax.specs.declared.composite_type.SubType.{SubType}
@@ -21,16 +21,16 @@ is_kind_in is_shared kind (Some t) = is_kind is_shared kind t
 abbrev pub is_kind_at : List SubType → Bool → AbstractHeapType → ℕ → Bool
 is_kind_at types is_shared kind j = is_kind_in is_shared kind (slice_get types j)
 
--- whether functions ground the type at index j, and it is a direct subtype of the type at this index
+-- whether functions ground the type at j, and the type at `index` is its declared supertype
 abbrev pub is_noted_below : List SubType → FuncGrounds → ℕ → ℕ → Bool
 is_noted_below types grounds index j = is_noted grounds (Concrete j) && is_directly_below_at types index j
 
--- whether functions ground the type at index j, and it is a function type of this sharedness
+-- whether functions ground the type at j, and it is a function type of this sharedness
 abbrev pub is_noted_function : List SubType → FuncGrounds → Bool → ℕ → Bool
 is_noted_function types grounds is_shared j = is_noted grounds (Concrete j) && is_kind_at types is_shared heap.Func j
 
--- list s has the indices below `count` that pass the test of s, in order; for those without a list
--- there are none
+-- list `s` has the indices below `count` that pass the test for `s`, in order; without a list, no
+-- index passes
 pub record AreListed (test : ℕ → ℕ → Bool) (count : ℕ) (lists : List (Vec ℕ Global)) : Type 0 where
   pub each : (s : ℕ) (list : Vec ℕ Global) → slice_get lists s ≡ Some list → list.items ≡ indices_where (test s) 0 count
   pub others : (s : ℕ) → length lists ≤ s → indices_where (test s) 0 count ≡ []

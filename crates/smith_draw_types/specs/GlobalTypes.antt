@@ -10,7 +10,7 @@ use Rattle.smith_bytes.specs.Draws.{bool_at}
 use Rattle.smith_draw_types.specs.ValueTypes.{sharedness_at, val_type_at}
 use Rattle.smith_draw_types.specs.SharedHeapTypes.{is_heap_type_shared}
 
--- whether a global of a value type is shared: like the heap type of a reference, otherwise drawn
+-- whether a global is shared: if its value is a reference, like the heap type, or else as drawn
 -- (own rule)
 abbrev pub global_sharedness_at : Config → List SubType → ValType → List ℕ → Bool × List ℕ
 global_sharedness_at config types (Ref reference) bytes = (is_heap_type_shared types reference.heap_type, bytes)

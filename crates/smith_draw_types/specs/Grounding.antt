@@ -13,11 +13,11 @@ use Rattle.smith_draw_types.specs.declared.early_grounds.EarlyGrounds.{EarlyGrou
 use Rattle.smith_draw_types.specs.declared.spaces.Entities.{Entities}
 use Rattle.smith_draw_types.specs.declared.spaces.Spaces.{Spaces}
 
--- a context without its globals, which ground nothing
+-- a context without its globals, because globals ground nothing
 abbrev pub without_globals : Context → Context
 without_globals context = record context { globals = []; imported_globals = 0; visible = 0 }
 
--- the context of these types and functions, without globals
+-- the context with these types and functions, without globals
 abbrev pub function_context : Features → List SubType → List ℕ → ℕ → Context
 function_context features types funcs imported_funcs = record {
   features = features;
@@ -29,15 +29,15 @@ function_context features types funcs imported_funcs = record {
   visible = 0;
 }
 
--- the context of these functions, without types and globals
+-- the context with these functions, without types and globals
 abbrev pub functions_in : Config → Entities → Context
 functions_in config entities = function_context (features_of config) [] entities.funcs.now entities.imported_funcs
 
--- the same for the functions over which a call draws types
+-- the context with the functions over which a call draws types, without types and globals
 abbrev pub functions_of : Config → EarlyGrounds → Context
 functions_of config grounds = function_context (features_of config) [] grounds.funcs.now grounds.imported_funcs
 
--- a context over these types
+-- a context with these types in place of its own
 abbrev pub over : Context → List SubType → Context
 over context types = record context { types = types }
 
@@ -49,8 +49,8 @@ with_functions context funcs = record context { funcs = funcs }
 abbrev pub standing_in : Config → Spaces → Context
 standing_in config spaces = over (functions_in config spaces.entities) spaces.types.now.types
 
--- whether a test of an index and an item holds for some item of a list; the first item has the
--- index `start`
+-- whether some item of a list passes a test together with its index; the first item has the index
+-- `start`
 abbrev pub any_from : {A : Type 0} → (ℕ → A → Bool) → ℕ → List A → Bool
 any_from test start [] = false
 any_from test start (x ∷ xs) = test start x || any_from test (start + 1) xs

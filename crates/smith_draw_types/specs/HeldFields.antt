@@ -1,4 +1,4 @@
--- What the fields of types hold.
+-- References in the fields of types.
 use Rattle.std.specs.Prelude.{List, [], ◌∷◌}
 use Rattle.std.specs.List.{Any}
 use Rattle.smith_types.specs.Expressions.{Context, field_values}
@@ -9,7 +9,7 @@ use Rattle.smith_syntax.specs.declared.composite_type.SubType.{SubType}
 use Rattle.smith_config.specs.declared.config.Config.{Config}
 use Rattle.smith_config.specs.Granted.{IsNonNullable, IsUngrounded}
 
--- the fields of a struct, and the element of an array (Structure, Composite Types)
+-- the fields of a struct type, or the element of an array type (Structure, Composite Types)
 abbrev pub fields_of : CompositeInnerType → List FieldType
 fields_of (Struct structure) = structure.fields
 fields_of (Array array) = array.0 ∷ []

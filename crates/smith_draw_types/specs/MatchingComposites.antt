@@ -28,7 +28,7 @@ matching_inner_at config context must_share limit (Func function) bytes =
 matching_inner_at config context must_share limit (Struct structure) bytes =
     let drawn = matching_struct_type_at config context must_share limit structure bytes in (Struct drawn.0, drawn.1)
 
--- with the sharedness of the type that it matches (own rule)
+-- a composite type that matches the given one, with its sharedness (own rule)
 unfoldable pub matching_composite_type_at : Config → Context → ℕ → CompositeType → List ℕ → CompositeType × List ℕ
 matching_composite_type_at config context limit composite bytes =
     let inner = matching_inner_at config context composite.shared limit composite.inner bytes in

@@ -23,7 +23,7 @@ each_at draw (x ∷ xs) bytes =
     let ys = each_at draw xs y.1 in
     (y.0 ∷ ys.0, ys.1)
 
--- one of the offered subtypes (own rule)
+-- one of the subtypes that are offered for a heap type (own rule)
 unfoldable pub matching_heap_type_at : Config → List SubType → HeapType → List ℕ → HeapType × List ℕ
 matching_heap_type_at config types ty bytes = chosen_at ty (subtypes_offered config types ty) bytes
 
@@ -32,33 +32,34 @@ abbrev pub first_and_passing : {A : Type 0} → (A → Bool) → List A → List
 first_and_passing test [] = []
 first_and_passing test (x ∷ xs) = x ∷ filter test xs
 
--- the subtypes offered for a reference: all of them; with `non_nullable_enabled`, for a
--- non-nullable one only its heap type itself and the grounded ones among the others (own rule)
+-- the heap types that are offered in place of a reference's heap type: all subtypes; with
+-- `non_nullable_enabled`, for a non-nullable reference only the heap type itself and grounded
+-- subtypes (own rule)
 unfoldable pub references_offered : Config → Context → RefType → List HeapType
 references_offered config context ty =
     let offered = subtypes_offered config context.types ty.heap_type in
     if ty.nullable || not config.non_nullable_enabled then offered else first_and_passing (is_grounded context) offered
 
--- one of the offered subtypes, with the nullability of the type (own rule)
+-- a reference with one of the heap types that are offered, and the same nullability (own rule)
 unfoldable pub matching_ref_type_at : Config → Context → RefType → List ℕ → RefType × List ℕ
 matching_ref_type_at config context ty bytes =
     let heap = chosen_at ty.heap_type (references_offered config context ty) bytes in
     (record { nullable = ty.nullable; heap_type = heap.0 }, heap.1)
 
--- a number or a vector unchanged, without a draw (own rule)
+-- a matching reference; or a number or a vector, unchanged, without a draw (own rule)
 abbrev pub matching_val_type_at : Config → Context → ValType → List ℕ → ValType × List ℕ
 matching_val_type_at config context (vals.Ref reference) bytes =
     let drawn = matching_ref_type_at config context reference bytes in (vals.Ref drawn.0, drawn.1)
 matching_val_type_at config context ty bytes = (ty, bytes)
 
--- a packed type unchanged, without a draw (own rule)
+-- a matching value type; or a packed type, unchanged, without a draw (own rule)
 abbrev pub matching_storage_type_at : Config → Context → StorageType → List ℕ → StorageType × List ℕ
 matching_storage_type_at config context I8 bytes = (I8, bytes)
 matching_storage_type_at config context I16 bytes = (I16, bytes)
 matching_storage_type_at config context (Val ty) bytes =
     let drawn = matching_val_type_at config context ty bytes in (Val drawn.0, drawn.1)
 
--- a mutable field unchanged, without a draw (own rule)
+-- a matching field; or a mutable field, unchanged, without a draw (own rule)
 unfoldable pub matching_field_type_at : Config → Context → FieldType → List ℕ → FieldType × List ℕ
 matching_field_type_at config context field bytes =
     let drawn = matching_storage_type_at config context field.element_type bytes in
@@ -68,17 +69,17 @@ matching_field_type_at config context field bytes =
 unfoldable pub matched_fields_at : Config → Context → List FieldType → List ℕ → List FieldType × List ℕ
 matched_fields_at config context fields bytes = each_at (matching_field_type_at config context) fields bytes
 
--- one of the offered supertypes (own rule)
+-- one of the supertypes that are offered for a heap type (own rule)
 unfoldable pub super_heap_type_at : Config → List SubType → HeapType → List ℕ → HeapType × List ℕ
 super_heap_type_at config types ty bytes = chosen_at ty (supertypes_offered config types ty) bytes
 
--- a nullable supertype (own rule)
+-- a nullable reference to one of the supertypes that are offered (own rule)
 unfoldable pub super_ref_type_at : Config → List SubType → RefType → List ℕ → RefType × List ℕ
 super_ref_type_at config types ty bytes =
     let heap = super_heap_type_at config types ty.heap_type bytes in
     (record { nullable = true; heap_type = heap.0 }, heap.1)
 
--- a number or a vector unchanged, without a draw (own rule)
+-- a supertype of a reference; or a number or a vector, unchanged, without a draw (own rule)
 abbrev pub super_val_type_at : Config → List SubType → ValType → List ℕ → ValType × List ℕ
 super_val_type_at config types (vals.Ref reference) bytes =
     let drawn = super_ref_type_at config types reference bytes in (vals.Ref drawn.0, drawn.1)

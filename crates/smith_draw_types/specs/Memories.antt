@@ -29,12 +29,12 @@ page_size_at config bytes =
 abbrev pub least_pages : Config → ℕ
 least_pages config = if config.disallow_traps then 1 else 0
 
--- the maximum number of pages that is drawn
+-- the greatest number of pages that can be drawn
 unfoldable pub drawn_pages : Config → Bool → Option ℕ → ℕ
 drawn_pages config memory64 page_size =
     min (max (least_pages config) (memory_bytes config memory64 / 2 ^ page_log2 page_size)) (addresses memory64 - 1)
 
--- the maximum number of pages that is likely: 1 GiB for all memories together
+-- the greatest likely number of pages: 1 GiB for all memories together
 unfoldable pub likely_pages : Config → Bool → Option ℕ → ℕ
 likely_pages config memory64 page_size =
     min (max (least_pages config) (2 ^ 30 / max 1 config.max_memories / 2 ^ page_log2 page_size)) (drawn_pages config memory64 page_size)

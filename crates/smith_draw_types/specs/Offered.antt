@@ -1,4 +1,4 @@
--- The subtypes and supertypes of a heap type that are offered in its place.
+-- The subtypes and supertypes that may be drawn in place of a heap type.
 use Rattle.std.specs.Prelude.{◌≡◌, ℕ, zero, suc, ◌+◌, Bool, true, false, not, ◌&&◌, Option, Some, None, List, [], ◌∷◌, ◌++◌, map, length}
 use Rattle.std.specs.Prelude.{slice_get, if◌then◌else◌}
 use Rattle.std.specs.List.{flat_map}
@@ -68,26 +68,25 @@ kinds_above heap.None = heap.Array ∷ heap.Struct ∷ []
 kinds_above heap.NoFunc = heap.Func ∷ []
 kinds_above _ = []
 
--- a composite type has this kind (Validation, Matching, Heap Types)
+-- whether a composite type has this kind (Validation, Matching, Heap Types)
 abbrev pub is_of_kind : AbstractHeapType → CompositeInnerType → Bool
 is_of_kind heap.Array (Array a) = true
 is_of_kind heap.Struct (Struct s) = true
 is_of_kind heap.Func (Func f) = true
 is_of_kind _ _ = false
 
--- a type has this kind and sharedness (own rule)
+-- whether a type has this kind and sharedness (own rule)
 abbrev pub is_kind : Bool → AbstractHeapType → SubType → Bool
 is_kind is_shared kind t = is_shared_as is_shared t && is_of_kind kind t.composite_type.inner
 
--- the concrete heap types of the types that satisfy a test, by index; the first type has the index
+-- the concrete heap types of the types that pass a test, by index; the first type has the index
 -- `start` (own rule)
 abbrev pub picked_from : (SubType → Bool) → ℕ → List SubType → List HeapType
 picked_from test start [] = []
 picked_from test start (t ∷ types) = if test t then Concrete start ∷ picked_from test (start + 1) types else picked_from test
     (start + 1) types
 
--- the concrete heap types of the existing types of these kinds, kind by kind, each by index (own
--- rule)
+-- the concrete heap types of these kinds, kind by kind, each by index (own rule)
 abbrev pub of_kinds : List SubType → Bool → List AbstractHeapType → List HeapType
 of_kinds types is_shared kinds = flat_map (λ kind. picked_from (is_kind is_shared kind) 0 types) kinds
 
@@ -95,7 +94,7 @@ of_kinds types is_shared kinds = flat_map (λ kind. picked_from (is_kind is_shar
 abbrev pub offered_direct_subtypes : List SubType → ℕ → List HeapType
 offered_direct_subtypes types index = picked_from (is_directly_below index) 0 types
 
--- the declared supertype of a type, if it exists (Structure, Recursive Types)
+-- the declared supertype of a type, if both exist (Structure, Recursive Types)
 abbrev pub supertype_of : Option SubType → Option ℕ
 supertype_of None = None
 supertype_of (Some t) = t.supertype
@@ -105,33 +104,33 @@ supertype_of (Some t) = t.supertype
 abbrev pub supertype_at : List SubType → ℕ → Option ℕ
 supertype_at types index = supertype_of (slice_get types index)
 
--- at most `most` of the proper supertypes of the type at this index, nearest first (own rule)
+-- the `most` nearest proper supertypes of the type at this index, nearest first (own rule)
 abbrev pub ancestors_within : ℕ → List SubType → ℕ → List HeapType
 ancestors_within zero types index = []
 ancestors_within (suc most) types index =
     elim (supertype_at types index) [ None ↦ [] | Some supertype ↦ Concrete supertype ∷ ancestors_within most types supertype ]
 
--- the proper supertypes of the type at this index, nearest first; at most as many as there are
+-- the proper supertypes of the type at this index, nearest first, at most as many as there are
 -- types (own rule)
 unfoldable pub ancestors : List SubType → ℕ → List HeapType
 ancestors types index = ancestors_within (length types) types index
 
--- over orderly types none is missing: the first is the declared supertype, and the others are the
--- proper supertypes of that
+-- if supertypes precede their subtypes, no proper supertype is missing: the first is the declared
+-- supertype, and the others are its proper supertypes
 abbrev pub AncestorsAreAll : Type 0
 AncestorsAreAll = (types : List SubType) → IsOrderly types → (index supertype : ℕ) → supertype_at types index ≡ Some supertype
     → ancestors types index ≡ Concrete supertype ∷ ancestors types supertype
 
--- the types offered for a type, or none if it does not exist (own rule)
+-- the heap types that are offered for a type, or none if the type does not exist (own rule)
 abbrev pub of_standing : (SubType → List HeapType) → Option SubType → List HeapType
 of_standing offers None = []
 of_standing offers (Some t) = offers t
 
--- the bottom of the kind of a type, if it exists (own rule)
+-- the bottom type of a type, if the type exists (own rule)
 abbrev pub bottom_at : List SubType → ℕ → List HeapType
 bottom_at types index = of_standing (λ t. Abstract (shared t) (bottom t) ∷ []) (slice_get types index)
 
--- the kind of a type and its supertypes, if the type exists (own rule)
+-- the abstract supertypes of a type, if the type exists (own rule)
 abbrev pub kinds_at : List SubType → ℕ → List HeapType
 kinds_at types index = of_standing (λ t. map (Abstract (shared t)) (supertypes_of_inner t.composite_type.inner)) (slice_get types index)
 
@@ -139,7 +138,7 @@ kinds_at types index = of_standing (λ t. map (Abstract (shared t)) (supertypes_
 abbrev pub exact_subtypes : Config → List SubType → ℕ → List HeapType
 exact_subtypes config types index = if config.custom_descriptors_enabled then Exact index ∷ offered_direct_subtypes types index else []
 
--- the subtypes that are offered with garbage collection, the type itself first (own rule)
+-- the subtypes that are offered with garbage collection, the heap type itself first (own rule)
 abbrev pub gc_subtypes : Config → List SubType → HeapType → List HeapType
 gc_subtypes config types (Abstract is_shared ty) = map (Abstract is_shared) (abstract_subtypes ty) ++ of_kinds types is_shared
     (kinds_below ty)
@@ -147,18 +146,17 @@ gc_subtypes config types (Concrete index) = Concrete index ∷ offered_direct_su
     (exact_subtypes config types index ++ bottom_at types index)
 gc_subtypes config types (Exact index) = Exact index ∷ []
 
--- the supertypes that are offered with garbage collection, the type itself first (own rule)
+-- the supertypes that are offered with garbage collection, the heap type itself first (own rule)
 abbrev pub gc_supertypes : List SubType → HeapType → List HeapType
 gc_supertypes types (Abstract is_shared ty) = map (Abstract is_shared) (abstract_supertypes ty) ++ of_kinds types is_shared (kinds_above ty)
 gc_supertypes types (Concrete index) = Concrete index ∷ kinds_at types index ++ ancestors types index
 gc_supertypes types (Exact index) = Exact index ∷ []
 
--- the subtypes offered for a heap type over the existing types; without garbage collection only
--- itself (own rule)
+-- the subtypes that are offered for a heap type; without garbage collection, only itself (own rule)
 unfoldable pub subtypes_offered : Config → List SubType → HeapType → List HeapType
 subtypes_offered config types ty = if config.gc_enabled then gc_subtypes config types ty else ty ∷ []
 
--- the supertypes offered for a heap type over the existing types; without garbage collection only
--- itself (own rule)
+-- the supertypes that are offered for a heap type; without garbage collection, only itself (own
+-- rule)
 unfoldable pub supertypes_offered : Config → List SubType → HeapType → List HeapType
 supertypes_offered config types ty = if config.gc_enabled then gc_supertypes types ty else ty ∷ []

@@ -17,11 +17,11 @@ use Rattle.smith_draw_types.specs.SubTypes.{sub_type_at}
 abbrev pub types_left : Config → GroupedTypes → ℕ
 types_left config space = config.max_types - length space.types
 
--- the types, with a group of those after the last group (own rule)
+-- the space with a group of the types after the last group (own rule)
 abbrev pub with_group : List SubType → List (Range ℕ) → GroupedTypes
 with_group types groups = record { types = types; groups = groups ++ next_group types groups ∷ [] }
 
--- types, extended to `limit` types, each drawn over those before it (own rule)
+-- types, extended to `limit` types, each drawn over the types before it (own rule)
 unfoldable pub types_until_at : Config → Context → ℕ → List SubType → List ℕ → List SubType × List ℕ
 types_until_at config context limit types bytes =
     grow_at (λ made. sub_type_at config (over context made) limit) limit (limit - length types) types bytes
@@ -42,17 +42,17 @@ new_group_at config context allow_empty space bytes =
 abbrev pub members : List SubType → Range ℕ → List SubType
 members types group = take (group.end - group.start) (drop group.start types)
 
--- a group may be cloned unless it is empty and that is not allowed, or it has more types than may
--- still be added (own rule)
+-- whether a group may be cloned: it has no more types than may still be added, and is not empty
+-- unless that is allowed (own rule)
 abbrev pub may_be_cloned : Config → Bool → GroupedTypes → Range ℕ → Bool
 may_be_cloned config allow_empty space group =
     (allow_empty || nat_lt group.start group.end) && nat_le (group.end - group.start) (types_left config space)
 
--- the space with a clone of a group added (own rule)
+-- the space with a clone of the group (own rule)
 abbrev pub with_clone : GroupedTypes → Range ℕ → GroupedTypes
 with_clone space group = with_group (space.types ++ members space.types group) space.groups
 
--- a chosen group is cloned if it may be: whether it was, and the space (own rule)
+-- whether a drawn group is cloned, and the space after it (own rule)
 unfoldable pub clone_rec_group_at : Config → Bool → GroupedTypes → List ℕ → Bool × (GroupedTypes × List ℕ)
 clone_rec_group_at config allow_empty space bytes =
     let group = chosen_at (record { start = 0; end = 0 }) space.groups bytes in
@@ -65,26 +65,29 @@ abbrev pub clone_wanted_at : Config → GroupedTypes → List ℕ → Bool × Li
 clone_wanted_at config space bytes =
     if config.gc_enabled && nat_lt 0 (length space.groups) then ratio_at 1 255 bytes else (false, bytes)
 
--- a clone; if none is added and the group must not be empty, a new group (own rule)
+-- the space after a clone, or after a new group if no group is cloned and an empty group is not
+-- allowed (own rule)
 abbrev pub cloned_or_new_at : Config → Context → Bool → GroupedTypes → List ℕ → GroupedTypes × List ℕ
 cloned_or_new_at config context allow_empty space bytes =
     let clone = clone_rec_group_at config allow_empty space bytes in
     if clone.0 || allow_empty then clone.1 else new_group_at config context allow_empty clone.1.0 clone.1.1
 
--- a clone or a new group, as drawn (own rule)
+-- the space after a clone or a new group (own rule)
 unfoldable pub rec_group_at : Config → Context → Bool → GroupedTypes → List ℕ → GroupedTypes × List ℕ
 rec_group_at config context allow_empty space bytes =
     let wanted = clone_wanted_at config space bytes in
     if wanted.0 then cloned_or_new_at config context allow_empty space wanted.1 else new_group_at config context allow_empty space wanted.1
 
--- at most `most` groups that are not empty, while there are too few types (own rule)
+-- the space after at most `most` groups, none of them empty, until there are enough types (own
+-- rule)
 unfoldable pub least_types_at : Config → Context → ℕ → GroupedTypes → List ℕ → GroupedTypes × List ℕ
 least_types_at config context zero space bytes = (space, bytes)
 least_types_at config context (suc most) space bytes =
     let grown = rec_group_at config context false space bytes in
     if nat_lt (length space.types) config.min_types then least_types_at config context most grown.0 grown.1 else (space, bytes)
 
--- at most `most` groups, while there may be more types and a bool is true (own rule)
+-- the space after at most `most` groups, while there may be more types and a drawn bool is true
+-- (own rule)
 unfoldable pub more_types_at : Config → Context → ℕ → GroupedTypes → List ℕ → GroupedTypes × List ℕ
 more_types_at config context zero space bytes = (space, bytes)
 more_types_at config context (suc most) space bytes =
@@ -94,7 +97,7 @@ more_types_at config context (suc most) space bytes =
     then (if go.0 then more_types_at config context most grown.0 grown.1 else (space, go.1))
     else (space, bytes)
 
--- groups until the minimum number of types is reached, then further groups; each of these but the
+-- the space after groups up to the minimum number of types, then further groups; each group but the
 -- last takes a byte (own rule)
 unfoldable pub types_at : Config → Context → GroupedTypes → List ℕ → GroupedTypes × List ℕ
 types_at config context space bytes =

@@ -5,12 +5,12 @@ use Rattle.smith_syntax.specs.declared.value_type.HeapType.{HeapType}
 use Rattle.smith_syntax.specs.declared.value_type.HeapType.TheVariants.{Abstract, Concrete, Exact}
 use Rattle.smith_syntax.specs.declared.composite_type.SubType.{SubType}
 
--- whether a type is shared, if it exists (own rule)
+-- whether a type exists and is shared (own rule)
 abbrev pub is_type_shared : Option SubType → Bool
 is_type_shared (Some t) = shared t
 is_type_shared None = false
 
--- whether a heap type is shared; a concrete heap type is if its type is (own rule)
+-- whether a heap type is shared; a concrete heap type is if the type at its index is (own rule)
 abbrev pub is_heap_type_shared : List SubType → HeapType → Bool
 is_heap_type_shared types (Abstract is_shared ty) = is_shared
 is_heap_type_shared types (Concrete index) = is_type_shared (slice_get types index)

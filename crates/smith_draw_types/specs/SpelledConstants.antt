@@ -12,7 +12,8 @@ pub record SpellsI32 (value : ℤ) (piece : List ℕ) : Type 0 where
   pub four : length piece ≡ 4
   pub read : value ≡ cast_signed w32 (little_endian piece)
 
--- a constant with this value: the first choice if extended constants are enabled, then the number
+-- a constant with this value: with extended constants, the choice of a single constant; then the
+-- number
 abbrev pub SpellsConstant : Config → ℤ → List ℕ → Type 0
 SpellsConstant config value = Joined (Where config.extended_const_enabled (SpellsNumber 0 0 1)) (SpellsI32 value)
 

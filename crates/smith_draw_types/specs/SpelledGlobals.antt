@@ -12,7 +12,7 @@ use Rattle.smith_draw_types.specs.Spelling.{SpellsUnshared}
 abbrev pub mutable_i32 : GlobalType
 mutable_i32 = record { val_type = I32; mutable = true; shared = false }
 
--- the type of such a global: the first class, unshared, mutable
+-- the type of a mutable, unshared 32-bit number: its class, unshared, mutable
 abbrev pub SpellsMutableI32 : Config → List ℕ → Type 0
 SpellsMutableI32 config =
     Joined (SpellsNumber 0 0 (length (enabled (value_classes config)) - 1)) (Joined (SpellsUnshared config) (SpellsBool true))

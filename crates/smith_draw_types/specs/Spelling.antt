@@ -37,7 +37,7 @@ pub record SpellsPlace {A : Type 0} (items : List A) (item : A) (piece : List �
   pub stands : slice_get items place ≡ Some item
   pub number : SpellsNumber place 0 (length items - 1) piece
 
--- an unshared type, if types may be shared
+-- the choice of an unshared type, if types may be shared
 abbrev pub SpellsUnshared : Config → List ℕ → Type 0
 SpellsUnshared config = Where config.shared_everything_threads_enabled (SpellsRefusal 4)
 
@@ -45,7 +45,8 @@ SpellsUnshared config = Where config.shared_everything_threads_enabled (SpellsRe
 abbrev pub SpellsConcrete : Config → ℕ → Bool → List ℕ → Type 0
 SpellsConcrete config limit concrete = Where (config.gc_enabled && nat_lt 0 limit) (SpellsBool concrete)
 
--- a heap type: whether it is concrete, then its index; or that it is unshared, and its position
+-- a heap type: that it is concrete, and its index; or that it is abstract and unshared, and its
+-- position
 abbrev pub SpellsHeapType : Config → ℕ → HeapType → List ℕ → Type 0
 SpellsHeapType config limit (Abstract shared ty) piece =
     (shared ≡ false)
@@ -55,12 +56,12 @@ SpellsHeapType config limit (Concrete index) piece =
     IsTrue (config.gc_enabled && nat_lt index limit) × Joined (SpellsConcrete config limit true) (SpellsNumber index 0 (limit - 1)) piece
 SpellsHeapType config limit (Exact index) piece = ⊥
 
--- whether a reference is non-nullable, if there are such references; otherwise it is nullable
+-- whether a reference is non-nullable, if non-nullable references are possible; else it is nullable
 abbrev pub SpellsNullable : Bool → Bool → List ℕ → Type 0
 SpellsNullable true nullable piece = SpellsBool (not nullable) piece
 SpellsNullable false nullable piece = IsTrue nullable × (piece ≡ [])
 
--- a reference, if reference types are enabled: its heap type, then whether it is non-nullable
+-- a reference type, if reference types are enabled: its heap type, then whether it is non-nullable
 pub record SpellsRefType (config : Config) (limit : ℕ) (reference : RefType) (piece : List ℕ) : Type 0 where
   pub enabled : IsTrue config.reference_types_enabled
   pub form : Joined (SpellsHeapType config limit reference.heap_type) (SpellsNullable config.non_nullable_enabled reference.nullable) piece
@@ -74,7 +75,7 @@ class_of vals.F64 = F64
 class_of vals.V128 = V128
 class_of (vals.Ref reference) = Reference
 
--- the bytes after the class: the reference type of a reference
+-- the bytes after the class of a value type: for a reference, its reference type
 abbrev pub SpellsAfterClass : Config → ℕ → ValType → List ℕ → Type 0
 SpellsAfterClass config limit (vals.Ref reference) piece = SpellsRefType config limit reference piece
 SpellsAfterClass config limit _ piece = piece ≡ []
@@ -105,7 +106,7 @@ unfoldable pub SpellsStructType : Config → ℕ → StructType → List ℕ →
 SpellsStructType config limit structure =
     Joined (SpellsNumber (length structure.fields) 0 20) (Each (SpellsField config limit) structure.fields)
 
--- with garbage collection: a kind, and a type of that kind
+-- with garbage collection: the number of a kind, then a type of that kind
 abbrev pub SpellsInner : Config → ℕ → CompositeInnerType → List ℕ → Type 0
 SpellsInner config limit (Array array) piece = Joined (SpellsNumber 0 0 2) (SpellsField config limit array.0) piece
 SpellsInner config limit (Func function) piece = Joined (SpellsNumber 1 0 2) (SpellsFuncType config limit function) piece
@@ -116,33 +117,33 @@ abbrev pub SpellsPlainFunction : Config → ℕ → CompositeInnerType → List 
 SpellsPlainFunction config limit (Func function) piece = SpellsFuncType config limit function piece
 SpellsPlainFunction config limit _ piece = ⊥
 
--- a composite type without its sharedness, with garbage collection or without
+-- an unshared composite type, with or without garbage collection
 abbrev pub SpellsKind : Bool → Config → ℕ → CompositeInnerType → List ℕ → Type 0
 SpellsKind true config limit inner piece = SpellsInner config limit inner piece
 SpellsKind false config limit inner piece = SpellsPlainFunction config limit inner piece
 
--- a composite type: that it is unshared, and its kind
+-- a composite type: that it is unshared, then the type
 pub record SpellsCompositeType (config : Config) (limit : ℕ) (composite : CompositeType) (piece : List ℕ) : Type 0 where
   pub unshared : composite.shared ≡ false
   pub form : Joined (SpellsUnshared config) (SpellsKind config.gc_enabled config limit composite.inner) piece
 
--- a type that may be a supertype: it is not final
+-- whether a type may be a supertype: it is not final
 abbrev pub is_open : SubType → Bool
 is_open t = not t.is_final
 
--- with garbage collection: that no supertype is chosen, whether the type is final, that it is
+-- with garbage collection: that the type has no declared supertype, whether it is final, that it is
 -- unshared, and its composite type
 abbrev pub SpellsDeclared : Config → List SubType → ℕ → SubType → List ℕ → Type 0
 SpellsDeclared config before limit t =
     Joined (Where (list_any is_open before) (SpellsRefusal 32))
     (Joined (SpellsBool t.is_final) (Joined (SpellsUnshared config) (SpellsInner config limit t.composite_type.inner)))
 
--- a type after others, with garbage collection or without
+-- a type after the types `before`, with or without garbage collection
 abbrev pub SpellsForm : Bool → Config → List SubType → ℕ → SubType → List ℕ → Type 0
 SpellsForm true config before limit t piece = SpellsDeclared config before limit t piece
 SpellsForm false config before limit t piece = IsTrue t.is_final × SpellsPlainFunction config limit t.composite_type.inner piece
 
--- a type after others, in a group that ends at the limit
+-- a type after the types `before`, in a group that ends at `limit`
 pub record SpellsSubType (config : Config) (before : List SubType) (limit : ℕ) (t : SubType) (piece : List ℕ) : Type 0 where
   pub root : t.supertype ≡ None
   pub unshared : t.composite_type.shared ≡ false
@@ -154,8 +155,8 @@ SpellsSubTypes config before limit [] piece = piece ≡ []
 SpellsSubTypes config before limit (t ∷ types) piece = Joined (SpellsSubType config before limit t)
     (SpellsSubTypes config (before ++ t ∷ []) limit types) piece
 
--- a group after others: with garbage collection, that no group is cloned if there is one, and the
--- number of types
+-- the size of a group; with garbage collection, before it that no group is cloned, if there is a
+-- group
 abbrev pub SpellsSize : Bool → Config → Bool → ℕ → ℕ → List ℕ → Type 0
 SpellsSize true config stands room size piece = Joined (Where stands (SpellsRefusal 255)) (SpellsNumber size 0 room) piece
 SpellsSize false config stands room size piece = (size ≡ 1) × (piece ≡ [])
@@ -176,30 +177,29 @@ SpellsGroups config before stands (group ∷ groups) piece =
 abbrev pub IsRoot : SubType → Type 0
 IsRoot t = t.supertype ≡ None
 
--- a value type that refers only to these types, and, if it is a non-nullable reference, is grounded
--- by a struct type among them
+-- a value type refers only to these types, and a struct type among them grounds it if it is a
+-- non-nullable reference
 abbrev pub RefersTo : Config → List SubType → ValType → Type 0
 RefersTo config types (vals.Ref reference) =
     IsInRange types reference.heap_type × (IsTrue reference.nullable ⊎ IsGroundedByStructs types config.custom_descriptors_enabled
     reference.heap_type)
 RefersTo config types _ = Unit {0}
 
--- types after others, each of which refers only to types before it, which ground its non-nullable
--- references
+-- each type refers only to types before it, which ground its non-nullable references
 abbrev pub ReferBack : Config → List SubType → List SubType → Type 0
 ReferBack config before [] = Unit {0}
 ReferBack config before (t ∷ types) = All (RefersTo config before) (values_of t.composite_type.inner) × ReferBack config (before ++ t ∷ [])
     types
 
--- groups after types: none is empty, there is room for all, and their types refer only to types
--- before them, which ground their non-nullable references
+-- no group is empty, there is room for all groups, and each type refers only to types before it,
+-- which ground its non-nullable references
 abbrev pub GroupsFit : Config → List SubType → List (List SubType) → Type 0
 GroupsFit config before [] = Unit {0}
 GroupsFit config before (group ∷ groups) =
     (0 < length group) × (length before + length group ≤ config.max_types) × ReferBack config before group
     × GroupsFit config (before ++ group) groups
 
--- a space with one more group, of types that refer only to types before them, which ground their
+-- a space with one more group, whose types refer only to types before them, which ground their
 -- non-nullable references
 pub record SpellsAdded (config : Config) (before space : GroupedTypes) (piece : List ℕ) : Type 0 where
   pub added : List SubType
@@ -207,7 +207,7 @@ pub record SpellsAdded (config : Config) (before space : GroupedTypes) (piece : 
   pub back : ReferBack config before.types added
   pub spelled : SpellsGroup config before.types (nat_lt 0 (length before.groups)) added piece
 
--- the space of groups that fit
+-- a space of groups that fit
 pub record SpellsSpace (config : Config) (space : GroupedTypes) (piece : List ℕ) : Type 0 where
   pub parts : List (List SubType)
   pub is_of : space ≡ space_of parts

@@ -17,18 +17,18 @@ use Rattle.smith_draw_types.specs.MatchingComposites.{matching_composite_type_at
 abbrev pub depth_at : List SubType → ℕ → ℕ
 depth_at types index = suc (length (ancestors types index))
 
--- the type at this index may have subtypes: it is not final, and its depth is less than 60 (own
+-- whether the type at this index may have subtypes: it is not final, and its depth is below 60 (own
 -- rule)
 abbrev pub may_have_subtypes : List SubType → ℕ → SubType → Bool
 may_have_subtypes types index t = not t.is_final && nat_lt (depth_at types index) 60
 
--- a declared supertype exists, has the same kind and sharedness (Validation, Recursive Types), and
--- may have subtypes (own rule)
+-- the declared supertype, if any, exists, has the same kind and sharedness (Validation, Recursive
+-- Types), and may have subtypes (own rule)
 pub record HasSuperType (types : List SubType) (t : SubType) : Type 0 where
   pub below : (s : ℕ) → t.supertype ≡ Some s → (u : SubType) × (slice_get types s ≡ Some u) × IsAlike t u
   pub allowed : (s : ℕ) (u : SubType) → t.supertype ≡ Some s → slice_get types s ≡ Some u → may_have_subtypes types s u ≡ true
 
--- some existing type may have subtypes: it is not final, and its depth is less than 60 (own rule)
+-- some type may have subtypes: it is not final, and its depth is below 60 (own rule)
 pub record SomeMayHaveSubtypes (types : List SubType) : Type 0 where
   pub index : ℕ
   pub ty : SubType
@@ -49,7 +49,7 @@ supertypes_from types start (t ∷ more) =
 unfoldable pub supertypes : List SubType → List ℕ
 supertypes types = supertypes_from types 0 types
 
--- whether a type without a supertype is final; without garbage collection it is (own rule)
+-- whether a type without a supertype is final; without garbage collection, always (own rule)
 abbrev pub is_final_at : Config → List ℕ → Bool × List ℕ
 is_final_at config bytes = if config.gc_enabled then bool_at bytes else (true, bytes)
 
@@ -60,8 +60,8 @@ root_type_at config context limit bytes =
     let composite = composite_type_at config context limit is_final.1 in
     (record { is_final = is_final.0; supertype = None; composite_type = composite.0 }, composite.1)
 
--- a subtype of the type at this index, if it exists: a matching composite type, then whether it is
--- final (own rule)
+-- a subtype of this type, if it exists: a matching composite type, then whether it is final (own
+-- rule)
 abbrev pub sub_type_below_at : Config → Context → ℕ → ℕ → Option SubType → List ℕ → SubType × List ℕ
 sub_type_below_at config context limit index None bytes = root_type_at config context limit bytes
 sub_type_below_at config context limit index (Some supertype) bytes =
@@ -69,14 +69,14 @@ sub_type_below_at config context limit index (Some supertype) bytes =
     let is_final = bool_at composite.1 in
     (record { is_final = is_final.0; supertype = Some index; composite_type = composite.0 }, is_final.1)
 
--- a subtype of the type at an index that is chosen among these (own rule)
+-- a subtype of a type whose index is drawn among these (own rule)
 unfoldable pub sub_type_of_at : Config → Context → ℕ → List ℕ → List ℕ → SubType × List ℕ
 sub_type_of_at config context limit indices bytes =
     let index = chosen_at 0 indices bytes in
     sub_type_below_at config context limit index.0 (slice_get context.types index.0) index.1
 
--- whether to choose a supertype, given the number of types that may have subtypes: with garbage
--- collection, if some type may, in one of 32 cases (own rule)
+-- whether to draw a supertype, given the number of types that may have subtypes: with garbage
+-- collection, if there are any, in one of 32 cases (own rule)
 abbrev pub supertype_wanted_at : Config → ℕ → List ℕ → Bool × List ℕ
 supertype_wanted_at config count bytes =
     if config.gc_enabled && nat_lt 0 count then ratio_at 1 32 bytes else (false, bytes)

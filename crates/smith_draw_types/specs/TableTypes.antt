@@ -13,17 +13,17 @@ use Rattle.smith_draw_types.specs.ValueTypes.{ref_type_at}
 abbrev pub least_elements : Config → ℕ
 least_elements config = if config.disallow_traps then 1 else 0
 
--- the maximum number of elements that is drawn: the configured number, but at least
+-- the greatest number of elements that can be drawn: the configured number, but at least
 -- `least_elements`, and at most as many as a table may have (own rule)
 unfoldable pub drawn_elements : Config → Bool → ℕ
 drawn_elements config table64 = min (max (least_elements config) config.max_table_elements) (most_elements table64)
 
--- the maximum number of elements that is likely (own rule)
+-- the greatest likely number of elements (own rule)
 abbrev pub likely_elements : Config → Bool → ℕ
 likely_elements config table64 = min 10000 (drawn_elements config table64)
 
--- a table type: the width of its addresses, drawn as for a memory, its limits, and its element
--- type, which also determines whether it is shared (own rule)
+-- a table type: the width of its addresses, its limits, and its element type, which also determines
+-- its sharedness (own rule)
 unfoldable pub table_type_at : Config → Context → List ℕ → TableType × List ℕ
 table_type_at config context bytes =
     let table64 = memory64_at config bytes in

@@ -9,37 +9,37 @@ use Rattle.smith_types.specs.KindCounts.{is_function, gives_nothing}
 use Rattle.smith_draw_types.specs.declared.type_use.TypeUse.{TypeUse}
 use Rattle.smith_draw_types.specs.declared.type_use.TypeUse.TheVariants.{Tag, ImportedFunc, DefinedFunc}
 
--- whether a tag may have the type: a function type without results
+-- whether a type is a function type without results, as a tag requires
 unfoldable pub is_tag_type : SubType → Bool
 is_tag_type t = gives_nothing t.composite_type.inner
 
--- whether a defined function may have the type: an unshared function type
+-- whether a type is an unshared function type, as a defined function requires
 unfoldable pub is_unshared_function : SubType → Bool
 is_unshared_function t = is_function t.composite_type.inner && not t.composite_type.shared
 
--- the positions at which a test holds, in a list that starts at position n
+-- the positions of the items that pass a test, in a list that starts at position n
 abbrev pub places_from : {A : Type 0} → (A → Bool) → ℕ → List A → List ℕ
 places_from test n [] = []
 places_from test n (x ∷ xs) = if test x then n ∷ places_from test (suc n) xs else places_from test (suc n) xs
 
--- whether a type may be used: by a tag, by an imported function, which may be shared, or by a
+-- whether a type suits a use: by a tag, by an imported function, which may be shared, or by a
 -- defined function
 abbrev pub may_be_used : TypeUse → SubType → Bool
 may_be_used Tag t = is_tag_type t
 may_be_used ImportedFunc t = is_function t.composite_type.inner
 may_be_used DefinedFunc t = is_unshared_function t
 
--- the indices of the types that may be used
+-- the indices of the types that suit a use
 abbrev pub types_for : TypeUse → List SubType → List ℕ
 types_for for_use types = places_from (may_be_used for_use) 0 types
 
--- the type at this index is suitable for a use
+-- the type at this index suits a use
 abbrev pub IsUsable : TypeUse → List SubType → ℕ → Type 0
 IsUsable Tag types index = IsTagValid types index
 IsUsable ImportedFunc types index = IsFuncTypeIndex types index
 IsUsable DefinedFunc types index = IsFuncTypeIndex types index
 
--- the indices of the types that a function may be defined with: only unshared ones, unlike those of
+-- the indices of the types that a defined function may have: only unshared types, unlike those of
 -- imported functions
 abbrev pub func_types : List SubType → List ℕ
 func_types types = types_for DefinedFunc types
@@ -49,7 +49,7 @@ abbrev pub takes_and_gives_nothing : CompositeInnerType → Bool
 takes_and_gives_nothing (Func function) = (length function.params == 0) && (length function.results == 0)
 takes_and_gives_nothing _ = false
 
--- whether the type of this index is such a type
+-- whether the type at this index is a function type without parameters and results
 abbrev pub is_start_type : List SubType → ℕ → Bool
 is_start_type types index = list_any (λ (t : SubType). takes_and_gives_nothing t.composite_type.inner)
     (option_to_list (slice_get types index))

@@ -34,8 +34,8 @@ abstract_heap_types config =
     (heap.Eq, config.gc_enabled) ∷ (heap.Struct, config.gc_enabled) ∷
     (heap.Array, config.gc_enabled) ∷ (heap.I31, config.gc_enabled) ∷ []
 
--- whether a type is shared: always if it must be, and in one of four cases if there is a choice
--- (own rule)
+-- whether a type is shared: always if it must be, and else in one of four cases, if it may be (own
+-- rule)
 unfoldable pub sharedness_at : Config → Bool → List ℕ → Bool × List ℕ
 sharedness_at config must_share bytes =
     if must_share then (true, bytes)
@@ -54,19 +54,19 @@ abbrev pub index_wanted_at : Config → ℕ → List ℕ → Bool × List ℕ
 index_wanted_at config limit bytes =
     if config.gc_enabled && nat_lt 0 limit then bool_at bytes else (false, bytes)
 
--- the index of an existing type, which is shared if it must be (own rule)
+-- the index of a type that exists and is shared if it must be, or nothing (own rule)
 abbrev pub kept_index : Bool → ℕ → Option SubType → Option ℕ
 kept_index must_share index None = None
 kept_index must_share index (Some t) = if not must_share || shared t then Some index else None
 
--- a type index below the limit, if a bool is true and the index is kept (own rule)
+-- a type index below the limit, if a drawn bool is true and the type suits (own rule)
 unfoldable pub type_index_at : Config → List SubType → Bool → ℕ → List ℕ → Option ℕ × List ℕ
 type_index_at config types must_share limit bytes =
     let wanted = index_wanted_at config limit bytes in
     let index = range_at 0 (limit - 1) wanted.1 in
     if wanted.0 then (kept_index must_share index.0 (slice_get types index.0), index.1) else (None, wanted.1)
 
--- the concrete heap type of a type index, or an abstract heap type if there is none (own rule)
+-- the concrete heap type of a type index, or an abstract heap type without one (own rule)
 abbrev pub heap_type_of_at : Config → Bool → Option ℕ → List ℕ → HeapType × List ℕ
 heap_type_of_at config must_share (Some index) bytes = (Concrete index, bytes)
 heap_type_of_at config must_share None bytes = abstract_heap_type_at config must_share bytes
@@ -77,8 +77,8 @@ heap_type_at config types must_share limit bytes =
     let index = type_index_at config types must_share limit bytes in
     heap_type_of_at config must_share index.0 index.1
 
--- whether a reference is non-nullable: with `non_nullable_enabled`, if a bool is true and the heap
--- type is grounded (own rule)
+-- whether a reference is non-nullable: with `non_nullable_enabled`, if a drawn bool is true and the
+-- heap type is grounded (own rule)
 unfoldable pub granted_at : Config → Context → HeapType → List ℕ → Bool × List ℕ
 granted_at config context ty bytes =
     let wanted = bool_at bytes in

@@ -8,7 +8,7 @@ use std::alloc::Global;
 
 /// A draw of an item in place of another.
 pub(crate) trait Replacement<T> {
-    /// Returns the item drawn in place of an item, and the remaining bytes.
+    /// Returns the item drawn in place of an item, and the bytes left.
     ghost draw_at: { Self → T → List ℕ → T × List ℕ };
 
     /// Draws an item in place of `item`.

@@ -15,8 +15,8 @@ use smith_types::{FuncGrounds, TypeSpace};
 use std::alloc::Global;
 
 /// The functions over which a call draws types, with a record of the heap types that they ground.
-/// The record is made before types are drawn. It stays right as types are added, since the type of a
-/// function has no supertype that is added later.
+/// The record is made before types are drawn. It stays right as types are added, since no type of a
+/// function has a supertype that is added later.
 #[derive(Drop)]
 pub(crate) struct EarlyGrounds<'a> {
     /// The type index of each function. Imported functions come first.

@@ -248,7 +248,8 @@ fn draw_value_of_class(
     }
 }
 
-/// Draws a value type of one of `classes`. Requires `classes` to be those that `config` enables.
+/// Draws a value type of one of `classes`. Requires `classes` to be the classes that `config`
+/// enables.
 #[tactic(auto, unfolding(crate::specs::ValueTypes::val_type_at))]
 pub(crate) fn draw_val_type_among(
     config: &Config,

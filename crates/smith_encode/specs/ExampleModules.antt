@@ -7,10 +7,10 @@ use Rattle.smith_decode.specs.CustomReadings.{custom}
 use Rattle.smith_decode.specs.ExampleModules.{no_item}
 use Rattle.smith_decode.specs.declared.modules.Module.{Module}
 
--- a module of one function, in which a block is open
+-- a module with one function, in whose body a block has no `end`
 abbrev pub in_open_block : Module
 in_open_block = record no_item { functions = 0 ∷ []; bodies = body_of [] (Block Empty ∷ []) ∷ [] }
 
--- a module of custom sections alone, after these sections
+-- a module with only custom sections, after the sections with these identifiers
 abbrev pub with_customs_after : List (Option ℕ) → Module
 with_customs_after places = record no_item { customs = map (λ (after : Option ℕ). custom after [] []) places }

@@ -8,17 +8,18 @@ use Rattle.smith_encode.specs.declared.error.EncodeFault.{EncodeFault}
 use Rattle.smith_encode.specs.declared.error.EncodeFault.TheVariants.{Memory, TooLong, NoSpelling}
 use Rattle.smith_encode.specs.TooLong.{IsTooLong}
 
--- no bytes spell a module
+-- no bytes spell the module
 abbrev pub HasNoSpelling : Syntax → Type 0
 HasNoSpelling m = (bytes : List ℕ) → IsModuleBinary m bytes → ⊥
 
--- lack of memory, excess length, or a module that no bytes spell
+-- the condition of each error: excess length, or that no bytes spell the module; lack of memory has
+-- none
 abbrev pub IsFault : Module → EncodeFault → Type 0
 IsFault m Memory = Unit {0}
 IsFault m TooLong = IsTooLong m
 IsFault m NoSpelling = HasNoSpelling (syntax_of m)
 
--- an error of a writer as one of the encoder
+-- the encoder's error for an error of a writer
 abbrev pub fault_of : EncodeError → EncodeFault
 fault_of writer.Memory = Memory
 fault_of writer.TooLong = TooLong

@@ -1,6 +1,6 @@
--- Places of custom sections: the section Binary Format, Modules, Custom Section, of the WebAssembly Core
--- Specification 3.0. A place is the last section before it that is not custom, and the custom sections
--- from there on.
+-- Places of custom sections: the section Binary Format, Modules, Custom Section, of the WebAssembly
+-- Core Specification 3.0. A place is a pair of the last section before it that is not custom and
+-- the custom sections after it.
 use Rattle.std.specs.Prelude.{◌≡◌, ℕ, ◌==◌, if◌then◌else◌, Bool, true, false, Option, Some, None, List, [], ◌∷◌, ◌++◌, Any}
 use Rattle.smith_binary.specs.Pieces.{Each, Output}
 use Rattle.smith_binary_sections.specs.Sections.{IsOptionalSection}
@@ -15,17 +15,17 @@ is_same_section None (Some other) = false
 is_same_section (Some id) None = false
 is_same_section (Some id) (Some other) = id == other
 
--- custom sections without those in front that come after this section
+-- custom sections without those at the front that follow this section
 abbrev pub skipped : Option ℕ → List Custom → List Custom
 skipped after [] = []
 skipped after (custom ∷ customs) = if is_same_section custom.after after then skipped after customs else (custom ∷ customs)
 
--- custom sections without those in front that come after these sections, in order
+-- custom sections without those at the front that follow these sections, in order
 abbrev pub left_after : List ℕ → List Custom → List Custom
 left_after [] customs = customs
 left_after (id ∷ ids) customs = left_after ids (skipped (Some id) customs)
 
--- whether the first custom section comes after this section
+-- whether the first custom section follows this section
 abbrev pub is_due : ℕ → List Custom → Bool
 is_due id [] = false
 is_due id (custom ∷ customs) = is_same_section custom.after (Some id)
@@ -35,7 +35,7 @@ abbrev pub next_place : Bool → ℕ → Option ℕ × List Custom → Option �
 next_place true id place = (Some id, place.1)
 next_place false id place = place
 
--- these are the custom sections among those of a piece after this section
+-- `customs` are the custom sections of a piece, which follows this section
 abbrev pub HasCustomsAfter : Option ℕ → List Custom → List ℕ → Type 0
 HasCustomsAfter after customs piece = (sections : List (ℕ × List ℕ)) × Each IsAnySection sections piece × AreAmong after sections customs
 
@@ -62,7 +62,7 @@ pub record WritesNext (id : ℕ) (SaysNothing : Type 0) (Content : List ℕ → 
   pub leads : Leads (id ∷ []) old new (customs ++ section)
   pub whole : after.bytes ≡ before.bytes ++ (customs ++ section)
 
--- what was written makes a whole of each tail of this kind
+-- with each `Tail` after it, the piece that was written is a `Whole`
 pub record WritesBefore (ids : List ℕ) (Tail Whole : List ℕ → Type 0) (old new : Option ℕ × List Custom)
     (before after : Output) : Type 0 where
   pub piece : List ℕ

@@ -6,10 +6,10 @@ use Rattle.smith_decode.specs.declared.elements.ElementSegment.{ElementSegment}
 use Rattle.smith_decode.specs.ElementReadings.{element_view}
 use Rattle.smith_decode.specs.Elements.{Elem, Mode, elem, func_items, IsElem}
 
--- a segment of functions
+-- an element segment of function indices
 abbrev pub functions_elem : List ℕ → Mode → Elem
 functions_elem functions mode = elem (func_ref false) (func_items functions) mode
 
--- a decoded segment by what it is in the abstract syntax
+-- the piece spells the abstract segment of a decoded element segment
 abbrev pub IsSeenElem : ElementSegment → List ℕ → Type 0
 IsSeenElem segment = IsElem (element_view segment)

@@ -1,4 +1,4 @@
--- Which items have a spelling: those whose blocks all end, and bodies of fewer than 2^32 locals.
+-- Items that have a spelling: each block has its `end`, and bodies have fewer than 2^32 locals.
 use Rattle.std.specs.Prelude.{◌≡◌, ℕ, ◌==◌, ◌&&◌, ◌^◌, nat_lt, Bool, true, List, length}
 use Rattle.std.specs.List.{list_all}
 use Rattle.smith_decode.specs.declared.bodies.Body.{Body}
@@ -44,12 +44,12 @@ is_data_mode_nested (data_mode.Active memory offset) = is_nested offset
 abbrev pub is_data_nested : DataSegment → Bool
 is_data_nested segment = is_data_mode_nested segment.mode
 
--- whether the items of a module have spellings, and it has a body for each function
+-- whether each item of a module has a spelling, and each function a body
 abbrev pub are_parts_spelled : Module → Bool
 are_parts_spelled m =
     (length m.functions == length m.bodies) && (list_all is_table_nested m.tables && (list_all is_global_nested m.globals
     && (list_all is_element_nested m.elements && (list_all is_body_spelled m.bodies && list_all is_data_nested m.datas))))
 
--- a spelling of an item that passes a test
+-- if an item passes a test, the piece spells it
 abbrev pub IfPasses : {A : Type 0} → (A → Bool) → (A → List ℕ → Type 0) → A → List ℕ → Type 0
 IfPasses passes Spells x piece = passes x ≡ true → Spells x piece

@@ -71,7 +71,7 @@ middle_ids = 5 ∷ 13 ∷ 6 ∷ 7 ∷ []
 abbrev pub back_ids : List ℕ
 back_ids = 9 ∷ 12 ∷ 10 ∷ 11 ∷ []
 
--- a number of data segments that is stated, or isn't needed
+-- the number in a data count section, or none if no section is needed
 abbrev pub IsCount : Module → Option ℕ → Type 0
 IsCount m count = IfSome count (λ stated. stated ≡ length m.datas) × (count ≡ None → name_data m.bodies ≡ false)
 

@@ -29,49 +29,58 @@ use Rattle.smith_decode.specs.Elements as element_segments
 use Rattle.smith_decode.specs.Elements.{Elem}
 use Rattle.smith_encode.specs.Segments.{IsSeenElem}
 
--- an expression with an instruction that the format cannot express
+-- an expression has an instruction that the format cannot express
 abbrev pub IsLongExpr : List Instr → Type 0
 IsLongExpr instructions = Any IsLongInstr instructions
 
+-- a table whose initialiser has an instruction that the format cannot express
 abbrev pub IsLongTable : TableDefinition → Type 0
 IsLongTable table = IsLongExpr table.initial
 
+-- a global whose initialiser has an instruction that the format cannot express
 abbrev pub IsLongGlobal : GlobalDefinition → Type 0
 IsLongGlobal global = IsLongExpr global.initial
 
+-- an export with a name that is too long
 abbrev pub IsLongExport : Export → Type 0
 IsLongExport item = IsLongText item.name
 
--- an offset that is too long
+-- an active segment whose offset has an instruction that the format cannot express
 abbrev pub IsLongMode : element_segments.Mode → Type 0
 IsLongMode (element_segments.Mode.active table offset) = IsLongExpr offset
 IsLongMode mode = ⊥
 
+-- an element segment of 2^32 items or more, or with an instruction that the format cannot express
 abbrev pub IsLongElem : Elem → Type 0
 IsLongElem e = IsLongMode e.mode ⊎ IsLongList IsLongExpr e.items
 
+-- a decoded element segment that is too long
 abbrev pub IsLongSegment : ElementSegment → Type 0
 IsLongSegment segment = IsLongElem (element_view segment)
 
--- a body with too many runs of locals, with such an expression, or with too many bytes
+-- a body has too many runs of locals, an instruction that the format cannot express, or too many
+-- bytes
 abbrev pub IsLongBody : Body → Type 0
 IsLongBody body =
     IsLongList IsNeverLong body.locals
     ⊎ (IsLongExpr body.instructions ⊎ IsLongContent (Joined (IsList IsLocalRun body.locals) (IsExpr body.instructions)))
 
+-- an active data segment whose offset has an instruction that the format cannot express
 abbrev pub IsLongDataMode : data_segments.DataMode → Type 0
 IsLongDataMode (data_segments.DataMode.active memory offset) = IsLongExpr offset
 IsLongDataMode mode = ⊥
 
+-- a data segment of 2^32 bytes or more, or whose offset has an instruction that the format cannot
+-- express
 abbrev pub IsLongData : DataSegment → Type 0
 IsLongData segment = IsLongDataMode (segment_view segment).mode ⊎ IsLongText segment.bytes
 
--- a custom section with a name of too many bytes, or with too many bytes
+-- a custom section, or its name, has too many bytes
 abbrev pub IsLongCustom : Custom → Type 0
 IsLongCustom custom = IsLongText custom.name ⊎ IsLongContent (Joined (IsName custom.name) (Is custom.bytes))
 
--- a section is too long: a list in it has 2^32 items or more, it or a body of it has a spelling of
--- 2^32 bytes or more, or an instruction in it has a number that the format cannot express
+-- a section is too long: a list in it has 2^32 items or more, it or a body in it has a spelling of
+-- 2^32 bytes or more, or the format cannot express one of its instructions
 pub data IsTooLong (m : Module) : Type 0 where
   types : IsLongSection IsRecGroupWritten IsLongGroup m.types → IsTooLong m
   imports : IsLongSection IsImportGroup IsLongImportGroup m.imports → IsTooLong m

@@ -24,7 +24,8 @@ fn write_byte_list(bytes: &[u8], sink: &mut Sink) -> Result<(), EncodeError>
     sink.write_bytes(bytes)
 }
 
-// Writes a segment of `bytes` that is copied into `memory`, which is named unless it is the first.
+// Writes a segment of `bytes` that is copied into `memory`, with the index of the memory unless it
+// is 0.
 fn write_active(
     memory: u32,
     offset: &Items<Instr>,

@@ -84,7 +84,8 @@ fn write_kind_functions(functions: &[u32], sink: &mut Sink) -> Result<(), Encode
     write_functions(functions, sink)
 }
 
-// Writes a segment of `functions` that is copied into `table`, which is named unless it is the first.
+// Writes a segment of `functions` that is copied into `table`, with the index of the table unless
+// it is 0.
 fn write_active_functions(
     table: u32,
     offset: &Items<Instr>,
@@ -152,8 +153,8 @@ fn write_typed(ty: RefType, items: &ElementItems, sink: &mut Sink) -> Result<(),
     write_exprs(items, sink)
 }
 
-// Writes a segment of `items` of the type `ty` that is copied into `table`, as expressions. Names the table
-// and the type unless the table is the first and the type is `funcref`.
+// Writes a segment of `items` of the type `ty` that is copied into `table`, as expressions. States
+// the table and the type unless the table is 0 and the type is `funcref`.
 fn write_active_exprs(
     table: u32,
     offset: &Items<Instr>,

@@ -22,8 +22,8 @@ use smith_decode::{Body, GlobalDefinition, LocalRun, TableDefinition};
 use smith_instr::{Instr, ReferenceInstr};
 use smith_types::{ExportKind, Items, SubType, is_same};
 
-/// A writer of the items of a decoded module. What it writes of an item that has no spelling, as an expression
-/// in which a block doesn't end, means nothing: callers check before.
+/// A writer of the items of a decoded module. Callers check that an item has a spelling: an
+/// expression in which a block doesn't end has none, and the bytes written for it mean nothing.
 #[derive(Clone, Copy)]
 pub(crate) struct Decoded;
 
@@ -50,7 +50,7 @@ impl EncodeItem<Items<SubType>> for Decoded {
     }
 }
 
-// Returns whether each element of `table` is the null reference of its type at first.
+// Returns whether each element of `table` is initially the null reference of its type.
 fn is_null(table: &TableDefinition) -> bool
     ensures { IsTrue result ↔ (table.now.initial ≡ null_of table.now.ty.element_type) }
 {

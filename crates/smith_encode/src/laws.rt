@@ -3,8 +3,8 @@ ghost use Rattle.smith_decode.specs.declared.modules.Module.{Module};
 ghost use Rattle.smith_decode.specs.Modules.{IsModuleBinary, Syntax, syntax_of};
 ghost use Rattle.smith_encode.specs.Faults.{HasNoSpelling};
 
-/// States that the bytes of a decoded module, once it is encoded, are the module that the first bytes were,
-/// and no other one, and that a decoded module is never refused because it had no spelling.
+/// States that the bytes of a decoded module that is encoded spell the same module as the first
+/// bytes, and no other module. A decoded module always has a spelling.
 pub fn encoding_keeps_modules()
     ensures same { (m : Module) (bytes again : List ℕ) → IsModuleBinary (syntax_of m) bytes
         → IsModuleBinary (syntax_of m) again

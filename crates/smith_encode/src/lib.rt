@@ -7,7 +7,7 @@ mod elements;
 mod error;
 mod examples;
 mod items;
-/// Laws: functions without effect, whose clauses state properties.
+/// Laws: functions with empty bodies whose clauses state theorems.
 pub mod laws;
 mod modules;
 mod nesting;

@@ -128,9 +128,9 @@ fn write_module(module: &Module, sink: &mut Sink) -> Result<bool, EncodeError>
 /// 2^32 items or more, a section or a body 2^32 bytes or more, or an instruction an alignment or a lane that
 /// the format has no number for, and [`EncodeFault::Memory`] if an allocation fails.
 pub fn encode(alloc: Global, module: &Module) -> Result<Vec<u8>, EncodeFault>
-    // The bytes are the module, with its custom sections at their places.
+    // The bytes spell the module, with its custom sections at their places.
     ensures spelled { IfOk result (λ bytes. IsModuleBinary (syntax_of «module».now) bytes.items) }
-    // Which error it is: if there is no spelling, no bytes at all are the module.
+    // The error. After `NoSpelling`, no bytes spell the module.
     ensures fault { IfErr result (IsFault «module».now) }
 {
     if !are_parts_spelled(alloc, module)? {

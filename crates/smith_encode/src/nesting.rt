@@ -6,7 +6,8 @@ ghost use Rattle.smith_encode.specs.Nesting.{is_nested};
 use smith_instr::Instr;
 use std::alloc::{AllocError, Global};
 
-// Opens a block in the open blocks, the innermost last, which may have an `else` or not.
+// Adds a block to the open blocks, of which the innermost is the last, with whether it may have an
+// `else`.
 fn open(has_else: bool, blocks: &mut Vec<bool>) -> Result<(), AllocError>
     ensures { OnOk result (reverse blocks.new.items ≡ has_else ∷ reverse blocks.old.items) }
 {

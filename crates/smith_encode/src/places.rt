@@ -46,7 +46,7 @@ fn write_custom(custom: &Custom, sink: &mut Sink) -> Result<(), EncodeError>
     write_section_if(true, 0, &Content { custom }, sink)
 }
 
-// Returns whether two sections, of which there may be none, are the same.
+// Returns whether two sections, or the absence of both, are the same.
 fn is_same_section(one: Option<u8>, other: Option<u8>) -> bool
     ensures { result ≡ is_same_section one other }
 {

@@ -1,7 +1,7 @@
 -- The types of aggregate instructions: the sections Validation, Aggregate Reference, Scalar
--- Reference and External Reference Instructions, of the WebAssembly Core Specification 3.0. Shared
--- references are an own rule: an instruction on an i31, an array or an external reference takes
--- either sharedness.
+-- Reference and External Reference Instructions, of the WebAssembly Core Specification 3.0. By a
+-- rule of this project, an instruction on an i31, an array or an external reference takes shared
+-- and unshared references.
 use Rattle.std.specs.Prelude.{◌≡◌, ℕ, ◌<◌, Bool, true, false, List, [], ◌∷◌, replicate, slice_get, Some, All}
 use Rattle.smith_types.specs.Expressions.{IsDefaultable, IsStructAt, IsArrayAt, reference_to, unpacked, field_values}
 use Rattle.smith_types.specs.Matching.{IsStorageMatch}
@@ -20,7 +20,7 @@ use Rattle.smith_instr.specs.declared.aggregate.Extension.TheVariants as extensi
 use Rattle.smith_instr.specs.declared.aggregate.AggregateInstr.{AggregateInstr}
 use Rattle.smith_instr.specs.declared.aggregate.AggregateInstr.TheVariants as aggregate
 
--- a field is read with an extension exactly if it is packed (Validation, Aggregate Instructions,
+-- an access extends a field exactly if the field is packed (Validation, Aggregate Instructions,
 -- struct.get and array.get)
 abbrev pub IsReadBy : Extension → StorageType → Type 0
 IsReadBy extension.Unpacked (storage.Val value) = Unit {0}
@@ -28,20 +28,21 @@ IsReadBy extension.Unpacked _ = ⊥
 IsReadBy _ (storage.Val value) = ⊥
 IsReadBy _ _ = Unit {0}
 
--- a field that bytes may fill: packed integers, numbers and vectors (Validation, Aggregate
+-- a field of a packed, number or vector type, which a data segment may fill (Validation, Aggregate
 -- Instructions, array.new_data)
 abbrev pub IsOfBytes : StorageType → Type 0
 IsOfBytes (storage.Val (Ref reference)) = ⊥
 IsOfBytes _ = Unit {0}
 
--- a struct type that has this field at this index (Validation, Aggregate Instructions, struct.get)
+-- the type at `ty` is a struct type, and `field` is its field at `index` (Validation, Aggregate
+-- Instructions, struct.get)
 pub record IsFieldAt (context : BodyContext) (ty index : ℕ) (field : FieldType) : Type 0 where
   pub fields : List FieldType
   pub structure : IsStructAt context.types ty fields
   pub there : slice_get fields index ≡ Some field
 
--- an element segment whose references an array of this element may hold (Validation, Aggregate
--- Instructions, array.new_elem)
+-- the element is a reference type, and the type of the element segment is a subtype of it
+-- (Validation, Aggregate Instructions, array.new_elem)
 pub record IsElemOf (context : BodyContext) (segment : ℕ) (element : FieldType) : Type 0 where
   pub held : RefType
   pub there : slice_get context.elems segment ≡ Some held
@@ -49,7 +50,7 @@ pub record IsElemOf (context : BodyContext) (segment : ℕ) (element : FieldType
   pub of_references : element.element_type ≡ storage.Val (Ref reference)
   pub below : IsRefBelow context.types held reference
 
--- the value type of an element, unpacked (Validation, Aggregate Instructions)
+-- the unpacked type of an element (Validation, Aggregate Instructions)
 abbrev pub value_of : FieldType → ValType
 value_of element = unpacked element.element_type
 
@@ -58,15 +59,15 @@ value_of element = unpacked element.element_type
 abbrev pub Converts : List ValType → List ValType → (from into : Bool → ValType) → Type 0
 Converts operands results from into = (nullable : Bool) × To operands results (from nullable ∷ []) (into nullable ∷ [])
 
--- a reference to an external or an internal value (Structure, Heap Types), of either sharedness
--- (own rule)
+-- the type of an external reference (Structure, Heap Types), shared or not (own rule)
 abbrev pub external : Bool → Bool → ValType
 external shared nullable = Ref (record { nullable = nullable; heap_type = Abstract shared abstract.Extern })
 
+-- the type of an internal reference (Structure, Heap Types), shared or not (own rule)
 abbrev pub internal : Bool → Bool → ValType
 internal shared nullable = Ref (record { nullable = nullable; heap_type = Abstract shared abstract.Any })
 
--- aggregate instructions (Validation, Aggregate Instructions)
+-- an aggregate instruction has the type [operands] → [results] (Validation, Aggregate Instructions)
 abbrev pub HasAggregateType : BodyContext → AggregateInstr → List ValType → List ValType → Type 0
 HasAggregateType context (aggregate.StructNew ty) operands results =
     (fields : List FieldType) × IsStructAt context.types ty fields × To operands results (field_values fields)

@@ -1,7 +1,7 @@
--- The features and the kind of instructions that each instruction needs. A body may use an
--- instruction only if its feature is on, by a rule of this project; the standard has one language.
--- Kinds are the standard's sections of chapter Structure, Instructions; by a rule of this project,
--- those of numbers, vectors and memories come in two: without floats, and whole.
+-- The features and the kind of instructions that each instruction needs. By a rule of this project,
+-- a body may use an instruction only if its features are enabled. A kind is a section of the
+-- standard's chapter Structure, Instructions. By a rule of this project, the kinds of numeric,
+-- vector and memory instructions each have a variant without floats.
 use Rattle.std.specs.Prelude.{Bool, true, false, IsTrue, ◌&&◌, ◌||◌, ◌==◌, bit_and, if◌then◌else◌}
 use Rattle.smith_syntax.specs.Features.{Features}
 use Rattle.smith_syntax.specs.Instructions.{kind_bits, kinds_bits}
@@ -53,7 +53,7 @@ numeric_kind (numeric.Convert op) = if has_floats op then kind.Numeric else kind
 numeric_kind (numeric.Saturate op) = kind.Numeric
 numeric_kind _ = kind.NumericInt
 
--- the kind of an instruction on lanes: of floats or of integers (own rule)
+-- the kind of an instruction on lanes: with or without floats (own rule)
 abbrev pub lane_kind : LaneShape → InstructionKind
 lane_kind shape.F32x4 = kind.Vector
 lane_kind shape.F64x2 = kind.Vector
@@ -71,20 +71,21 @@ vector_kind (vector.RelaxedFloatBinary op) = kind.Vector
 vector_kind (vector.RelaxedFloatTernary op) = kind.Vector
 vector_kind _ = kind.VectorInt
 
--- the kind of a load, and of a store: of a float or of an integer (own rule)
+-- the kind of a load: with or without floats (own rule)
 abbrev pub load_kind : Load → InstructionKind
 load_kind load.F32 = kind.Memory
 load_kind load.F64 = kind.Memory
 load_kind _ = kind.MemoryInt
 
+-- the kind of a store: with or without floats (own rule)
 abbrev pub store_kind : Store → InstructionKind
 store_kind store.F32 = kind.Memory
 store_kind store.F64 = kind.Memory
 store_kind _ = kind.MemoryInt
 
--- the kind of an instruction: its section of chapter Structure, Instructions; `nop` and
--- `unreachable`, parametric in the standard, count as control, and atomic accesses, which the
--- standard lacks, as memory (own rules)
+-- The kind of an instruction: its section of chapter Structure, Instructions. `nop` and
+-- `unreachable`, which the standard has among the parametric instructions, count as control; atomic
+-- accesses, which the standard lacks, count as memory (own rules).
 abbrev pub instr_kind : Instr → InstructionKind
 instr_kind instr.Drop = kind.Parametric
 instr_kind instr.Select = kind.Parametric
@@ -115,14 +116,14 @@ instr_kind (instr.Atomic op at) = kind.MemoryInt
 instr_kind instr.AtomicFence = kind.MemoryInt
 instr_kind _ = kind.Control
 
--- numeric instructions (own rule)
+-- whether a numeric instruction is enabled (own rule)
 abbrev pub is_numeric_enabled : Features → NumericInstr → Bool
 is_numeric_enabled features (numeric.Saturate op) = features.saturating_float_to_int
 is_numeric_enabled features (numeric.Extend op) = features.sign_extension
 is_numeric_enabled features (numeric.Wide op) = features.wide_arithmetic
 is_numeric_enabled features _ = true
 
--- reference instructions (own rule)
+-- whether a reference instruction is enabled (own rule)
 abbrev pub is_reference_enabled : Features → ReferenceInstr → Bool
 is_reference_enabled features (reference.Null heap_type) = features.reference_types
 is_reference_enabled features (reference.Func function) = features.reference_types
@@ -130,28 +131,28 @@ is_reference_enabled features reference.IsNull = features.reference_types
 is_reference_enabled features reference.AsNonNull = features.function_references
 is_reference_enabled features _ = features.gc
 
--- table instructions (own rule)
+-- whether a table instruction is enabled (own rule)
 abbrev pub is_table_enabled : Features → TableInstr → Bool
 is_table_enabled features (table.Copy to from) = features.bulk_memory
 is_table_enabled features (table.Init index segment) = features.bulk_memory
 is_table_enabled features (table.ElemDrop segment) = features.bulk_memory
 is_table_enabled features _ = features.reference_types
 
--- instructions on whole memories (own rule)
+-- whether an instruction on a whole memory or a data segment is enabled (own rule)
 abbrev pub is_memory_enabled : Features → MemoryInstr → Bool
 is_memory_enabled features (memory.Size index) = true
 is_memory_enabled features (memory.Grow index) = true
 is_memory_enabled features _ = features.bulk_memory
 
--- aggregate instructions (own rule): those that name a data segment need bulk memory too, since a
--- module that has them needs a data count section
+-- whether an aggregate instruction is enabled (own rule); one that names a data segment requires
+-- bulk memory too, because its module has a data count section
 abbrev pub is_aggregate_enabled : Features → AggregateInstr → Bool
 is_aggregate_enabled features aggregate.RefI31Shared = features.gc && features.shared_everything_threads
 is_aggregate_enabled features (aggregate.ArrayNewData ty segment) = features.gc && features.bulk_memory
 is_aggregate_enabled features (aggregate.ArrayInitData ty segment) = features.gc && features.bulk_memory
 is_aggregate_enabled features _ = features.gc
 
--- vector instructions (own rule)
+-- whether a vector instruction is enabled (own rule)
 abbrev pub is_vector_enabled : Features → VectorInstr → Bool
 is_vector_enabled features (vector.RelaxedFloatUnary op) = features.simd && features.relaxed_simd
 is_vector_enabled features (vector.RelaxedBinary op) = features.simd && features.relaxed_simd
@@ -160,12 +161,12 @@ is_vector_enabled features (vector.RelaxedTernary op) = features.simd && feature
 is_vector_enabled features (vector.RelaxedFloatTernary op) = features.simd && features.relaxed_simd
 is_vector_enabled features _ = features.simd
 
--- blocks of several results or with parameters (own rule)
+-- whether a block type is enabled: a type index requires multi-value (own rule)
 abbrev pub is_block_enabled : Features → BlockType → Bool
 is_block_enabled features (block.Func index) = features.multi_value
 is_block_enabled features _ = true
 
--- the features that an instruction needs (own rule)
+-- whether the features that an instruction requires are enabled (own rule)
 abbrev pub has_features : Features → Instr → Bool
 has_features features (instr.Block ty) = is_block_enabled features ty
 has_features features (instr.Loop ty) = is_block_enabled features ty
@@ -197,31 +198,31 @@ has_features features (instr.Atomic op at) = features.threads
 has_features features instr.AtomicFence = features.threads
 has_features features _ = true
 
--- whether a kind is among the allowed kinds (own rule)
+-- whether `kinds` contains a kind (own rule)
 abbrev pub is_allowed : InstructionKinds → InstructionKind → Bool
 is_allowed kinds wanted = bit_and (kinds_bits kinds) (kind_bits wanted) == kind_bits wanted
 
--- instructions that every set of kinds allows (own rule): without them some types have no body, and
--- there are no blocks
+-- whether every set of kinds allows an instruction (own rule): without `unreachable` some function
+-- types have no body, and without `else` and `end` there are no blocks
 abbrev pub is_always_allowed : Instr → Bool
 is_always_allowed instr.Unreachable = true
 is_always_allowed instr.Else = true
 is_always_allowed instr.End = true
 is_always_allowed _ = false
 
--- whether a body may use an instruction, by the allowed kinds (own rule)
+-- whether a set of kinds allows an instruction (own rule)
 abbrev pub is_kind_enabled : InstructionKinds → Instr → Bool
 is_kind_enabled kinds instruction = is_always_allowed instruction || is_allowed kinds (instr_kind instruction)
 
--- an instruction is enabled (own rule)
+-- whether an instruction is enabled (own rule)
 unfoldable pub is_enabled : Features → InstructionKinds → Instr → Bool
 is_enabled features kinds instruction = has_features features instruction && is_kind_enabled kinds instruction
 
 abbrev pub IsEnabled : Features → InstructionKinds → Instr → Type 0
 IsEnabled features kinds instruction = IsTrue (is_enabled features kinds instruction)
 
--- whether an instruction names a data segment: a module with such an instruction needs a data
--- count section (Binary Format, Modules)
+-- whether an instruction names a data segment, so that its module has a data count section (Binary
+-- Format, Modules)
 abbrev pub names_data : Instr → Bool
 names_data (instr.Memory (memory.Init index segment)) = true
 names_data (instr.Memory (memory.DataDrop segment)) = true

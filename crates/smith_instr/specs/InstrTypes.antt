@@ -27,7 +27,7 @@ use Rattle.smith_instr.specs.declared.control.Catch.TheVariants as catch
 use Rattle.smith_instr.specs.declared.instr.Instr.{Instr}
 use Rattle.smith_instr.specs.declared.instr.Instr.TheVariants as instr
 
--- a number type or a vector type (Validation, Parametric Instructions, select)
+-- a value type is a number type or a vector type (Validation, Parametric Instructions, select)
 abbrev pub IsNumberOrVector : ValType → Type 0
 IsNumberOrVector (Ref reference) = ⊥
 IsNumberOrVector _ = Unit {0}
@@ -38,26 +38,26 @@ sets (instr.LocalSet index) = index ∷ []
 sets (instr.LocalTee index) = index ∷ []
 sets _ = []
 
--- a branch to a label takes values of these types (Validation, Control Instructions, br)
+-- the label exists, and `taken` are its operand types (Validation, Control Instructions, br)
 abbrev pub IsLabel : BodyContext → ℕ → List ValType → Type 0
 IsLabel context label taken = slice_get context.labels label ≡ Some taken
 
--- a branch to a label may take values of these types (Validation, Control Instructions, br)
+-- the label exists, and these types match its operand types (Validation, Control Instructions, br)
 abbrev pub IsTaken : BodyContext → List ValType → ℕ → Type 0
 IsTaken context values label = (taken : List ValType) × IsLabel context label taken × AreBelow context values taken
 
--- an instruction after which control does not continue takes its operands from the top of any
--- others, and leaves any valid values (Validation, Instructions, polymorphic instructions)
+-- a stack-polymorphic instruction: its operands are any types followed by `taken`, and its results
+-- any valid types (Validation, Instructions, polymorphic instructions)
 abbrev pub Leaves : BodyContext → List ValType → List ValType → List ValType → Type 0
 Leaves context operands results taken = (below : List ValType) × (operands ≡ below ++ taken) × AreValid context results
 
--- the function of the body may return the results of a function (Validation, Control Instructions,
--- return_call)
+-- the results of `function` match the results of the body's function (Validation, Control
+-- Instructions, return_call)
 abbrev pub ReturnsFrom : BodyContext → FuncType → Type 0
 ReturnsFrom context function = AreBelow context function.results context.results
 
--- a table of functions (Validation, Control Instructions, call_indirect); shared ones are an own
--- rule
+-- the table exists, and has this address type and function references as elements (Validation,
+-- Control Instructions, call_indirect), shared or not (own rule)
 pub record IsFunctionTable (context : BodyContext) (index : ℕ) (wide : Bool) : Type 0 where
   pub table : TableType
   pub there : IsTable context index table
@@ -65,7 +65,7 @@ pub record IsFunctionTable (context : BodyContext) (index : ℕ) (wide : Bool) :
   pub shared : Bool
   pub of_functions : IsRefBelow context.types table.element_type (record { nullable = true; heap_type = Abstract shared abstract.Func })
 
--- a clause whose label takes the values that the clause passes (Validation, Control Instructions,
+-- the clause's label takes the values that the clause passes (Validation, Control Instructions,
 -- Catch Clauses)
 abbrev pub IsCatch : BodyContext → Catch → Type 0
 IsCatch context (catch.One tag label) = (values : List ValType) × IsTag context tag values × IsTaken context values label
@@ -74,13 +74,14 @@ IsCatch context (catch.OneRef tag label) =
 IsCatch context (catch.All label) = IsTaken context [] label
 IsCatch context (catch.AllRef label) = IsTaken context (reference_to (Abstract false abstract.Exn) ∷ []) label
 
--- the type of a reference whose cast failed: non-nullable if the cast accepts null (Validation,
--- Conventions, Types, type difference)
+-- the type difference: the type of a reference whose cast fails, non-nullable if the cast accepts
+-- null (Validation, Conventions, Types, type difference)
 abbrev pub difference : RefType → RefType → RefType
 difference from to = record from { nullable = if to.nullable then false else from.nullable }
 
--- the types of a cast are valid, and the label takes the values `others`, then a reference whose
--- type `branches` matches (Validation, Control Instructions, br_on_cast and br_on_cast_fail)
+-- the types of the cast are valid, its target type is a subtype of its source type, and the label
+-- takes `others` and then a reference that `branches` matches (Validation, Control Instructions,
+-- br_on_cast and br_on_cast_fail)
 pub record IsBranchCast (context : BodyContext) (cast : BranchCast) (branches : RefType) (others : List ValType) : Type 0 where
   pub from_valid : IsRefValid context cast.from
   pub to_valid : IsRefValid context cast.to
@@ -89,11 +90,10 @@ pub record IsBranchCast (context : BodyContext) (cast : BranchCast) (branches : 
   pub taken : IsLabel context cast.label (others ++ Ref wanted ∷ [])
   pub arrives : IsRefBelow context.types branches wanted
 
--- an instruction takes operands of the first list of types, the last on top, and leaves results of
--- the second list, if the given locals are set (Validation, Instructions). Blocks, loops, ifs and
--- try_tables are typed with their bodies (`AreTyped`). There is no bottom type, so br_table and
--- select in unreachable code are typed more strictly than in the standard, which has unreachable
--- and nop among the parametric instructions
+-- An instruction has the type [operands] → [results], with the last operand on top, where the
+-- locals in `set` are set (Validation, Instructions). `AreTyped` types blocks, loops, ifs and
+-- try_tables. There is no bottom type, so br_table and select in unreachable code are typed more
+-- strictly than in the standard.
 abbrev pub HasInstrType : BodyContext → List ℕ → Instr → List ValType → List ValType → Type 0
 HasInstrType context set instr.Unreachable operands results = Leaves context operands results []
 HasInstrType context set instr.Nop operands results = To operands results [] []

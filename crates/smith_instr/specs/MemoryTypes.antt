@@ -1,5 +1,5 @@
 -- The types of memory instructions: the section Validation, Memory Instructions, of the WebAssembly
--- Core Specification 3.0. Atomic accesses are those of the threads proposal.
+-- Core Specification 3.0. Atomic accesses follow the threads proposal.
 use Rattle.std.specs.Prelude.{◌≡◌, ℕ, ◌<◌, ◌≤◌, ◌^◌, ◌-◌, Bool, List, [], ◌∷◌, Some, slice_get, if◌then◌else◌}
 use Rattle.smith_syntax.specs.declared.value_type.ValType.{ValType}
 use Rattle.smith_syntax.specs.declared.value_type.ValType.TheVariants.{I32, I64, F32, F64, V128}
@@ -67,7 +67,7 @@ vector_bytes vector.Splat64 = 3
 vector_bytes vector.Zero32 = 2
 vector_bytes vector.Zero64 = 3
 
--- a memory exists whose addresses have this width, and hold the offset (Validation, Memory
+-- the memory exists and has this address type, and the offset is an address (Validation, Memory
 -- Instructions, memarg)
 pub record IsAccess (memories : List MemoryType) (at : MemArg) (wide : Bool) : Type 0 where
   pub memory : MemoryType
@@ -75,44 +75,49 @@ pub record IsAccess (memories : List MemoryType) (at : MemArg) (wide : Bool) : T
   pub addressed : wide ≡ memory.memory64
   pub offset : at.offset < (if wide then 2 ^ 64 else 2 ^ 32)
 
--- an access to bytes of this binary logarithm, with at most that alignment (Validation, Memory
+-- an access to 2^`log2_bytes` bytes, whose alignment is at most its size (Validation, Memory
 -- Instructions, memarg)
 abbrev pub IsAlignedAccess : BodyContext → MemArg → ℕ → Bool → Type 0
 IsAlignedAccess context at log2_bytes wide = IsAccess context.memories at wide × (at.align ≤ log2_bytes)
 
--- loads and stores (Validation, Memory Instructions)
+-- a load has the type [operands] → [results] (Validation, Memory Instructions)
 abbrev pub HasLoadType : BodyContext → Load → MemArg → List ValType → List ValType → Type 0
 HasLoadType context op at operands results =
     (wide : Bool) × IsAlignedAccess context at (loaded op).1 wide × To operands results (address wide ∷ []) ((loaded op).0 ∷ [])
 
+-- a store has the type [operands] → [results] (Validation, Memory Instructions)
 abbrev pub HasStoreType : BodyContext → Store → MemArg → List ValType → List ValType → Type 0
 HasStoreType context op at operands results =
     (wide : Bool) × IsAlignedAccess context at (stored op).1 wide × To operands results (address wide ∷ (stored op).0 ∷ []) []
 
+-- a load of a vector has the type [operands] → [results] (Validation, Memory Instructions)
 abbrev pub HasVectorLoadType : BodyContext → VectorLoad → MemArg → List ValType → List ValType → Type 0
 HasVectorLoadType context op at operands results =
     (wide : Bool) × IsAlignedAccess context at (vector_bytes op) wide × To operands results (address wide ∷ []) (V128 ∷ [])
 
+-- a store of a vector has the type [operands] → [results] (Validation, Memory Instructions)
 abbrev pub HasVectorStoreType : BodyContext → MemArg → List ValType → List ValType → Type 0
 HasVectorStoreType context at operands results =
     (wide : Bool) × IsAlignedAccess context at 4 wide × To operands results (address wide ∷ V128 ∷ []) []
 
--- the index of a lane of this size among 16 bytes; the size is a binary logarithm (Validation,
--- Memory Instructions)
+-- `lane` is the index of a lane of 2^`log2_bytes` bytes, at most 8, in a vector of 16 bytes
+-- (Validation, Memory Instructions)
 abbrev pub IsLane : ℕ → ℕ → Type 0
 IsLane log2_bytes lane = (log2_bytes ≤ 3) × (lane < 2 ^ (4 - log2_bytes))
 
--- a lane that is loaded into a vector, or stored from one (Validation, Memory Instructions)
+-- a load or a store of one lane of 2^`log2_bytes` bytes has the type [operands] → [results], with
+-- the results `given` (Validation, Memory Instructions)
 abbrev pub HasLaneType : BodyContext → ℕ → MemArg → ℕ → List ValType → List ValType → List ValType → Type 0
 HasLaneType context log2_bytes at lane given operands results =
     (wide : Bool) × IsAlignedAccess context at log2_bytes wide × IsLane log2_bytes lane × To operands results (address wide ∷ V128 ∷ [])
     given
 
--- a memory of this type (Validation, Contexts)
+-- the memory at `index` has this type (Validation, Contexts)
 abbrev pub IsMemory : BodyContext → ℕ → MemoryType → Type 0
 IsMemory context index ty = slice_get context.memories index ≡ Some ty
 
--- instructions on whole memories and data segments (Validation, Memory Instructions)
+-- an instruction on a whole memory or a data segment has the type [operands] → [results]
+-- (Validation, Memory Instructions)
 abbrev pub HasMemoryType : BodyContext → MemoryInstr → List ValType → List ValType → Type 0
 HasMemoryType context (memory.Size index) operands results =
     (ty : MemoryType) × IsMemory context index ty × To operands results [] (address ty.memory64 ∷ [])
@@ -138,11 +143,11 @@ atomic_width width.I64Of8 = (I64, 0)
 atomic_width width.I64Of16 = (I64, 1)
 atomic_width width.I64Of32 = (I64, 2)
 
--- an access to bytes of this binary logarithm, with exactly that alignment (threads proposal)
+-- an access to 2^`log2_bytes` bytes, whose alignment is its size (threads proposal)
 abbrev pub IsAtomicAccess : BodyContext → MemArg → ℕ → Bool → Type 0
 IsAtomicAccess context at log2_bytes wide = IsAccess context.memories at wide × (at.align ≡ log2_bytes)
 
--- atomic accesses (threads proposal)
+-- an atomic access has the type [operands] → [results] (threads proposal)
 abbrev pub HasAtomicType : BodyContext → AtomicAccess → MemArg → List ValType → List ValType → Type 0
 HasAtomicType context atomic.Notify at operands results =
     (wide : Bool) × IsAtomicAccess context at 2 wide × To operands results (address wide ∷ I32 ∷ []) (I32 ∷ [])

@@ -1,5 +1,5 @@
 -- The types of numeric instructions: the section Validation, Numeric Instructions, of the
--- WebAssembly Core Specification 3.0; wide arithmetic is that of its proposal.
+-- WebAssembly Core Specification 3.0. Wide arithmetic follows its proposal.
 use Rattle.std.specs.Prelude.{List, [], ◌∷◌}
 use Rattle.smith_syntax.specs.declared.value_type.ValType.{ValType}
 use Rattle.smith_syntax.specs.declared.value_type.ValType.TheVariants.{I32, I64, F32, F64}
@@ -14,16 +14,17 @@ use Rattle.smith_instr.specs.declared.numeric.WideArithmetic.TheVariants as wide
 use Rattle.smith_instr.specs.declared.numeric.NumericInstr.{NumericInstr}
 use Rattle.smith_instr.specs.declared.numeric.NumericInstr.TheVariants as numeric
 
--- the operands of an instruction, the last on top, and its results (Validation, Instruction Types)
+-- the operand types of an instruction, the last on top, and its result types (Validation,
+-- Instruction Types)
 pub record Signature : Type 0 where
   pub operands : List ValType
   pub results : List ValType
 
--- the signature from some operands to one result (Validation, Instruction Types)
+-- the signature [operands] → [result] (Validation, Instruction Types)
 abbrev pub to : List ValType → ValType → Signature
 to operands result = record { operands = operands; results = result ∷ [] }
 
--- the signature from one operand to one result (Validation, Instruction Types)
+-- the signature [operand] → [result] (Validation, Instruction Types)
 abbrev pub of : ValType → ValType → Signature
 of operand result = to (operand ∷ []) result
 
@@ -55,7 +56,7 @@ conversion convert.I64ReinterpretF64 = of F64 I64
 conversion convert.F32ReinterpretI32 = of I32 F32
 conversion convert.F64ReinterpretI64 = of I64 F64
 
--- conversions that saturate: t2.cvtop_t1_sx? : [t1] → [t2] (Validation, Numeric Instructions)
+-- saturating conversions: t2.cvtop_t1_sx? : [t1] → [t2] (Validation, Numeric Instructions)
 abbrev pub saturating_conversion : SaturatingConversion → Signature
 saturating_conversion saturate.I32TruncSatF32S = of F32 I32
 saturating_conversion saturate.I32TruncSatF32U = of F32 I32
@@ -66,8 +67,7 @@ saturating_conversion saturate.I64TruncSatF32U = of F32 I64
 saturating_conversion saturate.I64TruncSatF64S = of F64 I64
 saturating_conversion saturate.I64TruncSatF64U = of F64 I64
 
--- extensions of a sign, which are unary operators: t.unop : [t] → [t] (Validation, Numeric
--- Instructions)
+-- sign extensions, which are unary operators: t.unop : [t] → [t] (Validation, Numeric Instructions)
 abbrev pub sign_extension : SignExtension → Signature
 sign_extension extend.I32From8 = of I32 I32
 sign_extension extend.I32From16 = of I32 I32
@@ -75,7 +75,8 @@ sign_extension extend.I64From8 = of I64 I64
 sign_extension extend.I64From16 = of I64 I64
 sign_extension extend.I64From32 = of I64 I64
 
--- two integers of 128 bits, or two of 64, to one of 128 (proposal)
+-- wide arithmetic: two integers of 128 bits, each as two i64, or two of 64 bits, to one of 128 bits
+-- (wide arithmetic proposal)
 abbrev pub wide_arithmetic : WideArithmetic → Signature
 wide_arithmetic wide.Add128 = record { operands = I64 ∷ I64 ∷ I64 ∷ I64 ∷ []; results = I64 ∷ I64 ∷ [] }
 wide_arithmetic wide.Sub128 = record { operands = I64 ∷ I64 ∷ I64 ∷ I64 ∷ []; results = I64 ∷ I64 ∷ [] }

@@ -1,6 +1,6 @@
 -- The types of reference and table instructions: the sections Validation, Reference Instructions
--- and Table Instructions, of the WebAssembly Core Specification 3.0. References of either
--- sharedness may be compared by an own rule.
+-- and Table Instructions, of the WebAssembly Core Specification 3.0. By a rule of this project,
+-- shared and unshared references may be compared.
 use Rattle.std.specs.Prelude.{◌≡◌, ℕ, ◌<◌, Bool, List, [], ◌∷◌, Some, length, slice_get, if◌then◌else◌}
 use Rattle.std.specs.List.{Contains}
 use Rattle.smith_types.specs.Expressions.{reference_to}
@@ -18,7 +18,7 @@ use Rattle.smith_instr.specs.declared.reference.ReferenceInstr.TheVariants as re
 use Rattle.smith_instr.specs.declared.table.TableInstr.{TableInstr}
 use Rattle.smith_instr.specs.declared.table.TableInstr.TheVariants as table
 
--- reference instructions (Validation, Reference Instructions)
+-- a reference instruction has the type [operands] → [results] (Validation, Reference Instructions)
 abbrev pub HasReferenceType : BodyContext → ReferenceInstr → List ValType → List ValType → Type 0
 HasReferenceType context (reference.Null heap_type) operands results = IsHeapValid context heap_type × To operands results []
     (nullable_to heap_type ∷ [])
@@ -39,16 +39,16 @@ HasReferenceType context (reference.Cast to) operands results =
     (from : RefType) × IsRefValid context to × IsRefValid context from × IsRefBelow context.types to from
     × To operands results (Ref from ∷ []) (Ref to ∷ [])
 
--- a table of this type (Validation, Contexts)
+-- the table at `index` has this type (Validation, Contexts)
 abbrev pub IsTable : BodyContext → ℕ → TableType → Type 0
 IsTable context index ty = slice_get context.tables index ≡ Some ty
 
--- the type of the number of elements that are copied between two tables: the narrower address type
--- (Validation, Table Instructions, table.copy)
+-- the type of the number of elements that table.copy copies: the narrower address type of the two
+-- tables (Validation, Table Instructions, table.copy)
 abbrev pub narrower : Bool → Bool → ValType
 narrower one other = if one then address other else I32
 
--- table instructions (Validation, Table Instructions)
+-- a table instruction has the type [operands] → [results] (Validation, Table Instructions)
 abbrev pub HasTableType : BodyContext → TableInstr → List ValType → List ValType → Type 0
 HasTableType context (table.Get index) operands results =
     (ty : TableType) × IsTable context index ty × To operands results (address ty.table64 ∷ []) (Ref ty.element_type ∷ [])

@@ -11,8 +11,7 @@ use Rattle.smith_instr.specs.declared.vector.LaneExtract.TheVariants as extract
 use Rattle.smith_instr.specs.declared.vector.VectorInstr.{VectorInstr}
 use Rattle.smith_instr.specs.declared.vector.VectorInstr.TheVariants as vector
 
--- the number of lanes of a shape, and the value of a lane, unpacked (Validation, Vector
--- Instructions)
+-- the number of lanes of a shape, and the unpacked type of a lane (Validation, Vector Instructions)
 abbrev pub lanes : LaneShape → ℕ × ValType
 lanes shape.I8x16 = (16, I32)
 lanes shape.I16x8 = (8, I32)
@@ -21,7 +20,7 @@ lanes shape.I64x2 = (2, I64)
 lanes shape.F32x4 = (4, F32)
 lanes shape.F64x2 = (2, F64)
 
--- the shape from which a lane is extracted (Validation, Vector Instructions)
+-- the shape of the vector from which a lane is extracted (Validation, Vector Instructions)
 abbrev pub extracted : LaneExtract → LaneShape
 extracted extract.I8x16S = shape.I8x16
 extracted extract.I8x16U = shape.I8x16
@@ -32,7 +31,8 @@ extracted extract.I64x2 = shape.I64x2
 extracted extract.F32x4 = shape.F32x4
 extracted extract.F64x2 = shape.F64x2
 
--- vector instructions that access no memory (Validation, Vector Instructions)
+-- a vector instruction that accesses no memory has the type [operands] → [results] (Validation,
+-- Vector Instructions)
 abbrev pub HasVectorType : VectorInstr → List ValType → List ValType → Type 0
 HasVectorType (vector.Unary op) operands results = To operands results (V128 ∷ []) (V128 ∷ [])
 HasVectorType (vector.FloatUnary op) operands results = To operands results (V128 ∷ []) (V128 ∷ [])

@@ -1,12 +1,12 @@
-/// The extension of the integer of a packed field: the standard's section Structure, Aggregate
+/// The extension of a packed integer that is read: the standard's section Structure, Aggregate
 /// Instructions.
 #[derive(Clone, Copy, Debug)]
 pub enum Extension {
-    /// None: the field isn't packed.
+    /// No extension: the field is not packed.
     Unpacked,
-    /// By its sign.
+    /// With its sign.
     Signed,
-    /// By zeros.
+    /// With zeros.
     Unsigned,
 }
 
@@ -59,7 +59,7 @@ pub enum AggregateInstr {
     ArrayLen,
     /// `array.fill` of an array type.
     ArrayFill(u32),
-    /// `array.copy` into an array of the type `to` from one of the type `from`.
+    /// `array.copy` into an array of the type `to` from an array of the type `from`.
     ArrayCopy {
         to: u32,
         from: u32,

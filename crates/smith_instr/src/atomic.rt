@@ -34,8 +34,8 @@ pub enum AtomicAccess {
     Load(AtomicWidth),
     /// An atomic store.
     Store(AtomicWidth),
-    /// A read, an update and a write, as one access.
+    /// An atomic read-modify-write access.
     Update(AtomicUpdate, AtomicWidth),
-    /// A compare and an exchange, as one access.
+    /// An atomic compare-and-exchange access.
     CompareExchange(AtomicWidth),
 }

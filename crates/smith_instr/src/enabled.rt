@@ -25,7 +25,8 @@ use crate::vector::VectorInstr;
 use smith_types::{InstructionKinds, WasmFeatures};
 
 impl Instr {
-    /// Returns whether a body may use the instruction if `features` are on and `kinds` are allowed.
+    /// Returns whether a body may have the instruction if `features` are enabled and `kinds` are
+    /// allowed.
     #[tactic(auto, unfolding(crate::specs::Enabled::is_enabled))]
     pub fn is_enabled(&self, features: WasmFeatures, kinds: InstructionKinds) -> bool
         ensures { result ≡ is_enabled (features_in features) kinds self.now }

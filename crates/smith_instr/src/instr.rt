@@ -37,7 +37,7 @@ pub enum Instr {
     Br(u32),
     /// `br_if` to a label.
     BrIf(u32),
-    /// `br_table` to one of several labels, or else to the last.
+    /// `br_table` with a list of labels and a default label.
     BrTable(Items<u32>, u32),
     /// `br_on_null` to a label.
     BrOnNull(u32),
@@ -71,7 +71,7 @@ pub enum Instr {
     Drop,
     /// `select` without a type.
     Select,
-    /// `select` with a list of types, of which there is one if it is valid.
+    /// `select` with a list of types, which has exactly one type if the instruction is valid.
     SelectTyped(Items<ValType>),
     /// `local.get` of a local.
     LocalGet(u32),
@@ -113,13 +113,13 @@ pub enum Instr {
     VectorLoad(VectorLoad, MemArg),
     /// `v128.store`.
     VectorStore(MemArg),
-    /// A load into the lane `lane`, of `2 ^ log2_bytes` bytes.
+    /// A load into the lane `lane`, which has `2 ^ log2_bytes` bytes.
     VectorLoadLane {
         log2_bytes: u32,
         at: MemArg,
         lane: u8,
     },
-    /// A store of the lane `lane`, of `2 ^ log2_bytes` bytes.
+    /// A store of the lane `lane`, which has `2 ^ log2_bytes` bytes.
     VectorStoreLane {
         log2_bytes: u32,
         at: MemArg,

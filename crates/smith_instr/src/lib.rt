@@ -1,8 +1,8 @@
-//! Instructions of function bodies as plain data, and the rules by which they are typed. The
-//! standard is the WebAssembly Core Specification 3.0.
+//! Instructions of function bodies as plain data, and their typing rules. The standard is the
+//! WebAssembly Core Specification 3.0.
 //!
-//! There are no instructions of the features acquire_release_atomics, multibyte_array_access and
-//! custom_descriptors, and of shared_everything_threads none but ref.i31_shared.
+//! There are no instructions for the features acquire_release_atomics, multibyte_array_access and
+//! custom_descriptors, and for shared_everything_threads only ref.i31_shared.
 #![tactic(auto)]
 
 mod aggregate;
@@ -11,7 +11,7 @@ mod control;
 mod enabled;
 mod instr;
 mod kind;
-/// Laws: functions without effect, whose clauses state properties.
+/// Laws: functions with empty bodies whose clauses state theorems.
 pub mod laws;
 mod memory;
 mod numeric;

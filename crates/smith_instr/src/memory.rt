@@ -33,7 +33,7 @@ pub enum Store {
     I64To32,
 }
 
-/// The place of an access to a memory: the standard's section Structure, Memory Instructions.
+/// A memory argument: the standard's section Structure, Memory Instructions.
 #[derive(Clone, Copy, Debug)]
 pub struct MemArg {
     /// The binary logarithm of the alignment.

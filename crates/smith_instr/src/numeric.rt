@@ -77,7 +77,7 @@ pub enum FloatCompare {
     Ge,
 }
 
-/// A conversion between number types that does not saturate: cvtop.
+/// A conversion between number types, except saturating ones: cvtop.
 #[derive(Clone, Copy, Debug)]
 pub enum Conversion {
     I32WrapI64,
@@ -107,7 +107,7 @@ pub enum Conversion {
     F64ReinterpretI64,
 }
 
-/// A conversion of a float to an integer that saturates: cvtop, trunc_sat.
+/// A saturating conversion of a float to an integer: cvtop, trunc_sat.
 #[derive(Clone, Copy, Debug)]
 pub enum SaturatingConversion {
     I32TruncSatF32S,
@@ -120,7 +120,7 @@ pub enum SaturatingConversion {
     I64TruncSatF64U,
 }
 
-/// An extension of a sign within an integer: unop, extendN_s.
+/// A sign extension within an integer: unop, extendN_s.
 #[derive(Clone, Copy, Debug)]
 pub enum SignExtension {
     I32From8,
@@ -171,11 +171,11 @@ pub enum NumericInstr {
     F32Compare(FloatCompare),
     /// A comparison of `f64`.
     F64Compare(FloatCompare),
-    /// A conversion that doesn't saturate.
+    /// A conversion, except saturating ones.
     Convert(Conversion),
-    /// A conversion that saturates.
+    /// A saturating conversion.
     Saturate(SaturatingConversion),
-    /// An extension of a sign.
+    /// A sign extension.
     Extend(SignExtension),
     /// Wide arithmetic.
     Wide(WideArithmetic),

@@ -19,8 +19,8 @@ pub enum LaneShape {
     F64x2,
 }
 
-/// The lane that is extracted, and the extension of its integer: the standard's section Structure,
-/// Vector Instructions, extract_lane.
+/// The shape of an extracted lane, and the extension of its integer: the standard's section
+/// Structure, Vector Instructions, extract_lane.
 #[derive(Clone, Copy, Debug)]
 pub enum LaneExtract {
     I8x16S,
@@ -311,7 +311,7 @@ pub enum VectorInstr {
     ExtractLane(LaneExtract, u8),
     /// `replace_lane` of a lane.
     ReplaceLane(LaneShape, u8),
-    /// `i8x16.shuffle`, with the lanes of both operands that the result takes.
+    /// `i8x16.shuffle`, with the lanes of the two operands that form the result.
     Shuffle([u8; 16]),
     /// A relaxed operator on one vector, with floats.
     RelaxedFloatUnary(RelaxedFloatUnary),

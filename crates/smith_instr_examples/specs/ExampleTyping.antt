@@ -1,26 +1,31 @@
 -- Instructions that have a type in the managed context, or none; instructions that are enabled, or
 -- not.
-use Rattle.std.specs.Prelude.{◌-◌, ◌^◌, List, []}
+use Rattle.std.specs.Prelude.{◌≡◌, ◌-◌, ◌^◌, Bool, List, []}
 use Rattle.smith_syntax.specs.Features.{Features, every_feature}
 use Rattle.smith_syntax.specs.Instructions.{every_kind, float_bits, kind_bits}
 use Rattle.smith_syntax.specs.declared.instruction_kind.InstructionKind.{InstructionKind}
 use Rattle.smith_syntax.specs.declared.instruction_kind.InstructionKinds.{InstructionKinds}
 use Rattle.smith_syntax.specs.declared.value_type.ValType.{ValType}
-use Rattle.smith_instr.specs.Enabled.{IsEnabled}
+use Rattle.smith_instr.specs.Enabled.{IsEnabled, has_features, is_allowed, is_kind_enabled}
 use Rattle.smith_instr.specs.InstrTypes.{HasInstrType}
 use Rattle.smith_instr.specs.declared.instr.Instr.{Instr}
 use Rattle.smith_instr_examples.specs.ExampleBodies.{kinds_of}
 use Rattle.smith_instr_examples.specs.ExampleManaged.{managed}
 
--- the instruction takes these operands and leaves these results
+-- the instruction has this type
 abbrev pub HasType : Instr → List ValType → List ValType → Type 0
 HasType instruction operands results = HasInstrType (managed [] []) [] instruction operands results
 
--- the instruction does not take these operands, whatever its results
+-- the instruction has these operands and results, and no others
+pub record HasOnlyType (instruction : Instr) (operands results : List ValType) : Type 0 where
+  pub has : HasType instruction operands results
+  pub only : (takes gives : List ValType) → HasType instruction takes gives → (takes ≡ operands) × (gives ≡ results)
+
+-- the instruction does not have these operands, whatever its results
 abbrev pub TakesNot : Instr → List ValType → Type 0
 TakesNot instruction operands = (results : List ValType) → ¬ HasInstrType (managed [] []) [] instruction operands results
 
--- the instruction does not leave these results, whatever its operands
+-- the instruction does not have these results, whatever its operands
 abbrev pub LeavesNot : Instr → List ValType → Type 0
 LeavesNot instruction results = (operands : List ValType) → ¬ HasInstrType (managed [] []) [] instruction operands results
 
@@ -35,6 +40,10 @@ IsOn features instruction = IsEnabled features every_kind instruction
 abbrev pub IsOff : Features → Instr → Type 0
 IsOff features instruction = ¬ IsEnabled features every_kind instruction
 
+-- the instruction needs these features, whatever the others are
+abbrev pub IsOnWith : (Features → Bool) → Instr → Type 0
+IsOnWith are_on instruction = (features : Features) → has_features features instruction ≡ are_on features
+
 -- the instruction is enabled if this is the only kind that is allowed; all features are on
 abbrev pub IsAmong : InstructionKind → Instr → Type 0
 IsAmong kind instruction = IsEnabled every_feature (kinds_of kind) instruction
@@ -42,6 +51,10 @@ IsAmong kind instruction = IsEnabled every_feature (kinds_of kind) instruction
 -- the instruction is not enabled if only these kinds are allowed; all features are on
 abbrev pub IsBarred : InstructionKinds → Instr → Type 0
 IsBarred kinds instruction = ¬ IsEnabled every_feature kinds instruction
+
+-- the instruction is allowed if this kind is, whatever the others are
+abbrev pub IsOfKind : InstructionKind → Instr → Type 0
+IsOfKind kind instruction = (kinds : InstructionKinds) → is_kind_enabled kinds instruction ≡ is_allowed kinds kind
 
 -- all kinds but one, and all kinds without floats
 abbrev pub all_but : InstructionKind → InstructionKinds

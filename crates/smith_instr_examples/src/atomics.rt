@@ -7,37 +7,23 @@ ghost use Rattle.smith_instr.specs.declared.atomic.AtomicWidth.TheVariants as wi
 ghost use Rattle.smith_instr.specs.declared.atomic.AtomicWidth.{AtomicWidth};
 ghost use Rattle.smith_instr.specs.declared.instr.Instr.TheVariants as instr;
 ghost use Rattle.smith_instr_examples.specs.ExampleBodies.{aligned};
-ghost use Rattle.smith_instr_examples.specs.ExampleTyping.{HasNoType, HasType, LeavesNot, TakesNot};
+ghost use Rattle.smith_instr_examples.specs.ExampleTyping.{HasNoType, HasOnlyType, LeavesNot, TakesNot};
 
 fn loads()
-    ensures i32_atomic_load { HasType (instr.Atomic (atomic.Load width.I32) (aligned 0 2))
+    ensures i32_atomic_load { HasOnlyType (instr.Atomic (atomic.Load width.I32) (aligned 0 2))
         (I32 ∷ []) (I32 ∷ []) }
-    ensures i32_atomic_load_to_i64 { LeavesNot (instr.Atomic (atomic.Load width.I32) (aligned 0 2))
-        (I64 ∷ []) }
-    ensures i64_atomic_load { HasType (instr.Atomic (atomic.Load width.I64) (aligned 0 3))
+    ensures i64_atomic_load { HasOnlyType (instr.Atomic (atomic.Load width.I64) (aligned 0 3))
         (I32 ∷ []) (I64 ∷ []) }
-    ensures i64_atomic_load_to_i32 { LeavesNot (instr.Atomic (atomic.Load width.I64) (aligned 0 3))
-        (I32 ∷ []) }
-    ensures i32_atomic_load8_u { HasType (instr.Atomic (atomic.Load width.I32Of8) (aligned 0 0))
+    ensures i32_atomic_load8_u { HasOnlyType (instr.Atomic (atomic.Load width.I32Of8) (aligned 0 0))
         (I32 ∷ []) (I32 ∷ []) }
-    ensures i32_atomic_load8_u_to_i64 { LeavesNot
-        (instr.Atomic (atomic.Load width.I32Of8) (aligned 0 0)) (I64 ∷ []) }
-    ensures i32_atomic_load16_u { HasType (instr.Atomic (atomic.Load width.I32Of16) (aligned 0 1))
-        (I32 ∷ []) (I32 ∷ []) }
-    ensures i32_atomic_load16_u_to_i64 { LeavesNot
-        (instr.Atomic (atomic.Load width.I32Of16) (aligned 0 1)) (I64 ∷ []) }
-    ensures i64_atomic_load8_u { HasType (instr.Atomic (atomic.Load width.I64Of8) (aligned 0 0))
+    ensures i32_atomic_load16_u { HasOnlyType
+        (instr.Atomic (atomic.Load width.I32Of16) (aligned 0 1)) (I32 ∷ []) (I32 ∷ []) }
+    ensures i64_atomic_load8_u { HasOnlyType (instr.Atomic (atomic.Load width.I64Of8) (aligned 0 0))
         (I32 ∷ []) (I64 ∷ []) }
-    ensures i64_atomic_load8_u_to_i32 { LeavesNot
-        (instr.Atomic (atomic.Load width.I64Of8) (aligned 0 0)) (I32 ∷ []) }
-    ensures i64_atomic_load16_u { HasType (instr.Atomic (atomic.Load width.I64Of16) (aligned 0 1))
-        (I32 ∷ []) (I64 ∷ []) }
-    ensures i64_atomic_load16_u_to_i32 { LeavesNot
-        (instr.Atomic (atomic.Load width.I64Of16) (aligned 0 1)) (I32 ∷ []) }
-    ensures i64_atomic_load32_u { HasType (instr.Atomic (atomic.Load width.I64Of32) (aligned 0 2))
-        (I32 ∷ []) (I64 ∷ []) }
-    ensures i64_atomic_load32_u_to_i32 { LeavesNot
-        (instr.Atomic (atomic.Load width.I64Of32) (aligned 0 2)) (I32 ∷ []) }
+    ensures i64_atomic_load16_u { HasOnlyType
+        (instr.Atomic (atomic.Load width.I64Of16) (aligned 0 1)) (I32 ∷ []) (I64 ∷ []) }
+    ensures i64_atomic_load32_u { HasOnlyType
+        (instr.Atomic (atomic.Load width.I64Of32) (aligned 0 2)) (I32 ∷ []) (I64 ∷ []) }
 {}
 
 fn loads_of_other_alignments()
@@ -68,205 +54,121 @@ fn loads_of_other_alignments()
 {}
 
 fn stores()
-    ensures i32_atomic_store { HasType (instr.Atomic (atomic.Store width.I32) (aligned 1 2))
+    ensures i32_atomic_store { HasOnlyType (instr.Atomic (atomic.Store width.I32) (aligned 1 2))
         (I64 ∷ I32 ∷ []) [] }
-    ensures i32_atomic_store_of_i64 { TakesNot
-        (instr.Atomic (atomic.Store width.I32) (aligned 1 2)) (I64 ∷ I64 ∷ []) }
     ensures i32_atomic_store_above_its_alignment { HasNoType
         (instr.Atomic (atomic.Store width.I32) (aligned 1 3)) }
-    ensures i64_atomic_store { HasType (instr.Atomic (atomic.Store width.I64) (aligned 1 3))
+    ensures i64_atomic_store { HasOnlyType (instr.Atomic (atomic.Store width.I64) (aligned 1 3))
         (I64 ∷ I64 ∷ []) [] }
-    ensures i64_atomic_store_of_i32 { TakesNot
-        (instr.Atomic (atomic.Store width.I64) (aligned 1 3)) (I64 ∷ I32 ∷ []) }
     ensures i64_atomic_store_above_its_alignment { HasNoType
         (instr.Atomic (atomic.Store width.I64) (aligned 1 4)) }
-    ensures i32_atomic_store8 { HasType (instr.Atomic (atomic.Store width.I32Of8) (aligned 1 0))
+    ensures i32_atomic_store8 { HasOnlyType (instr.Atomic (atomic.Store width.I32Of8) (aligned 1 0))
         (I64 ∷ I32 ∷ []) [] }
-    ensures i32_atomic_store8_of_i64 { TakesNot
-        (instr.Atomic (atomic.Store width.I32Of8) (aligned 1 0)) (I64 ∷ I64 ∷ []) }
     ensures i32_atomic_store8_above_its_alignment { HasNoType
         (instr.Atomic (atomic.Store width.I32Of8) (aligned 1 1)) }
-    ensures i32_atomic_store16 { HasType (instr.Atomic (atomic.Store width.I32Of16) (aligned 1 1))
-        (I64 ∷ I32 ∷ []) [] }
-    ensures i32_atomic_store16_of_i64 { TakesNot
-        (instr.Atomic (atomic.Store width.I32Of16) (aligned 1 1)) (I64 ∷ I64 ∷ []) }
+    ensures i32_atomic_store16 { HasOnlyType
+        (instr.Atomic (atomic.Store width.I32Of16) (aligned 1 1)) (I64 ∷ I32 ∷ []) [] }
     ensures i32_atomic_store16_above_its_alignment { HasNoType
         (instr.Atomic (atomic.Store width.I32Of16) (aligned 1 2)) }
 {}
 
 fn stores_of_parts()
-    ensures i64_atomic_store8 { HasType (instr.Atomic (atomic.Store width.I64Of8) (aligned 1 0))
+    ensures i64_atomic_store8 { HasOnlyType (instr.Atomic (atomic.Store width.I64Of8) (aligned 1 0))
         (I64 ∷ I64 ∷ []) [] }
-    ensures i64_atomic_store8_of_i32 { TakesNot
-        (instr.Atomic (atomic.Store width.I64Of8) (aligned 1 0)) (I64 ∷ I32 ∷ []) }
     ensures i64_atomic_store8_above_its_alignment { HasNoType
         (instr.Atomic (atomic.Store width.I64Of8) (aligned 1 1)) }
-    ensures i64_atomic_store16 { HasType (instr.Atomic (atomic.Store width.I64Of16) (aligned 1 1))
-        (I64 ∷ I64 ∷ []) [] }
-    ensures i64_atomic_store16_of_i32 { TakesNot
-        (instr.Atomic (atomic.Store width.I64Of16) (aligned 1 1)) (I64 ∷ I32 ∷ []) }
+    ensures i64_atomic_store16 { HasOnlyType
+        (instr.Atomic (atomic.Store width.I64Of16) (aligned 1 1)) (I64 ∷ I64 ∷ []) [] }
     ensures i64_atomic_store16_above_its_alignment { HasNoType
         (instr.Atomic (atomic.Store width.I64Of16) (aligned 1 2)) }
-    ensures i64_atomic_store32 { HasType (instr.Atomic (atomic.Store width.I64Of32) (aligned 1 2))
-        (I64 ∷ I64 ∷ []) [] }
-    ensures i64_atomic_store32_of_i32 { TakesNot
-        (instr.Atomic (atomic.Store width.I64Of32) (aligned 1 2)) (I64 ∷ I32 ∷ []) }
+    ensures i64_atomic_store32 { HasOnlyType
+        (instr.Atomic (atomic.Store width.I64Of32) (aligned 1 2)) (I64 ∷ I64 ∷ []) [] }
     ensures i64_atomic_store32_above_its_alignment { HasNoType
         (instr.Atomic (atomic.Store width.I64Of32) (aligned 1 3)) }
 {}
 
 fn updates()
-    ensures i32_atomic_rmw { (update : AtomicUpdate) → HasType
+    ensures i32_atomic_rmw { (update : AtomicUpdate) → HasOnlyType
         (instr.Atomic (atomic.Update update width.I32) (aligned 0 2)) (I32 ∷ I32 ∷ []) (I32 ∷ []) }
-    ensures i32_atomic_rmw_of_i64 { (update : AtomicUpdate) → TakesNot
-        (instr.Atomic (atomic.Update update width.I32) (aligned 0 2)) (I32 ∷ I64 ∷ []) }
-    ensures i64_atomic_rmw { (update : AtomicUpdate) → HasType
+    ensures i64_atomic_rmw { (update : AtomicUpdate) → HasOnlyType
         (instr.Atomic (atomic.Update update width.I64) (aligned 0 3)) (I32 ∷ I64 ∷ []) (I64 ∷ []) }
-    ensures i64_atomic_rmw_of_i32 { (update : AtomicUpdate) → TakesNot
-        (instr.Atomic (atomic.Update update width.I64) (aligned 0 3)) (I32 ∷ I32 ∷ []) }
-    ensures i32_atomic_rmw_to_i64 { (update : AtomicUpdate) → LeavesNot
-        (instr.Atomic (atomic.Update update width.I32) (aligned 0 2)) (I64 ∷ []) }
     ensures i32_atomic_rmw_above_its_alignment { (update : AtomicUpdate) → HasNoType
         (instr.Atomic (atomic.Update update width.I32) (aligned 0 3)) }
-    ensures i64_atomic_rmw_to_i32 { (update : AtomicUpdate) → LeavesNot
-        (instr.Atomic (atomic.Update update width.I64) (aligned 0 3)) (I32 ∷ []) }
     ensures i64_atomic_rmw_above_its_alignment { (update : AtomicUpdate) → HasNoType
         (instr.Atomic (atomic.Update update width.I64) (aligned 0 4)) }
 {}
 
 fn updates_of_parts()
-    ensures i32_atomic_rmw8_u { (update : AtomicUpdate) → HasType
+    ensures i32_atomic_rmw8_u { (update : AtomicUpdate) → HasOnlyType
         (instr.Atomic (atomic.Update update width.I32Of8) (aligned 0 0)) (I32 ∷ I32 ∷ [])
         (I32 ∷ []) }
-    ensures i32_atomic_rmw8_u_of_i64 { (update : AtomicUpdate) → TakesNot
-        (instr.Atomic (atomic.Update update width.I32Of8) (aligned 0 0)) (I32 ∷ I64 ∷ []) }
-    ensures i32_atomic_rmw16_u { (update : AtomicUpdate) → HasType
+    ensures i32_atomic_rmw16_u { (update : AtomicUpdate) → HasOnlyType
         (instr.Atomic (atomic.Update update width.I32Of16) (aligned 0 1)) (I32 ∷ I32 ∷ [])
         (I32 ∷ []) }
-    ensures i32_atomic_rmw16_u_of_i64 { (update : AtomicUpdate) → TakesNot
-        (instr.Atomic (atomic.Update update width.I32Of16) (aligned 0 1)) (I32 ∷ I64 ∷ []) }
-    ensures i64_atomic_rmw8_u { (update : AtomicUpdate) → HasType
+    ensures i64_atomic_rmw8_u { (update : AtomicUpdate) → HasOnlyType
         (instr.Atomic (atomic.Update update width.I64Of8) (aligned 0 0)) (I32 ∷ I64 ∷ [])
         (I64 ∷ []) }
-    ensures i64_atomic_rmw8_u_of_i32 { (update : AtomicUpdate) → TakesNot
-        (instr.Atomic (atomic.Update update width.I64Of8) (aligned 0 0)) (I32 ∷ I32 ∷ []) }
-    ensures i64_atomic_rmw16_u { (update : AtomicUpdate) → HasType
+    ensures i64_atomic_rmw16_u { (update : AtomicUpdate) → HasOnlyType
         (instr.Atomic (atomic.Update update width.I64Of16) (aligned 0 1)) (I32 ∷ I64 ∷ [])
         (I64 ∷ []) }
-    ensures i64_atomic_rmw16_u_of_i32 { (update : AtomicUpdate) → TakesNot
-        (instr.Atomic (atomic.Update update width.I64Of16) (aligned 0 1)) (I32 ∷ I32 ∷ []) }
-    ensures i64_atomic_rmw32_u { (update : AtomicUpdate) → HasType
+    ensures i64_atomic_rmw32_u { (update : AtomicUpdate) → HasOnlyType
         (instr.Atomic (atomic.Update update width.I64Of32) (aligned 0 2)) (I32 ∷ I64 ∷ [])
         (I64 ∷ []) }
-    ensures i64_atomic_rmw32_u_of_i32 { (update : AtomicUpdate) → TakesNot
-        (instr.Atomic (atomic.Update update width.I64Of32) (aligned 0 2)) (I32 ∷ I32 ∷ []) }
 {}
 
 fn updates_of_parts_otherwise()
-    ensures i32_atomic_rmw8_u_to_i64 { (update : AtomicUpdate) → LeavesNot
-        (instr.Atomic (atomic.Update update width.I32Of8) (aligned 0 0)) (I64 ∷ []) }
     ensures i32_atomic_rmw8_u_above_its_alignment { (update : AtomicUpdate) → HasNoType
         (instr.Atomic (atomic.Update update width.I32Of8) (aligned 0 1)) }
-    ensures i32_atomic_rmw16_u_to_i64 { (update : AtomicUpdate) → LeavesNot
-        (instr.Atomic (atomic.Update update width.I32Of16) (aligned 0 1)) (I64 ∷ []) }
     ensures i32_atomic_rmw16_u_above_its_alignment { (update : AtomicUpdate) → HasNoType
         (instr.Atomic (atomic.Update update width.I32Of16) (aligned 0 2)) }
-    ensures i64_atomic_rmw8_u_to_i32 { (update : AtomicUpdate) → LeavesNot
-        (instr.Atomic (atomic.Update update width.I64Of8) (aligned 0 0)) (I32 ∷ []) }
     ensures i64_atomic_rmw8_u_above_its_alignment { (update : AtomicUpdate) → HasNoType
         (instr.Atomic (atomic.Update update width.I64Of8) (aligned 0 1)) }
-    ensures i64_atomic_rmw16_u_to_i32 { (update : AtomicUpdate) → LeavesNot
-        (instr.Atomic (atomic.Update update width.I64Of16) (aligned 0 1)) (I32 ∷ []) }
     ensures i64_atomic_rmw16_u_above_its_alignment { (update : AtomicUpdate) → HasNoType
         (instr.Atomic (atomic.Update update width.I64Of16) (aligned 0 2)) }
-    ensures i64_atomic_rmw32_u_to_i32 { (update : AtomicUpdate) → LeavesNot
-        (instr.Atomic (atomic.Update update width.I64Of32) (aligned 0 2)) (I32 ∷ []) }
     ensures i64_atomic_rmw32_u_above_its_alignment { (update : AtomicUpdate) → HasNoType
         (instr.Atomic (atomic.Update update width.I64Of32) (aligned 0 3)) }
 {}
 
 fn exchanges()
-    ensures i32_atomic_rmw_cmpxchg { HasType
+    ensures i32_atomic_rmw_cmpxchg { HasOnlyType
         (instr.Atomic (atomic.CompareExchange width.I32) (aligned 0 2)) (I32 ∷ I32 ∷ I32 ∷ [])
         (I32 ∷ []) }
-    ensures i32_atomic_rmw_cmpxchg_for_i64 { TakesNot
-        (instr.Atomic (atomic.CompareExchange width.I32) (aligned 0 2)) (I32 ∷ I64 ∷ I32 ∷ []) }
-    ensures i32_atomic_rmw_cmpxchg_by_i64 { TakesNot
-        (instr.Atomic (atomic.CompareExchange width.I32) (aligned 0 2)) (I32 ∷ I32 ∷ I64 ∷ []) }
-    ensures i64_atomic_rmw_cmpxchg { HasType
+    ensures i64_atomic_rmw_cmpxchg { HasOnlyType
         (instr.Atomic (atomic.CompareExchange width.I64) (aligned 0 3)) (I32 ∷ I64 ∷ I64 ∷ [])
         (I64 ∷ []) }
-    ensures i64_atomic_rmw_cmpxchg_for_i32 { TakesNot
-        (instr.Atomic (atomic.CompareExchange width.I64) (aligned 0 3)) (I32 ∷ I32 ∷ I64 ∷ []) }
-    ensures i64_atomic_rmw_cmpxchg_by_i32 { TakesNot
-        (instr.Atomic (atomic.CompareExchange width.I64) (aligned 0 3)) (I32 ∷ I64 ∷ I32 ∷ []) }
-    ensures i32_atomic_rmw8_cmpxchg_u { HasType
+    ensures i32_atomic_rmw8_cmpxchg_u { HasOnlyType
         (instr.Atomic (atomic.CompareExchange width.I32Of8) (aligned 0 0)) (I32 ∷ I32 ∷ I32 ∷ [])
         (I32 ∷ []) }
-    ensures i32_atomic_rmw8_cmpxchg_u_for_i64 { TakesNot
-        (instr.Atomic (atomic.CompareExchange width.I32Of8) (aligned 0 0)) (I32 ∷ I64 ∷ I32 ∷ []) }
-    ensures i32_atomic_rmw8_cmpxchg_u_by_i64 { TakesNot
-        (instr.Atomic (atomic.CompareExchange width.I32Of8) (aligned 0 0)) (I32 ∷ I32 ∷ I64 ∷ []) }
 {}
 
 fn exchanges_of_parts()
-    ensures i32_atomic_rmw16_cmpxchg_u { HasType
+    ensures i32_atomic_rmw16_cmpxchg_u { HasOnlyType
         (instr.Atomic (atomic.CompareExchange width.I32Of16) (aligned 0 1)) (I32 ∷ I32 ∷ I32 ∷ [])
         (I32 ∷ []) }
-    ensures i32_atomic_rmw16_cmpxchg_u_for_i64 { TakesNot
-        (instr.Atomic (atomic.CompareExchange width.I32Of16) (aligned 0 1)) (I32 ∷ I64 ∷ I32 ∷ []) }
-    ensures i32_atomic_rmw16_cmpxchg_u_by_i64 { TakesNot
-        (instr.Atomic (atomic.CompareExchange width.I32Of16) (aligned 0 1)) (I32 ∷ I32 ∷ I64 ∷ []) }
-    ensures i64_atomic_rmw8_cmpxchg_u { HasType
+    ensures i64_atomic_rmw8_cmpxchg_u { HasOnlyType
         (instr.Atomic (atomic.CompareExchange width.I64Of8) (aligned 0 0)) (I32 ∷ I64 ∷ I64 ∷ [])
         (I64 ∷ []) }
-    ensures i64_atomic_rmw8_cmpxchg_u_for_i32 { TakesNot
-        (instr.Atomic (atomic.CompareExchange width.I64Of8) (aligned 0 0)) (I32 ∷ I32 ∷ I64 ∷ []) }
-    ensures i64_atomic_rmw8_cmpxchg_u_by_i32 { TakesNot
-        (instr.Atomic (atomic.CompareExchange width.I64Of8) (aligned 0 0)) (I32 ∷ I64 ∷ I32 ∷ []) }
-    ensures i64_atomic_rmw16_cmpxchg_u { HasType
+    ensures i64_atomic_rmw16_cmpxchg_u { HasOnlyType
         (instr.Atomic (atomic.CompareExchange width.I64Of16) (aligned 0 1)) (I32 ∷ I64 ∷ I64 ∷ [])
         (I64 ∷ []) }
-    ensures i64_atomic_rmw16_cmpxchg_u_for_i32 { TakesNot
-        (instr.Atomic (atomic.CompareExchange width.I64Of16) (aligned 0 1)) (I32 ∷ I32 ∷ I64 ∷ []) }
-    ensures i64_atomic_rmw16_cmpxchg_u_by_i32 { TakesNot
-        (instr.Atomic (atomic.CompareExchange width.I64Of16) (aligned 0 1)) (I32 ∷ I64 ∷ I32 ∷ []) }
-    ensures i64_atomic_rmw32_cmpxchg_u { HasType
+    ensures i64_atomic_rmw32_cmpxchg_u { HasOnlyType
         (instr.Atomic (atomic.CompareExchange width.I64Of32) (aligned 0 2)) (I32 ∷ I64 ∷ I64 ∷ [])
         (I64 ∷ []) }
-    ensures i64_atomic_rmw32_cmpxchg_u_for_i32 { TakesNot
-        (instr.Atomic (atomic.CompareExchange width.I64Of32) (aligned 0 2)) (I32 ∷ I32 ∷ I64 ∷ []) }
-    ensures i64_atomic_rmw32_cmpxchg_u_by_i32 { TakesNot
-        (instr.Atomic (atomic.CompareExchange width.I64Of32) (aligned 0 2)) (I32 ∷ I64 ∷ I32 ∷ []) }
 {}
 
 fn exchanges_otherwise()
-    ensures i32_atomic_rmw_cmpxchg_to_i64 { LeavesNot
-        (instr.Atomic (atomic.CompareExchange width.I32) (aligned 0 2)) (I64 ∷ []) }
     ensures i32_atomic_rmw_cmpxchg_above_its_alignment { HasNoType
         (instr.Atomic (atomic.CompareExchange width.I32) (aligned 0 3)) }
-    ensures i64_atomic_rmw_cmpxchg_to_i32 { LeavesNot
-        (instr.Atomic (atomic.CompareExchange width.I64) (aligned 0 3)) (I32 ∷ []) }
     ensures i64_atomic_rmw_cmpxchg_above_its_alignment { HasNoType
         (instr.Atomic (atomic.CompareExchange width.I64) (aligned 0 4)) }
-    ensures i32_atomic_rmw8_cmpxchg_u_to_i64 { LeavesNot
-        (instr.Atomic (atomic.CompareExchange width.I32Of8) (aligned 0 0)) (I64 ∷ []) }
     ensures i32_atomic_rmw8_cmpxchg_u_above_its_alignment { HasNoType
         (instr.Atomic (atomic.CompareExchange width.I32Of8) (aligned 0 1)) }
-    ensures i32_atomic_rmw16_cmpxchg_u_to_i64 { LeavesNot
-        (instr.Atomic (atomic.CompareExchange width.I32Of16) (aligned 0 1)) (I64 ∷ []) }
     ensures i32_atomic_rmw16_cmpxchg_u_above_its_alignment { HasNoType
         (instr.Atomic (atomic.CompareExchange width.I32Of16) (aligned 0 2)) }
-    ensures i64_atomic_rmw8_cmpxchg_u_to_i32 { LeavesNot
-        (instr.Atomic (atomic.CompareExchange width.I64Of8) (aligned 0 0)) (I32 ∷ []) }
     ensures i64_atomic_rmw8_cmpxchg_u_above_its_alignment { HasNoType
         (instr.Atomic (atomic.CompareExchange width.I64Of8) (aligned 0 1)) }
-    ensures i64_atomic_rmw16_cmpxchg_u_to_i32 { LeavesNot
-        (instr.Atomic (atomic.CompareExchange width.I64Of16) (aligned 0 1)) (I32 ∷ []) }
     ensures i64_atomic_rmw16_cmpxchg_u_above_its_alignment { HasNoType
         (instr.Atomic (atomic.CompareExchange width.I64Of16) (aligned 0 2)) }
-    ensures i64_atomic_rmw32_cmpxchg_u_to_i32 { LeavesNot
-        (instr.Atomic (atomic.CompareExchange width.I64Of32) (aligned 0 2)) (I32 ∷ []) }
     ensures i64_atomic_rmw32_cmpxchg_u_above_its_alignment { HasNoType
         (instr.Atomic (atomic.CompareExchange width.I64Of32) (aligned 0 3)) }
 {}
@@ -289,9 +191,8 @@ fn at_other_addresses()
         (instr.Atomic (atomic.Store op) (aligned 2 align)) }
     ensures store_of_none { (op : AtomicWidth) (align : ℕ) → TakesNot
         (instr.Atomic (atomic.Store op) (aligned 0 align)) [] }
-    ensures exchange_at_a_wide_address { (op : AtomicWidth) (value : ValType) (align : ℕ)
-        → TakesNot (instr.Atomic (atomic.CompareExchange op) (aligned 0 align))
-        (I64 ∷ value ∷ value ∷ []) }
+    ensures exchange_at_a_wide_address { (op : AtomicWidth) (value : ValType) (align : ℕ) → TakesNot
+        (instr.Atomic (atomic.CompareExchange op) (aligned 0 align)) (I64 ∷ value ∷ value ∷ []) }
     ensures exchange_at_a_narrow_address_of_a_wide_memory { (op : AtomicWidth) (value : ValType)
         (align : ℕ) → TakesNot (instr.Atomic (atomic.CompareExchange op) (aligned 1 align))
         (I32 ∷ value ∷ value ∷ []) }
@@ -302,7 +203,7 @@ fn at_other_addresses()
 {}
 
 fn waiting()
-    ensures notify { HasType (instr.Atomic atomic.Notify (aligned 1 2)) (I64 ∷ I32 ∷ [])
+    ensures notify { HasOnlyType (instr.Atomic atomic.Notify (aligned 1 2)) (I64 ∷ I32 ∷ [])
         (I32 ∷ []) }
     ensures notify_of_i64 { TakesNot (instr.Atomic atomic.Notify (aligned 0 2)) (I32 ∷ I64 ∷ []) }
     ensures notify_without_a_count { TakesNot (instr.Atomic atomic.Notify (aligned 0 2))
@@ -310,7 +211,7 @@ fn waiting()
     ensures notify_to_i64 { LeavesNot (instr.Atomic atomic.Notify (aligned 0 2)) (I64 ∷ []) }
     ensures notify_above_its_alignment { HasNoType (instr.Atomic atomic.Notify (aligned 0 3)) }
     ensures notify_below_its_alignment { HasNoType (instr.Atomic atomic.Notify (aligned 0 1)) }
-    ensures wait32 { HasType (instr.Atomic atomic.Wait32 (aligned 1 2)) (I64 ∷ I32 ∷ I64 ∷ [])
+    ensures wait32 { HasOnlyType (instr.Atomic atomic.Wait32 (aligned 1 2)) (I64 ∷ I32 ∷ I64 ∷ [])
         (I32 ∷ []) }
     ensures wait32_for_i64 { TakesNot (instr.Atomic atomic.Wait32 (aligned 0 2))
         (I32 ∷ I64 ∷ I64 ∷ []) }
@@ -318,18 +219,11 @@ fn waiting()
     ensures wait32_above_its_alignment { HasNoType (instr.Atomic atomic.Wait32 (aligned 0 3)) }
     ensures wait32_without_a_time { TakesNot (instr.Atomic atomic.Wait32 (aligned 0 2))
         (I32 ∷ I32 ∷ []) }
-    ensures wait64 { HasType (instr.Atomic atomic.Wait64 (aligned 0 3)) (I32 ∷ I64 ∷ I64 ∷ [])
+    ensures wait64 { HasOnlyType (instr.Atomic atomic.Wait64 (aligned 0 3)) (I32 ∷ I64 ∷ I64 ∷ [])
         (I32 ∷ []) }
-    ensures wait64_for_i32 { TakesNot (instr.Atomic atomic.Wait64 (aligned 0 3))
-        (I32 ∷ I32 ∷ I64 ∷ []) }
-    ensures wait64_for_an_i32_of_time { TakesNot (instr.Atomic atomic.Wait64 (aligned 0 3))
-        (I32 ∷ I64 ∷ I32 ∷ []) }
-    ensures wait64_to_i64 { LeavesNot (instr.Atomic atomic.Wait64 (aligned 0 3)) (I64 ∷ []) }
     ensures wait64_above_its_alignment { HasNoType (instr.Atomic atomic.Wait64 (aligned 0 4)) }
 {}
 
 fn fences()
-    ensures fence { HasType instr.AtomicFence [] [] }
-    ensures fence_of_one { TakesNot instr.AtomicFence (I32 ∷ []) }
-    ensures fence_to_one { LeavesNot instr.AtomicFence (I32 ∷ []) }
+    ensures fence { HasOnlyType instr.AtomicFence [] [] }
 {}

@@ -1,6 +1,6 @@
 ghost use Rattle.std.specs.Prelude.{[], ◌∷◌};
-ghost use Rattle.smith_syntax.specs.declared.value_type.ValType.TheVariants.{I32, I64};
-ghost use Rattle.smith_instr.specs.Sequences.{AreTyped, IsBodyTyped, stacked};
+ghost use Rattle.smith_syntax.specs.declared.value_type.ValType.TheVariants.{I32};
+ghost use Rattle.smith_instr.specs.Sequences.{AreTyped, stacked};
 ghost use Rattle.smith_instr.specs.declared.control.BlockType.TheVariants as block;
 ghost use Rattle.smith_instr.specs.declared.instr.Instr.TheVariants as instr;
 ghost use Rattle.smith_instr_examples.specs.ExampleBodies.{function_of, number, some_func};

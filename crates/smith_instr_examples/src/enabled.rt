@@ -1,5 +1,5 @@
 ghost use Rattle.std.specs.Prelude.{[], false, pos};
-ghost use Rattle.smith_syntax.specs.Instructions.{every_kind, no_kind, kind_bits};
+ghost use Rattle.smith_syntax.specs.Instructions.{every_kind, no_kind};
 ghost use Rattle.smith_syntax.specs.declared.instruction_kind.InstructionKind.TheVariants.{Numeric};
 ghost use Rattle.smith_syntax.specs.declared.instruction_kind.InstructionKind.TheVariants.{
   NumericInt,
@@ -8,14 +8,13 @@ ghost use Rattle.smith_syntax.specs.declared.instruction_kind.InstructionKind.Th
 ghost use Rattle.smith_syntax.specs.declared.instruction_kind.InstructionKind.TheVariants.{
   MemoryInt,
 };
-ghost use Rattle.smith_syntax.specs.declared.instruction_kind.InstructionKind.TheVariants.{Vector};
 ghost use Rattle.smith_syntax.specs.declared.instruction_kind.InstructionKind.TheVariants.{
   VectorInt,
 };
 ghost use Rattle.smith_syntax.specs.declared.instruction_kind.InstructionKind.TheVariants.{Control};
 ghost use Rattle.smith_syntax.specs.declared.value_type.ValType.TheVariants.{I32};
 ghost use Rattle.smith_types.specs.ExampleFeatures.{usual_features};
-ghost use Rattle.smith_instr.specs.Enabled.{IsEnabled, instr_kind};
+ghost use Rattle.smith_instr.specs.Enabled.{IsEnabled};
 ghost use Rattle.smith_instr.specs.declared.aggregate.AggregateInstr.TheVariants as aggregate;
 ghost use Rattle.smith_instr.specs.declared.control.BlockType.TheVariants as block;
 ghost use Rattle.smith_instr.specs.declared.instr.Instr.TheVariants as instr;

@@ -1,4 +1,4 @@
-ghost use Rattle.std.specs.Prelude.{List, [], true, false, pos, ℕ};
+ghost use Rattle.std.specs.Prelude.{List, [], true, false, pos, ℕ, ◌&&◌};
 ghost use Rattle.smith_types.specs.ExampleFeatures.{no_features};
 ghost use Rattle.smith_syntax.specs.Features.{every_feature};
 ghost use Rattle.smith_syntax.specs.declared.value_type.HeapType.{HeapType};
@@ -38,196 +38,119 @@ ghost use Rattle.smith_instr.specs.declared.vector.VectorLoad.{VectorLoad};
 ghost use Rattle.smith_instr.specs.declared.vector.VectorShift.{VectorShift};
 ghost use Rattle.smith_instr.specs.declared.vector.VectorUnary.{VectorUnary};
 ghost use Rattle.smith_instr_examples.specs.ExampleManaged.{some_struct};
-ghost use Rattle.smith_instr_examples.specs.ExampleTyping.{IsOff, IsOn};
+ghost use Rattle.smith_instr_examples.specs.ExampleTyping.{IsOff, IsOn, IsOnWith};
 
 #[tactic(auto, unfolding(smith_instr::specs::Enabled::is_enabled))]
 fn blocks()
-    ensures block { (index : ℕ) → IsOn (record no_features { multi_value = true })
+    ensures block { (index : ℕ) → IsOnWith (λ features. features.multi_value)
         (instr.Block (block.Func index)) }
-    ensures block_off { (index : ℕ) → IsOff (record every_feature { multi_value = false })
-        (instr.Block (block.Func index)) }
-    ensures loop_block { (index : ℕ) → IsOn (record no_features { multi_value = true })
+    ensures loop_block { (index : ℕ) → IsOnWith (λ features. features.multi_value)
         (instr.Loop (block.Func index)) }
-    ensures loop_block_off { (index : ℕ) → IsOff (record every_feature { multi_value = false })
-        (instr.Loop (block.Func index)) }
-    ensures if_else { (index : ℕ) → IsOn (record no_features { multi_value = true })
+    ensures if_else { (index : ℕ) → IsOnWith (λ features. features.multi_value)
         (instr.If (block.Func index)) }
-    ensures if_else_off { (index : ℕ) → IsOff (record every_feature { multi_value = false })
-        (instr.If (block.Func index)) }
-    ensures try_table { (index : ℕ) → IsOn
-        (record no_features { multi_value = true; exceptions = true }) (instr.TryTable
-        (block.Func index) []) }
-    ensures try_table_without_multi_value { (index : ℕ) → IsOff
-        (record every_feature { multi_value = false }) (instr.TryTable (block.Func index) []) }
-    ensures try_table_without_exceptions { (index : ℕ) → IsOff
-        (record every_feature { exceptions = false }) (instr.TryTable (block.Func index) []) }
-    ensures block_of_a_value { IsOn no_features (instr.Block (block.Value I32)) }
-    ensures loop_of_no_type { IsOn no_features (instr.Loop block.Empty) }
-    ensures try_table_of_no_type { IsOn (record no_features { exceptions = true })
-        (instr.TryTable block.Empty []) }
-    ensures try_table_of_no_type_off { IsOff (record every_feature { exceptions = false })
+    ensures try_table { (index : ℕ) → IsOnWith
+        (λ features. features.multi_value && features.exceptions)
+        (instr.TryTable (block.Func index) []) }
+    ensures block_of_a_value { IsOnWith (λ features. true) (instr.Block (block.Value I32)) }
+    ensures loop_of_no_type { IsOnWith (λ features. true) (instr.Loop block.Empty) }
+    ensures try_table_of_no_type { IsOnWith (λ features. features.exceptions)
         (instr.TryTable block.Empty []) }
 {}
 
 #[tactic(auto, unfolding(smith_instr::specs::Enabled::is_enabled))]
 fn control()
-    ensures throw { (index : ℕ) → IsOn (record no_features { exceptions = true })
-        (instr.Throw index) }
-    ensures throw_off { (index : ℕ) → IsOff (record every_feature { exceptions = false })
-        (instr.Throw index) }
-    ensures throw_ref { IsOn (record no_features { exceptions = true }) instr.ThrowRef }
-    ensures throw_ref_off { IsOff (record every_feature { exceptions = false }) instr.ThrowRef }
-    ensures br_on_null { (index : ℕ) → IsOn (record no_features { function_references = true })
+    ensures throw { (index : ℕ) → IsOnWith (λ features. features.exceptions) (instr.Throw index) }
+    ensures throw_ref { IsOnWith (λ features. features.exceptions) instr.ThrowRef }
+    ensures br_on_null { (index : ℕ) → IsOnWith (λ features. features.function_references)
         (instr.BrOnNull index) }
-    ensures br_on_null_off { (index : ℕ) → IsOff
-        (record every_feature { function_references = false }) (instr.BrOnNull index) }
-    ensures br_on_non_null { (index : ℕ) → IsOn (record no_features { function_references = true })
+    ensures br_on_non_null { (index : ℕ) → IsOnWith (λ features. features.function_references)
         (instr.BrOnNonNull index) }
-    ensures br_on_non_null_off { (index : ℕ) → IsOff
-        (record every_feature { function_references = false }) (instr.BrOnNonNull index) }
-    ensures br_on_cast { (cast : BranchCast) → IsOn (record no_features { gc = true })
+    ensures br_on_cast { (cast : BranchCast) → IsOnWith (λ features. features.gc)
         (instr.BrOnCast cast) }
-    ensures br_on_cast_off { (cast : BranchCast) → IsOff (record every_feature { gc = false })
-        (instr.BrOnCast cast) }
-    ensures br_on_cast_fail { (cast : BranchCast) → IsOn (record no_features { gc = true })
-        (instr.BrOnCastFail cast) }
-    ensures br_on_cast_fail_off { (cast : BranchCast) → IsOff (record every_feature { gc = false })
+    ensures br_on_cast_fail { (cast : BranchCast) → IsOnWith (λ features. features.gc)
         (instr.BrOnCastFail cast) }
 {}
 
 #[tactic(auto, unfolding(smith_instr::specs::Enabled::is_enabled))]
 fn calls()
-    ensures call { (index : ℕ) → IsOn no_features (instr.Call index) }
-    ensures call_indirect { (index other : ℕ) → IsOn no_features (instr.CallIndirect index other) }
-    ensures call_ref { (index : ℕ) → IsOn (record no_features { function_references = true })
+    ensures call { (index : ℕ) → IsOnWith (λ features. true) (instr.Call index) }
+    ensures call_indirect { (index other : ℕ) → IsOnWith (λ features. true)
+        (instr.CallIndirect index other) }
+    ensures call_ref { (index : ℕ) → IsOnWith (λ features. features.function_references)
         (instr.CallRef index) }
-    ensures call_ref_off { (index : ℕ) → IsOff
-        (record every_feature { function_references = false }) (instr.CallRef index) }
-    ensures return_call { (index : ℕ) → IsOn (record no_features { tail_call = true })
+    ensures return_call { (index : ℕ) → IsOnWith (λ features. features.tail_call)
         (instr.ReturnCall index) }
-    ensures return_call_off { (index : ℕ) → IsOff (record every_feature { tail_call = false })
-        (instr.ReturnCall index) }
-    ensures return_call_indirect { (index other : ℕ) → IsOn
-        (record no_features { tail_call = true }) (instr.ReturnCallIndirect index other) }
-    ensures return_call_indirect_off { (index other : ℕ) → IsOff
-        (record every_feature { tail_call = false }) (instr.ReturnCallIndirect index other) }
-    ensures return_call_ref { (index : ℕ) → IsOn
-        (record no_features { tail_call = true; function_references = true }) (instr.ReturnCallRef
-        index) }
-    ensures return_call_ref_without_tail_call { (index : ℕ) → IsOff
-        (record every_feature { tail_call = false }) (instr.ReturnCallRef index) }
-    ensures return_call_ref_without_function_references { (index : ℕ) → IsOff
-        (record every_feature { function_references = false }) (instr.ReturnCallRef index) }
+    ensures return_call_indirect { (index other : ℕ) → IsOnWith (λ features. features.tail_call)
+        (instr.ReturnCallIndirect index other) }
+    ensures return_call_ref { (index : ℕ) → IsOnWith
+        (λ features. features.tail_call && features.function_references)
+        (instr.ReturnCallRef index) }
 {}
 
 #[tactic(auto, unfolding(smith_instr::specs::Enabled::is_enabled))]
 fn numbers()
-    ensures saturating { (op : SaturatingConversion) → IsOn
-        (record no_features { saturating_float_to_int = true }) (instr.Numeric
-        (numeric.Saturate op)) }
-    ensures saturating_off { (op : SaturatingConversion) → IsOff
-        (record every_feature { saturating_float_to_int = false }) (instr.Numeric
-        (numeric.Saturate op)) }
-    ensures sign_extension { (op : SignExtension) → IsOn
-        (record no_features { sign_extension = true }) (instr.Numeric (numeric.Extend op)) }
-    ensures sign_extension_off { (op : SignExtension) → IsOff
-        (record every_feature { sign_extension = false }) (instr.Numeric (numeric.Extend op)) }
-    ensures wide_arithmetic { (op : WideArithmetic) → IsOn
-        (record no_features { wide_arithmetic = true }) (instr.Numeric (numeric.Wide op)) }
-    ensures wide_arithmetic_off { (op : WideArithmetic) → IsOff
-        (record every_feature { wide_arithmetic = false }) (instr.Numeric (numeric.Wide op)) }
-    ensures conversion { (op : Conversion) → IsOn no_features (instr.Numeric (numeric.Convert op)) }
-    ensures binary { (op : IntBinary) → IsOn no_features (instr.Numeric (numeric.I32Binary op)) }
-    ensures comparison { (op : FloatCompare) → IsOn no_features
+    ensures saturating { (op : SaturatingConversion) → IsOnWith
+        (λ features. features.saturating_float_to_int) (instr.Numeric (numeric.Saturate op)) }
+    ensures sign_extension { (op : SignExtension) → IsOnWith (λ features. features.sign_extension)
+        (instr.Numeric (numeric.Extend op)) }
+    ensures wide_arithmetic { (op : WideArithmetic) → IsOnWith
+        (λ features. features.wide_arithmetic) (instr.Numeric (numeric.Wide op)) }
+    ensures conversion { (op : Conversion) → IsOnWith (λ features. true)
+        (instr.Numeric (numeric.Convert op)) }
+    ensures binary { (op : IntBinary) → IsOnWith (λ features. true)
+        (instr.Numeric (numeric.I32Binary op)) }
+    ensures comparison { (op : FloatCompare) → IsOnWith (λ features. true)
         (instr.Numeric (numeric.F64Compare op)) }
 {}
 
 #[tactic(auto, unfolding(smith_instr::specs::Enabled::is_enabled))]
 fn references()
-    ensures ref_null { (ty : HeapType) → IsOn (record no_features { reference_types = true })
+    ensures ref_null { (ty : HeapType) → IsOnWith (λ features. features.reference_types)
         (instr.Reference (reference.Null ty)) }
-    ensures ref_null_off { (ty : HeapType) → IsOff
-        (record every_feature { reference_types = false }) (instr.Reference (reference.Null ty)) }
-    ensures ref_func { (index : ℕ) → IsOn (record no_features { reference_types = true })
+    ensures ref_func { (index : ℕ) → IsOnWith (λ features. features.reference_types)
         (instr.Reference (reference.Func index)) }
-    ensures ref_func_off { (index : ℕ) → IsOff (record every_feature { reference_types = false })
-        (instr.Reference (reference.Func index)) }
-    ensures ref_is_null { IsOn (record no_features { reference_types = true })
+    ensures ref_is_null { IsOnWith (λ features. features.reference_types)
         (instr.Reference reference.IsNull) }
-    ensures ref_is_null_off { IsOff (record every_feature { reference_types = false })
-        (instr.Reference reference.IsNull) }
-    ensures ref_as_non_null { IsOn (record no_features { function_references = true })
+    ensures ref_as_non_null { IsOnWith (λ features. features.function_references)
         (instr.Reference reference.AsNonNull) }
-    ensures ref_as_non_null_off { IsOff (record every_feature { function_references = false })
-        (instr.Reference reference.AsNonNull) }
-    ensures ref_eq { IsOn (record no_features { gc = true }) (instr.Reference reference.Eq) }
-    ensures ref_eq_off { IsOff (record every_feature { gc = false })
-        (instr.Reference reference.Eq) }
-    ensures ref_test { IsOn (record no_features { gc = true })
+    ensures ref_eq { IsOnWith (λ features. features.gc) (instr.Reference reference.Eq) }
+    ensures ref_test { IsOnWith (λ features. features.gc)
         (instr.Reference (reference.Test some_struct)) }
-    ensures ref_test_off { IsOff (record every_feature { gc = false })
-        (instr.Reference (reference.Test some_struct)) }
-    ensures ref_cast { IsOn (record no_features { gc = true })
-        (instr.Reference (reference.Cast some_struct)) }
-    ensures ref_cast_off { IsOff (record every_feature { gc = false })
+    ensures ref_cast { IsOnWith (λ features. features.gc)
         (instr.Reference (reference.Cast some_struct)) }
 {}
 
 #[tactic(auto, unfolding(smith_instr::specs::Enabled::is_enabled))]
 fn tables()
-    ensures get { (index : ℕ) → IsOn (record no_features { reference_types = true })
+    ensures get { (index : ℕ) → IsOnWith (λ features. features.reference_types)
         (instr.Table (table.Get index)) }
-    ensures get_off { (index : ℕ) → IsOff (record every_feature { reference_types = false })
-        (instr.Table (table.Get index)) }
-    ensures set { (index : ℕ) → IsOn (record no_features { reference_types = true })
+    ensures set { (index : ℕ) → IsOnWith (λ features. features.reference_types)
         (instr.Table (table.Set index)) }
-    ensures set_off { (index : ℕ) → IsOff (record every_feature { reference_types = false })
-        (instr.Table (table.Set index)) }
-    ensures size { (index : ℕ) → IsOn (record no_features { reference_types = true })
+    ensures size { (index : ℕ) → IsOnWith (λ features. features.reference_types)
         (instr.Table (table.Size index)) }
-    ensures size_off { (index : ℕ) → IsOff (record every_feature { reference_types = false })
-        (instr.Table (table.Size index)) }
-    ensures grow { (index : ℕ) → IsOn (record no_features { reference_types = true })
+    ensures grow { (index : ℕ) → IsOnWith (λ features. features.reference_types)
         (instr.Table (table.Grow index)) }
-    ensures grow_off { (index : ℕ) → IsOff (record every_feature { reference_types = false })
-        (instr.Table (table.Grow index)) }
-    ensures fill { (index : ℕ) → IsOn (record no_features { reference_types = true })
+    ensures fill { (index : ℕ) → IsOnWith (λ features. features.reference_types)
         (instr.Table (table.Fill index)) }
-    ensures fill_off { (index : ℕ) → IsOff (record every_feature { reference_types = false })
-        (instr.Table (table.Fill index)) }
-    ensures copy { (index other : ℕ) → IsOn (record no_features { bulk_memory = true })
+    ensures copy { (index other : ℕ) → IsOnWith (λ features. features.bulk_memory)
         (instr.Table (table.Copy index other)) }
-    ensures copy_off { (index other : ℕ) → IsOff (record every_feature { bulk_memory = false })
-        (instr.Table (table.Copy index other)) }
-    ensures init { (index other : ℕ) → IsOn (record no_features { bulk_memory = true })
+    ensures init { (index other : ℕ) → IsOnWith (λ features. features.bulk_memory)
         (instr.Table (table.Init index other)) }
-    ensures init_off { (index other : ℕ) → IsOff (record every_feature { bulk_memory = false })
-        (instr.Table (table.Init index other)) }
-    ensures elem_drop { (index : ℕ) → IsOn (record no_features { bulk_memory = true })
-        (instr.Table (table.ElemDrop index)) }
-    ensures elem_drop_off { (index : ℕ) → IsOff (record every_feature { bulk_memory = false })
+    ensures elem_drop { (index : ℕ) → IsOnWith (λ features. features.bulk_memory)
         (instr.Table (table.ElemDrop index)) }
 {}
 
 #[tactic(auto, unfolding(smith_instr::specs::Enabled::is_enabled))]
 fn memories()
-    ensures size { (index : ℕ) → IsOn no_features (instr.Memory (memory.Size index)) }
-    ensures grow { (index : ℕ) → IsOn no_features (instr.Memory (memory.Grow index)) }
-    ensures fill { (index : ℕ) → IsOn (record no_features { bulk_memory = true })
+    ensures size { (index : ℕ) → IsOnWith (λ features. true) (instr.Memory (memory.Size index)) }
+    ensures grow { (index : ℕ) → IsOnWith (λ features. true) (instr.Memory (memory.Grow index)) }
+    ensures fill { (index : ℕ) → IsOnWith (λ features. features.bulk_memory)
         (instr.Memory (memory.Fill index)) }
-    ensures fill_off { (index : ℕ) → IsOff (record every_feature { bulk_memory = false })
-        (instr.Memory (memory.Fill index)) }
-    ensures copy { (index other : ℕ) → IsOn (record no_features { bulk_memory = true })
+    ensures copy { (index other : ℕ) → IsOnWith (λ features. features.bulk_memory)
         (instr.Memory (memory.Copy index other)) }
-    ensures copy_off { (index other : ℕ) → IsOff (record every_feature { bulk_memory = false })
-        (instr.Memory (memory.Copy index other)) }
-    ensures init { (index other : ℕ) → IsOn (record no_features { bulk_memory = true })
+    ensures init { (index other : ℕ) → IsOnWith (λ features. features.bulk_memory)
         (instr.Memory (memory.Init index other)) }
-    ensures init_off { (index other : ℕ) → IsOff (record every_feature { bulk_memory = false })
-        (instr.Memory (memory.Init index other)) }
-    ensures data_drop { (index : ℕ) → IsOn (record no_features { bulk_memory = true })
-        (instr.Memory (memory.DataDrop index)) }
-    ensures data_drop_off { (index : ℕ) → IsOff (record every_feature { bulk_memory = false })
+    ensures data_drop { (index : ℕ) → IsOnWith (λ features. features.bulk_memory)
         (instr.Memory (memory.DataDrop index)) }
     ensures load { (op : Load) (at : MemArg) → IsOn no_features (instr.Load op at) }
     ensures store { (op : Store) (at : MemArg) → IsOn no_features (instr.Store op at) }
@@ -235,208 +158,113 @@ fn memories()
         (record no_features { threads = true }) (instr.Atomic op at) }
     ensures atomic_off { (op : AtomicAccess) (at : MemArg) → IsOff
         (record every_feature { threads = false }) (instr.Atomic op at) }
-    ensures fence { IsOn (record no_features { threads = true }) instr.AtomicFence }
-    ensures fence_off { IsOff (record every_feature { threads = false }) instr.AtomicFence }
+    ensures fence { IsOnWith (λ features. features.threads) instr.AtomicFence }
 {}
 
 #[tactic(auto, unfolding(smith_instr::specs::Enabled::is_enabled))]
 fn structs()
-    ensures struct_new { (index : ℕ) → IsOn (record no_features { gc = true })
+    ensures struct_new { (index : ℕ) → IsOnWith (λ features. features.gc)
         (instr.Aggregate (aggregate.StructNew index)) }
-    ensures struct_new_off { (index : ℕ) → IsOff (record every_feature { gc = false })
-        (instr.Aggregate (aggregate.StructNew index)) }
-    ensures struct_new_default { (index : ℕ) → IsOn (record no_features { gc = true })
+    ensures struct_new_default { (index : ℕ) → IsOnWith (λ features. features.gc)
         (instr.Aggregate (aggregate.StructNewDefault index)) }
-    ensures struct_new_default_off { (index : ℕ) → IsOff (record every_feature { gc = false })
-        (instr.Aggregate (aggregate.StructNewDefault index)) }
-    ensures struct_get { (index other : ℕ) → IsOn (record no_features { gc = true })
+    ensures struct_get { (index other : ℕ) → IsOnWith (λ features. features.gc)
         (instr.Aggregate (aggregate.StructGet index other extension.Signed)) }
-    ensures struct_get_off { (index other : ℕ) → IsOff (record every_feature { gc = false })
-        (instr.Aggregate (aggregate.StructGet index other extension.Signed)) }
-    ensures struct_set { (index other : ℕ) → IsOn (record no_features { gc = true })
-        (instr.Aggregate (aggregate.StructSet index other)) }
-    ensures struct_set_off { (index other : ℕ) → IsOff (record every_feature { gc = false })
+    ensures struct_set { (index other : ℕ) → IsOnWith (λ features. features.gc)
         (instr.Aggregate (aggregate.StructSet index other)) }
 {}
 
 #[tactic(auto, unfolding(smith_instr::specs::Enabled::is_enabled))]
 fn new_arrays()
-    ensures array_new { (index : ℕ) → IsOn (record no_features { gc = true })
+    ensures array_new { (index : ℕ) → IsOnWith (λ features. features.gc)
         (instr.Aggregate (aggregate.ArrayNew index)) }
-    ensures array_new_off { (index : ℕ) → IsOff (record every_feature { gc = false })
-        (instr.Aggregate (aggregate.ArrayNew index)) }
-    ensures array_new_default { (index : ℕ) → IsOn (record no_features { gc = true })
+    ensures array_new_default { (index : ℕ) → IsOnWith (λ features. features.gc)
         (instr.Aggregate (aggregate.ArrayNewDefault index)) }
-    ensures array_new_default_off { (index : ℕ) → IsOff (record every_feature { gc = false })
-        (instr.Aggregate (aggregate.ArrayNewDefault index)) }
-    ensures array_new_fixed { (index other : ℕ) → IsOn (record no_features { gc = true })
+    ensures array_new_fixed { (index other : ℕ) → IsOnWith (λ features. features.gc)
         (instr.Aggregate (aggregate.ArrayNewFixed index other)) }
-    ensures array_new_fixed_off { (index other : ℕ) → IsOff (record every_feature { gc = false })
-        (instr.Aggregate (aggregate.ArrayNewFixed index other)) }
-    ensures array_new_elem { (index other : ℕ) → IsOn (record no_features { gc = true })
-        (instr.Aggregate (aggregate.ArrayNewElem index other)) }
-    ensures array_new_elem_off { (index other : ℕ) → IsOff (record every_feature { gc = false })
+    ensures array_new_elem { (index other : ℕ) → IsOnWith (λ features. features.gc)
         (instr.Aggregate (aggregate.ArrayNewElem index other)) }
 {}
 
 #[tactic(auto, unfolding(smith_instr::specs::Enabled::is_enabled))]
 fn arrays()
-    ensures array_get { (index : ℕ) → IsOn (record no_features { gc = true })
+    ensures array_get { (index : ℕ) → IsOnWith (λ features. features.gc)
         (instr.Aggregate (aggregate.ArrayGet index extension.Unsigned)) }
-    ensures array_get_off { (index : ℕ) → IsOff (record every_feature { gc = false })
-        (instr.Aggregate (aggregate.ArrayGet index extension.Unsigned)) }
-    ensures array_set { (index : ℕ) → IsOn (record no_features { gc = true })
+    ensures array_set { (index : ℕ) → IsOnWith (λ features. features.gc)
         (instr.Aggregate (aggregate.ArraySet index)) }
-    ensures array_set_off { (index : ℕ) → IsOff (record every_feature { gc = false })
-        (instr.Aggregate (aggregate.ArraySet index)) }
-    ensures array_len { IsOn (record no_features { gc = true })
-        (instr.Aggregate aggregate.ArrayLen) }
-    ensures array_len_off { IsOff (record every_feature { gc = false })
-        (instr.Aggregate aggregate.ArrayLen) }
-    ensures array_fill { (index : ℕ) → IsOn (record no_features { gc = true })
+    ensures array_len { IsOnWith (λ features. features.gc) (instr.Aggregate aggregate.ArrayLen) }
+    ensures array_fill { (index : ℕ) → IsOnWith (λ features. features.gc)
         (instr.Aggregate (aggregate.ArrayFill index)) }
-    ensures array_fill_off { (index : ℕ) → IsOff (record every_feature { gc = false })
-        (instr.Aggregate (aggregate.ArrayFill index)) }
-    ensures array_copy { (index other : ℕ) → IsOn (record no_features { gc = true })
+    ensures array_copy { (index other : ℕ) → IsOnWith (λ features. features.gc)
         (instr.Aggregate (aggregate.ArrayCopy index other)) }
-    ensures array_copy_off { (index other : ℕ) → IsOff (record every_feature { gc = false })
-        (instr.Aggregate (aggregate.ArrayCopy index other)) }
-    ensures array_init_elem { (index other : ℕ) → IsOn (record no_features { gc = true })
-        (instr.Aggregate (aggregate.ArrayInitElem index other)) }
-    ensures array_init_elem_off { (index other : ℕ) → IsOff (record every_feature { gc = false })
+    ensures array_init_elem { (index other : ℕ) → IsOnWith (λ features. features.gc)
         (instr.Aggregate (aggregate.ArrayInitElem index other)) }
 {}
 
 #[tactic(auto, unfolding(smith_instr::specs::Enabled::is_enabled))]
 fn arrays_of_data()
-    ensures array_new_data { (index other : ℕ) → IsOn
-        (record no_features { gc = true; bulk_memory = true }) (instr.Aggregate
-        (aggregate.ArrayNewData index other)) }
-    ensures array_new_data_without_gc { (index other : ℕ) → IsOff
-        (record every_feature { gc = false }) (instr.Aggregate
-        (aggregate.ArrayNewData index other)) }
-    ensures array_new_data_without_bulk_memory { (index other : ℕ) → IsOff
-        (record every_feature { bulk_memory = false }) (instr.Aggregate
-        (aggregate.ArrayNewData index other)) }
-    ensures array_init_data { (index other : ℕ) → IsOn
-        (record no_features { gc = true; bulk_memory = true }) (instr.Aggregate
-        (aggregate.ArrayInitData index other)) }
-    ensures array_init_data_without_gc { (index other : ℕ) → IsOff
-        (record every_feature { gc = false }) (instr.Aggregate
-        (aggregate.ArrayInitData index other)) }
-    ensures array_init_data_without_bulk_memory { (index other : ℕ) → IsOff
-        (record every_feature { bulk_memory = false }) (instr.Aggregate
-        (aggregate.ArrayInitData index other)) }
+    ensures array_new_data { (index other : ℕ) → IsOnWith
+        (λ features. features.gc && features.bulk_memory)
+        (instr.Aggregate (aggregate.ArrayNewData index other)) }
+    ensures array_init_data { (index other : ℕ) → IsOnWith
+        (λ features. features.gc && features.bulk_memory)
+        (instr.Aggregate (aggregate.ArrayInitData index other)) }
 {}
 
 #[tactic(auto, unfolding(smith_instr::specs::Enabled::is_enabled))]
 fn scalars()
-    ensures ref_i31 { IsOn (record no_features { gc = true }) (instr.Aggregate aggregate.RefI31) }
-    ensures ref_i31_off { IsOff (record every_feature { gc = false })
-        (instr.Aggregate aggregate.RefI31) }
-    ensures ref_i31_shared { IsOn
-        (record no_features { gc = true; shared_everything_threads = true }) (instr.Aggregate
-        aggregate.RefI31Shared) }
-    ensures ref_i31_shared_without_gc { IsOff (record every_feature { gc = false })
+    ensures ref_i31 { IsOnWith (λ features. features.gc) (instr.Aggregate aggregate.RefI31) }
+    ensures ref_i31_shared { IsOnWith
+        (λ features. features.gc && features.shared_everything_threads)
         (instr.Aggregate aggregate.RefI31Shared) }
-    ensures ref_i31_shared_without_shared_everything_threads { IsOff
-        (record every_feature { shared_everything_threads = false }) (instr.Aggregate
-        aggregate.RefI31Shared) }
-    ensures i31_get_s { IsOn (record no_features { gc = true })
-        (instr.Aggregate aggregate.I31GetS) }
-    ensures i31_get_s_off { IsOff (record every_feature { gc = false })
-        (instr.Aggregate aggregate.I31GetS) }
-    ensures i31_get_u { IsOn (record no_features { gc = true })
-        (instr.Aggregate aggregate.I31GetU) }
-    ensures i31_get_u_off { IsOff (record every_feature { gc = false })
-        (instr.Aggregate aggregate.I31GetU) }
-    ensures any_convert_extern { IsOn (record no_features { gc = true })
+    ensures i31_get_s { IsOnWith (λ features. features.gc) (instr.Aggregate aggregate.I31GetS) }
+    ensures i31_get_u { IsOnWith (λ features. features.gc) (instr.Aggregate aggregate.I31GetU) }
+    ensures any_convert_extern { IsOnWith (λ features. features.gc)
         (instr.Aggregate aggregate.AnyConvertExtern) }
-    ensures any_convert_extern_off { IsOff (record every_feature { gc = false })
-        (instr.Aggregate aggregate.AnyConvertExtern) }
-    ensures extern_convert_any { IsOn (record no_features { gc = true })
-        (instr.Aggregate aggregate.ExternConvertAny) }
-    ensures extern_convert_any_off { IsOff (record every_feature { gc = false })
+    ensures extern_convert_any { IsOnWith (λ features. features.gc)
         (instr.Aggregate aggregate.ExternConvertAny) }
 {}
 
 #[tactic(auto, unfolding(smith_instr::specs::Enabled::is_enabled))]
 fn relaxed_vectors()
-    ensures unary_on_floats { (op : RelaxedFloatUnary) → IsOn
-        (record no_features { simd = true; relaxed_simd = true }) (instr.Vector
-        (vector.RelaxedFloatUnary op)) }
-    ensures unary_on_floats_without_simd { (op : RelaxedFloatUnary) → IsOff
-        (record every_feature { simd = false }) (instr.Vector (vector.RelaxedFloatUnary op)) }
-    ensures unary_on_floats_without_relaxed_simd { (op : RelaxedFloatUnary) → IsOff
-        (record every_feature { relaxed_simd = false }) (instr.Vector
-        (vector.RelaxedFloatUnary op)) }
-    ensures binary { (op : RelaxedBinary) → IsOn
-        (record no_features { simd = true; relaxed_simd = true }) (instr.Vector
-        (vector.RelaxedBinary op)) }
-    ensures binary_without_simd { (op : RelaxedBinary) → IsOff
-        (record every_feature { simd = false }) (instr.Vector (vector.RelaxedBinary op)) }
-    ensures binary_without_relaxed_simd { (op : RelaxedBinary) → IsOff
-        (record every_feature { relaxed_simd = false }) (instr.Vector (vector.RelaxedBinary op)) }
-    ensures binary_on_floats { (op : RelaxedFloatBinary) → IsOn
-        (record no_features { simd = true; relaxed_simd = true }) (instr.Vector
-        (vector.RelaxedFloatBinary op)) }
-    ensures binary_on_floats_without_simd { (op : RelaxedFloatBinary) → IsOff
-        (record every_feature { simd = false }) (instr.Vector (vector.RelaxedFloatBinary op)) }
-    ensures binary_on_floats_without_relaxed_simd { (op : RelaxedFloatBinary) → IsOff
-        (record every_feature { relaxed_simd = false }) (instr.Vector
-        (vector.RelaxedFloatBinary op)) }
+    ensures unary_on_floats { (op : RelaxedFloatUnary) → IsOnWith
+        (λ features. features.simd && features.relaxed_simd)
+        (instr.Vector (vector.RelaxedFloatUnary op)) }
+    ensures binary { (op : RelaxedBinary) → IsOnWith
+        (λ features. features.simd && features.relaxed_simd)
+        (instr.Vector (vector.RelaxedBinary op)) }
+    ensures binary_on_floats { (op : RelaxedFloatBinary) → IsOnWith
+        (λ features. features.simd && features.relaxed_simd)
+        (instr.Vector (vector.RelaxedFloatBinary op)) }
 {}
 
 #[tactic(auto, unfolding(smith_instr::specs::Enabled::is_enabled))]
 fn relaxed_vectors_on_three()
-    ensures ternary { (op : RelaxedTernary) → IsOn
-        (record no_features { simd = true; relaxed_simd = true }) (instr.Vector
-        (vector.RelaxedTernary op)) }
-    ensures ternary_without_simd { (op : RelaxedTernary) → IsOff
-        (record every_feature { simd = false }) (instr.Vector (vector.RelaxedTernary op)) }
-    ensures ternary_without_relaxed_simd { (op : RelaxedTernary) → IsOff
-        (record every_feature { relaxed_simd = false }) (instr.Vector (vector.RelaxedTernary op)) }
-    ensures ternary_on_floats { (op : RelaxedFloatTernary) → IsOn
-        (record no_features { simd = true; relaxed_simd = true }) (instr.Vector
-        (vector.RelaxedFloatTernary op)) }
-    ensures ternary_on_floats_without_simd { (op : RelaxedFloatTernary) → IsOff
-        (record every_feature { simd = false }) (instr.Vector (vector.RelaxedFloatTernary op)) }
-    ensures ternary_on_floats_without_relaxed_simd { (op : RelaxedFloatTernary) → IsOff
-        (record every_feature { relaxed_simd = false }) (instr.Vector
-        (vector.RelaxedFloatTernary op)) }
+    ensures ternary { (op : RelaxedTernary) → IsOnWith
+        (λ features. features.simd && features.relaxed_simd)
+        (instr.Vector (vector.RelaxedTernary op)) }
+    ensures ternary_on_floats { (op : RelaxedFloatTernary) → IsOnWith
+        (λ features. features.simd && features.relaxed_simd)
+        (instr.Vector (vector.RelaxedFloatTernary op)) }
 {}
 
 #[tactic(auto, unfolding(smith_instr::specs::Enabled::is_enabled))]
 fn vectors()
-    ensures unary { (op : VectorUnary) → IsOn (record no_features { simd = true })
+    ensures unary { (op : VectorUnary) → IsOnWith (λ features. features.simd)
         (instr.Vector (vector.Unary op)) }
-    ensures unary_off { (op : VectorUnary) → IsOff (record every_feature { simd = false })
-        (instr.Vector (vector.Unary op)) }
-    ensures unary_on_floats { (op : VectorFloatUnary) → IsOn (record no_features { simd = true })
+    ensures unary_on_floats { (op : VectorFloatUnary) → IsOnWith (λ features. features.simd)
         (instr.Vector (vector.FloatUnary op)) }
-    ensures unary_on_floats_off { (op : VectorFloatUnary) → IsOff
-        (record every_feature { simd = false }) (instr.Vector (vector.FloatUnary op)) }
-    ensures binary { (op : VectorBinary) → IsOn (record no_features { simd = true })
+    ensures binary { (op : VectorBinary) → IsOnWith (λ features. features.simd)
         (instr.Vector (vector.Binary op)) }
-    ensures binary_off { (op : VectorBinary) → IsOff (record every_feature { simd = false })
-        (instr.Vector (vector.Binary op)) }
-    ensures binary_on_floats { (op : VectorFloatBinary) → IsOn (record no_features { simd = true })
+    ensures binary_on_floats { (op : VectorFloatBinary) → IsOnWith (λ features. features.simd)
         (instr.Vector (vector.FloatBinary op)) }
-    ensures binary_on_floats_off { (op : VectorFloatBinary) → IsOff
-        (record every_feature { simd = false }) (instr.Vector (vector.FloatBinary op)) }
-    ensures bitselect { IsOn (record no_features { simd = true }) (instr.Vector vector.Bitselect) }
-    ensures bitselect_off { IsOff (record every_feature { simd = false })
-        (instr.Vector vector.Bitselect) }
-    ensures splat { (ty : LaneShape) → IsOn (record no_features { simd = true })
-        (instr.Vector (vector.Splat ty)) }
-    ensures splat_off { (ty : LaneShape) → IsOff (record every_feature { simd = false })
+    ensures bitselect { IsOnWith (λ features. features.simd) (instr.Vector vector.Bitselect) }
+    ensures splat { (ty : LaneShape) → IsOnWith (λ features. features.simd)
         (instr.Vector (vector.Splat ty)) }
     ensures shift { (op : VectorShift) (ty : IntShape) → IsOn (record no_features { simd = true })
         (instr.Vector (vector.Shift op ty)) }
     ensures shift_off { (op : VectorShift) (ty : IntShape) → IsOff
         (record every_feature { simd = false }) (instr.Vector (vector.Shift op ty)) }
-    ensures constant { IsOn (record no_features { simd = true }) (instr.V128Const (pos 0)) }
-    ensures constant_off { IsOff (record every_feature { simd = false }) (instr.V128Const (pos 0)) }
+    ensures constant { IsOnWith (λ features. features.simd) (instr.V128Const (pos 0)) }
 {}
 
 #[tactic(auto, unfolding(smith_instr::specs::Enabled::is_enabled))]
@@ -445,10 +273,7 @@ fn accesses_of_vectors()
         (instr.VectorLoad op at) }
     ensures load_off { (op : VectorLoad) (at : MemArg) → IsOff
         (record every_feature { simd = false }) (instr.VectorLoad op at) }
-    ensures store { (at : MemArg) → IsOn (record no_features { simd = true })
-        (instr.VectorStore at) }
-    ensures store_off { (at : MemArg) → IsOff (record every_feature { simd = false })
-        (instr.VectorStore at) }
+    ensures store { (at : MemArg) → IsOnWith (λ features. features.simd) (instr.VectorStore at) }
     ensures load_lane { (bytes lane : ℕ) (at : MemArg) → IsOn (record no_features { simd = true })
         (instr.VectorLoadLane bytes at lane) }
     ensures load_lane_off { (bytes lane : ℕ) (at : MemArg) → IsOff
@@ -461,21 +286,19 @@ fn accesses_of_vectors()
 
 #[tactic(auto, unfolding(smith_instr::specs::Enabled::is_enabled))]
 fn parametric()
-    ensures select_typed { (values : List ValType) → IsOn (record no_features { reference_types = true })
+    ensures select_typed { (values : List ValType) → IsOnWith (λ features. features.reference_types)
         (instr.SelectTyped values) }
-    ensures select_typed_off { (values : List ValType) → IsOff
-        (record every_feature { reference_types = false }) (instr.SelectTyped values) }
-    ensures select { IsOn no_features instr.Select }
-    ensures drop { IsOn no_features instr.Drop }
+    ensures select { IsOnWith (λ features. true) instr.Select }
+    ensures drop { IsOnWith (λ features. true) instr.Drop }
 {}
 
 #[tactic(auto, unfolding(smith_instr::specs::Enabled::is_enabled))]
 fn always()
-    ensures unreachable { IsOn no_features instr.Unreachable }
-    ensures nop { IsOn no_features instr.Nop }
-    ensures br { (index : ℕ) → IsOn no_features (instr.Br index) }
-    ensures local_get { (index : ℕ) → IsOn no_features (instr.LocalGet index) }
-    ensures global_set { (index : ℕ) → IsOn no_features (instr.GlobalSet index) }
-    ensures i32_const { IsOn no_features (instr.I32Const (pos 0)) }
-    ensures f64_const { IsOn no_features (instr.F64Const 0) }
+    ensures unreachable { IsOnWith (λ features. true) instr.Unreachable }
+    ensures nop { IsOnWith (λ features. true) instr.Nop }
+    ensures br { (index : ℕ) → IsOnWith (λ features. true) (instr.Br index) }
+    ensures local_get { (index : ℕ) → IsOnWith (λ features. true) (instr.LocalGet index) }
+    ensures global_set { (index : ℕ) → IsOnWith (λ features. true) (instr.GlobalSet index) }
+    ensures i32_const { IsOnWith (λ features. true) (instr.I32Const (pos 0)) }
+    ensures f64_const { IsOnWith (λ features. true) (instr.F64Const 0) }
 {}

@@ -40,78 +40,47 @@ ghost use Rattle.smith_instr.specs.declared.vector.VectorFloatUnary.{VectorFloat
 ghost use Rattle.smith_instr.specs.declared.vector.VectorInstr.TheVariants as vector;
 ghost use Rattle.smith_instr.specs.declared.vector.VectorLoad.{VectorLoad};
 ghost use Rattle.smith_instr.specs.declared.vector.VectorUnary.{VectorUnary};
-ghost use Rattle.smith_instr_examples.specs.ExampleTyping.{IsAmong, IsBarred, all_but};
-ghost use Rattle.smith_instr_examples.specs.ExampleTyping.{without_floats};
+ghost use Rattle.smith_instr_examples.specs.ExampleTyping.{IsAmong, IsBarred, IsOfKind, all_but, without_floats};
 
 #[tactic(auto, unfolding(smith_instr::specs::Enabled::is_enabled))]
 fn parametric()
-    ensures drop { IsAmong kind.Parametric instr.Drop }
-    ensures drop_barred { IsBarred (all_but kind.Parametric) instr.Drop }
-    ensures select { IsAmong kind.Parametric instr.Select }
-    ensures select_barred { IsBarred (all_but kind.Parametric) instr.Select }
-    ensures select_typed { (values : List ValType) → IsAmong kind.Parametric (instr.SelectTyped values) }
-    ensures select_typed_barred { (values : List ValType) → IsBarred (all_but kind.Parametric)
+    ensures drop { IsOfKind kind.Parametric instr.Drop }
+    ensures select { IsOfKind kind.Parametric instr.Select }
+    ensures select_typed { (values : List ValType) → IsOfKind kind.Parametric
         (instr.SelectTyped values) }
 {}
 
 #[tactic(auto, unfolding(smith_instr::specs::Enabled::is_enabled))]
 fn variables()
-    ensures local_get { (index : ℕ) → IsAmong kind.Variable (instr.LocalGet index) }
-    ensures local_get_barred { (index : ℕ) → IsBarred (all_but kind.Variable)
-        (instr.LocalGet index) }
-    ensures local_set { (index : ℕ) → IsAmong kind.Variable (instr.LocalSet index) }
-    ensures local_set_barred { (index : ℕ) → IsBarred (all_but kind.Variable)
-        (instr.LocalSet index) }
-    ensures local_tee { (index : ℕ) → IsAmong kind.Variable (instr.LocalTee index) }
-    ensures local_tee_barred { (index : ℕ) → IsBarred (all_but kind.Variable)
-        (instr.LocalTee index) }
-    ensures global_get { (index : ℕ) → IsAmong kind.Variable (instr.GlobalGet index) }
-    ensures global_get_barred { (index : ℕ) → IsBarred (all_but kind.Variable)
-        (instr.GlobalGet index) }
-    ensures global_set { (index : ℕ) → IsAmong kind.Variable (instr.GlobalSet index) }
-    ensures global_set_barred { (index : ℕ) → IsBarred (all_but kind.Variable)
-        (instr.GlobalSet index) }
+    ensures local_get { (index : ℕ) → IsOfKind kind.Variable (instr.LocalGet index) }
+    ensures local_set { (index : ℕ) → IsOfKind kind.Variable (instr.LocalSet index) }
+    ensures local_tee { (index : ℕ) → IsOfKind kind.Variable (instr.LocalTee index) }
+    ensures global_get { (index : ℕ) → IsOfKind kind.Variable (instr.GlobalGet index) }
+    ensures global_set { (index : ℕ) → IsOfKind kind.Variable (instr.GlobalSet index) }
 {}
 
 #[tactic(auto, unfolding(smith_instr::specs::Enabled::is_enabled))]
 fn integers()
-    ensures i32_const { IsAmong kind.NumericInt (instr.I32Const (pos 0)) }
-    ensures i32_const_barred { IsBarred (all_but kind.NumericInt) (instr.I32Const (pos 0)) }
-    ensures i64_const { IsAmong kind.NumericInt (instr.I64Const (pos 0)) }
-    ensures i64_const_barred { IsBarred (all_but kind.NumericInt) (instr.I64Const (pos 0)) }
-    ensures i32_unary { (op : IntUnary) → IsAmong kind.NumericInt
+    ensures i32_const { IsOfKind kind.NumericInt (instr.I32Const (pos 0)) }
+    ensures i64_const { IsOfKind kind.NumericInt (instr.I64Const (pos 0)) }
+    ensures i32_unary { (op : IntUnary) → IsOfKind kind.NumericInt
         (instr.Numeric (numeric.I32Unary op)) }
-    ensures i32_unary_barred { (op : IntUnary) → IsBarred (all_but kind.NumericInt)
-        (instr.Numeric (numeric.I32Unary op)) }
-    ensures i64_binary { (op : IntBinary) → IsAmong kind.NumericInt
+    ensures i64_binary { (op : IntBinary) → IsOfKind kind.NumericInt
         (instr.Numeric (numeric.I64Binary op)) }
-    ensures i64_binary_barred { (op : IntBinary) → IsBarred (all_but kind.NumericInt)
-        (instr.Numeric (numeric.I64Binary op)) }
-    ensures i32_compare { (op : IntCompare) → IsAmong kind.NumericInt
+    ensures i32_compare { (op : IntCompare) → IsOfKind kind.NumericInt
         (instr.Numeric (numeric.I32Compare op)) }
-    ensures i32_compare_barred { (op : IntCompare) → IsBarred (all_but kind.NumericInt)
-        (instr.Numeric (numeric.I32Compare op)) }
-    ensures extend { (op : SignExtension) → IsAmong kind.NumericInt
+    ensures extend { (op : SignExtension) → IsOfKind kind.NumericInt
         (instr.Numeric (numeric.Extend op)) }
-    ensures extend_barred { (op : SignExtension) → IsBarred (all_but kind.NumericInt)
-        (instr.Numeric (numeric.Extend op)) }
-    ensures wide { (op : WideArithmetic) → IsAmong kind.NumericInt
-        (instr.Numeric (numeric.Wide op)) }
-    ensures wide_barred { (op : WideArithmetic) → IsBarred (all_but kind.NumericInt)
+    ensures wide { (op : WideArithmetic) → IsOfKind kind.NumericInt
         (instr.Numeric (numeric.Wide op)) }
 {}
 
 #[tactic(auto, unfolding(smith_instr::specs::Enabled::is_enabled))]
 fn other_integers()
-    ensures i64_eqz { IsAmong kind.NumericInt (instr.Numeric numeric.I64Eqz) }
-    ensures i64_eqz_barred { IsBarred (all_but kind.NumericInt) (instr.Numeric numeric.I64Eqz) }
-    ensures i64_extend_i32_u { IsAmong kind.NumericInt
+    ensures i64_eqz { IsOfKind kind.NumericInt (instr.Numeric numeric.I64Eqz) }
+    ensures i64_extend_i32_u { IsOfKind kind.NumericInt
         (instr.Numeric (numeric.Convert convert.I64ExtendI32U)) }
-    ensures i64_extend_i32_u_barred { IsBarred (all_but kind.NumericInt)
-        (instr.Numeric (numeric.Convert convert.I64ExtendI32U)) }
-    ensures i64_extend_i32_s { IsAmong kind.NumericInt
-        (instr.Numeric (numeric.Convert convert.I64ExtendI32S)) }
-    ensures i64_extend_i32_s_barred { IsBarred (all_but kind.NumericInt)
+    ensures i64_extend_i32_s { IsOfKind kind.NumericInt
         (instr.Numeric (numeric.Convert convert.I64ExtendI32S)) }
 {}
 
@@ -193,37 +162,20 @@ fn conversions_of_floats()
 
 #[tactic(auto, unfolding(smith_instr::specs::Enabled::is_enabled))]
 fn vectors()
-    ensures constant { IsAmong kind.VectorInt (instr.V128Const (pos 0)) }
-    ensures constant_barred { IsBarred (all_but kind.VectorInt) (instr.V128Const (pos 0)) }
-    ensures unary { (op : VectorUnary) → IsAmong kind.VectorInt (instr.Vector (vector.Unary op)) }
-    ensures unary_barred { (op : VectorUnary) → IsBarred (all_but kind.VectorInt)
-        (instr.Vector (vector.Unary op)) }
-    ensures binary { (op : VectorBinary) → IsAmong kind.VectorInt
+    ensures constant { IsOfKind kind.VectorInt (instr.V128Const (pos 0)) }
+    ensures unary { (op : VectorUnary) → IsOfKind kind.VectorInt (instr.Vector (vector.Unary op)) }
+    ensures binary { (op : VectorBinary) → IsOfKind kind.VectorInt
         (instr.Vector (vector.Binary op)) }
-    ensures binary_barred { (op : VectorBinary) → IsBarred (all_but kind.VectorInt)
-        (instr.Vector (vector.Binary op)) }
-    ensures relaxed_binary { (op : RelaxedBinary) → IsAmong kind.VectorInt
+    ensures relaxed_binary { (op : RelaxedBinary) → IsOfKind kind.VectorInt
         (instr.Vector (vector.RelaxedBinary op)) }
-    ensures relaxed_binary_barred { (op : RelaxedBinary) → IsBarred (all_but kind.VectorInt)
-        (instr.Vector (vector.RelaxedBinary op)) }
-    ensures relaxed_ternary { (op : RelaxedTernary) → IsAmong kind.VectorInt
+    ensures relaxed_ternary { (op : RelaxedTernary) → IsOfKind kind.VectorInt
         (instr.Vector (vector.RelaxedTernary op)) }
-    ensures relaxed_ternary_barred { (op : RelaxedTernary) → IsBarred (all_but kind.VectorInt)
-        (instr.Vector (vector.RelaxedTernary op)) }
-    ensures splat { IsAmong kind.VectorInt (instr.Vector (vector.Splat shape.I64x2)) }
-    ensures splat_barred { IsBarred (all_but kind.VectorInt)
-        (instr.Vector (vector.Splat shape.I64x2)) }
-    ensures extract_lane { IsAmong kind.VectorInt
+    ensures splat { IsOfKind kind.VectorInt (instr.Vector (vector.Splat shape.I64x2)) }
+    ensures extract_lane { IsOfKind kind.VectorInt
         (instr.Vector (vector.ExtractLane extract.I16x8U 0)) }
-    ensures extract_lane_barred { IsBarred (all_but kind.VectorInt)
-        (instr.Vector (vector.ExtractLane extract.I16x8U 0)) }
-    ensures replace_lane { IsAmong kind.VectorInt
+    ensures replace_lane { IsOfKind kind.VectorInt
         (instr.Vector (vector.ReplaceLane shape.I32x4 0)) }
-    ensures replace_lane_barred { IsBarred (all_but kind.VectorInt)
-        (instr.Vector (vector.ReplaceLane shape.I32x4 0)) }
-    ensures bitmask { (ty : IntShape) → IsAmong kind.VectorInt (instr.Vector (vector.Bitmask ty)) }
-    ensures bitmask_barred { (ty : IntShape) → IsBarred (all_but kind.VectorInt)
-        (instr.Vector (vector.Bitmask ty)) }
+    ensures bitmask { (ty : IntShape) → IsOfKind kind.VectorInt (instr.Vector (vector.Bitmask ty)) }
 {}
 
 #[tactic(auto, unfolding(smith_instr::specs::Enabled::is_enabled))]
@@ -276,37 +228,19 @@ fn lanes_of_floats()
 
 #[tactic(auto, unfolding(smith_instr::specs::Enabled::is_enabled))]
 fn memories()
-    ensures size { (index : ℕ) → IsAmong kind.MemoryInt (instr.Memory (memory.Size index)) }
-    ensures size_barred { (index : ℕ) → IsBarred (all_but kind.MemoryInt)
-        (instr.Memory (memory.Size index)) }
-    ensures i32_load { (at : MemArg) → IsAmong kind.MemoryInt (instr.Load load.I32 at) }
-    ensures i32_load_barred { (at : MemArg) → IsBarred (all_but kind.MemoryInt)
-        (instr.Load load.I32 at) }
-    ensures i64_load { (at : MemArg) → IsAmong kind.MemoryInt (instr.Load load.I64 at) }
-    ensures i64_load_barred { (at : MemArg) → IsBarred (all_but kind.MemoryInt)
-        (instr.Load load.I64 at) }
-    ensures i32_load8_s { (at : MemArg) → IsAmong kind.MemoryInt (instr.Load load.I32From8S at) }
-    ensures i32_load8_s_barred { (at : MemArg) → IsBarred (all_but kind.MemoryInt)
-        (instr.Load load.I32From8S at) }
-    ensures i64_load32_u { (at : MemArg) → IsAmong kind.MemoryInt (instr.Load load.I64From32U at) }
-    ensures i64_load32_u_barred { (at : MemArg) → IsBarred (all_but kind.MemoryInt)
-        (instr.Load load.I64From32U at) }
-    ensures i32_store { (at : MemArg) → IsAmong kind.MemoryInt (instr.Store store.I32 at) }
-    ensures i32_store_barred { (at : MemArg) → IsBarred (all_but kind.MemoryInt)
-        (instr.Store store.I32 at) }
-    ensures i64_store { (at : MemArg) → IsAmong kind.MemoryInt (instr.Store store.I64 at) }
-    ensures i64_store_barred { (at : MemArg) → IsBarred (all_but kind.MemoryInt)
-        (instr.Store store.I64 at) }
-    ensures i64_store8 { (at : MemArg) → IsAmong kind.MemoryInt (instr.Store store.I64To8 at) }
-    ensures i64_store8_barred { (at : MemArg) → IsBarred (all_but kind.MemoryInt)
-        (instr.Store store.I64To8 at) }
+    ensures size { (index : ℕ) → IsOfKind kind.MemoryInt (instr.Memory (memory.Size index)) }
+    ensures i32_load { (at : MemArg) → IsOfKind kind.MemoryInt (instr.Load load.I32 at) }
+    ensures i64_load { (at : MemArg) → IsOfKind kind.MemoryInt (instr.Load load.I64 at) }
+    ensures i32_load8_s { (at : MemArg) → IsOfKind kind.MemoryInt (instr.Load load.I32From8S at) }
+    ensures i64_load32_u { (at : MemArg) → IsOfKind kind.MemoryInt (instr.Load load.I64From32U at) }
+    ensures i32_store { (at : MemArg) → IsOfKind kind.MemoryInt (instr.Store store.I32 at) }
+    ensures i64_store { (at : MemArg) → IsOfKind kind.MemoryInt (instr.Store store.I64 at) }
+    ensures i64_store8 { (at : MemArg) → IsOfKind kind.MemoryInt (instr.Store store.I64To8 at) }
     ensures v128_load { (op : VectorLoad) (at : MemArg) → IsAmong kind.MemoryInt
         (instr.VectorLoad op at) }
     ensures v128_load_barred { (op : VectorLoad) (at : MemArg) → IsBarred (all_but kind.MemoryInt)
         (instr.VectorLoad op at) }
-    ensures v128_store { (at : MemArg) → IsAmong kind.MemoryInt (instr.VectorStore at) }
-    ensures v128_store_barred { (at : MemArg) → IsBarred (all_but kind.MemoryInt)
-        (instr.VectorStore at) }
+    ensures v128_store { (at : MemArg) → IsOfKind kind.MemoryInt (instr.VectorStore at) }
 {}
 
 #[tactic(auto, unfolding(smith_instr::specs::Enabled::is_enabled))]
@@ -323,8 +257,7 @@ fn lanes_and_atomics()
         (instr.Atomic op at) }
     ensures atomic_barred { (op : AtomicAccess) (at : MemArg) → IsBarred (all_but kind.MemoryInt)
         (instr.Atomic op at) }
-    ensures fence { IsAmong kind.MemoryInt instr.AtomicFence }
-    ensures fence_barred { IsBarred (all_but kind.MemoryInt) instr.AtomicFence }
+    ensures fence { IsOfKind kind.MemoryInt instr.AtomicFence }
 {}
 
 #[tactic(auto, unfolding(smith_instr::specs::Enabled::is_enabled))]
@@ -341,25 +274,14 @@ fn memories_of_floats()
 
 #[tactic(auto, unfolding(smith_instr::specs::Enabled::is_enabled))]
 fn others()
-    ensures reference { (ty : HeapType) → IsAmong kind.Reference
+    ensures reference { (ty : HeapType) → IsOfKind kind.Reference
         (instr.Reference (reference.Null ty)) }
-    ensures reference_barred { (ty : HeapType) → IsBarred (all_but kind.Reference)
-        (instr.Reference (reference.Null ty)) }
-    ensures table { (index : ℕ) → IsAmong kind.Table (instr.Table (table.Size index)) }
-    ensures table_barred { (index : ℕ) → IsBarred (all_but kind.Table)
-        (instr.Table (table.Size index)) }
-    ensures aggregate { IsAmong kind.Aggregate (instr.Aggregate aggregate.RefI31Shared) }
-    ensures aggregate_barred { IsBarred (all_but kind.Aggregate)
-        (instr.Aggregate aggregate.RefI31Shared) }
-    ensures call { (index : ℕ) → IsAmong kind.Control (instr.Call index) }
-    ensures call_barred { (index : ℕ) → IsBarred (all_but kind.Control) (instr.Call index) }
-    ensures nop { IsAmong kind.Control instr.Nop }
-    ensures nop_barred { IsBarred (all_but kind.Control) instr.Nop }
-    ensures block { IsAmong kind.Control (instr.Block block.Empty) }
-    ensures block_barred { IsBarred (all_but kind.Control) (instr.Block block.Empty) }
-    ensures br_on_cast { (cast : BranchCast) → IsAmong kind.Control (instr.BrOnCast cast) }
-    ensures br_on_cast_barred { (cast : BranchCast) → IsBarred (all_but kind.Control)
-        (instr.BrOnCast cast) }
+    ensures table { (index : ℕ) → IsOfKind kind.Table (instr.Table (table.Size index)) }
+    ensures aggregate { IsOfKind kind.Aggregate (instr.Aggregate aggregate.RefI31Shared) }
+    ensures call { (index : ℕ) → IsOfKind kind.Control (instr.Call index) }
+    ensures nop { IsOfKind kind.Control instr.Nop }
+    ensures block { IsOfKind kind.Control (instr.Block block.Empty) }
+    ensures br_on_cast { (cast : BranchCast) → IsOfKind kind.Control (instr.BrOnCast cast) }
     ensures unreachable { IsEnabled every_feature (all_but kind.Control) instr.Unreachable }
     ensures else_alone { IsEnabled every_feature (all_but kind.Control) instr.Else }
     ensures end { IsEnabled every_feature (all_but kind.Control) instr.End }

@@ -5,51 +5,59 @@ ghost use Rattle.smith_instr.specs.declared.instr.Instr.TheVariants as instr;
 ghost use Rattle.smith_instr.specs.declared.memory.Load.TheVariants as load;
 ghost use Rattle.smith_instr.specs.declared.memory.Load.{Load};
 ghost use Rattle.smith_instr_examples.specs.ExampleBodies.{aligned};
-ghost use Rattle.smith_instr_examples.specs.ExampleTyping.{HasNoType, HasType, LeavesNot, TakesNot};
+ghost use Rattle.smith_instr_examples.specs.ExampleTyping.{HasNoType, HasOnlyType, LeavesNot, TakesNot};
 
 fn of_their_alignments()
-    ensures i32_load { HasType (instr.Load load.I32 (aligned 0 2)) (I32 ∷ []) (I32 ∷ []) }
-    ensures i64_load { HasType (instr.Load load.I64 (aligned 0 3)) (I32 ∷ []) (I64 ∷ []) }
-    ensures f32_load { HasType (instr.Load load.F32 (aligned 0 2)) (I32 ∷ []) (F32 ∷ []) }
-    ensures f64_load { HasType (instr.Load load.F64 (aligned 0 3)) (I32 ∷ []) (F64 ∷ []) }
-    ensures i32_load8_s { HasType (instr.Load load.I32From8S (aligned 0 0)) (I32 ∷ []) (I32 ∷ []) }
-    ensures i32_load8_u { HasType (instr.Load load.I32From8U (aligned 0 0)) (I32 ∷ []) (I32 ∷ []) }
-    ensures i32_load16_s { HasType (instr.Load load.I32From16S (aligned 0 1)) (I32 ∷ [])
+    ensures i32_load { HasOnlyType (instr.Load load.I32 (aligned 0 2)) (I32 ∷ []) (I32 ∷ []) }
+    ensures i64_load { HasOnlyType (instr.Load load.I64 (aligned 0 3)) (I32 ∷ []) (I64 ∷ []) }
+    ensures f32_load { HasOnlyType (instr.Load load.F32 (aligned 0 2)) (I32 ∷ []) (F32 ∷ []) }
+    ensures f64_load { HasOnlyType (instr.Load load.F64 (aligned 0 3)) (I32 ∷ []) (F64 ∷ []) }
+    ensures i32_load8_s { HasOnlyType (instr.Load load.I32From8S (aligned 0 0)) (I32 ∷ [])
         (I32 ∷ []) }
-    ensures i32_load16_u { HasType (instr.Load load.I32From16U (aligned 0 1)) (I32 ∷ [])
+    ensures i32_load8_u { HasOnlyType (instr.Load load.I32From8U (aligned 0 0)) (I32 ∷ [])
         (I32 ∷ []) }
-    ensures i64_load8_s { HasType (instr.Load load.I64From8S (aligned 0 0)) (I32 ∷ []) (I64 ∷ []) }
-    ensures i64_load8_u { HasType (instr.Load load.I64From8U (aligned 0 0)) (I32 ∷ []) (I64 ∷ []) }
-    ensures i64_load16_s { HasType (instr.Load load.I64From16S (aligned 0 1)) (I32 ∷ [])
+    ensures i32_load16_s { HasOnlyType (instr.Load load.I32From16S (aligned 0 1)) (I32 ∷ [])
+        (I32 ∷ []) }
+    ensures i32_load16_u { HasOnlyType (instr.Load load.I32From16U (aligned 0 1)) (I32 ∷ [])
+        (I32 ∷ []) }
+    ensures i64_load8_s { HasOnlyType (instr.Load load.I64From8S (aligned 0 0)) (I32 ∷ [])
         (I64 ∷ []) }
-    ensures i64_load16_u { HasType (instr.Load load.I64From16U (aligned 0 1)) (I32 ∷ [])
+    ensures i64_load8_u { HasOnlyType (instr.Load load.I64From8U (aligned 0 0)) (I32 ∷ [])
         (I64 ∷ []) }
-    ensures i64_load32_s { HasType (instr.Load load.I64From32S (aligned 0 2)) (I32 ∷ [])
+    ensures i64_load16_s { HasOnlyType (instr.Load load.I64From16S (aligned 0 1)) (I32 ∷ [])
         (I64 ∷ []) }
-    ensures i64_load32_u { HasType (instr.Load load.I64From32U (aligned 0 2)) (I32 ∷ [])
+    ensures i64_load16_u { HasOnlyType (instr.Load load.I64From16U (aligned 0 1)) (I32 ∷ [])
+        (I64 ∷ []) }
+    ensures i64_load32_s { HasOnlyType (instr.Load load.I64From32S (aligned 0 2)) (I32 ∷ [])
+        (I64 ∷ []) }
+    ensures i64_load32_u { HasOnlyType (instr.Load load.I64From32U (aligned 0 2)) (I32 ∷ [])
         (I64 ∷ []) }
 {}
 
 fn of_a_wide_memory()
-    ensures i32_load { HasType (instr.Load load.I32 (aligned 1 0)) (I64 ∷ []) (I32 ∷ []) }
-    ensures i64_load { HasType (instr.Load load.I64 (aligned 1 0)) (I64 ∷ []) (I64 ∷ []) }
-    ensures f32_load { HasType (instr.Load load.F32 (aligned 1 0)) (I64 ∷ []) (F32 ∷ []) }
-    ensures f64_load { HasType (instr.Load load.F64 (aligned 1 0)) (I64 ∷ []) (F64 ∷ []) }
-    ensures i32_load8_s { HasType (instr.Load load.I32From8S (aligned 1 0)) (I64 ∷ []) (I32 ∷ []) }
-    ensures i32_load8_u { HasType (instr.Load load.I32From8U (aligned 1 0)) (I64 ∷ []) (I32 ∷ []) }
-    ensures i32_load16_s { HasType (instr.Load load.I32From16S (aligned 1 0)) (I64 ∷ [])
+    ensures i32_load { HasOnlyType (instr.Load load.I32 (aligned 1 0)) (I64 ∷ []) (I32 ∷ []) }
+    ensures i64_load { HasOnlyType (instr.Load load.I64 (aligned 1 0)) (I64 ∷ []) (I64 ∷ []) }
+    ensures f32_load { HasOnlyType (instr.Load load.F32 (aligned 1 0)) (I64 ∷ []) (F32 ∷ []) }
+    ensures f64_load { HasOnlyType (instr.Load load.F64 (aligned 1 0)) (I64 ∷ []) (F64 ∷ []) }
+    ensures i32_load8_s { HasOnlyType (instr.Load load.I32From8S (aligned 1 0)) (I64 ∷ [])
         (I32 ∷ []) }
-    ensures i32_load16_u { HasType (instr.Load load.I32From16U (aligned 1 0)) (I64 ∷ [])
+    ensures i32_load8_u { HasOnlyType (instr.Load load.I32From8U (aligned 1 0)) (I64 ∷ [])
         (I32 ∷ []) }
-    ensures i64_load8_s { HasType (instr.Load load.I64From8S (aligned 1 0)) (I64 ∷ []) (I64 ∷ []) }
-    ensures i64_load8_u { HasType (instr.Load load.I64From8U (aligned 1 0)) (I64 ∷ []) (I64 ∷ []) }
-    ensures i64_load16_s { HasType (instr.Load load.I64From16S (aligned 1 0)) (I64 ∷ [])
+    ensures i32_load16_s { HasOnlyType (instr.Load load.I32From16S (aligned 1 0)) (I64 ∷ [])
+        (I32 ∷ []) }
+    ensures i32_load16_u { HasOnlyType (instr.Load load.I32From16U (aligned 1 0)) (I64 ∷ [])
+        (I32 ∷ []) }
+    ensures i64_load8_s { HasOnlyType (instr.Load load.I64From8S (aligned 1 0)) (I64 ∷ [])
         (I64 ∷ []) }
-    ensures i64_load16_u { HasType (instr.Load load.I64From16U (aligned 1 0)) (I64 ∷ [])
+    ensures i64_load8_u { HasOnlyType (instr.Load load.I64From8U (aligned 1 0)) (I64 ∷ [])
         (I64 ∷ []) }
-    ensures i64_load32_s { HasType (instr.Load load.I64From32S (aligned 1 0)) (I64 ∷ [])
+    ensures i64_load16_s { HasOnlyType (instr.Load load.I64From16S (aligned 1 0)) (I64 ∷ [])
         (I64 ∷ []) }
-    ensures i64_load32_u { HasType (instr.Load load.I64From32U (aligned 1 0)) (I64 ∷ [])
+    ensures i64_load16_u { HasOnlyType (instr.Load load.I64From16U (aligned 1 0)) (I64 ∷ [])
+        (I64 ∷ []) }
+    ensures i64_load32_s { HasOnlyType (instr.Load load.I64From32S (aligned 1 0)) (I64 ∷ [])
+        (I64 ∷ []) }
+    ensures i64_load32_u { HasOnlyType (instr.Load load.I64From32U (aligned 1 0)) (I64 ∷ [])
         (I64 ∷ []) }
 {}
 
@@ -70,23 +78,6 @@ fn above_their_alignments()
     ensures i64_load32_u { HasNoType (instr.Load load.I64From32U (aligned 0 3)) }
 {}
 
-fn to_other_types()
-    ensures i32_load_to_i64 { LeavesNot (instr.Load load.I32 (aligned 0 2)) (I64 ∷ []) }
-    ensures i64_load_to_i32 { LeavesNot (instr.Load load.I64 (aligned 0 3)) (I32 ∷ []) }
-    ensures f32_load_to_f64 { LeavesNot (instr.Load load.F32 (aligned 0 2)) (F64 ∷ []) }
-    ensures f64_load_to_f32 { LeavesNot (instr.Load load.F64 (aligned 0 3)) (F32 ∷ []) }
-    ensures i32_load8_s_to_i64 { LeavesNot (instr.Load load.I32From8S (aligned 0 0)) (I64 ∷ []) }
-    ensures i32_load8_u_to_i64 { LeavesNot (instr.Load load.I32From8U (aligned 0 0)) (I64 ∷ []) }
-    ensures i32_load16_s_to_i64 { LeavesNot (instr.Load load.I32From16S (aligned 0 1)) (I64 ∷ []) }
-    ensures i32_load16_u_to_i64 { LeavesNot (instr.Load load.I32From16U (aligned 0 1)) (I64 ∷ []) }
-    ensures i64_load8_s_to_i32 { LeavesNot (instr.Load load.I64From8S (aligned 0 0)) (I32 ∷ []) }
-    ensures i64_load8_u_to_i32 { LeavesNot (instr.Load load.I64From8U (aligned 0 0)) (I32 ∷ []) }
-    ensures i64_load16_s_to_i32 { LeavesNot (instr.Load load.I64From16S (aligned 0 1)) (I32 ∷ []) }
-    ensures i64_load16_u_to_i32 { LeavesNot (instr.Load load.I64From16U (aligned 0 1)) (I32 ∷ []) }
-    ensures i64_load32_s_to_i32 { LeavesNot (instr.Load load.I64From32S (aligned 0 2)) (I32 ∷ []) }
-    ensures i64_load32_u_to_i32 { LeavesNot (instr.Load load.I64From32U (aligned 0 2)) (I32 ∷ []) }
-{}
-
 fn at_other_addresses()
     ensures wide_address { (op : Load) → TakesNot (instr.Load op (aligned 0 0)) (I64 ∷ []) }
     ensures narrow_address_of_a_wide_memory { (op : Load) → TakesNot (instr.Load op (aligned 1 0))
@@ -103,10 +94,10 @@ fn at_other_addresses()
 {}
 
 fn of_the_last_offset()
-    ensures i64_load8_s { HasType
+    ensures i64_load8_s { HasOnlyType
         (instr.Load load.I64From8S (record (aligned 0 0) { offset = 4294967295 })) (I32 ∷ [])
         (I64 ∷ []) }
-    ensures i64_load8_s_of_a_wide_memory { HasType
+    ensures i64_load8_s_of_a_wide_memory { HasOnlyType
         (instr.Load load.I64From8S (record (aligned 1 0) { offset = 18446744073709551615 }))
         (I64 ∷ []) (I64 ∷ []) }
 {}

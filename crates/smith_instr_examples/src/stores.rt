@@ -6,30 +6,36 @@ ghost use Rattle.smith_instr.specs.declared.instr.Instr.TheVariants as instr;
 ghost use Rattle.smith_instr.specs.declared.memory.Store.TheVariants as store;
 ghost use Rattle.smith_instr.specs.declared.memory.Store.{Store};
 ghost use Rattle.smith_instr_examples.specs.ExampleBodies.{aligned};
-ghost use Rattle.smith_instr_examples.specs.ExampleTyping.{HasNoType, HasType, LeavesNot, TakesNot};
+ghost use Rattle.smith_instr_examples.specs.ExampleTyping.{HasNoType, HasOnlyType, LeavesNot, TakesNot};
 
 fn of_their_alignments()
-    ensures i32_store { HasType (instr.Store store.I32 (aligned 0 2)) (I32 ∷ I32 ∷ []) [] }
-    ensures i64_store { HasType (instr.Store store.I64 (aligned 0 3)) (I32 ∷ I64 ∷ []) [] }
-    ensures f32_store { HasType (instr.Store store.F32 (aligned 0 2)) (I32 ∷ F32 ∷ []) [] }
-    ensures f64_store { HasType (instr.Store store.F64 (aligned 0 3)) (I32 ∷ F64 ∷ []) [] }
-    ensures i32_store8 { HasType (instr.Store store.I32To8 (aligned 0 0)) (I32 ∷ I32 ∷ []) [] }
-    ensures i32_store16 { HasType (instr.Store store.I32To16 (aligned 0 1)) (I32 ∷ I32 ∷ []) [] }
-    ensures i64_store8 { HasType (instr.Store store.I64To8 (aligned 0 0)) (I32 ∷ I64 ∷ []) [] }
-    ensures i64_store16 { HasType (instr.Store store.I64To16 (aligned 0 1)) (I32 ∷ I64 ∷ []) [] }
-    ensures i64_store32 { HasType (instr.Store store.I64To32 (aligned 0 2)) (I32 ∷ I64 ∷ []) [] }
+    ensures i32_store { HasOnlyType (instr.Store store.I32 (aligned 0 2)) (I32 ∷ I32 ∷ []) [] }
+    ensures i64_store { HasOnlyType (instr.Store store.I64 (aligned 0 3)) (I32 ∷ I64 ∷ []) [] }
+    ensures f32_store { HasOnlyType (instr.Store store.F32 (aligned 0 2)) (I32 ∷ F32 ∷ []) [] }
+    ensures f64_store { HasOnlyType (instr.Store store.F64 (aligned 0 3)) (I32 ∷ F64 ∷ []) [] }
+    ensures i32_store8 { HasOnlyType (instr.Store store.I32To8 (aligned 0 0)) (I32 ∷ I32 ∷ []) [] }
+    ensures i32_store16 { HasOnlyType (instr.Store store.I32To16 (aligned 0 1)) (I32 ∷ I32 ∷ [])
+        [] }
+    ensures i64_store8 { HasOnlyType (instr.Store store.I64To8 (aligned 0 0)) (I32 ∷ I64 ∷ []) [] }
+    ensures i64_store16 { HasOnlyType (instr.Store store.I64To16 (aligned 0 1)) (I32 ∷ I64 ∷ [])
+        [] }
+    ensures i64_store32 { HasOnlyType (instr.Store store.I64To32 (aligned 0 2)) (I32 ∷ I64 ∷ [])
+        [] }
 {}
 
 fn of_a_wide_memory()
-    ensures i32_store { HasType (instr.Store store.I32 (aligned 1 0)) (I64 ∷ I32 ∷ []) [] }
-    ensures i64_store { HasType (instr.Store store.I64 (aligned 1 0)) (I64 ∷ I64 ∷ []) [] }
-    ensures f32_store { HasType (instr.Store store.F32 (aligned 1 0)) (I64 ∷ F32 ∷ []) [] }
-    ensures f64_store { HasType (instr.Store store.F64 (aligned 1 0)) (I64 ∷ F64 ∷ []) [] }
-    ensures i32_store8 { HasType (instr.Store store.I32To8 (aligned 1 0)) (I64 ∷ I32 ∷ []) [] }
-    ensures i32_store16 { HasType (instr.Store store.I32To16 (aligned 1 0)) (I64 ∷ I32 ∷ []) [] }
-    ensures i64_store8 { HasType (instr.Store store.I64To8 (aligned 1 0)) (I64 ∷ I64 ∷ []) [] }
-    ensures i64_store16 { HasType (instr.Store store.I64To16 (aligned 1 0)) (I64 ∷ I64 ∷ []) [] }
-    ensures i64_store32 { HasType (instr.Store store.I64To32 (aligned 1 0)) (I64 ∷ I64 ∷ []) [] }
+    ensures i32_store { HasOnlyType (instr.Store store.I32 (aligned 1 0)) (I64 ∷ I32 ∷ []) [] }
+    ensures i64_store { HasOnlyType (instr.Store store.I64 (aligned 1 0)) (I64 ∷ I64 ∷ []) [] }
+    ensures f32_store { HasOnlyType (instr.Store store.F32 (aligned 1 0)) (I64 ∷ F32 ∷ []) [] }
+    ensures f64_store { HasOnlyType (instr.Store store.F64 (aligned 1 0)) (I64 ∷ F64 ∷ []) [] }
+    ensures i32_store8 { HasOnlyType (instr.Store store.I32To8 (aligned 1 0)) (I64 ∷ I32 ∷ []) [] }
+    ensures i32_store16 { HasOnlyType (instr.Store store.I32To16 (aligned 1 0)) (I64 ∷ I32 ∷ [])
+        [] }
+    ensures i64_store8 { HasOnlyType (instr.Store store.I64To8 (aligned 1 0)) (I64 ∷ I64 ∷ []) [] }
+    ensures i64_store16 { HasOnlyType (instr.Store store.I64To16 (aligned 1 0)) (I64 ∷ I64 ∷ [])
+        [] }
+    ensures i64_store32 { HasOnlyType (instr.Store store.I64To32 (aligned 1 0)) (I64 ∷ I64 ∷ [])
+        [] }
 {}
 
 fn above_their_alignments()
@@ -42,21 +48,6 @@ fn above_their_alignments()
     ensures i64_store8 { HasNoType (instr.Store store.I64To8 (aligned 0 1)) }
     ensures i64_store16 { HasNoType (instr.Store store.I64To16 (aligned 0 2)) }
     ensures i64_store32 { HasNoType (instr.Store store.I64To32 (aligned 0 3)) }
-{}
-
-fn of_other_types()
-    ensures i32_store_of_i64 { TakesNot (instr.Store store.I32 (aligned 0 2)) (I32 ∷ I64 ∷ []) }
-    ensures i64_store_of_i32 { TakesNot (instr.Store store.I64 (aligned 0 3)) (I32 ∷ I32 ∷ []) }
-    ensures f32_store_of_f64 { TakesNot (instr.Store store.F32 (aligned 0 2)) (I32 ∷ F64 ∷ []) }
-    ensures f64_store_of_f32 { TakesNot (instr.Store store.F64 (aligned 0 3)) (I32 ∷ F32 ∷ []) }
-    ensures i32_store8_of_i64 { TakesNot (instr.Store store.I32To8 (aligned 0 0)) (I32 ∷ I64 ∷ []) }
-    ensures i32_store16_of_i64 { TakesNot (instr.Store store.I32To16 (aligned 0 1))
-        (I32 ∷ I64 ∷ []) }
-    ensures i64_store8_of_i32 { TakesNot (instr.Store store.I64To8 (aligned 0 0)) (I32 ∷ I32 ∷ []) }
-    ensures i64_store16_of_i32 { TakesNot (instr.Store store.I64To16 (aligned 0 1))
-        (I32 ∷ I32 ∷ []) }
-    ensures i64_store32_of_i32 { TakesNot (instr.Store store.I64To32 (aligned 0 2))
-        (I32 ∷ I32 ∷ []) }
 {}
 
 fn at_other_addresses()

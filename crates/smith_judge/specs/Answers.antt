@@ -1,4 +1,4 @@
--- What is said of a file.
+-- Answers to whether a file is valid.
 use Rattle.std.specs.Prelude.{◌≡◌, ℕ, List, Err}
 use Rattle.smith_syntax.specs.Features.{Features}
 use Rattle.smith_decode.specs.Forms.{AreFormsEnabled}
@@ -18,7 +18,8 @@ use Rattle.smith_judge.specs.declared.answer.Answer.TheVariants as answer
 use Rattle.smith_judge.specs.declared.answer.Gap.{Gap}
 use Rattle.smith_judge.specs.declared.finding.Finding.{Finding}
 
--- an answer decides whether a file is valid, unless the file is not judged
+-- an answer decides whether a file is valid, by the proposition `IsValid`, unless the file is not
+-- judged
 abbrev pub Decides : Answer → Type 0 → Type 0
 Decides answer.Valid IsValid = IsValid
 Decides (answer.Invalid finding) IsValid = IsValid → ⊥
@@ -26,7 +27,8 @@ Decides (answer.Malformed offset reason) IsValid = IsValid → ⊥
 Decides (answer.FeatureOff offset) IsValid = IsValid → ⊥
 Decides (answer.NotJudged gap) IsValid = Unit {0}
 
--- what is said of a fault: the rule that it breaks, the index of its item, and where it is in the file
+-- a finding has the rule that its fault breaks, the index of the faulty item, and its offset in the
+-- file
 pub record IsDescribed (bytes : List ℕ) (m : Module) (finding : Finding) : Type 0 where
   pub rule : finding.rule ≡ fault_rule m finding.fault
   pub index : finding.index ≡ fault_index m.imports finding.fault
@@ -34,7 +36,8 @@ pub record IsDescribed (bytes : List ℕ) (m : Module) (finding : Finding) : Typ
   pub placed : IsFaultPlace m.imports finding.fault at
   pub offset : finding.offset ≡ offset_in bytes at
 
--- a file is a module of these features whose first fault this is (Validation, Modules)
+-- the bytes are a module in these features that is not valid, and the finding has its first fault
+-- (Validation, Modules)
 pub record IsInvalidFile (features : Features) (bytes : List ℕ) (finding : Finding) : Type 0 where
   pub m : Module
   pub file : IsModuleFile bytes m
@@ -43,7 +46,8 @@ pub record IsInvalidFile (features : Features) (bytes : List ℕ) (finding : Fin
   pub first : IsFirstFault features m finding.fault
   pub described : IsDescribed bytes m finding
 
--- a file is a module of these features of which this is not judged (own rule)
+-- the bytes are a module in these features, and it has this gap, because of which it is not judged
+-- (own rule)
 pub record IsUnjudgedFile (features : Features) (bytes : List ℕ) (gap : Gap) : Type 0 where
   pub m : Module
   pub file : IsModuleFile bytes m
@@ -52,12 +56,13 @@ pub record IsUnjudgedFile (features : Features) (bytes : List ℕ) (gap : Gap) :
   pub index : gap.index ≡ gap_index m.imports gap.why
   pub offset : gap.offset ≡ offset_in bytes (gap_place gap.why)
 
--- a file is no module: its first fault is the one that is read (Binary Format, Modules)
+-- the bytes are not a module, and `located` holds of the first fault of their format (Binary
+-- Format, Modules)
 pub record IsMalformedFile (bytes : List ℕ) (located : Type 0) : Type 0 where
   pub none : (m : Syntax) → IsModuleBinary m bytes → ⊥
   pub first : located
 
--- what is said of a file is so
+-- an answer is correct for the bytes and the features (Validation, Modules; Binary Format, Modules)
 abbrev pub IsAnswer : Features → List ℕ → Answer → Type 0
 IsAnswer features bytes answer.Valid = IsValidFile features bytes
 IsAnswer features bytes (answer.Invalid finding) = IsInvalidFile features bytes finding

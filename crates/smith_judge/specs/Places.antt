@@ -1,5 +1,6 @@
--- Where the items of a module are in its file, and their indices: the sections Binary Format, Modules, and
--- Structure, Indices, of the WebAssembly Core Specification 3.0. In an index space imports come first.
+-- Where the items of a module are in its file, and their indices: the sections Binary Format,
+-- Modules, and Structure, Indices, of the WebAssembly Core Specification 3.0. Imports come first in
+-- each index space.
 use Rattle.std.specs.Prelude.{◌≡◌, ℕ, ◌+◌, ◌-◌, ◌^◌, ◌≤◌, ◌<◌, List, take, min}
 use Rattle.smith_syntax.specs.declared.entity_type.ExportKind.{ExportKind}
 use Rattle.smith_syntax.specs.declared.entity_type.ExportKind.TheVariants as kind
@@ -21,14 +22,14 @@ use Rattle.smith_judge.specs.declared.origins.Origin.TheVariants as origin
 abbrev pub imported_count : ExportKind → List Imports → ℕ
 imported_count one groups = count_at (imported_spaces (flattened groups)) one
 
--- where an entity of an index space is: in a group of imports, before which there are no more entities
--- than its index, and with which there are more; or among the definitions
+-- an entity of an index space comes from a group of imports or from a definition; an imported
+-- entity is in the first group up to which more entities than its index are imported
 pub data IsOrigin (groups : List Imports) (one : ExportKind) (index : ℕ) (where_is : Origin) : Type 0 where
   imported : (at : ℕ) → imported_count one (take at groups) ≤ index → index < imported_count one (take (at + 1) groups)
       → where_is ≡ origin.Imported at → IsOrigin groups one index where_is
   defined : (at : ℕ) → index ≡ imported_count one groups + at → where_is ≡ origin.Defined at → IsOrigin groups one index where_is
 
--- the place of an entity in a file
+-- the place of a definition in a file
 abbrev pub definition_place : ExportKind → ℕ → Place
 definition_place kind.Func index = place.Function index
 definition_place kind.Table index = place.Table index
@@ -45,7 +46,7 @@ pub record IsEntityPlace (groups : List Imports) (one : ExportKind) (index : ℕ
   pub found : IsOrigin groups one index where_is
   pub same : at ≡ origin_place one where_is
 
--- the place of an item of a part of a module
+-- `at` is the place of the item at `index` of a part of a module
 abbrev pub IsItemPlace : List Imports → Part → ℕ → Place → Type 0
 IsItemPlace groups part.Tags index at = IsEntityPlace groups kind.Tag index at
 IsItemPlace groups part.Functions index at = IsEntityPlace groups kind.Func index at
@@ -59,35 +60,37 @@ IsItemPlace groups part.Start index at = at ≡ place.Start
 IsItemPlace groups part.Elements index at = at ≡ place.Element index
 IsItemPlace groups part.Datas index at = at ≡ place.Data index
 
--- the place of a fault; a run of locals is at its body
+-- `at` is the place of a fault; a run of locals has the place of its body
 abbrev pub IsFaultPlace : List Imports → Fault → Place → Type 0
 IsFaultPlace groups (fault.Types group) at = at ≡ place.Types group
 IsFaultPlace groups (fault.Section item) at = IsItemPlace groups item.part item.index at
 IsFaultPlace groups (fault.Local body run) at = at ≡ place.Body body
 IsFaultPlace groups (fault.Body body instruction) at = at ≡ place.Instruction body instruction
 
--- the index of the definition at a place of its section, or the greatest number of 64 bits, which no
--- file reaches
+-- the index of the definition at this position of its section, at most the greatest 64-bit number,
+-- which no file reaches
 abbrev pub index_after : ExportKind → List Imports → ℕ → ℕ
 index_after one groups at = min (imported_count one groups + at) (2 ^ 64 - 1)
 
--- the index of an item of a part, and that of the item of a fault
+-- the index of an item of a part
 abbrev pub item_index : List Imports → Part → ℕ → ℕ
 item_index groups part.TableInitials at = index_after kind.Table groups at
 item_index groups part.GlobalInitials at = index_after kind.Global groups at
 item_index groups _ at = at
 
+-- the index of the faulty item
 abbrev pub fault_index : List Imports → Fault → ℕ
 fault_index groups (fault.Types group) = group
 fault_index groups (fault.Section item) = item_index groups item.part item.index
 fault_index groups (fault.Local body run) = index_after kind.Func groups body
 fault_index groups (fault.Body body instruction) = index_after kind.Func groups body
 
--- the place and the index of what is not judged
+-- the place of the item that is not judged
 abbrev pub gap_place : Unjudged → Place
 gap_place unjudged.Types = place.Types 0
 gap_place (unjudged.Locals body) = place.Body body
 
+-- the index of the item that is not judged
 abbrev pub gap_index : List Imports → Unjudged → ℕ
 gap_index groups unjudged.Types = 0
 gap_index groups (unjudged.Locals body) = index_after kind.Func groups body

@@ -1,4 +1,5 @@
--- The rule that a fault breaks, as far as the fault says which one, and the number of each rule (own rules).
+-- The rule that a fault breaks, as far as the fault determines it, and the number of each rule (own
+-- rules).
 use Rattle.std.specs.Prelude.{ℕ, nat_lt, if◌then◌else◌, Option, Some, None, length, slice_get}
 use Rattle.smith_syntax.specs.declared.entity_type.ExportKind.{ExportKind}
 use Rattle.smith_syntax.specs.declared.entity_type.ExportKind.TheVariants as export
@@ -20,7 +21,7 @@ use Rattle.smith_check.specs.declared.judgement.Fault.TheVariants as fault
 use Rattle.smith_judge.specs.declared.rules.Rule.{Rule}
 use Rattle.smith_judge.specs.declared.rules.Rule.TheVariants as rule
 
--- the rule of an instruction, by its kind; `else` and `end` have one of their own
+-- the rule of an instruction, by its kind; `else` and `end` have a rule of their own
 abbrev pub kind_rule : InstructionKind → Rule
 kind_rule kind.NumericInt = rule.NumericInstruction
 kind_rule kind.Numeric = rule.NumericInstruction
@@ -40,11 +41,12 @@ instr_rule instr.Else = rule.End
 instr_rule instr.End = rule.End
 instr_rule instruction = kind_rule (instr_kind instruction)
 
--- the rule at an index of a body, whose last `end` comes after its instructions
+-- the rule of an instruction, or without one that of the last `end`
 abbrev pub at_rule : Option Instr → Rule
 at_rule (Some instruction) = instr_rule instruction
 at_rule None = rule.End
 
+-- the rule of the instruction at `index` of a body
 abbrev pub body_rule : Option Body → ℕ → Rule
 body_rule (Some body) index = at_rule (slice_get body.instructions index)
 body_rule None index = rule.End
@@ -57,12 +59,12 @@ defined_count m export.Memory = length m.memories
 defined_count m export.Global = length m.globals
 defined_count m export.Tag = length m.tags
 
--- the rule of an export that is not valid: that of its name, if what it names is there
+-- the rule that an invalid export breaks: the rule for its name, if its entity exists
 abbrev pub export_rule : Module → Option Export → Rule
 export_rule m (Some one) = if nat_lt one.index (count_at (spaces_of (syntax_of m)) one.kind) then rule.ExportName else rule.Export
 export_rule m None = rule.Export
 
--- the rule of an item of a part
+-- the rule that an invalid item of a part breaks
 abbrev pub part_rule : Module → Part → ℕ → Rule
 part_rule m part.Tags index = rule.Tag
 part_rule m part.Functions index = rule.Function
@@ -83,7 +85,7 @@ fault_rule m (fault.Section item) = part_rule m item.part item.index
 fault_rule m (fault.Local body run) = rule.Local
 fault_rule m (fault.Body body instruction) = body_rule (slice_get m.bodies body) instruction
 
--- the number of a rule; no number is ever given to another rule
+-- the number of a rule, which no other rule ever gets
 abbrev pub rule_number : Rule → ℕ
 rule_number rule.Types = 1
 rule_number rule.Tag = 2

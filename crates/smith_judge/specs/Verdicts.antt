@@ -1,5 +1,4 @@
--- Answers in numbers, and items and instructions by them; no number is ever given to another meaning (own
--- rules).
+-- Answers, items and instructions as numbers. The meaning of a number never changes (own rules).
 use Rattle.std.specs.Prelude.{ℕ, ◌-◌, ◌^◌, Option, Some, None}
 use Rattle.smith_binary_read.specs.declared.error.Reason.{Reason}
 use Rattle.smith_binary_read.specs.declared.error.Reason.TheVariants as reason
@@ -18,7 +17,7 @@ use Rattle.smith_judge.specs.declared.finding.Item.{Item}
 use Rattle.smith_judge.specs.declared.finding.Item.TheVariants as item
 use Rattle.smith_judge.specs.declared.verdict.Verdict.{Verdict}
 
--- the kind of the item of a part, of a fault, and of what is not judged
+-- the kind of item that a part of a module has
 abbrev pub part_item : Part → Item
 part_item part.Tags = item.Tag
 part_item part.Functions = item.Function
@@ -42,14 +41,14 @@ abbrev pub gap_item : Unjudged → Item
 gap_item unjudged.Types = item.Types
 gap_item (unjudged.Locals body) = item.Function
 
--- the index in a body of an instruction, or of a run of locals
+-- the index of the faulty instruction or run of locals within its body, if any
 abbrev pub fault_inner : Fault → Option ℕ
 fault_inner (fault.Types group) = None
 fault_inner (fault.Section one) = None
 fault_inner (fault.Local body run) = Some run
 fault_inner (fault.Body body instruction) = Some instruction
 
--- the number of a kind of items
+-- the number of a kind of item
 abbrev pub item_number : Item → ℕ
 item_number item.Types = 1
 item_number item.Tag = 2
@@ -62,7 +61,7 @@ item_number item.Start = 8
 item_number item.Element = 9
 item_number item.Data = 10
 
--- the number of a rule of the format; 12 is that of a form of a feature that is off
+-- the number of a fault of the format; 12 is for a form whose feature is disabled
 abbrev pub reason_number : Reason → ℕ
 reason_number reason.UnexpectedEnd = 1
 reason_number reason.IntegerTooLong = 2
@@ -76,7 +75,7 @@ reason_number reason.SectionOrder = 9
 reason_number reason.CountMismatch = 10
 reason_number reason.DataCountMissing = 11
 
--- the number of the kind of an answer
+-- the number of a kind of answer
 abbrev pub answer_number : Answer → ℕ
 answer_number answer.Valid = 0
 answer_number (answer.Invalid finding) = 1
@@ -84,15 +83,16 @@ answer_number (answer.Malformed offset reason) = 2
 answer_number (answer.FeatureOff offset) = 2
 answer_number (answer.NotJudged gap) = 3
 
--- the number of an index, or the greatest one of 64 bits if there is none
+-- the index as a number, or the greatest 64-bit number if there is none
 abbrev pub inner_number : Option ℕ → ℕ
 inner_number (Some index) = index
 inner_number None = 2 ^ 64 - 1
 
--- the numbers of a valid file, of a fault, of a malformed file, and of what is not judged
+-- the verdict on a valid file
 abbrev pub nothing_found : Verdict
 nothing_found = record { kind = 0; rule = 0; reason = 0; item = 0; index = 0; inner = 2 ^ 64 - 1; offset = 2 ^ 64 - 1 }
 
+-- the verdict on an invalid file
 abbrev pub finding_verdict : Finding → Verdict
 finding_verdict finding = record {
   kind = 1;
@@ -118,7 +118,7 @@ gap_verdict gap = record {
   offset = gap.offset;
 }
 
--- an answer in numbers
+-- an answer as numbers
 abbrev pub verdict_of : Answer → Verdict
 verdict_of answer.Valid = nothing_found
 verdict_of (answer.Invalid finding) = finding_verdict finding

@@ -9,7 +9,8 @@ use smith_judge::{Answer, Fault, WasmFeatures, Words, explain};
 use smith_text_program::{FromFmt, write_instr};
 use std::alloc::Global;
 
-// Returns the offset of the instruction that an answer is about, if it is about one.
+// Returns the offset of the instruction at which an answer finds a fault, if it is a fault of an
+// instruction.
 fn instruction_offset(answer: &Answer) -> Option<usize> {
     match answer {
         Answer::Invalid(finding) => match finding.fault {
@@ -48,8 +49,8 @@ fn name_of(alloc: Global, instruction: &Instr) -> Result<String, Error>
     }
 }
 
-/// Returns the name of the instruction that `answer`, to the file whose bytes are `bytes`, is about, as
-/// the text format has it, or an empty text if it is about none. No clause states the name.
+/// Returns the name in the text format of the instruction at which `answer` finds the fault of the
+/// file `bytes`, or an empty text if it finds none at an instruction. No clause states the name.
 pub fn keyword(alloc: Global, bytes: &[u8], answer: &Answer) -> Result<String, Error>
     ensures memory { IfErr result (λ e. e ≡ Error.Memory) }
 {

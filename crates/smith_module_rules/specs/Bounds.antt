@@ -23,8 +23,8 @@ use Rattle.smith_module_rules.specs.Held.{HasItems}
 use Rattle.smith_module_rules.specs.ShapeImports.{count_in}
 use Rattle.smith_module_rules.specs.Module.{ModuleParts}
 
--- the number of items of a kind in a module, imported ones included; elements are those of all
--- segments together
+-- the number of items of a kind in a module, imported items included; elements are counted over all
+-- segments
 abbrev pub count_of : ModuleParts → Count → ℕ
 count_of m counts.Types = length m.types
 count_of m counts.Imports = m.num_imports
@@ -38,8 +38,7 @@ count_of m counts.ElementSegments = length m.elems
 count_of m counts.Elements = sum_by (λ (segment : ElementSegment). item_count segment.items) m.elems
 count_of m counts.DataSegments = length m.datas
 
--- the number that an exported item adds to a count; a function or a tag of a shape for exports adds
--- a type too
+-- what an export of a shape adds to a count; a function or a tag adds a type too
 abbrev pub counts_as : Count → ExportKind → ℕ
 counts_as counts.Tags kind.Tag = 1
 counts_as counts.Funcs kind.Func = 1
@@ -54,80 +53,81 @@ counts_as _ _ = 0
 abbrev pub items_of_exports : Count → Shape → ℕ
 items_of_exports count shape = sum_by (λ (one : List ℕ × ExportKind × ℕ). counts_as count one.1) shape.exports
 
--- the number of items of a kind that a module shape adds: its types, its imports, and the imports
--- and exports of the kind
+-- the number of items of a kind that a module shape adds: types, imports, or items of a kind
+-- imported or exported
 abbrev pub items_of_module_shape : Count → Shape → ℕ
 items_of_module_shape counts.Types shape = length (shape_types shape)
 items_of_module_shape counts.Imports shape = length (shape_imports shape)
 items_of_module_shape count shape = count_in (imported_spaces (shape_imports shape)) count + items_of_exports count shape
 
--- available imports add only their types for certain
+-- the number of items of a kind that available imports are certain to add: only types
 abbrev pub items_of_available_imports : Count → Shape → ℕ
 items_of_available_imports counts.Types shape = length (shape_types shape)
 items_of_available_imports count shape = 0
 
--- the number for a shape, or 0 if there is none
+-- the number for the shape, or 0 if there is no shape
 abbrev pub where_given : (Shape → ℕ) → Option Shape → ℕ
 where_given of_shape given = unwrap_or (option_map of_shape given) 0
 
--- the number of items of a kind that a module may have even if the maximum is lower: those of a
--- module shape and of available imports
+-- the number of items of a kind that a module may have above its maximum because of a module shape
+-- or available imports
 abbrev pub items_of_shapes : Config → Count → ℕ
 items_of_shapes config count =
     let used = shapes_of config in
     where_given (items_of_module_shape count) used.module_shape + where_given (items_of_available_imports count) used.available_imports
 
--- the number of items of a kind that a module may have in addition: those of a shape for exports
+-- the number of items of a kind that a module may have in addition because of a shape for exports
 abbrev pub items_of_export_shape : Config → Count → ℕ
 items_of_export_shape config count = where_given (items_of_exports count) (shapes_of config).exports
 
--- the maximum of a kind applies: that of exports unless a shape fixes them, or everything is
--- exported
+-- the maximum of a kind applies; the maximum of exports does not if a shape fixes the exports, or
+-- everything is exported
 abbrev pub MaximumApplies : Config → Count → Type 0
 MaximumApplies config counts.Exports = (FixesExports config → ⊥) × (config.export_everything ≡ false)
 MaximumApplies config count = ⊤
 
--- the minimum of a kind applies to the whole module: that of imports unless a shape fixes them,
--- that of exports unless a shape fixes them or everything is exported; that of elements applies to
--- each segment
+-- The minimum of a kind applies to the whole module. The minimum of imports does not if a shape
+-- fixes the imports, that of exports does not if a shape fixes them or everything is exported, and
+-- that of elements applies to each segment instead.
 abbrev pub MinimumApplies : Config → Count → Type 0
 MinimumApplies config counts.Imports = FixesImports config → ⊥
 MinimumApplies config counts.Exports = (FixesExports config → ⊥) × (config.export_everything ≡ false)
 MinimumApplies config counts.Elements = ⊥
 MinimumApplies config count = ⊤
 
--- the size of an import
+-- what an import adds to the type size
 abbrev pub import_size : ModuleParts → Import → ℕ
 import_size m one = size_in m.types one.entity_type
 
--- the size of an export: that of its type for a function, else 1
+-- what an export adds to the type size: the size of a function, or else 1
 abbrev pub export_size : ModuleParts → ExportKind → ℕ → ℕ
 export_size m kind.Func index = unwrap_or (option_map (λ func. size_in m.types (entity.Func func)) (slice_get m.funcs index)) 1
 export_size m _ index = 1
 
--- the amount that imports add to the type size: nothing if a module shape fixes them, else their
--- sizes, and one more each if they are drawn freely
+-- what all imports add to the type size: 0 with a module shape; with available imports, their
+-- sizes; else their sizes and 1 for each
 abbrev pub imports_size : Config → ModuleParts → ℕ
 imports_size config m =
     if is_some config.module_shape then 0
     else if is_some config.available_imports then sum_by (import_size m) (flattened m.imports)
     else sum_by (λ one. import_size m one + 1) (flattened m.imports)
 
--- the amount that exports add to the type size: nothing if a shape fixes them, else their sizes and
--- one more each
+-- what all exports add to the type size: 0 with a module shape or a shape for exports; else their
+-- sizes and 1 for each
 abbrev pub exports_size : Config → ModuleParts → ℕ
 exports_size config m =
     if is_some config.module_shape || is_some config.exports then 0
     else sum_by (λ (one : List ℕ × ExportKind × ℕ). export_size m one.1 one.2 + 1) m.exports
 
--- the tables and memories of the shapes that are used
+-- the tables or memories of the shapes in use
 abbrev pub of_shapes : {A : Type 0} → (EntitySpaces → List A) → Config → List A
 of_shapes {A} space config =
     let one = λ (given : Option Shape). unwrap_or (option_map (λ (shape : Shape). space (shape_spaces shape)) given) [] in
     let used = shapes_of config in
     one used.available_imports ++ (one used.exports ++ one used.module_shape)
 
--- no more than the configuration and its shapes allow
+-- the module has no more items than the configuration and its shapes allow; its tables and memories
+-- are within the configuration's limits, or come from a shape
 pub record KeepsBounds (config : Config) (m : ModuleParts) : Type 0 where
   pub most : (count : Count) → MaximumApplies config count → count_of m count ≤ max (maximum_of config count) (items_of_shapes config count)
       + items_of_export_shape config count
@@ -140,7 +140,7 @@ pub record KeepsBounds (config : Config) (m : ModuleParts) : Type 0 where
 abbrev pub HasEnough : Config → ModuleParts → ElementSegment → Type 0
 HasEnough config m segment = HasItems config m.types m.funcs segment.items
 
--- no fewer than the configuration requires
+-- the module has no fewer items than the configuration requires
 pub record MeetsMinimums (config : Config) (m : ModuleParts) : Type 0 where
   pub least : (count : Count) → MinimumApplies config count → minimum_of config count ≤ count_of m count
   pub elems : All (HasEnough config m) m.elems

@@ -7,56 +7,56 @@ use Rattle.smith_syntax.specs.declared.entity_type.TableType.{TableType}
 use Rattle.smith_syntax.specs.declared.entity_type.MemoryType.{MemoryType}
 use Rattle.smith_module_rules.specs.InterestingValues.{IsNearPower, IsPattern, IsFloatEdge, IsNearTable, IsNearMemory}
 
--- numbers with this property, all of them and no other
+-- `numbers` are all the numbers with the property `Holds`, and no other numbers
 pub record AreExactly (Holds : ℕ → Type 0) (numbers : List ℕ) : Type 0 where
   pub each : All Holds numbers
   pub whole : (n : ℕ) → Holds n → Contains numbers n
 
--- a number of 64 bits with this property, and a number of 32 bits that is the low half of one
+-- a number of 64 bits with the property `Holds`
 abbrev pub Wide : (ℕ → Type 0) → ℕ → Type 0
 Wide Holds n = (n < 2 ^ 64) × Holds n
 
+-- a number of 32 bits that is the low half of a 64-bit number with the property `Holds`
 abbrev pub Narrow : (ℕ → Type 0) → ℕ → Type 0
 Narrow Holds n = (n < 2 ^ 32) × ((high : ℕ) × Wide Holds (high * 2 ^ 32 + n))
 
--- `new` is `old` followed by those of 64 bits with this property, and nothing else
+-- `new` is `old` followed by all 64-bit numbers with the property `Holds`, and no other numbers
 pub record AddsNumbers (Holds : ℕ → Type 0) (old new : List ℕ) : Type 0 where
   pub more : List ℕ
   pub parts : new ≡ old ++ more
   pub exactly : AreExactly (Wide Holds) more
 
--- interesting in each module
+-- a number is interesting in every module
 abbrev pub IsConstantValue : ℕ → Type 0
 IsConstantValue n = IsNearPower n ⊎ (IsPattern n ⊎ IsFloatEdge n)
 
--- near a limit of elements: the limit, or one more
+-- a number is a limit of elements, or one more
 abbrev pub IsNearElements : ℕ → ℕ → Type 0
 IsNearElements limit n = (n ≡ limit) ⊎ (n ≡ limit + 1)
 
--- a distance above or below a limit
+-- a number is at this distance above or below a limit
 abbrev pub IsBeside : ℕ → ℕ → ℕ → Type 0
 IsBeside limit distance n = (n ≡ limit + distance) ⊎ (n + distance ≡ limit)
 
 abbrev pub distances : List ℕ
 distances = 1 ∷ 2 ∷ 4 ∷ 8 ∷ 16 ∷ []
 
--- near a limit of bytes: the limit, or at one of these distances
+-- a number is a limit of bytes, or at one of these distances from it
 abbrev pub IsNearBytes : ℕ → ℕ → Type 0
 IsNearBytes limit n = (n ≡ limit) ⊎ Any (λ distance. IsBeside limit distance n) distances
 
--- near a limit of one of these tables or memories
+-- a number is near a limit of one of these tables or memories
 abbrev pub IsNearLimit : List TableType → List MemoryType → ℕ → Type 0
 IsNearLimit tables memories n = Any (IsNearTable n) tables ⊎ Any (IsNearMemory n) memories
 
--- `made` holds the numbers of `numbers`, each once, in ascending order
+-- `made` has the numbers of `numbers`, each once and in ascending order
 pub record IsSortedSet (numbers made : List ℕ) : Type 0 where
   pub ascending : IsStrictlyIncreasing made
   pub keeps : (n : ℕ) → Contains numbers n → Contains made n
   pub adds_none : (n : ℕ) → Contains made n → Contains numbers n
 
--- the place of a number in a list in ascending order: numbers before the first place are below it,
--- those from the second place on are above it, and between them is the number itself, if the list
--- has it
+-- in an ascending list, the numbers before `before` are less than `number`, those from `after` on
+-- are greater, and those in between are equal to it
 pub record IsPlaceOf (numbers : List ℕ) (number before after : ℕ) : Type 0 where
   pub ordered : before ≤ after
   pub fits : after ≤ length numbers
@@ -64,8 +64,8 @@ pub record IsPlaceOf (numbers : List ℕ) (number before after : ℕ) : Type 0 w
   pub same : (k : ℕ) → before ≤ k → k < after → get_or numbers k 0 ≡ number
   pub above : (k : ℕ) → after ≤ k → k < length numbers → number < get_or numbers k 0
 
--- a number is added to `made`, after the numbers of the rest that are below it; those above it
--- remain
+-- `number` is added to `made` after the numbers of `rest` that are less; `left` has the numbers
+-- that are greater
 pub record IsInserted (made rest : List ℕ) (number : ℕ) (new left : List ℕ) : Type 0 where
   pub front : List ℕ
   pub same : List ℕ

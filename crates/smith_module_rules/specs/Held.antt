@@ -15,15 +15,16 @@ abbrev pub expressions_of : Elements → List (List ConstInstr)
 expressions_of (Functions functions) = []
 expressions_of (Expressions expressions) = expressions
 
--- no function can be an item that lists a function: each is of a shared type
+-- no function can be an item of a segment that lists functions, because each has a shared type
 abbrev pub HasNoCandidates : List SubType → List ℕ → Type 0
 HasNoCandidates types funcs = All (λ index. (t : SubType) × (slice_get types index ≡ Some t) × IsTrue (shared t)) funcs
 
--- at least the minimum number of items, or an empty list of functions if there is no candidate
+-- a segment has at least the minimum number of items, or lists no function because there is no
+-- candidate
 abbrev pub HasItems : Config → List SubType → List ℕ → Elements → Type 0
 HasItems config types funcs items = (config.min_elements ≤ item_count items) ⊎ ((items ≡ Functions []) × HasNoCandidates types funcs)
 
--- instructions that are raw bytes, before which no check can be placed
+-- the instructions of a body are raw bytes, so that no fuel check can be inserted (own rule)
 abbrev pub IsRaw : Instructions → Type 0
 IsRaw Unreachable = ⊥
 IsRaw (Arbitrary bytes) = Unit {0}

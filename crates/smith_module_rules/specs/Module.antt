@@ -57,28 +57,27 @@ pub record ModuleParts : Type 0 where
   pub interesting_values32 : List ℕ
   pub interesting_values64 : List ℕ
 
--- the configuration that a module returns: that of the caller, sanitised, and without its
--- available imports (own rule)
+-- the configuration of a module: the caller's, sanitised, without its available imports (own rule)
 abbrev pub shown_config : Config → Config
 shown_config config = record (sanitized config) { available_imports = None }
 
--- the features of a module's configuration (own rule)
+-- the features that a module's configuration enables (own rule)
 abbrev pub module_features : ModuleParts → Features
 module_features m = features_of m.config
 
--- a module's types in their groups (Structure, Recursive Types)
+-- the type space of a module (Structure, Recursive Types)
 abbrev pub module_types : ModuleParts → GroupedTypes
 module_types m = record { types = m.types; groups = m.groups }
 
--- a module's index spaces (Structure, Indices)
+-- the other index spaces of a module (Structure, Indices)
 abbrev pub module_spaces : ModuleParts → EntitySpaces
 module_spaces m = record { tags = m.tags; funcs = m.funcs; tables = m.tables; memories = m.memories; globals = m.globals }
 
--- the index spaces of a module's imports, which come first in its index spaces (Structure, Indices)
+-- the index spaces of a module's imports alone (Structure, Indices)
 abbrev pub module_imports : ModuleParts → EntitySpaces
 module_imports m = imported_spaces (flattened m.imports)
 
--- the context of a module's expressions with no global visible (Validation, Modules)
+-- the context of a module's constant expressions, with no visible globals (Validation, Modules)
 abbrev pub module_context : ModuleParts → Context
 module_context m = record {
   features = module_features m;
@@ -90,18 +89,19 @@ module_context m = record {
   visible = 0;
 }
 
--- the context of the initialiser of a table, and of the global of this index (Validation, Modules)
+-- the context of the initialiser of a table (Validation, Modules)
 abbrev pub table_context : ModuleParts → Context
 table_context m = seeing (module_context m) (seen_by_tables (module_context m))
 
+-- the context of the initialiser of the global at `index` (Validation, Modules)
 abbrev pub global_context : ModuleParts → ℕ → Context
 global_context m index = seeing (module_context m) (seen_by_global (module_context m) index)
 
--- the context of the offset or an item of a segment (Validation, Modules)
+-- the context of the offset and the items of a segment (Validation, Modules)
 abbrev pub segment_context : ModuleParts → Context
 segment_context m = seeing (module_context m) (seen_by_segments (module_context m))
 
--- imports come first in each index space, then definitions (Structure, Indices)
+-- each index space has the imports first, then the definitions (Structure, Indices)
 pub record AreSpacesMade (m : ModuleParts) : Type 0 where
   pub imports : m.num_imports ≡ length (flattened m.imports)
   pub tags : Defines (module_imports m).tags m.num_defined_tags m.tags
@@ -110,42 +110,42 @@ pub record AreSpacesMade (m : ModuleParts) : Type 0 where
   pub memories : Defines (module_imports m).memories m.num_defined_memories m.memories
   pub globals : Defines (module_imports m).globals (length m.defined_globals) m.globals
 
--- a table has an initialiser of its element type, or none if that is nullable (Validation, Tables);
--- an initialiser requires garbage collection (own rule)
+-- a table has a constant expression of its element type as initialiser, or none if the element type
+-- is nullable (Validation, Tables); an initialiser requires garbage collection (own rule)
 abbrev pub IsTableInitialised : Context → TableType → Option (List ConstInstr) → Type 0
 IsTableInitialised context table None = IsTrue table.element_type.nullable
 IsTableInitialised context table (Some expression) = IsTrue context.features.gc × IsConstExpr context (Ref table.element_type) expression
 
--- a definition of a table (Validation, Tables)
+-- the defined table at `place` is valid with this initialiser (Validation, Tables)
 abbrev pub IsTableDefined : ModuleParts → ℕ → Option (List ConstInstr) → Type 0
 IsTableDefined m place initial =
     (table : TableType) × (slice_get m.tables (length (module_imports m).tables + place) ≡ Some table)
     × IsTableInitialised (table_context m) table initial
 
--- a definition of a global, which holds its index (Validation, Globals)
+-- the defined global at `place` has this index and a valid initialiser (Validation, Globals)
 pub record IsGlobalDefined (m : ModuleParts) (place index : ℕ) (initial : List ConstInstr) : Type 0 where
   pub in_order : index ≡ length (module_imports m).globals + place
   pub global : GlobalType
   pub stands : slice_get m.globals index ≡ Some global
   pub initialised : IsConstExpr (global_context m index) global.val_type initial
 
--- definitions of tables and globals (Validation, Tables; Globals)
+-- each defined table and global is valid (Validation, Tables; Globals)
 pub record AreDefinitionsValid (m : ModuleParts) : Type 0 where
   pub tables : (place : ℕ) (initial : Option (List ConstInstr)) → slice_get m.defined_tables place ≡ Some initial
       → IsTableDefined m place initial
   pub globals : (place index : ℕ) (initial : List ConstInstr) → slice_get m.defined_globals place ≡ Some (index, initial)
       → IsGlobalDefined m place index initial
 
--- each function that is defined has a body (Validation, Functions), and each counter of fuel is a
--- global that may be one (own rule)
+-- each defined function has a valid body (Validation, Functions), and each fuel counter is a global
+-- that may count fuel (own rule)
 pub record AreBodiesValid (m : ModuleParts) : Type 0 where
   pub each : length m.code ≡ m.num_defined_funcs
   pub bodies : All (IsBodyValid (module_features m) (length m.types) m.config.allow_invalid_funcs) m.code
   pub counters : All (IsCounterGlobal m.globals (length (module_imports m).globals)) m.fuel_globals
 
--- a valid module, under the features of its configuration, except for raw bodies (Validation,
--- Modules); the rules for features and for shared and exact types are own rules, and so is the rule
--- that equal groups are different types
+-- A module is valid under the features of its configuration, except for raw bytes in bodies
+-- (Validation, Modules). Features, shared types and exact types follow own rules, and types of
+-- equal groups are different (own rule).
 pub record IsValid (m : ModuleParts) : Type 0 where
   pub types : AreTypesValid (module_features m) (module_types m)
   pub imports : All (IsImportsValid (module_features m)) m.imports

@@ -27,19 +27,20 @@ use Rattle.smith_module_rules.specs.Refusals.{HoldsNonNullable}
 abbrev pub HasDistinctImports : ModuleParts → Type 0
 HasDistinctImports m = AreDistinct {A = List ℕ × List ℕ} (map (λ (one : Import). (one.«module», one.name)) (flattened m.imports))
 
--- the expression of a table that has one
+-- the initialiser of a table, if any
 abbrev pub initial_of : Option (List ConstInstr) → List (List ConstInstr)
 initial_of None = []
 initial_of (Some expression) = expression ∷ []
 
--- all constant expressions of a module
+-- the constant expressions of a module
 abbrev pub module_expressions : ModuleParts → List (List ConstInstr)
 module_expressions m =
     flat_map initial_of m.defined_tables
     ++ (map (λ (one : ℕ × List ConstInstr). one.1) m.defined_globals ++ flat_map
     (λ (segment : ElementSegment). expressions_of segment.items) m.elems)
 
--- all value types of a module, except those of element segments and tables, which are references
+-- the value types in the types, globals and locals of a module; tables and element segments have
+-- only references
 abbrev pub module_values : ModuleParts → List ValType
 module_values m =
     flat_map (λ (t : SubType). values_of t.composite_type.inner) m.types
@@ -50,46 +51,45 @@ pub record HasNoFloats (m : ModuleParts) : Type 0 where
   pub values : All IsNoFloat (module_values m)
   pub constants : All (All GivesNoFloat) (module_expressions m)
 
--- the references of types, tables, globals and element segments are nullable, or
--- `non_nullable_enabled` is on and they are grounded
+-- each reference in types, tables, globals and element segments is nullable, or grounded with
+-- `non_nullable_enabled`
 pub record HoldsGranted (config : Config) (m : ModuleParts) : Type 0 where
   pub values : All (IsGranted config (module_context m)) (values_in m.types (module_spaces m))
   pub elems : All (λ (segment : ElementSegment). IsGranted config (module_context m) (Ref segment.ty)) m.elems
 
--- the references that are types of locals are nullable, or `non_nullable_enabled` is on and they
--- are grounded
+-- each reference type of a local is nullable, or grounded with `non_nullable_enabled`
 abbrev pub HasGrantedLocals : Config → ModuleParts → Type 0
 HasGrantedLocals config m = All (IsGranted config (module_context m)) (flat_map (λ (body : Code). body.locals) m.code)
 
--- every function, table, memory, global and tag is exported, in this order and by index, each once
+-- each function, table, memory, global and tag is exported once, in this order and by index
 abbrev pub ExportsEverything : ModuleParts → Type 0
 ExportsEverything m = AreAllExported (module_spaces m) m.exports
 
--- no function starts the module
+-- the module has no start function
 abbrev pub HasNoStart : ModuleParts → Type 0
 HasNoStart m = m.start ≡ None
 
--- each segment that is copied has a constant offset and fits within the minimum size of its table
--- or memory
+-- each active segment has a constant offset, and lies within the minimum size of its table or
+-- memory
 pub record IsInside (m : ModuleParts) : Type 0 where
   pub elems : All (IsElementInside m.tables) m.elems
   pub data_segments : All (IsDataInside m.memories) m.datas
 
--- the type section is written if there are types, the import section if there are imports
+-- the type section is written if there are types, and the import section if there are imports
 pub record WritesSections (m : ModuleParts) : Type 0 where
   pub types : 0 < length m.types → IsTrue m.encodes_types
   pub imports : 0 < length m.imports → IsTrue m.encodes_imports
 
--- no global counts fuel, as in every module that is drawn: a counter is added later, to make a
--- module's calls end
+-- no global counts fuel; a drawn module has no counters, and a caller may add some later
 abbrev pub HasNoCounter : ModuleParts → Type 0
 HasNoCounter m = m.fuel_globals ≡ []
 
--- the properties of a drawn module that the configuration or the call requires: distinct names of
--- imports by the call, unless a shape fixes the imports; all exports, unless a shape fixes them; no
--- floats, if there is no shape; no start function; segments inside their tables and memories;
--- references that are nullable or grounded, in locals always and elsewhere unless a shape in use
--- holds one that is not nullable; and always the sections, and no counter of fuel
+-- The properties of a drawn module that the configuration or the call requests. If the call
+-- requests it, the names of imports are distinct, unless a shape fixes the imports. If the
+-- configuration requests it, everything is exported, unless a shape fixes the exports; there are no
+-- floats, unless there is a shape; there is no start function; and active segments are inside.
+-- References are nullable or grounded, except outside of locals if a shape in use has a
+-- non-nullable one. Sections with content are written, and there is no fuel counter.
 pub record KeepsPromises (distinct : Bool) (config : Config) (m : ModuleParts) : Type 0 where
   pub names : IsTrue distinct → (FixesImports config → ⊥) → HasDistinctImports m
   pub no_floats : config.allow_floats ≡ false → HasNoShapes config → HasNoFloats m

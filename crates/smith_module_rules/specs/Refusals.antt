@@ -19,8 +19,8 @@ use Rattle.smith_config.specs.Granted.{IsNonNullable}
 use Rattle.smith_config.specs.Minimums.{HasNoMinimums}
 use Rattle.smith_module_rules.specs.Bounds.{where_given, items_of_exports, items_of_module_shape}
 
--- imports may end below the minimum: they may be too large together, or the maximum of some kind is
--- lower
+-- a module may have fewer imports than the minimum: their sizes may exceed the type size, or the
+-- maximum of some kind is lower than the minimum
 abbrev pub MayLackImports : Config → Type 0
 MayLackImports config =
     (config.max_type_size < 42 * config.min_imports)
@@ -29,33 +29,35 @@ MayLackImports config =
     ⊎ ((config.max_globals < config.min_imports)
     ⊎ ((config.max_memories < config.min_imports) ⊎ (config.max_tables < config.min_imports)))))
 
--- no table, no memory and no global is required, so that there may be nothing to export
+-- no table, memory or global is required, so that there may be nothing to export
 pub record MayHaveNoExports (config : Config) : Type 0 where
   pub tables : config.min_tables ≡ 0
   pub memories : config.min_memories ≡ 0
   pub globals : config.min_globals ≡ 0
 
--- the shape for each use, if there is one and it is used
+-- the shape for a use, if it is given and used
 abbrev pub shape_for : Config → Which → Option Shape
 shape_for config which.AvailableImports = (shapes_of config).available_imports
 shape_for config which.Exports = (shapes_of config).exports
 shape_for config which.ModuleShape = (shapes_of config).module_shape
 
--- some shape is used
+-- some shape is in use
 abbrev pub HasShape : Config → Type 0
 HasShape config = (for_use : Which) × IsSome (shape_for config for_use)
 
--- a shape that is used holds a reference that is not nullable
+-- a shape in use has a non-nullable reference
 abbrev pub HoldsNonNullable : Config → Type 0
 HoldsNonNullable config = (for_use : Which) × IsSomeAnd (shape_for config for_use) (λ shape. Any IsNonNullable (shape_values shape))
 
--- exports may end below the minimum: with a shape, or they may be too large together, or there may
--- be no item
+-- a module may have fewer exports than the minimum: there is a shape, their sizes may exceed the
+-- type size, or there may be nothing to export
 abbrev pub MayLackExports : Config → Type 0
 MayLackExports config =
     HasShape config ⊎ ((config.max_type_size ≤ 42 * (config.max_imports + config.min_exports)) ⊎ MayHaveNoExports config)
 
--- a minimum above zero may stay unmet; those of types, tables, memories and globals never do
+-- A minimum above zero may not be met. The minimums of types, tables, memories and globals are
+-- always met, those of segments with bulk memory, and that of functions without garbage collection
+-- if types are required.
 abbrev pub MayBeShort : Config → Count → Type 0
 MayBeShort config counts.Types = ⊥
 MayBeShort config counts.Tables = ⊥
@@ -69,18 +71,17 @@ MayBeShort config counts.Exports = MayLackExports config
 MayBeShort config counts.Tags = Unit {0}
 MayBeShort config counts.Elements = Unit {0}
 
--- a minimum does not apply if a shape replaces it, or if it is that of exports and everything is
--- exported
+-- the minimum of a kind applies, is above zero, and may not be met
 abbrev pub MayBeUnmet : Config → Count → Type 0
 MayBeUnmet config count = BoundsApply config count × ((0 < minimum_of config count) × MayBeShort config count)
 
--- the exports of a shape, or a module shape, add a memory, or a table
+-- a shape for exports or a module shape adds a memory, or a table
 abbrev pub Brings : Config → Count → Type 0
 Brings config count =
     (0 < where_given (items_of_exports count) (shapes_of config).exports)
     ⊎ (0 < where_given (items_of_module_shape count) (shapes_of config).module_shape)
 
--- the reasons why a module may be out of shape
+-- the reasons for which a module may not fit its configuration
 abbrev pub MayBeOutOfShape : Config → Why → Type 0
 MayBeOutOfShape config (reasons.Unmet count) = MayBeUnmet config count
 MayBeOutOfShape config reasons.TypeSize = IsTrue config.export_everything × (FixesExports config → ⊥)
@@ -89,8 +90,8 @@ MayBeOutOfShape config reasons.SeveralTables = Brings config counts.Tables × (c
 MayBeOutOfShape config reasons.Loop = ⊥
 MayBeOutOfShape config reasons.RawBody = ⊥
 
--- the condition of each refusal, for a sanitised configuration; Memory only if an allocation
--- failed, which no definition can express
+-- the condition of each error, for a sanitised configuration; a failed allocation, which no
+-- definition expresses, is the condition of `Memory`
 abbrev pub MayRefuse : Config → Error → Type 0
 MayRefuse config errors.EmptyChoose = HoldsNonNullable config
 MayRefuse config errors.NotEnoughData = ⊥
@@ -99,17 +100,18 @@ MayRefuse config (errors.Config fault) = IsFirstFault config fault
 MayRefuse config (errors.Shape for_use fault) = IsSomeAnd (shape_for config for_use) (λ shape. HasShapeFault for_use config shape fault)
 MayRefuse config errors.Memory = Unit {0}
 
--- the shapes that are used pass their check
+-- each shape in use passes its check
 abbrev pub AreShapesValid : Config → Type 0
 AreShapesValid config = (for_use : Which) → IfSome (shape_for config for_use) (λ shape. IsShapeValid for_use config shape)
 
--- a module can be produced: the configuration and its shapes pass their checks
+-- a module is possible: the configuration and its shapes pass their checks
 pub record MayGive (config : Config) : Type 0 where
   pub passes : Passes config
   pub shapes_valid : AreShapesValid config
 
--- the only refusal is lack of memory: a module can be produced, no minimum is set, not everything
--- is exported, and a shape holds only nullable references, with several tables and memories allowed
+-- lack of memory is the only error: a module is possible, no minimum is set, not everything is
+-- exported, shapes have only nullable references, and with a shape several tables and memories are
+-- enabled
 pub record AsksNothingImpossible (config : Config) : Type 0 where
   pub may_give : MayGive config
   pub no_minimums : HasNoMinimums config

@@ -1,4 +1,4 @@
--- The groups of imports of a module shape, and the imports taken of a shape of available imports.
+-- The groups of imports of a module shape, and the imports that are chosen among available imports.
 -- Rules of this project.
 use Rattle.std.specs.Prelude.{ℕ, suc, ◌+◌, ◌%◌, ◌==◌, ◌&&◌, nat_le, nat_lt, Bool, true, List, [], ◌∷◌, ◌++◌, map, length, sum_by}
 use Rattle.std.specs.Prelude.{slice_index_or, if◌then◌else◌}
@@ -18,12 +18,12 @@ use Rattle.smith_config.specs.declared.shape.Shape.{Shape}
 use Rattle.smith_config.specs.Faults.{maximum_of}
 use Rattle.smith_config.specs.Shapes.{shape_imports}
 
--- a group of imports is not empty
+-- whether a group of imports is not empty
 abbrev pub is_filled : Imports → Bool
 is_filled group = nat_lt 0 (length (imports_of group))
 
--- the groups of a shape's imports in the form that a module has them: without the empty ones, or
--- one by one
+-- the imports of a shape in a module's groups: the groups that are not empty, or without compact
+-- imports one by one
 abbrev pub kept_groups : Config → Shape → List Imports
 kept_groups config shape = if config.compact_imports_enabled then filter is_filled shape.imports else map Single (shape_imports shape)
 
@@ -36,12 +36,12 @@ count_in spaces counts.Memories = length spaces.memories
 count_in spaces counts.Globals = length spaces.globals
 count_in spaces _ = 0
 
--- whether the bytes pick the import at this place: the byte there is odd; past the end none is
--- picked
+-- whether the bytes choose the import at `place`: the byte at `place` is odd; past the end of the
+-- bytes, no import is chosen
 abbrev pub is_picked : List ℕ → ℕ → Bool
 is_picked bytes place = slice_index_or bytes place 0 % 2 == 1
 
--- the count that an entity adds to
+-- the kind of count to which an entity adds
 abbrev pub count_for : EntityType → Count
 count_for (entity.Global global) = counts.Globals
 count_for (entity.Table table) = counts.Tables
@@ -49,7 +49,7 @@ count_for (entity.Memory memory) = counts.Memories
 count_for (entity.Tag index) = counts.Tags
 count_for (entity.Func index) = counts.Funcs
 
--- tags require their feature
+-- whether an entity is enabled: a tag requires exceptions
 abbrev pub is_allowed : Config → EntityType → Bool
 is_allowed config (entity.Tag index) = config.exceptions_enabled
 is_allowed config _ = true
@@ -58,7 +58,7 @@ is_allowed config _ = true
 abbrev pub sizes_of : List SubType → List Import → ℕ
 sizes_of types imports = sum_by (λ (one : Import). size_in types one.entity_type) imports
 
--- whether one more import fits after those taken: in number, number of its kind, and size
+-- whether one more import fits after `taken`: in number, in number of its kind, and in size
 unfoldable pub is_fitting : Config → List SubType → List Import → Import → Bool
 is_fitting config types taken one =
     let count = count_for one.entity_type in
@@ -67,7 +67,8 @@ is_fitting config types taken one =
     && is_allowed config one.entity_type
     && nat_le (sizes_of types taken + size_in types one.entity_type) config.max_type_size
 
--- imports followed by those available imports, from this place on, that the bytes pick and that fit
+-- the imports `taken`, then the available imports from `place` on that the bytes choose and that
+-- fit
 abbrev pub taken_from : Config → List SubType → List ℕ → ℕ → List Import → List Import → List Import
 taken_from config types bytes place taken [] = taken
 taken_from config types bytes place taken (one ∷ more) =

@@ -1,5 +1,5 @@
-//! Defines the parts and validity of a module, its properties from a configuration and its shapes,
-//! and the conditions of each refusal. Collects the interesting values of a module.
+//! Defines the parts and validity of a module, the properties that a configuration and its shapes
+//! give it, and the condition of each error. Collects the interesting values of a module.
 //!
 //! A call that returns a `Result` fails only if an allocation fails.
 #![tactic(auto)]

@@ -311,7 +311,8 @@ filled_table offset = record one_function {
   elems = into_a_table offset ∷ [];
 }
 
--- the same, at the offset of a global, with garbage collection or without
+-- a segment that copies a function into a table at the offset of a global, with garbage collection
+-- or without
 abbrev pub table_from_a_number : Bool → ModuleParts
 table_from_a_number gc = record (filled_table (Global 0)) {
   config = record default_config { gc_enabled = gc };

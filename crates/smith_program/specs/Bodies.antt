@@ -20,8 +20,8 @@ use Rattle.smith_program.specs.References.{references_of}
 use Rattle.smith_program.specs.declared.program.Body.{Body}
 use Rattle.smith_program.specs.declared.program.Body.TheVariants as body
 
--- the context of a function of this type, with these locals after its parameters (Validation,
--- Functions)
+-- the context of a function of this type, whose locals are its parameters followed by `locals`
+-- (Validation, Functions)
 abbrev pub function_context : ModuleParts → FuncType → List ValType → BodyContext
 function_context m function locals = record {
   features = module_features m;
@@ -41,22 +41,23 @@ function_context m function locals = record {
   results = function.results;
 }
 
--- the type of the defined function at a place: imported functions come first (Structure, Indices)
+-- the defined function at `place`, counted after the imported functions, has this type (Structure,
+-- Indices)
 abbrev pub HasDefinedType : ModuleParts → ℕ → FuncType → Type 0
 HasDefinedType m place function =
     (index : ℕ) × (slice_get m.funcs (length (module_imports m).funcs + place) ≡ Some index) × IsFuncAt m.types index function
 
--- instructions are the body of the defined function at a place, without its last `end` (Validation,
--- Functions)
+-- `instructions` are a valid body, without its last `end`, of the defined function at `place`
+-- (Validation, Functions)
 pub record IsBodyAt (m : ModuleParts) (place : ℕ) (code : Code) (instructions : List Instr) : Type 0 where
   pub function : FuncType
   pub there : HasDefinedType m place function
   pub typed : IsBodyTyped (function_context m function code.locals) instructions
 
--- the same; the instructions are enabled, those on floats only with `allow_floats`, no more than the
--- budget of a body allows, and with `disallow_traps` only `unreachable` may trap, which is only in
--- place of a value that no other instructions produce without a budget, unless the budget is 0 (own
--- rules)
+-- `instructions` are such a body. They are enabled, and no longer than the budget of a body allows.
+-- With `disallow_traps`, only `unreachable` may trap. Unless the budget is 0, each operand has
+-- exactly its type, and with `disallow_traps` an `unreachable` gives only a value that no other
+-- instructions give without a budget (own rules).
 pub record IsDrawnAt (m : ModuleParts) (place : ℕ) (code : Code) (instructions : List Instr) : Type 0 where
   pub body : IsBodyAt m place code instructions
   pub enabled : All (IsEnabled (module_features m) (kinds_of_bodies m.config)) instructions
@@ -65,21 +66,23 @@ pub record IsDrawnAt (m : ModuleParts) (place : ℕ) (code : Code) (instructions
   pub short : length instructions ≤ 1 + longest_leaf m.config m.types *
       (length body.function.results + most m.types * m.config.max_instructions)
 
--- a body whose instructions have a property, or raw bytes, which are kept (own rule)
+-- the instructions of a body have the property `Is`; a body of raw bytes is kept as it is (own
+-- rule)
 abbrev pub IsOfBody : (List Instr → Type 0) → Code → Body → Type 0
 IsOfBody Is code body.Raw = IsRaw code.instructions
 IsOfBody Is code (body.Drawn instructions) = (¬ IsRaw code.instructions) × Is instructions
 
--- a body for each function that a module defines (Validation, Functions)
+-- each defined function of the module has a body, whose instructions have the property `Is`
+-- (Validation, Functions)
 pub record AreBodiesBy (Is : ℕ → Code → List Instr → Type 0) (m : ModuleParts) (bodies : List Body) : Type 0 where
   pub each : length bodies ≡ length m.code
   pub in_place : (place : ℕ) (code : Code) (body : Body) → slice_get m.code place ≡ Some code → slice_get bodies place ≡ Some body
       → IsOfBody (Is place code) code body
 
--- bodies of the functions of a module (Validation, Functions)
+-- each defined function of the module has a valid body (Validation, Functions)
 abbrev pub AreBodiesOf : ModuleParts → List Body → Type 0
 AreBodiesOf m bodies = AreBodiesBy (IsBodyAt m) m bodies
 
--- bodies that were drawn for a module (own rule)
+-- each defined function of the module has a drawn body (own rule)
 abbrev pub AreDrawnBodies : ModuleParts → List Body → Type 0
 AreDrawnBodies m bodies = AreBodiesBy (IsDrawnAt m) m bodies

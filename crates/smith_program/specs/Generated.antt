@@ -11,25 +11,26 @@ use Rattle.smith_program.specs.DrawnBodies.{bodies_at}
 use Rattle.smith_program.specs.Parts.{ProgramParts}
 use Rattle.smith_program.specs.Valid.{IsValidProgram}
 
--- a module that `Module::new` returns, and the bytes after it, of which some are left
+-- `Module::new` returns `m` for these bytes, and `left` is a piece of the bytes that it leaves
 pub record IsModuleOf (given : Config) (bytes left : List ℕ) (m : ModuleParts) : Type 0 where
   pub after : List ℕ
   pub generated : IsGenerated false given bytes (Ok m) after
   pub source : KeepsPieces after left
 
--- such a module, and the bodies that the bytes after it produce
+-- `Module::new` returns the program's module, and the bytes that the module leaves give the
+-- program's bodies
 pub record IsProgramOf (given : Config) (bytes left : List ℕ) (program : ProgramParts) : Type 0 where
   pub of : IsModuleOf given bytes left program.«module»
   pub exact : bodies_at program.«module» of.after ≡ (program.bodies, left)
 
--- memory runs out for the bodies of a module that is returned
+-- `Module::new` returns a module, and the allocation of its bodies fails
 pub record LacksMemory (given : Config) (bytes left : List ℕ) (e : Error) : Type 0 where
   pub is : e ≡ Memory
   pub m : ModuleParts
   pub of : IsModuleOf given bytes left m
 
--- the result for a configuration and the bytes of the source, of which some are left: a program is
--- valid; a refusal is that of the module, or lack of memory for its bodies
+-- The contract of `Program::new`, for a configuration and the bytes of the source. A program is
+-- valid. An error is the error of the module, or lack of memory for the bodies.
 pub record IsProgram (given : Config) (bytes : List ℕ) (answer : Result ProgramParts Error) (left : List ℕ) : Type 0 where
   pub programs : IfOk answer (IsProgramOf given bytes left)
   pub bodies : IfOk answer (λ program. AreDrawnBodies program.«module» program.bodies)

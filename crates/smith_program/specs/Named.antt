@@ -1,4 +1,4 @@
--- The parts of the context of bodies that are made from a module once.
+-- The parts of the context of bodies that are computed once for a module.
 use Rattle.std.specs.Prelude.{◌≡◌, map}
 use Rattle.smith_syntax.specs.declared.segments.ElementSegment.{ElementSegment}
 use Rattle.smith_module_rules.specs.Module.{ModuleParts}

@@ -11,31 +11,33 @@ use Rattle.smith_syntax.specs.declared.segments.Elements.{Elements}
 use Rattle.smith_syntax.specs.declared.segments.Elements.TheVariants as elements
 use Rattle.smith_module_rules.specs.Module.{ModuleParts}
 
--- the functions that an instruction of a constant expression names, and those that the expression
--- does (Validation, Modules, C.refs)
+-- the function that an instruction of a constant expression names, if any (Validation, Modules,
+-- C.refs)
 abbrev pub named_by : ConstInstr → List ℕ
 named_by (constant.RefFunc function) = function ∷ []
 named_by _ = []
 
+-- the functions that a constant expression names (Validation, Modules, C.refs)
 abbrev pub named_in : List ConstInstr → List ℕ
 named_in expression = flat_map named_by expression
 
--- the functions that an export names, the items of an element segment, and the initialiser of a
--- table (Validation, Modules, C.refs)
+-- the function that an export names, if any (Validation, Modules, C.refs)
 abbrev pub exported_by : ExportKind → ℕ → List ℕ
 exported_by kind.Func index = index ∷ []
 exported_by _ index = []
 
+-- the functions that the items of an element segment name (Validation, Modules, C.refs)
 abbrev pub named_by_items : Elements → List ℕ
 named_by_items (elements.Functions functions) = functions
 named_by_items (elements.Expressions expressions) = flat_map named_in expressions
 
+-- the functions that the initialiser of a table names (Validation, Modules, C.refs)
 abbrev pub named_by_table : Option (List ConstInstr) → List ℕ
 named_by_table (Some expression) = named_in expression
 named_by_table None = []
 
--- the functions that a module names outside of its functions and its start function, each as often
--- as it is named; an offset names none (Validation, Modules, C.refs)
+-- The functions that occur in a module outside of its bodies and its start function, each once for
+-- each occurrence (Validation, Modules, C.refs). The offset of a segment names no function.
 abbrev pub references_of : ModuleParts → List ℕ
 references_of m =
     flat_map (λ (export : List ℕ × ExportKind × ℕ). exported_by export.1 export.2) m.exports

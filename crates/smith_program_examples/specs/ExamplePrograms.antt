@@ -1,4 +1,4 @@
--- Modules and bodies of the examples, and the bytes that produce such bodies.
+-- Modules and bodies of the examples, and the bytes from which such bodies are drawn.
 use Rattle.std.specs.Prelude.{ℕ, true, None, List, [], ◌∷◌}
 use Rattle.smith_types.specs.ExampleTypes.{final_type, giving, nullable, plain_func}
 use Rattle.smith_syntax.specs.declared.code.Code.{Code}
@@ -94,7 +94,8 @@ after_a_memory = record narrow_function {
   type_size = 2;
 }
 
--- a constant as a body, and the bytes that produce it: no statement, then a value without operands
+-- a constant as a body, and the bytes from which it is drawn: no statement, then a value without
+-- operands
 abbrev pub constant : ℕ → Body
 constant n = body.Drawn (number n ∷ [])
 

@@ -1,3 +1,4 @@
+pub mod Invalid
 pub mod Output
 pub mod Refusals
 pub mod Requests

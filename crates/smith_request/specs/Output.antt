@@ -17,32 +17,32 @@ use Rattle.smith_request.specs.declared.manner.Form.{Form}
 use Rattle.smith_request.specs.declared.manner.Fuel.{Fuel}
 use Rattle.smith_request.specs.declared.manner.Form.TheVariants.{Binary, Text}
 use Rattle.smith_request.specs.declared.refusal.Refusal.{Refusal}
-use Rattle.smith_request.specs.declared.refusal.Refusal.TheVariants.{NotUtf8, Config as of_config, Module, Encoding, Shape}
+use Rattle.smith_request.specs.declared.refusal.Refusal.TheVariants.{NotUtf8, Config as of_config, Module, Encoding, Shape, NoChange, NoFamily}
 
--- a program with a counter of this fuel, and the same bodies
+-- a program with a fuel counter of this amount, and the same bodies
 pub record IsCounted (fuel : ℕ) (program counted : Program) : Type 0 where
   pub index : ℕ
   pub added : AnswersCounter fuel program.«module» counted.«module» (Ok index)
   pub bodies : counted.bodies ≡ program.bodies
 
--- a program that exports its global of this index, if it is to, and the same bodies
+-- a program with an export of the global at `index`, if requested, and the same bodies
 pub record IsExporting (is_exported : Bool) (index : ℕ) (program exporting : Program) : Type 0 where
   pub exported : exporting.«module» ≡ (if is_exported then with_fuel_export index program.«module» else program.«module»)
   pub bodies : exporting.bodies ≡ program.bodies
 
--- a program with a counter of this fuel, which is exported if it is to be
+-- a program with a fuel counter, which is exported if requested
 pub record IsFuelled (fuel : Fuel) (program fuelled : Program) : Type 0 where
   pub counted : Program
   pub has_counter : IsCounted fuel.amount program counted
   pub exporting : IsExporting fuel.is_exported has_counter.index counted fuelled
 
--- the bytes are written for such a program
+-- the bytes are the encoding of the program with a fuel counter
 pub record IsCountedBinary (fuel : Fuel) (program : Program) (bytes : List ℕ) : Type 0 where
   pub counted : Program
   pub has_counter : IsFuelled fuel program counted
   pub encoded : IsEncoded counted.«module» counted.bodies bytes
 
--- the bytes are written for a program, with a counter if there is a fuel
+-- the bytes are the encoding of the program, with a fuel counter if fuel is given
 abbrev pub IsBinaryWith : Option Fuel → Program → List ℕ → Type 0
 IsBinaryWith None program bytes = IsEncoded program.«module» program.bodies bytes
 IsBinaryWith (Some fuel) program bytes = IsCountedBinary fuel program bytes
@@ -53,14 +53,14 @@ abbrev pub IsFinished : Bool → ℕ → List ℕ → List ℕ → List ℕ → 
 IsFinished true least left file bytes = IsAdded least (custom_sections_at left).0 file bytes
 IsFinished false least left file bytes = bytes ≡ file
 
--- the bytes are written for a program: its file, with drawn custom sections if its configuration has
+-- the bytes are the file of a program, with drawn custom sections if its configuration requests
 -- them
 pub record IsFileOf (config : Config) (fuel : Option Fuel) (program : Program) (left bytes : List ℕ) : Type 0 where
   pub file : List ℕ
   pub encoded : IsBinaryWith fuel program file
   pub finished : IsFinished config.generate_custom_sections config.min_uleb_size left file bytes
 
--- a program is not written for lack of memory, or because it is too long for the binary format
+-- the program is not written, because memory runs out or it is too long for the binary format
 abbrev pub IsUnwritten : Form → Program → Refusal → Type 0
 IsUnwritten Binary program (Encoding e) = IsFault (IsLongProgram program.«module» program.bodies) e
 IsUnwritten (Text layout) program (Encoding e) = e ≡ Memory
@@ -68,16 +68,19 @@ IsUnwritten form program NotUtf8 = ⊥
 IsUnwritten form program (of_config _) = ⊥
 IsUnwritten form program (Module _) = ⊥
 IsUnwritten form program (Shape _ _) = ⊥
+IsUnwritten form program NoChange = ⊥
+IsUnwritten form program NoFamily = ⊥
 
--- a program is not written with a counter: none is added and exported, because a body is raw bytes
--- or for lack of memory; or no index is left for it; or the program with its counter is not written
+-- the program is not written with a counter: no counter can be added or exported, because a body is
+-- raw bytes or memory runs out; or there is no index for it; or the program with its counter is not
+-- written
 pub data IsUncounted (form : Form) (fuel : Fuel) (program : Program) (refusal : Refusal) : Type 0 where
   not_added : {e : Error} → MayAddNone program.«module» e → refusal ≡ Module e → IsUncounted form fuel program refusal
   no_index : 2 ^ 32 - 1 ≤ length program.«module».globals → refusal ≡ Encoding TooLong → IsUncounted form fuel program refusal
   not_written : {counted : Program} → IsFuelled fuel program counted → IsUnwritten form counted refusal
       → IsUncounted form fuel program refusal
 
--- a program is not written, with a counter if there is a fuel
+-- the program is not written, with a counter if fuel is given
 abbrev pub IsUnwrittenWith : Form → Option Fuel → Program → Refusal → Type 0
 IsUnwrittenWith form None program refusal = IsUnwritten form program refusal
 IsUnwrittenWith form (Some fuel) program refusal = IsUncounted form fuel program refusal
@@ -89,20 +92,20 @@ pub record IsBinaryOf (config : Config) (fuel : Option Fuel) (input bytes left :
   pub drawn : IsProgram config input (Ok program) left
   pub written : IsFileOf config fuel program left bytes
 
--- a refusal is the generator's for the configuration and the input; or the drawn program is not
+-- an error is the generator's for the configuration and the input, or the drawn program is not
 -- written
 pub data IsRefusedFor (form : Form) (config : Config) (fuel : Option Fuel) (input left : List ℕ) (refusal : Refusal) : Type 0 where
   not_drawn : {e : Error} → IsProgram config input (Err e) left → refusal ≡ Module e → IsRefusedFor form config fuel input left refusal
   not_written : {program : Program} → IsProgram config input (Ok program) left → IsUnwrittenWith form fuel program refusal →
       IsRefusedFor form config fuel input left refusal
 
--- the bytes are a text
+-- the bytes are UTF-8, and not empty
 pub record IsText (bytes : List ℕ) : Type 0 where
   pub utf8 : IsUtf8 bytes
   pub some : 1 ≤ length bytes
 
--- the generator draws a program from the configuration and the input, with these bytes of the input
--- left, and the bytes are a text
+-- the generator draws a program for the configuration and the input, of which `left` are the unread
+-- bytes, and the bytes are a text
 pub record IsWrittenText (config : Config) (input bytes left : List ℕ) : Type 0 where
   pub program : Program
   pub drawn : IsProgram config input (Ok program) left

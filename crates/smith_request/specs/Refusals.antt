@@ -15,31 +15,33 @@ use Rattle.smith_request.specs.Output.{IsRefusedFor}
 use Rattle.smith_request.specs.Requests.{IsConfigured, fuel_of}
 use Rattle.smith_request.specs.declared.manner.Form.{Form}
 use Rattle.smith_request.specs.declared.refusal.Refusal.{Refusal}
-use Rattle.smith_request.specs.declared.refusal.Refusal.TheVariants.{NotUtf8, Config, Module, Encoding, Shape}
+use Rattle.smith_request.specs.declared.refusal.Refusal.TheVariants.{NotUtf8, Config, Module, Encoding, Shape, NoChange, NoFamily}
 use Rattle.smith_request.specs.declared.request.Request.{Request}
 
--- a text of UTF-8 that is not empty is refused for its first fault, or for lack of memory
+-- a UTF-8 text that is not empty is refused because of its first fault, or lack of memory
 pub record IsUnparsed (text : List ℕ) (refusal : ConfigRefusal) : Type 0 where
   pub utf8 : IsUtf8 text
   pub some : text ≢ []
   pub first : refusal.fault ≢ OutOfMemory → ReadsText text (Err (refusal.fault, string_bytes refusal.field))
 
--- a text is not read
+-- the text is refused
 abbrev pub IsUnread : List ℕ → Refusal → Type 0
 IsUnread text NotUtf8 = IsUtf8 text → ⊥
 IsUnread text (Config refusal) = IsUnparsed text refusal
 IsUnread text (Module e) = ⊥
 IsUnread text (Encoding e) = ⊥
 IsUnread text (Shape _ _) = ⊥
+IsUnread text NoChange = ⊥
+IsUnread text NoFamily = ⊥
 
--- a possible refusal of a configuration's text and an input, for a form
+-- an error for a configuration's text and an input
 pub data IsRefusal (form : Form) (text input : List ℕ) (refusal : Refusal) : Type 0 where
   not_read : IsUnread text refusal → IsRefusal form text input refusal
   not_made : {config : Configuration} {left : List ℕ} → IsConfigured text config → IsRefusedFor form config (fuel_of text) input left
       refusal →
       IsRefusal form text input refusal
 
--- a possible refusal of a request and an input, for a form
+-- an error for a request and an input
 pub record IsRefusalFor (form : Form) (request : Request) (input : List ℕ) (refusal : Refusal) : Type 0 where
   pub left : List ℕ
   pub unmade : IsRefusedFor form request.config request.fuel input left refusal
@@ -54,7 +56,7 @@ fault_status WrongType = 3
 fault_status OutOfRange = 3
 fault_status TextAfter = 3
 
--- the number of the reason why a program was not drawn
+-- the number of an error of the generator
 abbrev pub error_status : Error → ℕ
 error_status errors.Memory = 2
 error_status (errors.Config _) = 4
@@ -63,7 +65,7 @@ error_status errors.EmptyChoose = 6
 error_status errors.NotEnoughData = 6
 error_status (errors.Shape _ _) = 6
 
--- the number of a refusal
+-- the number of an error
 abbrev pub status_of : Refusal → ℕ
 status_of NotUtf8 = 3
 status_of (Config refusal) = fault_status refusal.fault
@@ -71,3 +73,5 @@ status_of (Module e) = error_status e
 status_of (Encoding encoding.Memory) = 2
 status_of (Encoding encoding.TooLong) = 7
 status_of (Shape _ _) = 8
+status_of NoChange = 9
+status_of NoFamily = 10

@@ -1,4 +1,4 @@
--- Requests whose shapes are given as bytes.
+-- Requests with shapes in files.
 use Rattle.std.specs.Prelude.{◌≡◌, ◌≢◌, ℕ, List, [], Option, Some}
 use Rattle.smith_bytes.specs.declared.error.Error.TheVariants.{Memory}
 use Rattle.smith_bytes.specs.declared.error.Which.{Which}
@@ -10,11 +10,11 @@ use Rattle.smith_request.specs.Refusals.{IsRefusalFor}
 use Rattle.smith_request.specs.Requests.{IsBinaryFor, IsTextFor}
 use Rattle.smith_request.specs.declared.manner.Form.{Form}
 use Rattle.smith_request.specs.declared.refusal.Refusal.{Refusal}
-use Rattle.smith_request.specs.declared.refusal.Refusal.TheVariants.{NotUtf8, Config, Module, Encoding, Shape as of_shape}
+use Rattle.smith_request.specs.declared.refusal.Refusal.TheVariants.{NotUtf8, Config, Module, Encoding, Shape as of_shape, NoChange, NoFamily}
 use Rattle.smith_request.specs.declared.request.Request.{Request}
 use Rattle.smith_request.specs.declared.shaped.ShapeFiles.{ShapeFiles}
 
--- the shape that bytes are replaces another one, and no bytes leave it
+-- the shape in the file replaces another shape; an empty file leaves it unchanged
 pub data IsGiven (bytes : List ℕ) (before after : Option Shape) : Type 0 where
   none : bytes ≡ [] → after ≡ before → IsGiven bytes before after
   one : {shape : Shape} → bytes ≢ [] → IsShapeFile bytes shape → after ≡ Some shape → IsGiven bytes before after
@@ -29,7 +29,7 @@ with_shapes shapes request = record request {
   };
 }
 
--- a request with the shapes that bytes are
+-- a request with the shapes in these files
 pub record IsShaped (files : ShapeFiles) (request shaped : Request) : Type 0 where
   pub shapes : Shapes
   pub available_imports : IsGiven files.available_imports.now request.config.available_imports shapes.available_imports
@@ -37,37 +37,39 @@ pub record IsShaped (files : ShapeFiles) (request shaped : Request) : Type 0 whe
   pub module_shape : IsGiven files.module_shape.now request.config.module_shape shapes.module_shape
   pub is : shaped ≡ with_shapes shapes request
 
--- the bytes for this use are no shape, for this reason, or memory was refused
+-- the file for this use has no shape, for this reason, or memory runs out
 abbrev pub IsNoShape : Which → List ℕ → Refusal → Type 0
 IsNoShape which bytes (of_shape used fault) = (used ≡ which) × IsShapeFileFault bytes fault
 IsNoShape which bytes (Module e) = e ≡ Memory
 IsNoShape which bytes NotUtf8 = ⊥
 IsNoShape which bytes (Config _) = ⊥
 IsNoShape which bytes (Encoding _) = ⊥
+IsNoShape which bytes NoChange = ⊥
+IsNoShape which bytes NoFamily = ⊥
 
--- the bytes for one of the uses are no shape
+-- the file for one of the uses has no shape
 pub data IsUnshaped (files : ShapeFiles) (refusal : Refusal) : Type 0 where
   available_imports : IsNoShape AvailableImports files.available_imports.now refusal → IsUnshaped files refusal
   exports : IsNoShape Exports files.exports.now refusal → IsUnshaped files refusal
   module_shape : IsNoShape ModuleShape files.module_shape.now refusal → IsUnshaped files refusal
 
--- the bytes are written for a program of a request with shapes, and an input
+-- the bytes are the file of the program for a request with shapes, and an input
 pub record IsShapedBinary (files : ShapeFiles) (request : Request) (input bytes : List ℕ) : Type 0 where
   pub shaped : Request
   pub is_shaped : IsShaped files request shaped
   pub binary : IsBinaryFor shaped input bytes
 
--- there is such a program, and it has a binary format
+-- the program for a request with shapes and an input exists, and has a file
 abbrev pub HasShapedBinary : ShapeFiles → Request → List ℕ → Type 0
 HasShapedBinary files request input = (bytes : List ℕ) × IsShapedBinary files request input bytes
 
--- there is such a program, and the bytes are a text
+-- the program for a request with shapes and an input exists, and the bytes are a text
 pub record IsShapedText (files : ShapeFiles) (request : Request) (input bytes : List ℕ) : Type 0 where
   pub shaped : Request
   pub is_shaped : IsShaped files request shaped
   pub written : IsTextFor shaped input bytes
 
--- a possible refusal of a request with shapes and an input, for a form
+-- an error for a request with shapes and an input
 pub data IsShapedRefusal (form : Form) (files : ShapeFiles) (request : Request) (input : List ℕ) (refusal : Refusal) : Type 0 where
   unshaped : IsUnshaped files refusal → IsShapedRefusal form files request input refusal
   unmade : {shaped : Request} → IsShaped files request shaped → IsRefusalFor form shaped input refusal →

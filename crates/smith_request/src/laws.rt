@@ -1,6 +1,7 @@
-ghost use Rattle.std.specs.Prelude.{◌≡◌, false, ℕ, Option, List};
+ghost use Rattle.std.specs.Prelude.{◌≡◌, false, ℕ, Option, None, List};
 ghost use Rattle.smith_config.specs.declared.config.Config.{Config};
 ghost use Rattle.smith_binary_program.specs.Valid.{IsValidBinary};
+ghost use Rattle.smith_wrong.specs.Wrong.{IsTwin};
 ghost use Rattle.smith_request.specs.Output.{IsBinaryOf};
 ghost use Rattle.smith_request.specs.Requests.{IsBinary};
 ghost use Rattle.smith_request.specs.Shaped.{IsShapedBinary};
@@ -29,4 +30,13 @@ pub fn binaries_are_valid()
         → IsValidBinary bytes }
     ensures of_shapes { (files : ShapeFiles) (request : Request) (input bytes : List ℕ)
         → IsShapedBinary files request input bytes → IsValidFile bytes }
+{}
+
+/// States that the file of which an invalid one is made is one that [`output`] writes in the binary format
+/// for the same configuration and input, without fuel, if the configuration has no custom sections.
+///
+/// [`output`]: crate::output
+pub fn twins_are_binaries()
+    ensures { (config : Config) (input left twin : List ℕ) → config.generate_custom_sections ≡ false
+        → IsTwin config input left twin → IsBinaryOf config None input twin left }
 {}

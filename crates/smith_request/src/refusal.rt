@@ -7,7 +7,7 @@ use smith_config_json::{ConfigRefusal, Fault};
 use smith_shape_file::ShapeFileFault;
 use std::fmt;
 
-/// The reason why there is no program.
+/// The reason why there is no program, or no invalid file.
 #[derive(Debug, Drop)]
 pub enum Refusal {
     /// The text of the configuration isn't UTF-8.
@@ -20,6 +20,10 @@ pub enum Refusal {
     Encoding(EncodeError),
     /// The bytes of the shape for this use are no module, for this reason.
     Shape(Which, ShapeFileFault),
+    /// No change of the program that was tried breaks a rule.
+    NoChange,
+    /// The number of a family is that of none.
+    NoFamily,
 }
 
 impl Refusal {
@@ -34,6 +38,8 @@ impl Refusal {
             Refusal::Encoding(EncodeError::Memory) => 2,
             Refusal::Encoding(EncodeError::TooLong) => 7,
             Refusal::Shape(_, _) => 8,
+            Refusal::NoChange => 9,
+            Refusal::NoFamily => 10,
         }
     }
 }
@@ -102,6 +108,8 @@ impl fmt::Display for Refusal {
             Refusal::Module(error) => write!(f, "{error}"),
             Refusal::Encoding(error) => write!(f, "{error}"),
             Refusal::Shape(which, fault) => write!(f, "shape of {which}: {fault}"),
+            Refusal::NoChange => f.write_str("no change that was tried breaks a rule"),
+            Refusal::NoFamily => f.write_str("a number is that of no family of changes"),
         }
     }
 }

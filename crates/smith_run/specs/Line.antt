@@ -26,7 +26,7 @@ counts_line parts =
     ++ codes " data " ++ decimal (length parts.datas)
     ++ codes "\n"
 
--- the line that reports a module or a refusal
+-- the line that reports a module or an error
 abbrev pub line_of : Result ModuleParts Error → List ℕ
 line_of (Ok parts) = counts_line parts
 line_of (Err refusal) = codes "refused: " ++ refusal_name refusal ++ codes "\n"

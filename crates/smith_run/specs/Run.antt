@@ -14,15 +14,15 @@ use Rattle.smith_run.specs.declared.run.RunFault.{RunFault}
 use Rattle.smith_run.specs.Input.{AreKnown}
 use Rattle.smith_run.specs.Line.{line_of}
 
--- a possible answer for a configuration and bytes, of which some are left: a module or lack of
--- memory, with all properties of the generator's contract
+-- an answer for a configuration and bytes: a module or lack of memory, by the contract of the
+-- generator
 pub record IsModuleAnswer (config : Config) (bytes : List ℕ) (answer : Result ModuleParts Error) : Type 0 where
   pub left : List ℕ
   pub generated : IsGenerated false config bytes answer left
   pub memory_alone : IfErr answer (λ e. e ≡ Memory)
 
--- a possible answer for the input: for the default configuration, or for the one that is drawn
--- first from the input, and the bytes left after it
+-- an answer for the input with the default configuration, or with a configuration that is first
+-- drawn from the input
 abbrev pub MayAnswer : Bool → List ℕ → Result ModuleParts Error → Type 0
 MayAnswer false input answer = IsModuleAnswer default_config input answer
 MayAnswer true input answer = let drawn = config_at input in IsModuleAnswer drawn.0 drawn.1 answer
@@ -41,7 +41,7 @@ pub record IsAnswered (drawn : Bool) (left : Option (List ℕ)) (before after : 
   pub written : Appends before after (line_of answer)
   pub told : outcome ≡ outcome_of answer
 
--- there was no memory for the reader's bytes, and the line of that refusal was written
+-- there was no memory for the reader's bytes, and the line for that error was written
 pub record IsUnread (before after : Option (List ℕ)) (outcome : Outcome) : Type 0 where
   pub written : Appends before after (line_of (Err Memory))
   pub told : outcome ≡ Refused Memory

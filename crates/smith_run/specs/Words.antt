@@ -2,8 +2,8 @@
 use Rattle.std.specs.Prelude.{List, [], ◌∷◌, ℕ, Option, Some, None, Bool, true, false, codes, if◌then◌else◌}
 use Rattle.std.specs.Str.{bytes_eq}
 
--- whether the words select a drawn configuration: no word selects the default one, one word the
--- drawn one, and all other words are not accepted
+-- whether the words select a drawn configuration: no word selects the default, the word `arbitrary`
+-- a drawn one, and other words are not accepted
 abbrev pub drawn_by : List (List ℕ) → Option Bool
 drawn_by [] = Some false
 drawn_by (word ∷ []) = if bytes_eq word (codes "arbitrary") then Some true else None

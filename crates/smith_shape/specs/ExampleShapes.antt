@@ -10,7 +10,7 @@ use Rattle.smith_decode.specs.declared.modules.Module.{Module}
 abbrev pub no_shape : Shape
 no_shape = record { groups = []; imports = []; funcs = []; tags = []; tables = []; memories = []; globals = []; exports = [] }
 
--- the type of a global that cannot be written, and a module of one
+-- the type of an immutable global, and a module with such a global
 abbrev pub constant : GlobalType
 constant = record { val_type = I32; mutable = false; shared = false }
 

@@ -1,5 +1,5 @@
--- The shape of a module: what the section Structure, Modules, of the WebAssembly Core Specification 3.0
--- has of it without bodies, initialisers, segments and the start function.
+-- The shape of a module: the module without bodies, initialisers, segments and the start function.
+-- The section Structure, Modules, of the WebAssembly Core Specification 3.0.
 use Rattle.std.specs.Prelude.{◌≡◌, ℕ, List, map, Err}
 use Rattle.smith_syntax.specs.Features.{every_feature}
 use Rattle.smith_syntax.specs.declared.entity_type.GlobalType.{GlobalType}
@@ -35,8 +35,7 @@ shape_of m = record {
   exports = map export_triple m.exports;
 }
 
--- a shape has the types, the imports, the types of the definitions and the exports of a module in the
--- abstract syntax
+-- the shape has the types, imports, types of definitions and exports of the module
 pub record IsShapeOf (m : Syntax) (shape : Shape) : Type 0 where
   pub types : shape.groups ≡ m.types
   pub imports : flattened shape.imports ≡ m.imports
@@ -47,12 +46,12 @@ pub record IsShapeOf (m : Syntax) (shape : Shape) : Type 0 where
   pub globals : shape.globals ≡ map (λ (global : GlobalType × List Instr). global.0) m.globals
   pub exports : shape.exports ≡ m.exports
 
--- a shape is that of the module that bytes are
+-- the bytes are a module, and this is its shape
 pub record IsShapeBinary (bytes : List ℕ) (shape : Shape) : Type 0 where
   pub m : Syntax
   pub binary : IsModuleBinary m bytes
   pub of_module : IsShapeOf m shape
 
--- the error of bytes that are no module: their fault and its offset, or memory was refused
+-- the error of bytes that are not a module: their fault and its offset, or lack of memory
 abbrev pub IsUndecoded : List ℕ → DecodeError → Type 0
 IsUndecoded bytes e = Locates every_feature (Err e) bytes (module_at bytes)

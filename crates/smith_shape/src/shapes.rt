@@ -30,13 +30,13 @@ pub fn shape_of(alloc: Global, module: &Module) -> Result<Shape, Error>
     })
 }
 
-/// Returns the shape of the module that `bytes` are, with every feature on. Bodies, initialisers,
-/// segments and custom sections are read too, so that a fault in them is refused, but are no part of
-/// the shape.
+/// Returns the shape of the module that `bytes` spell, with every feature on. Bodies, initialisers,
+/// segments and custom sections are read too, so that a fault in them is refused, but are no part
+/// of the shape.
 ///
 /// # Errors
 ///
-/// Returns the error of [`decode`] for bytes that are no module, with the place of the fault, and
+/// Returns the error of [`decode`] for bytes that spell no module, with the place of the fault, and
 /// [`DecodeError::Memory`] if an allocation fails.
 pub fn read_shape(alloc: Global, bytes: &[u8]) -> Result<Shape, DecodeError>
     ensures ok { IfOk result (IsShapeBinary bytes.now) }

@@ -1,4 +1,4 @@
--- Files of the examples, and what is said of one.
+-- Files of the examples, and an error for one of them.
 use Rattle.std.specs.Prelude.{ℕ, ◌+◌, List, [], ◌∷◌, codes}
 use Rattle.smith_shape_text.specs.declared.fault.TextFault.TheVariants.{NoField}
 use Rattle.smith_shape_text.specs.declared.fault.TextRefusal.{TextRefusal}
@@ -11,6 +11,6 @@ magic = 0x00 ∷ 0x61 ∷ 0x73 ∷ 0x6D ∷ []
 abbrev pub text : List ℕ
 text = codes "(module)"
 
--- a refusal of a text at this offset in its first line
+-- an error of a text at this offset in its first line
 abbrev pub refused_at : ℕ → TextRefusal
 refused_at offset = record { fault = NoField; offset = offset; line = 1; column = offset + 1 }

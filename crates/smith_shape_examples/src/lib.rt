@@ -1,4 +1,4 @@
-//! Files that are shapes and files that are not, and what is said of those. The clauses are proved, and
+//! Files that spell shapes, files that do not, and the faults of these. The clauses are proved, and
 //! nothing calls these functions.
 #![tactic(auto)]
 

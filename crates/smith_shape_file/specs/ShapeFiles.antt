@@ -1,5 +1,5 @@
--- Shapes that are given as bytes: modules in the binary format or in the text format. What a text means is
--- not defined here.
+-- Shapes in files: modules in the binary format or in the text format. The meaning of a text is not
+-- defined here.
 use Rattle.std.specs.Prelude.{◌≡◌, ◌≤◌, ℕ, Bool, true, false, List, [], ◌∷◌, length, take}
 use Rattle.std.specs.Str.{bytes_eq}
 use Rattle.smith_config.specs.declared.shape.Shape.{Shape}
@@ -11,11 +11,11 @@ use Rattle.smith_shape_file.specs.declared.fault.ShapeFileFault.TheVariants.{Bin
 abbrev pub is_binary_file : List ℕ → Bool
 is_binary_file bytes = bytes_eq (0x00 ∷ 0x61 ∷ 0x73 ∷ 0x6D ∷ []) (take 4 bytes)
 
--- bytes that begin with it are a module of this shape
+-- if the file begins with the magic number, it is a module with this shape
 abbrev pub IsShapeFile : List ℕ → Shape → Type 0
 IsShapeFile bytes shape = is_binary_file bytes ≡ true → IsShapeBinary bytes shape
 
--- a fault of bytes that are no shape: the decoder's, or one within the text
+-- a fault of a file without a shape: the decoder's, or a fault at an offset within the text
 abbrev pub IsShapeFileFault : List ℕ → ShapeFileFault → Type 0
 IsShapeFileFault bytes (Binary e) = (is_binary_file bytes ≡ true) × IsUndecoded bytes e
 IsShapeFileFault bytes (Text refusal) = (is_binary_file bytes ≡ false) × (refusal.offset ≤ length bytes)

@@ -2,13 +2,13 @@ use smith_decode::DecodeError;
 use smith_shape_text::{TextFault, TextRefusal};
 use thiserror::Error;
 
-/// The reason why the bytes of a file are no shape.
+/// The reason why the bytes of a file spell no shape.
 #[derive(Clone, Copy, Debug, PartialEq, Eq, Error)]
 pub enum ShapeFileFault {
-    /// The bytes begin as a module in the binary format, and are none.
+    /// The bytes begin with the magic number of the binary format, but spell no module.
     #[error("{0}")]
     Binary(DecodeError),
-    /// The bytes are no module in the text format.
+    /// The bytes spell no module in the text format.
     #[error("{0}")]
     Text(TextRefusal),
 }

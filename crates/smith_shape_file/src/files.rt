@@ -17,8 +17,8 @@ fn is_binary(bytes: &[u8]) -> bool
     bytes.starts_with(MAGIC)
 }
 
-/// Returns the shape of the module that `bytes` are, in the binary format if they begin with its magic
-/// number, else in the text format.
+/// Returns the shape of the module that `bytes` spell, in the binary format if they begin with its
+/// magic number, else in the text format.
 ///
 /// # Errors
 ///

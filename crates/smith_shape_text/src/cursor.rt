@@ -9,7 +9,7 @@ pub(crate) struct Cursor<'a> {
 }
 
 impl<'a> Cursor<'a> {
-    /// Begins with the first of `tokens`, those of `text`.
+    /// Begins with the first of `tokens`, the tokens of `text`.
     pub(crate) fn new(text: &'a [u8], tokens: &'a [Token]) -> Cursor<'a> {
         Cursor { text, tokens }
     }
@@ -35,7 +35,7 @@ impl<'a> Cursor<'a> {
         }
     }
 
-    /// Passes over the next token.
+    /// Skips the next token.
     pub(crate) fn skip(&mut self) {
         if let [_, rest @ ..] = self.tokens {
             self.tokens = rest;
@@ -73,7 +73,7 @@ impl<'a> Cursor<'a> {
         }
     }
 
-    /// Passes over the next token if it is the word `word`. Returns whether it is.
+    /// Skips the next token if it is the word `word`. Returns whether it is.
     pub(crate) fn take_word(&mut self, word: &[u8]) -> bool {
         let is_next = self.word() == word;
         if is_next {
@@ -82,7 +82,7 @@ impl<'a> Cursor<'a> {
         is_next
     }
 
-    /// Passes over an opening parenthesis and the word `keyword`, if they are next. Returns whether they
+    /// Skips an opening parenthesis and the word `keyword`, if they are next. Returns whether they
     /// are.
     pub(crate) fn try_open(&mut self, keyword: &[u8]) -> bool {
         let is_next = self.keyword() == keyword;
@@ -93,7 +93,7 @@ impl<'a> Cursor<'a> {
         is_next
     }
 
-    /// Passes over an opening parenthesis and the word `keyword`.
+    /// Skips an opening parenthesis and the word `keyword`.
     pub(crate) fn open(&mut self, keyword: &[u8]) -> Result<(), Fault> {
         if self.try_open(keyword) {
             return Ok(());
@@ -109,7 +109,7 @@ impl<'a> Cursor<'a> {
         }
     }
 
-    /// Passes over a closing parenthesis.
+    /// Skips a closing parenthesis.
     pub(crate) fn close(&mut self) -> Result<(), Fault> {
         if self.is_closing() {
             self.skip();
@@ -118,8 +118,7 @@ impl<'a> Cursor<'a> {
         Err(self.fault(TextFault::NoClose))
     }
 
-    /// Passes over the rest of the parentheses that are open, with those inside of them, and over the
-    /// closing one.
+    /// Skips the rest of the open parentheses, up to and with the closing one.
     pub(crate) fn close_after_all(&mut self) -> Result<(), Fault> {
         let tokens = self.tokens;
         let mut depth = 0usize;
@@ -138,7 +137,7 @@ impl<'a> Cursor<'a> {
         self.close()
     }
 
-    /// Passes over the next token if it is an identifier (Identifiers), and returns it.
+    /// Skips the next token if it is an identifier (Identifiers), and returns it.
     pub(crate) fn identifier(&mut self) -> Option<&'a [u8]> {
         match self.word() {
             [b'$', _, ..] => {

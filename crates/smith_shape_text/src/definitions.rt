@@ -38,8 +38,9 @@ impl Reading<'_> {
         Ok(())
     }
 
-    /// Reads a field of `space` after its keyword: a definition, or the abbreviation of an import. The
-    /// body, the initialiser or the contents are passed over (Functions, Tables, Memories, Globals, Tags).
+    /// Reads a field of `space` after its keyword: a definition, or the abbreviation of an import.
+    /// Skips the body, the initialiser or the contents (Functions, Tables, Memories, Globals,
+    /// Tags).
     pub(crate) fn definition(&mut self, space: Space) -> Result<(), Fault> {
         let index = self.item(space)?;
         self.inline_exports(space, index)?;

@@ -4,7 +4,7 @@ use smith_bytes::Error as SourceError;
 use std::alloc::{AllocError, AllocFailed};
 use thiserror::Error;
 
-/// The reason why a text is no shape.
+/// The reason why a text spells no shape.
 #[derive(Clone, Copy, Debug, PartialEq, Eq, Error)]
 pub enum TextFault {
     /// The allocator refused memory.
@@ -28,22 +28,22 @@ pub enum TextFault {
     /// There is no string here.
     #[error("no string, where one is expected")]
     NoString,
-    /// There is no opening parenthesis here with the right keyword.
+    /// An opening parenthesis with the right keyword is missing here.
     #[error("no field of this kind, where one is expected")]
     NoField,
     /// There is no closing parenthesis here.
     #[error("no closing parenthesis, where one is expected")]
     NoClose,
-    /// A field of a module is none of those of the standard (Modules).
+    /// The standard has no such field of a module (Modules).
     #[error("no field of a module")]
     UnknownField,
-    /// There is no type here, or one that the standard does not have (Types).
+    /// A type is missing here, or the standard does not have it (Types).
     #[error("no type, where one is expected")]
     NoType,
-    /// There is no whole number here, or one that is too large (Integers).
+    /// A whole number is missing here, or is too large (Integers).
     #[error("no whole number in range, where one is expected")]
     Number,
-    /// A page size is no power of two.
+    /// A page size is not a power of two.
     #[error("a page size that is no power of two")]
     PageSize,
     /// There is no index or identifier here (Indices).
@@ -61,12 +61,12 @@ pub enum TextFault {
     /// An import follows a definition (Imports).
     #[error("an import after a definition")]
     LateImport,
-    /// A table or a memory has no size: it may be given by its contents, which are not read.
+    /// A table or a memory has no size. Its contents may give the size, but are not read.
     #[error("no size, where one is expected; contents instead of a size are not read")]
     NoSize,
 }
 
-/// A text that is no shape: the first fault, and where it is.
+/// The refusal of a text that spells no shape: its first fault, and the place of the fault.
 #[derive(Clone, Copy, Debug, PartialEq, Eq, Error)]
 #[error("line {line}, column {column}: {fault}")]
 pub struct TextRefusal {

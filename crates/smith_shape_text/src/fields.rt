@@ -3,7 +3,7 @@ use crate::fault::{Fault, TextFault};
 use crate::keywords::find;
 use crate::reading::Reading;
 
-// A field of a module that is no definition of an entity (Modules).
+// A field of a module other than the definition of an entity (Modules).
 #[derive(Clone, Copy)]
 enum Field {
     Type,
@@ -25,7 +25,8 @@ static FIELDS: [(&str, Field); 7] = [
     ("data", Field::Other),
 ];
 
-// Returns the field of the keyword `word`. One that begins with an at sign is an annotation.
+// Returns the field of the keyword `word`. A keyword that begins with an at sign is that of an
+// annotation.
 fn field_of(word: &[u8]) -> Option<Field> {
     match word {
         [b'@', ..] => Some(Field::Other),

@@ -4,7 +4,8 @@ use crate::reading::Reading;
 use smith_types::{EntityType, Import, ImportItem, Imports, Items, Name};
 
 impl Reading<'_> {
-    // Reads an external type in parentheses, with the identifier of the import that it is of, if it has one.
+    // Reads the external type of an import in parentheses, with the identifier of the import if it
+    // has one.
     fn import_type(&mut self) -> Result<(Space, EntityType), Fault> {
         let space = self.open_space()?;
         let _ = self.item(space)?;
@@ -42,8 +43,8 @@ impl Reading<'_> {
         Ok(())
     }
 
-    // Reads the items of a group of imports from `module`: each with a type, or all with the type after
-    // them.
+    // Reads the items of a group of imports from `module`: each with its type, or all with one type
+    // after them.
     fn import_group(&mut self, module: Name) -> Result<Imports, Fault> {
         let mut items = Items::new(self.alloc);
         let mut names = Items::new(self.alloc);
@@ -94,8 +95,8 @@ impl Reading<'_> {
         Ok(())
     }
 
-    /// Reads an import after the keyword and the identifier of a field of `space`, of which `(import` is
-    /// read (Imports).
+    /// Reads an import in a field of `space` after the keyword, the identifier and `(import`
+    /// (Imports).
     pub(crate) fn inline_import(&mut self, space: Space) -> Result<(), Fault> {
         self.want_no_definition()?;
         let module = self.name()?;

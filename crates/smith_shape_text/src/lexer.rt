@@ -22,7 +22,7 @@ pub(crate) struct Token {
     pub(crate) end: usize,
 }
 
-// What is open where a byte is read.
+// The open construct before a byte.
 #[derive(Clone, Copy)]
 enum State {
     // Nothing.

@@ -1,7 +1,7 @@
-//! Reads the shape of a module from the text format of the WebAssembly Core Specification 3.0: its types,
-//! its imports, the types of what it defines, and its exports. Sections in parentheses are those of its
-//! chapter Text Format. Bodies, initialisers, segments and the start function are passed over: only their
-//! parentheses, strings and comments are read.
+//! Reads the shape of a module from the text format of the WebAssembly Core Specification 3.0: its
+//! types, its imports, the types of what it defines, and its exports. Sections in parentheses are
+//! those of its chapter Text Format. Bodies, initialisers, segments and the start function are
+//! skipped: only their parentheses, strings and comments are read.
 #![tactic(auto)]
 
 mod cursor;

@@ -1,8 +1,8 @@
 use crate::cursor::Cursor;
 use crate::fault::{Fault, TextFault};
 
-/// Returns the whole number that `word` is, in decimal or hexadecimal digits with underscores between
-/// them, if it is below 2^64 (Integers).
+/// Returns the whole number that `word` spells in decimal or hexadecimal digits, with underscores
+/// between them, if it is below 2^64 (Integers).
 pub(crate) fn number_of(word: &[u8]) -> Option<u64> {
     match word {
         [b'0', b'x', digits @ ..] => number_in(digits, 16),
@@ -10,7 +10,7 @@ pub(crate) fn number_of(word: &[u8]) -> Option<u64> {
     }
 }
 
-// Returns the number that `digits` are in the base `base`.
+// Returns the number that `digits` spell in the base `base`.
 fn number_in(digits: &[u8], base: u64) -> Option<u64> {
     let mut value = 0u64;
     let mut is_after_digit = false;

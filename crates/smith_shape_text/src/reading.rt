@@ -9,8 +9,8 @@ use smith_config::Shape;
 use smith_types::{Items, SubType};
 use std::alloc::Global;
 
-/// Which of the three readings of a text this is. An identifier and a type may be used before the text has
-/// them.
+/// One of the three readings of a text. A text may use an identifier or a type before it defines
+/// it.
 #[derive(Clone, Copy, Debug, PartialEq, Eq)]
 pub(crate) enum Stage {
     /// The first, which collects identifiers.
@@ -45,7 +45,7 @@ const NO_ITEMS: Counts = Counts {
 #[derive(Drop)]
 pub(crate) struct Reading<'a> {
     pub(crate) alloc: Global,
-    /// What is not read yet.
+    /// The tokens that are not read yet.
     pub(crate) cursor: Cursor<'a>,
     pub(crate) stage: Stage,
     /// The identifiers of the text, or those so far.
@@ -138,9 +138,10 @@ fn read(alloc: Global, text: &[u8]) -> Result<Shape, Fault> {
     read_tokens(alloc, text, tokens.as_slice())
 }
 
-/// Returns the shape of the module that `text` is in the text format. Whether the shape may be used depends
-/// on the configuration: [`Shape::check`] decides it. The time is linear in the length of the text, apart
-/// from identifiers and function types without an index, which are looked up in a map; memory is linear.
+/// Returns the shape of the module that `text` spells in the text format. Whether the shape may be
+/// used depends on the configuration: [`Shape::check`] decides it. The time is linear in the length
+/// of the text, apart from identifiers and function types without an index, which are looked up in
+/// a map; memory is linear.
 ///
 /// # Errors
 ///

@@ -36,7 +36,7 @@ fn heap_code(ty: HeapType) -> u64 {
     }
 }
 
-// Returns the number of a reference type, which is above those of the other value types.
+// Returns the number of a reference type, which is above the numbers of the other value types.
 fn reference_code(ty: RefType) -> u64 {
     let code = heap_code(ty.heap_type).saturating_mul(2);
     let null = if ty.nullable { 1 } else { 0 };
@@ -128,7 +128,7 @@ impl Signatures {
         Ok(index)
     }
 
-    /// Returns the index of `signature`, and whether it is that of a new type, which is counted.
+    /// Returns the index of `signature`, and whether its type is new. Counts a new type.
     pub(crate) fn index_of(
         &mut self,
         alloc: Global,

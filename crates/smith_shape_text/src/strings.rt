@@ -3,7 +3,7 @@ use crate::numbers::digit_of;
 use crate::reading::Reading;
 use smith_types::Name;
 
-// What is open where a byte of a string is read.
+// The open escape before a byte of a string.
 #[derive(Clone, Copy)]
 enum State {
     // Nothing.

@@ -16,9 +16,9 @@ fn plain_type(signature: FuncType) -> SubType {
 }
 
 impl Reading<'_> {
-    /// Reads a type use, and returns the index of its type (Type Uses). Parameters and results after an
-    /// index are read, but not compared with the type. Without an index they are those of the first type
-    /// that has them, or of a new one after all others.
+    /// Reads a type use, and returns the index of its type (Type Uses). Parameters and results
+    /// after an index are read, but not compared with the type. Without an index, the type is the
+    /// first with these parameters and results, or a new type after all others.
     pub(crate) fn type_use(&mut self) -> Result<u32, Fault> {
         if self.cursor.try_open(b"type") {
             let index = self.index(Space::Type)?;

@@ -31,7 +31,7 @@ impl Reading<'_> {
         })
     }
 
-    // Appends the value types to `values` that are in parentheses after a keyword: one with an identifier,
+    // Appends to `values` the value types in parentheses after a keyword: one with an identifier,
     // or any number (Function Types). The keyword is read already.
     fn append_values(&mut self, values: &mut Items<ValType>) -> Result<(), Fault> {
         if self.cursor.identifier().is_some() {
@@ -47,7 +47,7 @@ impl Reading<'_> {
         self.cursor.close()
     }
 
-    // Appends the fields to `fields` that are in parentheses after a keyword, which is read already
+    // Appends to `fields` the fields in parentheses after a keyword, which is read already
     // (Composite Types).
     fn append_fields(&mut self, fields: &mut Items<FieldType>) -> Result<(), Fault> {
         if self.cursor.identifier().is_some() {
@@ -75,7 +75,7 @@ impl Reading<'_> {
         Ok(values)
     }
 
-    /// Reads parameters and results, which may be none (Function Types).
+    /// Reads parameters and results, if there are any (Function Types).
     pub(crate) fn signature(&mut self) -> Result<FuncType, Fault> {
         let params = self.values(b"param")?;
         let results = self.values(b"result")?;

@@ -36,7 +36,7 @@ static ABBREVIATIONS: [(&str, AbstractHeapType); 12] = [
     ("nullexnref", AbstractHeapType::NoExn),
 ];
 
-// The keyword of each value type that is no reference type (Number Types, Vector Types).
+// The keyword of each number type and vector type (Number Types, Vector Types).
 static NUMBER_TYPES: [(&str, ValType); 5] = [
     ("i32", ValType::I32),
     ("i64", ValType::I64),

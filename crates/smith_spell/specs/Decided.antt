@@ -1,4 +1,4 @@
--- Properties of wholes, stated for the parts that decisions test. Proofs derive the family's rules.
+-- Rules of the family stated part by part, as the decision procedures test them.
 use Rattle.std.specs.Prelude.{◌≡◌, ◌<◌, ◌≤◌, false, IsTrue, List, [], ◌∷◌, ◌++◌, length, All}
 use Rattle.std.specs.List.{list_any}
 use Rattle.smith_types.specs.Grounds.{is_ground_of}
@@ -14,13 +14,13 @@ use Rattle.smith_spell.specs.declared.earlier.Known.{Known}
 use Rattle.smith_spell.specs.Family.{IsMemberType}
 use Rattle.smith_config.specs.Minimums.{HasNoMinimums}
 
--- the configuration imposes no minimums, shapes or export-everything
+-- the configuration has no minimums and no shapes, and does not export everything
 pub record AsksForNothing (config : Config) : Type 0 where
   pub no_minimums : HasNoMinimums config
   pub no_shapes : HasNoShapes config
   pub not_everything : config.export_everything ≡ false
 
--- an abstract heap type that may be drawn for the configuration
+-- an abstract heap type can be drawn for the configuration
 abbrev pub IsOffered : Config → AbstractHeapType → Type 0
 IsOffered config Func = Unit {0}
 IsOffered config Extern = Unit {0}
@@ -35,19 +35,19 @@ IsOffered config Struct = IsTrue config.gc_enabled
 IsOffered config Array = IsTrue config.gc_enabled
 IsOffered config I31 = IsTrue config.gc_enabled
 
--- each of these types is a member after the first types and those before it
+-- each type is a member after the types `before` and the types in front of it
 abbrev pub AreMembersAfter : Config → List SubType → List SubType → Type 0
 AreMembersAfter config before [] = Unit {0}
 AreMembersAfter config before (t ∷ types) = IsMemberType config before t × AreMembersAfter config (before ++ t ∷ []) types
 
--- facts about types without supertypes: their number, and whether one of them is an unshared struct
--- type whose fields all have defaults
+-- facts about types without supertypes: their number, and whether one is ground, i.e. an unshared
+-- struct type whose fields all have defaults
 pub record IsKnown (types : List SubType) (known : Known) : Type 0 where
   pub counted : known.count ≡ length types
   pub grounds : known.has_ground ≡ list_any (is_ground_of false) types
   pub roots : All IsRoot types
 
--- groups that lists of the family may have
+-- lists of the family may have these groups
 pub record AreGroupsInFamily (config : Config) (groups : List (List SubType)) : Type 0 where
   pub filled : All (λ (group : List SubType). 0 < length group) groups
   pub single : config.gc_enabled ≡ false → All (λ (group : List SubType). length group ≡ 1) groups

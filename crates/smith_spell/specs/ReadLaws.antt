@@ -1,4 +1,4 @@
--- The types that are drawn from bytes that spell them.
+-- Drawing types from bytes that spell them.
 use Rattle.std.specs.Prelude.{◌≡◌, ℕ, false, List, [], ◌++◌}
 use Rattle.smith_types.specs.Expressions.{Context}
 use Rattle.smith_syntax.specs.declared.composite_type.SubType.{SubType}
@@ -10,8 +10,9 @@ use Rattle.smith_draw_types.specs.RecGroups.{types_at}
 use Rattle.smith_draw_types.specs.Spelling.{SpellsGroups}
 use Rattle.smith_spell.specs.Family.{IsInFamily}
 
--- with a minimum of 0 types, the groups of each member of the family are drawn from each piece that
--- spells them, and the bytes after it are left, whichever functions exist
+-- with a minimum of 0 types, each piece that spells the groups of a member of the family gives
+-- these groups when types are drawn from it, and the bytes after it are left, whichever functions
+-- exist
 abbrev pub GroupsAreRead : Type 0
 GroupsAreRead =
     (config : Config) (functions : Context) (groups : List (List SubType)) (funcs : List ℕ) (piece after : List ℕ)

@@ -49,7 +49,7 @@ impl Known {
     }
 }
 
-/// The types before a type: those of the groups before its own, and those before it in its own.
+/// The types before a type: the types of earlier groups, and the earlier types of its own group.
 #[derive(Drop)]
 pub(crate) struct Earlier<'a> {
     groups: &'a [Items<SubType>],
@@ -72,7 +72,7 @@ impl<'a> Model for Earlier<'a> {
 }
 
 impl<'a> Earlier<'a> {
-    /// Creates the list of the types of `groups`, followed by those of `group`. `known` holds the
+    /// Creates the list of the types of `groups`, followed by the types of `group`. `known` has the
     /// facts about all of them.
     pub(crate) fn new(
         groups: &'a [Items<SubType>],
@@ -97,7 +97,7 @@ impl<'a> Earlier<'a> {
     }
 
     /// Returns whether one of the types is a struct type that grounds `ty`, a heap type that a
-    /// later type may name.
+    /// later type may refer to.
     pub(crate) fn is_grounded(&self, config: &Config, ty: HeapType) -> bool
         requires { IsMemberHeapType config.now self.now ty }
         ensures { IsTrue result

@@ -15,7 +15,7 @@ use smith_validity::are_funcs_valid;
 use std::alloc::Global;
 
 /// Returns the type space of `groups` if `groups` and `funcs` are in the family of `config`, or
-/// `None`. Allocates only if `groups` are those of a member, and `funcs` are few enough.
+/// `None`. Allocates only if `groups` are the groups of a member, and `funcs` are few enough.
 pub(crate) fn member_space(
     alloc: Global,
     config: &Config,
@@ -45,7 +45,7 @@ pub(crate) fn member_space(
     Ok(Some(space))
 }
 
-/// Returns whether the groups of a member of the family may be `groups`. Does not allocate.
+/// Returns whether a member of the family may have the groups `groups`. Does not allocate.
 fn are_groups_in_family(config: &Config, groups: &[Items<SubType>]) -> bool
     ensures { IsTrue result ↔ AreGroupsInFamily config.now groups.now }
 {
@@ -104,8 +104,8 @@ fn are_members(config: &Config, groups: &[Items<SubType>]) -> bool
     true
 }
 
-// Returns the facts about the types of `groups` followed by those of `group`, or `None` if a type
-// of `group` isn't a member there. `known` are the facts about the types of `groups`.
+// Returns the facts about the types of `groups` followed by the types of `group`, or `None` if a
+// type of `group` is not allowed there. `known` are the facts about the types of `groups`.
 fn known_after(
     config: &Config,
     groups: &[Items<SubType>],

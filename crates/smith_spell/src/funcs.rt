@@ -39,7 +39,7 @@ fn func_places(alloc: Global, types: &[SubType]) -> Result<Items<usize>, Error>
     Ok(places)
 }
 
-/// Writes `funcs`, each as the place of its type among those that functions may have.
+/// Writes `funcs`, each as the position of its type among the types that functions may have.
 pub(crate) fn write_funcs(
     alloc: Global,
     config: &Config,

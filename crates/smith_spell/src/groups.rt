@@ -13,8 +13,8 @@ use smith_bytes::Error;
 use smith_config::Config;
 use smith_types::{Items, SubType};
 
-/// Writes the size `size` of a group, which is at most `room`. First writes that no group is cloned
-/// if a group exists before it, as `stands` states. Writes nothing without garbage collection.
+/// Writes the size `size` of a group, which is at most `room`. First writes that no group is
+/// cloned, if there is an earlier group (`stands`). Writes nothing without garbage collection.
 fn write_size(
     config: &Config,
     stands: bool,

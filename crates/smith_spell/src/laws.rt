@@ -1,7 +1,7 @@
 ghost use Rattle.smith_spell.specs.ReadLaws.{GroupsAreRead};
 
-/// States that the groups of each member of the family are drawn from each piece of bytes that
-/// spells them.
+/// States that from each piece of bytes that spells the groups of a member of the family, these
+/// groups are drawn.
 pub fn groups_are_read()
     ensures { GroupsAreRead }
 {}

@@ -26,7 +26,7 @@ pub(crate) fn write_end(may_go_on: bool, bytes: &mut Items<u8>) -> Result<(), Er
     Ok(())
 }
 
-/// Writes the byte of a flag that is off.
+/// Writes the byte of a cleared flag.
 pub(crate) fn write_flag(bytes: &mut Items<u8>) -> Result<(), Error>
     ensures writes { OnOk result (Writes SpellsAnyByte bytes.old bytes.new) }
     ensures memory { IfErr result (λ e. e ≡ Memory) }
@@ -56,7 +56,7 @@ pub(crate) fn write_number(number: usize, most: usize, bytes: &mut Items<u8>) ->
     write_digits(number, most, bytes)
 }
 
-/// Writes that the first of `chances` chances is not drawn, if `is_asked` is set.
+/// Writes a choice other than the first of `chances`, if `is_asked` is `true`.
 pub(crate) fn write_refusal(
     is_asked: bool,
     chances: usize,

@@ -7,8 +7,8 @@ ghost use Rattle.smith_spell.specs.Decided.{AsksForNothing};
 
 use smith_config::Config;
 
-/// Returns whether `config`, once sanitised, imposes no minimums, shapes or export-everything.
-/// Does not allocate, and reads no shape.
+/// Returns whether `config`, once sanitised, has no minimums and no shapes, and does not export
+/// everything. Does not allocate, and reads no shape.
 pub(crate) fn requires_nothing(config: &Config) -> bool
     ensures { IsTrue result ↔ AsksForNothing (sanitized config.now) }
 {

@@ -59,8 +59,7 @@ fn spell_in_family(
 ///
 /// Returns `None` if no bytes are certain to produce such a module:
 ///
-/// - `config`, once sanitised, fails its check, sets a minimum, holds a shape or exports
-///   everything;
+/// - `config`, once sanitised, fails its check, sets a minimum, has a shape or exports everything;
 /// - or `groups` and `funcs` are outside the family of lists that draws reach.
 ///
 /// Types of the family are unshared, have no supertype, and refer only to earlier types. Their

@@ -13,7 +13,7 @@ use smith_bytes::Error;
 use smith_config::Config;
 use smith_types::{Items, SubType};
 
-/// A summary of the types before others, which decides the bytes of the others.
+/// A summary of earlier types, which determines the bytes of later types.
 #[derive(Clone, Copy)]
 pub(crate) struct Before {
     /// The number of these types.

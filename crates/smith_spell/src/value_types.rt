@@ -33,7 +33,7 @@ fn count_classes(config: &Config) -> usize
     2 + floats + usize::from(config.simd_enabled) + usize::from(config.reference_types_enabled)
 }
 
-/// Returns the place of the class of `value` among those that `config` enables.
+/// Returns the position of the class of `value` among the classes that `config` enables.
 fn class_place(config: &Config, value: ValType) -> usize
     ensures { (types : List Sub) → IsMemberValType config.now types value
         → slice_get (enabled (value_classes config.now)) result ≡ Some (class_of value) }
@@ -118,7 +118,7 @@ fn write_abstract(config: &Config, ty: AbstractHeapType, bytes: &mut Items<u8>) 
     )
 }
 
-/// Writes `ty`, a heap type that a type of the family may name.
+/// Writes `ty`, a heap type that a type of the family may refer to.
 fn write_heap_type(
     config: &Config,
     limit: usize,
@@ -157,7 +157,7 @@ fn write_nullable(config: &Config, nullable: bool, bytes: &mut Items<u8>) -> Res
     Ok(())
 }
 
-/// Writes `reference`, a reference type that a type of the family may name.
+/// Writes `reference`, a reference type that a type of the family may have.
 fn write_ref_type(
     config: &Config,
     limit: usize,
@@ -189,7 +189,7 @@ fn write_class(
     write_number(class_place(config, value), count_classes(config) - 1, bytes)
 }
 
-/// Writes `value`, a value type that a type of the family may name.
+/// Writes `value`, a value type that a type of the family may have.
 pub(crate) fn write_val_type(
     config: &Config,
     limit: usize,

@@ -65,11 +65,11 @@ feature_rows features =
     (features.custom_descriptors, 8388608) ∷
     []
 
--- whether all wanted bits are set
+-- whether all bits of `wanted` are set in `bits`
 abbrev pub has : ℕ → ℕ → Bool
 has bits wanted = bit_and bits wanted == wanted
 
--- the bits, joined with others if wanted
+-- `bits` together with `others`, if `wanted` is true; else `bits`
 unfoldable pub joined : ℕ → Bool → ℕ → ℕ
 joined bits wanted others = if wanted then bit_or bits others else bits
 

@@ -22,7 +22,8 @@ use Rattle.smith_syntax.specs.declared.instruction_kind.InstructionKind.TheVaria
 use Rattle.smith_syntax.specs.declared.instruction_kind.InstructionKinds.{InstructionKinds}
 use Rattle.smith_syntax.specs.declared.instruction_kind.UnknownKind.{UnknownKind}
 
--- the bits of a kind: its own bit, and for a kind with floats also that of the kind without
+-- the bits of a kind: its own bit, and for a kind with floats also the bit of its counterpart
+-- without floats
 abbrev pub kind_bits : InstructionKind → ℕ
 kind_bits NumericInt = 2 ^ 0
 kind_bits Numeric = 2 ^ 1 + 2 ^ 0
@@ -37,8 +38,7 @@ kind_bits Memory = 2 ^ 9 + 2 ^ 8
 kind_bits Control = 2 ^ 10
 kind_bits Aggregate = 2 ^ 11
 
--- the bits that concern floats: those that Numeric, Vector and Memory have and their counterparts
--- without floats lack
+-- the bits that only kinds with floats have: one each for Numeric, Vector and Memory
 abbrev pub float_bits : ℕ
 float_bits = 2 ^ 1 + 2 ^ 3 + 2 ^ 9
 
@@ -53,7 +53,7 @@ every_kind = record { 0 = 2 ^ 12 - 1 }
 abbrev pub no_kind : InstructionKinds
 no_kind = record { 0 = 0 }
 
--- the set, with a kind added if it is wanted
+-- the set, with `kind` added if `wanted` is true
 unfoldable pub with_kind : InstructionKinds → Bool → InstructionKind → InstructionKinds
 with_kind kinds wanted kind = record { 0 = if wanted then bit_or kinds.0 (kind_bits kind) else kinds.0 }
 
@@ -97,12 +97,12 @@ kind_table =
 abbrev pub IsNamed : List ℕ → InstructionKind → Type 0
 IsNamed text kind = map to_ascii_lowercase text ≡ instruction_kind_name kind
 
--- the result of parsing a kind: the kind named by the text, or an error if it names none
+-- the result of parsing a kind: the kind that the text names, or an error if the text names none
 abbrev pub IsReadKind : List ℕ → Result InstructionKind UnknownKind → Type 0
 IsReadKind text (Ok kind) = IsNamed text kind
 IsReadKind text (Err e) = ((kind : InstructionKind) → ¬ IsNamed text kind) × (e.part ≡ 0)
 
--- the part at this position names no kind, and each part before it names one
+-- the part at `place` names no kind, and each part before it names a kind
 pub record IsFirstUnknown (parts : List (List ℕ)) (place : ℕ) : Type 0 where
   pub text : List ℕ
   pub there : slice_get parts place ≡ Some text
@@ -110,8 +110,8 @@ pub record IsFirstUnknown (parts : List (List ℕ)) (place : ℕ) : Type 0 where
   pub kinds : List InstructionKind
   pub before : AllZip IsNamed (take place parts) kinds
 
--- the result of parsing a set: the kinds named by the parts of the text, or the position of the
--- first part that names none
+-- the result of parsing a set: the kinds that the parts of the text name, or the position of the
+-- first part that names no kind
 abbrev pub AreReadKinds : List ℕ → Result InstructionKinds UnknownKind → Type 0
 AreReadKinds text (Ok all) = (kinds : List InstructionKind) × AllZip IsNamed (split_at_commas text) kinds
     × (kinds_bits all ≡ union_of kinds)

@@ -6,25 +6,25 @@ use Rattle.smith_syntax.specs.declared.composite_type.CompositeInnerType.{Compos
 use Rattle.smith_syntax.specs.declared.composite_type.CompositeInnerType.TheVariants.{Array, Func, Struct}
 use Rattle.smith_syntax.specs.declared.composite_type.SubType.{SubType}
 
--- the abstract heap type that is a supertype of every composite type of its kind (Validation,
--- Matching, Heap Types)
+-- the abstract heap type of a composite type: array, func or struct (Validation, Matching, Heap
+-- Types)
 abbrev pub kind_of : CompositeInnerType → AbstractHeapType
 kind_of (Array a) = heap.Array
 kind_of (Func f) = heap.Func
 kind_of (Struct s) = heap.Struct
 
--- the abstract heap type that is a subtype of every composite type of its kind (Validation,
+-- the bottom type of a composite type's hierarchy: none, or nofunc for a function type (Validation,
 -- Matching, Heap Types)
 abbrev pub bottom_of : CompositeInnerType → AbstractHeapType
 bottom_of (Array a) = heap.None
 bottom_of (Func f) = heap.NoFunc
 bottom_of (Struct s) = heap.None
 
--- the kind of a subtype's composite type (Validation, Matching, Heap Types)
+-- the abstract heap type of a subtype's composite type (Validation, Matching, Heap Types)
 abbrev pub kind : SubType → AbstractHeapType
 kind t = kind_of t.composite_type.inner
 
--- the bottom of a subtype's kind (Validation, Matching, Heap Types)
+-- the bottom type of a subtype's hierarchy (Validation, Matching, Heap Types)
 abbrev pub bottom : SubType → AbstractHeapType
 bottom t = bottom_of t.composite_type.inner
 

@@ -58,7 +58,7 @@ use Rattle.smith_syntax.specs.contracts.composite_type.CompositeInnerTypePartial
 use Rattle.smith_syntax.specs.contracts.composite_type.CompositeTypePartialEq.TheImpl.{ghosts as composite_same}
 use Rattle.smith_syntax.specs.contracts.composite_type.SubTypePartialEq.TheImpl.{ghosts as sub_same}
 
--- lists are equal element by element if `==` of elements is exact
+-- element-by-element equality of lists is exact if the `==` of the elements is exact
 pub exact_items : {A : Type 0} {E : A → A → Bool} → ((a b : A) → Decides (E a b) (a ≡ b)) → (xs ys : List A)
     → Decides (pointwise E xs ys) (xs ≡ ys)
 exact_items exact xs ys = slice_eq-Decides exact xs ys _ refl

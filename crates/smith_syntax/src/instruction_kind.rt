@@ -50,8 +50,7 @@ pub enum InstructionKind {
     Aggregate,
 }
 
-/// The error of parsing a kind or a set of kinds: a part of the text between commas is no name of a
-/// kind.
+/// The error of parsing a kind or a set of kinds: a part of the text between commas names no kind.
 #[derive(Clone, Copy, Debug, PartialEq, Eq, Error)]
 #[error("part {part} names no kind of instructions")]
 pub struct UnknownKind {
@@ -65,7 +64,7 @@ pub struct UnknownKind {
 #[derive(Clone, Copy, Debug, PartialEq, Eq)]
 pub struct InstructionKinds(u16);
 
-// The bits that the kinds with floats have and their counterparts without floats lack.
+// The bits that only kinds with floats have, and not their counterparts without floats.
 const FLOATS: InstructionKinds = InstructionKinds(2 + 8 + 512);
 
 const KINDS: [InstructionKind; 12] = [
@@ -84,7 +83,7 @@ const KINDS: [InstructionKind; 12] = [
 ];
 
 impl InstructionKind {
-    // Returns the set of this kind alone.
+    // Returns the set with only this kind.
     fn set(self) -> InstructionKinds
         ensures { kinds_bits result ≡ kind_bits self }
     {

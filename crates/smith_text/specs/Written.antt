@@ -3,7 +3,7 @@ use Rattle.std.specs.Prelude.{ℕ, ◌+◌, ◌≤◌, List, length}
 use Rattle.smith_syntax.specs.declared.code.Instructions.{Instructions}
 use Rattle.smith_syntax.specs.declared.code.Instructions.TheVariants.{Unreachable, Arbitrary}
 
--- no byte is lost: the new destination has all that the old one has
+-- no byte is lost: the new destination has at least the bytes of the old one
 abbrev pub Keeps : {S : Type 0} → (S → ℕ → Type 0) → S → S → Type 0
 Keeps has old new = (before : ℕ) → has old before → has new before
 
@@ -11,11 +11,11 @@ Keeps has old new = (before : ℕ) → has old before → has new before
 abbrev pub Writes : {S : Type 0} → (S → ℕ → Type 0) → S → ℕ → S → Type 0
 Writes has old count new = (before after : ℕ) → has old before → before ≤ after → after ≤ before + count → has new after
 
--- a measure of writers that each text increases by its bytes at least
+-- a measure of writers that each text increases by at least its number of bytes
 abbrev pub IsMeasure : {W : Type 0} → (W → List ℕ → W → Type 0) → (W → ℕ) → Type 0
 IsMeasure {W} gives size = (old : W) (text : List ℕ) (new : W) → gives old text new → size old + length text ≤ size new
 
--- the writer has at least `count` bytes by every such measure
+-- the writer has at least `count` bytes by each such measure
 pub record HasBytes {W : Type 0} (gives : W → List ℕ → W → Type 0) (writer : W) (count : ℕ) : Type 0 where
   pub by_measure : (size : W → ℕ) → IsMeasure gives size → count ≤ size writer
 

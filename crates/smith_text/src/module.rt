@@ -39,15 +39,15 @@ impl Layout {
     }
 }
 
-// Returns the number of items that a module imports, and those of `all` that it defines, which are
-// the last `defined`.
+// Returns the number of items that a module imports, and the last `defined` items of `all`, which
+// it defines.
 fn split_defined<T>(all: &[T], defined: usize) -> (usize, &[T]) {
     let imported = all.len().saturating_sub(defined);
     (imported, all.get(imported..).unwrap_or(&[]))
 }
 
-// Writes those of `tables` that a module defines, which are the last, with their initialisers. The
-// section Text Format, Tables. A table without an initialiser has null references.
+// Writes the tables that a module defines, which are the last of `tables`, with their initialisers.
+// The section Text Format, Tables. A table without an initialiser has null references.
 fn write_tables<S: Sink>(
     tables: &[TableType],
     initialisers: &[Option<Items<ConstInstr>>],
@@ -65,8 +65,8 @@ fn write_tables<S: Sink>(
     Ok(())
 }
 
-// Writes those of `memories` that a module defines, the last `defined`. The section Text Format,
-// Memories.
+// Writes the last `defined` memories of `memories`, which a module defines. The section Text
+// Format, Memories.
 fn write_memories<S: Sink>(memories: &[MemoryType], defined: usize, sink: &mut S) -> fmt::Result
     requires open { S.failed sink.old ≡ false }
     ensures fault { S.failed sink.new ≡ is_err result }
@@ -79,8 +79,8 @@ fn write_memories<S: Sink>(memories: &[MemoryType], defined: usize, sink: &mut S
     Ok(())
 }
 
-// Writes those of `tags` that a module defines, the last `defined`, with the parameters of the types
-// among `signatures`. The section Text Format, Tags.
+// Writes the last `defined` tags of `tags`, which a module defines, with the parameters of the
+// types among `signatures`. The section Text Format, Tags.
 fn write_tags<S: Sink>(
     tags: &[u32],
     defined: usize,
@@ -100,8 +100,8 @@ fn write_tags<S: Sink>(
     Ok(())
 }
 
-// Writes those of `globals` that a module defines, with their indices and initialisers. The section
-// Text Format, Globals.
+// Writes the globals of `globals` that a module defines, with their indices and initialisers. The
+// section Text Format, Globals.
 fn write_globals<S: Sink>(
     globals: &[GlobalType],
     initialisers: &[(u32, Items<ConstInstr>)],

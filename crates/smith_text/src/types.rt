@@ -138,7 +138,7 @@ fn write_type<S: Sink>(indent: &str, index: usize, ty: &SubType, sink: &mut S) -
     (opening, ";) ", (ty, ")\n")).write_text(sink)
 }
 
-// Writes the types of a group of other than one type, of which the first has the index `start`.
+// Writes the types of a group that does not have exactly one type. The first has the index `start`.
 fn write_several<S: Sink>(start: usize, members: &[SubType], sink: &mut S) -> fmt::Result
     requires open { S.failed sink.old ≡ false }
     ensures fault { S.failed sink.new ≡ is_err result }
@@ -164,8 +164,8 @@ fn write_group<S: Sink>(types: &[SubType], group: &Range<usize>, sink: &mut S) -
     }
 }
 
-/// Writes the types of a module, `types`, of which each of `groups` is a recursive group. Requires that
-/// no write to `sink` has failed.
+/// Writes the types `types` of a module, whose recursive groups are `groups`. Requires that no
+/// write to `sink` has failed.
 ///
 /// # Errors
 ///

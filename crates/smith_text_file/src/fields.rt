@@ -21,7 +21,7 @@ use std::alloc::Global;
 use std::ops::Range;
 use std::{fmt, mem};
 
-/// A decoded module whose types are in one list, so that an index gives its type, with its names.
+/// A decoded module with its names. Its types are in one list, so that an index gives its type.
 #[derive(Drop)]
 pub struct File {
     types: Vec<SubType>,
@@ -71,7 +71,7 @@ fn flatten(
     Ok((types, groups))
 }
 
-// Returns the initialiser of `table`, unless it is the one of a table that is written without.
+// Returns the initialiser of `table`, unless the text leaves it out.
 fn initialiser<'a>(
     table: &'a TableDefinition,
     signatures: &'a [SubType],
@@ -88,7 +88,7 @@ fn initialiser<'a>(
     })
 }
 
-// Writes the tables that a module defines, of which the first has the index `start`. The section Text
+// Writes the tables that a module defines. The first has the index `start`. The section Text
 // Format, Tables.
 fn write_tables<S: Sink>(
     tables: &[TableDefinition],

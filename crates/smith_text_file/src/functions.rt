@@ -80,8 +80,9 @@ fn write_function<S: Sink>(
     sink.write_str("  )\n")
 }
 
-/// Writes functions of these types and bodies, of which the first has the index `start`, after comments
-/// with their names. The function types among `signatures` are written with their parameters and results.
+/// Writes functions of these types and bodies after comments with their names. The first function
+/// has the index `start`. The function types among `signatures` are written with their parameters
+/// and results.
 pub(crate) fn write_functions<S: Sink>(
     types: &[u32],
     bodies: &[Body],

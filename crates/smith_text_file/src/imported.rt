@@ -1,6 +1,6 @@
 use smith_types::{EntityType, Imports};
 
-/// The number of imports of each kind, which is the index of the first entity that is defined.
+/// The number of imports of each kind, which is the index of the first defined entity of the kind.
 #[derive(Clone, Copy)]
 pub(crate) struct Imported {
     pub(crate) globals: usize,

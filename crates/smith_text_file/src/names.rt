@@ -39,8 +39,8 @@ impl Names {
         }
     }
 
-    /// Returns the names of the first name section among `customs`, or no names if there is none or it is
-    /// malformed, which is no fault of a module.
+    /// Returns the names of the first name section among `customs`, or no names if there is none or
+    /// it is malformed. A malformed name section is not a fault of a module.
     pub(crate) fn of(alloc: Global, customs: &[Custom]) -> Result<Names, Error>
         ensures memory { IfErr result (λ e. e ≡ Error.Memory) }
     {
@@ -50,8 +50,8 @@ impl Names {
         }
     }
 
-    // Reads the names of the subsection `id`. Others than those of the module, functions and locals are
-    // skipped.
+    // Reads the names of the subsection `id`. Skips subsections other than the names of the module,
+    // of functions and of locals.
     fn read_subsection(&mut self, id: u8, reader: &mut Reader<'_>) -> Result<(), ReadError> {
         match id {
             0 => self.module = Some(Name::decode(reader)?),
@@ -97,7 +97,7 @@ fn read_names(reader: &mut Reader<'_>) -> Result<Names, ReadError> {
     Ok(names)
 }
 
-// Reads an index above that of `last`.
+// Reads an index above the index of `last`.
 fn read_next_index(reader: &mut Reader<'_>, last: Option<u32>) -> Result<u32, ReadError> {
     let unordered = reader.fault(Reason::UnknownByte);
     let index = reader.read_u32()?;
@@ -107,7 +107,7 @@ fn read_next_index(reader: &mut Reader<'_>, last: Option<u32>) -> Result<u32, Re
     }
 }
 
-// Reads a list of names, each of an index above the one before.
+// Reads a list of names, each with an index above the index before.
 fn read_map(reader: &mut Reader<'_>) -> Result<Vec<Named>, ReadError> {
     let count = reader.read_u32()?;
     let mut names = Vec::new(reader.alloc());
@@ -121,7 +121,7 @@ fn read_map(reader: &mut Reader<'_>) -> Result<Vec<Named>, ReadError> {
     Ok(names)
 }
 
-// Reads a list of the names of the locals of functions, each of an index above the one before.
+// Reads a list of the names of the locals of functions, each with an index above the index before.
 fn read_local_maps(reader: &mut Reader<'_>) -> Result<Vec<NamedLocals>, ReadError> {
     let count = reader.read_u32()?;
     let mut maps = Vec::new(reader.alloc());

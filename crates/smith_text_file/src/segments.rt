@@ -8,7 +8,7 @@ use smith_text::{Sink, TextForm, write_field, write_string};
 use smith_types::{Items, SubType};
 use std::fmt;
 
-// Writes the use of the table or the memory `index` before a space. The first one is left out.
+// Writes the use of the table or the memory `index` before a space, unless `index` is 0.
 fn write_target<S: Sink>(opening: &str, index: u32, sink: &mut S) -> fmt::Result
     requires open { S.failed sink.old ≡ false }
     ensures fault { S.failed sink.new ≡ is_err result }

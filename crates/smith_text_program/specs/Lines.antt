@@ -3,7 +3,7 @@ use Rattle.std.specs.Prelude.{ℕ, ◌+◌, ◌-◌, ◌*◌, ◌^◌, min, List
 use Rattle.smith_instr.specs.declared.instr.Instr.{Instr}
 use Rattle.smith_instr.specs.declared.instr.Instr.TheVariants.{Block, Loop, If, Else, End, TryTable}
 
--- the depth of the line of an instruction, if those before it are at `depth`
+-- the depth of an instruction's line, after lines at `depth`
 abbrev pub depth_of_line : Instr → ℕ → ℕ
 depth_of_line Else depth = depth - 1
 depth_of_line End depth = depth - 1
@@ -22,7 +22,7 @@ depth_after_line _ depth = depth
 abbrev pub line_size : Instr → ℕ → ℕ
 line_size instruction depth = 2 * min (depth_of_line instruction depth) 64 + 2
 
--- the checks of counters of fuel: nine lines each
+-- the checks of fuel counters, nine lines each
 abbrev pub checks_size : ℕ → ℕ
 checks_size counters = 18 * counters
 
@@ -31,7 +31,7 @@ abbrev pub checks_after : Instr → ℕ → ℕ
 checks_after (Loop _) counters = checks_size counters
 checks_after _ counters = 0
 
--- the lines of instructions, the first at `depth`, with the checks of that many counters
+-- the lines of instructions, the first at `depth`, with the checks of `counters` counters
 unfoldable pub lines_size : List Instr → ℕ → ℕ → ℕ
 lines_size [] counters depth = 0
 lines_size (instruction ∷ rest) counters depth =

@@ -23,7 +23,7 @@ fn use_of(index: u32, signatures: &[SubType]) -> TypeUse<'_> {
     TypeUse { index, signatures }
 }
 
-/// Writes `instruction` in its plain form, without a line break: the standard's section Text
+/// Writes `instruction` in its plain form, without a line break: see the standard, section Text
 /// Format, Instructions.
 ///
 /// Indices are numbers, and blocks have no labels of their own. The function types among

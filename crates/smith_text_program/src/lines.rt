@@ -53,8 +53,8 @@ fn write_indent<S: Sink>(depth: usize, sink: &mut S) -> fmt::Result
     Ok(())
 }
 
-// Writes the line of `instruction`, if those before it are at the depth `depth`. Returns the depth
-// of those after it.
+// Writes the line of `instruction`, if the instructions before it are at the depth `depth`. Returns
+// the depth of the instructions after it.
 fn write_line<S: Sink>(
     instruction: &Instr,
     signatures: &[SubType],
@@ -74,9 +74,9 @@ fn write_line<S: Sink>(
 }
 
 /// Writes `instructions` in their plain form, one line each. The first is at the depth `depth`, at
-/// two spaces per level, and those of a block are one level deeper than its start and its end. Levels
-/// past the 64th are not indented further. The function types among `signatures` are written with their
-/// parameters and results. No write to `sink` may have failed before.
+/// two spaces per level. The instructions inside a block are one level deeper than its start and
+/// its end. Levels past the 64th are not indented further. The function types among `signatures`
+/// are written with their parameters and results. No write to `sink` may have failed before.
 ///
 /// # Errors
 ///

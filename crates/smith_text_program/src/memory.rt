@@ -66,7 +66,7 @@ pub(crate) fn vector_load_keyword(op: VectorLoad) -> &'static str
     }
 }
 
-// Writes the index of a memory after a space, which is left out for the first.
+// Writes the index of a memory after a space, unless it is 0.
 fn write_memory_index<S: Sink>(memory: u32, sink: &mut S) -> fmt::Result
     requires open { S.failed sink.old ≡ false }
     ensures fault { S.failed sink.new ≡ is_err result }
@@ -88,8 +88,7 @@ pub(crate) fn write_access<S: Sink>(keyword: &str, at: MemArg, sink: &mut S) -> 
     write_mem_arg(at, sink)
 }
 
-/// Writes the place of an access to a memory, after a space. An alignment that does not fit 64 bits
-/// is written as 0.
+/// Writes a memory argument after a space. An alignment that does not fit 64 bits is written as 0.
 pub(crate) fn write_mem_arg<S: Sink>(at: MemArg, sink: &mut S) -> fmt::Result
     requires open { S.failed sink.old ≡ false }
     ensures fault { S.failed sink.new ≡ is_err result }

@@ -121,7 +121,7 @@ fn conversion(op: Conversion) -> &'static str
     }
 }
 
-// Returns the keyword of a conversion that saturates.
+// Returns the keyword of a saturating conversion.
 fn saturating(op: SaturatingConversion) -> &'static str
     ensures { 1 ≤ length result.now }
 {
@@ -137,7 +137,7 @@ fn saturating(op: SaturatingConversion) -> &'static str
     }
 }
 
-// Returns the keyword of an extension of a sign.
+// Returns the keyword of a sign extension.
 fn extension(op: SignExtension) -> &'static str
     ensures { 1 ≤ length result.now }
 {

@@ -10,20 +10,20 @@ use Rattle.smith_syntax.specs.declared.code.Code.{Code}
 use Rattle.smith_syntax.specs.declared.code.Instructions.{Instructions}
 use Rattle.smith_syntax.specs.declared.code.Instructions.TheVariants.{Unreachable, Arbitrary}
 
--- `unreachable` is valid for every type (Validation, Instructions); raw bytes are valid only if
+-- `unreachable` is valid with every type (Validation, Instructions); raw bytes are valid only if
 -- `raw` is true (own rule)
 abbrev pub AreInstructionsValid : Bool → Instructions → Type 0
 AreInstructionsValid raw Unreachable = Unit {0}
 AreInstructionsValid raw (Arbitrary bytes) = IsTrue raw
 
--- a body in a module with this number of types: its locals have valid types (Validation,
+-- a body is valid in a module with `types` types: its locals have valid types (Validation,
 -- Functions), and there are at most 100 of them (own rule)
 pub record IsBodyValid (features : Features) (types : ℕ) (raw : Bool) (body : Code) : Type 0 where
   pub few : length body.locals ≤ 100
   pub locals : All (IsValTypeValid features types) body.locals
   pub instructions : AreInstructionsValid raw body.instructions
 
--- a global that counts fuel: a mutable, unshared i32 (own rule), defined rather than imported
+-- a global may count fuel: it is defined, not imported, and is a mutable, unshared i32 (own rule)
 pub record IsCounterGlobal (globals : List GlobalType) (imported index : ℕ) : Type 0 where
   pub defined : imported ≤ index
   pub stands : slice_get globals index ≡ Some (record { val_type = I32; mutable = true; shared = false })

@@ -1,4 +1,4 @@
--- The index spaces of the code, which grow by one entity at a time.
+-- Index spaces that grow by one entity at a time.
 use Rattle.std.specs.Prelude.{List, [], ◌∷◌, ◌++◌, map}
 use Rattle.smith_types.specs.Imports.{EntitySpaces as EntityLists}
 use Rattle.smith_types.specs.declared.entity_spaces.EntitySpaces.{EntitySpaces}

@@ -11,7 +11,8 @@ use Rattle.smith_types.specs.ExampleTypes.{final_type, plain_func, struct, const
 use Rattle.smith_types.specs.ExampleEntities.{constant_global, variable_global}
 
 -- a function type, a struct with one packed field, an array of numbers, a struct with a
--- non-nullable field, an array of such references, and a struct with a packed field and a number
+-- non-nullable field, an array of references to functions, and a struct with a packed field and a
+-- number
 abbrev pub context_types : List SubType
 context_types =
     final_type plain_func ∷ final_type (struct (constant I8 ∷ [])) ∷ final_type (Array (record { 0 = variable (Val I32) }))
@@ -31,8 +32,8 @@ context_with features visible = record {
   visible = visible;
 }
 
--- a context of these types and functions, of which those below `imported` are imported, without
--- globals
+-- a context with these types and functions and without globals; functions below `imported` are
+-- imported
 abbrev pub context_of : Features → List SubType → List ℕ → ℕ → Context
 context_of features types funcs imported = record {
   features = features;

@@ -12,7 +12,7 @@ use Rattle.smith_syntax.specs.declared.entity_type.GlobalType.{GlobalType}
 use Rattle.smith_syntax.specs.declared.entity_type.MemoryType.{MemoryType}
 use Rattle.smith_syntax.specs.declared.entity_type.TableType.{TableType}
 
--- the type of the entity with this kind and index, if it exists (Validation, Exports)
+-- an entity of this kind exists at this index, and `ty` is its external type (Validation, Exports)
 abbrev pub IsEntityAt : EntitySpaces → ExportKind → ℕ → EntityType → Type 0
 IsEntityAt spaces kind.Func index ty = (func : ℕ) × (slice_get spaces.funcs index ≡ Some func) × (ty ≡ entity.Func func)
 IsEntityAt spaces kind.Table index ty = (table : TableType) × (slice_get spaces.tables index ≡ Some table) × (ty ≡ entity.Table table)
@@ -30,12 +30,14 @@ pub record AreDistinct {A : Type 0} (items : List A) : Type 0 where
 abbrev pub AreExportsStanding : EntitySpaces → List (List ℕ × ExportKind × ℕ) → Type 0
 AreExportsStanding spaces exports = All (λ (one : List ℕ × ExportKind × ℕ). (ty : EntityType) × IsEntityAt spaces one.1 one.2 ty) exports
 
--- each export refers to an entity that exists, and names are distinct (Validation, Modules)
+-- each export refers to an entity that exists, and the names of exports are distinct (Validation,
+-- Modules)
 pub record AreExportsValid (spaces : EntitySpaces) (exports : List (List ℕ × ExportKind × ℕ)) : Type 0 where
   pub stand : AreExportsStanding spaces exports
   pub distinct : AreDistinct (map (λ (one : List ℕ × ExportKind × ℕ). one.0) exports)
 
--- the start function has no parameters and no results (Validation, Start Function)
+-- the start function, if any, exists and has no parameters and no results (Validation, Start
+-- Function)
 abbrev pub IsStartValid : List SubType → List ℕ → Option ℕ → Type 0
 IsStartValid types funcs None = Unit {0}
 IsStartValid types funcs (Some function) =

@@ -1,6 +1,6 @@
 -- Constant expressions: the section Validation, Instructions, Constant Expressions, of the
--- WebAssembly Core Specification 3.0. The treatment of shared references and exact types is a rule
--- of this project. Subtyping includes the own rules of `Subtyping`.
+-- WebAssembly Core Specification 3.0. Shared references and exact types follow rules of this
+-- project, and so does subtyping (see `Subtyping`).
 use Rattle.std.specs.Prelude.{◌≡◌, ℕ, ◌<◌, Bool, true, false, nat_le, IsTrue, List, [], ◌∷◌, ◌++◌, map, replicate, length, slice_get, Some}
 use Rattle.std.specs.Prelude.{All, if◌then◌else◌}
 use Rattle.std.specs.List.{AllZip}
@@ -22,8 +22,8 @@ use Rattle.smith_syntax.specs.declared.entity_type.GlobalType.{GlobalType}
 use Rattle.smith_syntax.specs.declared.const_instr.ConstInstr.{ConstInstr}
 use Rattle.smith_syntax.specs.declared.const_instr.ConstInstr.TheVariants as instr
 
--- the context of an expression (Validation, Contexts); imported functions and globals come first,
--- and only globals below `visible` may be read
+-- the context of a constant expression (Validation, Contexts). Imported functions and globals come
+-- first in `funcs` and `globals`; an expression may read only the globals below `visible`.
 pub record Context : Type 0 where
   pub features : Features
   pub types : List SubType
@@ -33,55 +33,56 @@ pub record Context : Type 0 where
   pub imported_globals : ℕ
   pub visible : ℕ
 
--- a non-nullable reference (Structure, Reference Types)
+-- the type of a non-nullable reference (Structure, Reference Types)
 abbrev pub reference_to : HeapType → ValType
 reference_to heap_type = Ref (record { nullable = false; heap_type = heap_type })
 
--- the reference to a created value of a type, or to a defined function of a type: exact with custom
--- descriptors (own rule)
+-- the type of a reference to a value created with the type at `index`, or to a defined function of
+-- that type: exact with custom descriptors (own rule)
 abbrev pub created : Context → ℕ → ValType
 created context index = reference_to (if context.features.custom_descriptors then Exact index else Concrete index)
 
--- the reference of `ref.func` for a function with this type index: never exact for an imported
--- function (own rule)
+-- the type of `ref.func` for a function with this type index; never exact for an imported function
+-- (own rule)
 abbrev pub function_reference : Context → ℕ → ℕ → ValType
 function_reference context function index =
     if nat_le context.imported_funcs function then created context index else reference_to (Concrete index)
 
--- the type of the values written to a field: a packed integer is unpacked (Structure, Composite
--- Types)
+-- the type of the operand that a field takes: i32 for a packed type, else the value type
+-- (Structure, Composite Types)
 abbrev pub unpacked : StorageType → ValType
 unpacked storage.I8 = I32
 unpacked storage.I16 = I32
 unpacked (storage.Val value) = value
 
--- a value type with a default: any but a non-nullable reference (Validation, Value Types,
--- Defaultable)
+-- a value type has a default value: any type except a non-nullable reference (Validation, Value
+-- Types, Defaultable)
 abbrev pub IsDefaultable : ValType → Type 0
 IsDefaultable (Ref reference) = IsTrue reference.nullable
 IsDefaultable _ = Unit {0}
 
--- the types of the operands that create a struct with these fields (Structure, Composite Types)
+-- the types of the operands of `struct.new` for these fields (Structure, Composite Types)
 abbrev pub field_values : List FieldType → List ValType
 field_values fields = map (λ (field : FieldType). unpacked field.element_type) fields
 
--- the type at this index is the struct type with these fields (Structure, Composite Types)
+-- the type at `index` is the struct type with these fields (Structure, Composite Types)
 abbrev pub IsStructAt : List SubType → ℕ → List FieldType → Type 0
 IsStructAt types index fields = (t : SubType) × (slice_get types index ≡ Some t)
     × (t.composite_type.inner ≡ inner.Struct (record { fields = fields }))
 
--- the type at this index is the array type with this element (Structure, Composite Types)
+-- the type at `index` is the array type with this element (Structure, Composite Types)
 abbrev pub IsArrayAt : List SubType → ℕ → FieldType → Type 0
 IsArrayAt types index element = (t : SubType) × (slice_get types index ≡ Some t)
     × (t.composite_type.inner ≡ inner.Array (record { 0 = element }))
 
--- an immutable global below the end of the visible globals (Validation, Constant Expressions)
+-- the global at `index` is visible, immutable and of this value type (Validation, Constant
+-- Expressions)
 abbrev pub IsVisible : Context → ℕ → ValType → Type 0
 IsVisible context index value =
     (global : GlobalType) × (slice_get context.globals index ≡ Some global) × (index < context.visible) × (global.mutable ≡ false)
     × (global.val_type ≡ value)
 
--- a conversion between internal and external references, which preserves nullability (Validation,
+-- a conversion between internal and external references; it preserves nullability (Validation,
 -- Instructions, any.convert_extern and extern.convert_any) and sharedness (own rule)
 pub record IsConversion (operands : List ValType) (result : ValType) (from into : Bool → HeapType) : Type 0 where
   pub shared : Bool
@@ -89,8 +90,8 @@ pub record IsConversion (operands : List ValType) (result : ValType) (from into 
   pub taken : operands ≡ Ref (record { nullable = nullable; heap_type = from shared }) ∷ []
   pub given : result ≡ Ref (record { nullable = nullable; heap_type = into shared })
 
--- an instruction takes operands of these types, the last on top, and pushes a value of the result
--- type (Validation, Instructions); the type of a shared i31 is an own rule
+-- the instruction has the type [operands] → [result], with the last operand on top (Validation,
+-- Instructions); the type of a shared i31 is an own rule
 abbrev pub HasType : Context → ConstInstr → List ValType → ValType → Type 0
 HasType context (instr.I32Const value) operands result = (operands ≡ []) × (result ≡ I32)
 HasType context (instr.I64Const value) operands result = (operands ≡ []) × (result ≡ I64)
@@ -130,8 +131,8 @@ HasType context instr.AnyConvertExtern operands result = IsConversion operands r
 HasType context instr.ExternConvertAny operands result = IsConversion operands result (λ shared. Abstract shared abstract.Any)
     (λ shared. Abstract shared abstract.Extern)
 
--- one instruction takes a stack, its top last, to another: it pops subtypes of its operand types
--- and pushes its result (Validation, Instruction Sequences)
+-- an instruction takes the stack `before` to `after`: it pops operands whose types match its
+-- operand types, and pushes its result; the last type is on top (Validation, Instruction Sequences)
 pub record IsStackStep (context : Context) (instruction : ConstInstr) (before after : List ValType) : Type 0 where
   pub operands : List ValType
   pub result : ValType
@@ -142,34 +143,36 @@ pub record IsStackStep (context : Context) (instruction : ConstInstr) (before af
   pub accepted : AllZip (IsValBelow context.types) taken operands
   pub pushed : after ≡ rest ++ result ∷ []
 
--- a sequence of instructions takes one stack to another (Validation, Instruction Sequences)
+-- a sequence of instructions takes the stack `before` to `after` (Validation, Instruction
+-- Sequences)
 abbrev pub AreStackSteps : Context → List ConstInstr → List ValType → List ValType → Type 0
 AreStackSteps context [] before after = before ≡ after
 AreStackSteps context (instruction ∷ instructions) before after =
     (between : List ValType) × IsStackStep context instruction before between × AreStackSteps context instructions between after
 
--- an expression produces one value of a subtype of the wanted type (Validation, Constant
--- Expressions), by enabled instructions
+-- a constant expression produces one value, whose type is a subtype of `wanted` (Validation,
+-- Constant Expressions); each of its instructions is enabled (own rule)
 pub record IsConstExpr (context : Context) (wanted : ValType) (expression : List ConstInstr) : Type 0 where
   pub value : ValType
   pub steps : AreStackSteps context expression [] (value ∷ [])
   pub below : IsValBelow context.types value wanted
   pub enabled : All (IsInstrEnabled context.features context.imported_globals) expression
 
--- the end of the globals visible to tables: after the imported globals (Validation, Modules)
+-- the end of the globals that table initialisers may read: the imported globals (Validation,
+-- Modules)
 abbrev pub seen_by_tables : Context → ℕ
 seen_by_tables context = context.imported_globals
 
--- the end of the globals visible to the global at this index: before it (Validation, Modules);
--- without garbage collection, after the imported globals (own rule)
+-- the end of the globals that the initialiser of the global at `index` may read: all before it
+-- (Validation, Modules), or without garbage collection only the imported globals (own rule)
 abbrev pub seen_by_global : Context → ℕ → ℕ
 seen_by_global context index = if context.features.gc then index else context.imported_globals
 
--- the end of the globals visible to segments: after all globals (Validation, Modules); without
--- garbage collection, after the imported globals (own rule)
+-- the end of the globals that segments may read: all globals (Validation, Modules), or without
+-- garbage collection only the imported globals (own rule)
 abbrev pub seen_by_segments : Context → ℕ
 seen_by_segments context = if context.features.gc then length context.globals else context.imported_globals
 
--- the context with another end of the visible globals (Validation, Modules)
+-- the context with `visible` as the end of the visible globals (Validation, Modules)
 abbrev pub seeing : Context → ℕ → Context
 seeing context visible = record context { visible = visible }

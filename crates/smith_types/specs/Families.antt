@@ -4,22 +4,22 @@ use Rattle.smith_syntax.specs.declared.composite_type.SubType.{SubType}
 use Rattle.smith_types.specs.declared.family.Family.{Family}
 use Rattle.smith_types.specs.KindCounts.{indices_from}
 
--- the option holds this index (own rule)
+-- whether the option holds this index (own rule)
 abbrev pub is_index : ℕ → Option ℕ → Bool
 is_index index None = false
 is_index index (Some other) = other == index
 
--- a type declares the type at this index as its supertype (Structure, Recursive Types)
+-- whether a type declares the type at `index` as its supertype (Structure, Recursive Types)
 abbrev pub is_directly_below : ℕ → SubType → Bool
 is_directly_below index t = is_index index t.supertype
 
--- the indices, in order, of the types that declare the type at this index as their supertype
+-- the indices, in order, of the types that declare the type at `index` as their supertype
 -- (Structure, Recursive Types)
 abbrev pub direct_subtypes : List SubType → ℕ → List ℕ
 direct_subtypes types index = indices_from (is_directly_below index) 0 types
 
--- the families of types: the number of direct subtypes, the last of them, and for each direct
--- subtype the one before it; types without a family have no direct subtypes (own rule)
+-- each family has the number of a type's direct subtypes, the last of them and, for a direct
+-- subtype, the one before it; a type without a family has no direct subtypes (own rule)
 pub record AreFamilies (types : List SubType) (families : List Family) : Type 0 where
   pub count : (s : ℕ) (family : Family) → slice_get families s ≡ Some family → family.count ≡ length (direct_subtypes types s)
   pub last : (s k : ℕ) (family : Family) → slice_get families s ≡ Some family → suc k ≡ length (direct_subtypes types s)

@@ -1,5 +1,5 @@
--- The features that each construct requires. That a module may use a construct only if its feature
--- is enabled is a rule of this project; the standard defines one language.
+-- The features that each construct requires. A module may use a construct only if its features are
+-- enabled; this is a rule of this project, because the standard defines one language.
 use Rattle.std.specs.Prelude.{◌≡◌, ℕ, ◌<◌, ◌≤◌, true, false, IsTrue, IsSome, length}
 use Rattle.smith_syntax.specs.Features.{Features}
 use Rattle.smith_syntax.specs.declared.value_type.AbstractHeapType.{AbstractHeapType}
@@ -15,7 +15,7 @@ use Rattle.smith_syntax.specs.declared.imports.Imports.TheVariants.{Single, Comp
 use Rattle.smith_syntax.specs.declared.const_instr.ConstInstr.{ConstInstr}
 use Rattle.smith_syntax.specs.declared.const_instr.ConstInstr.TheVariants as instr
 
--- an abstract heap type (own rule)
+-- an abstract heap type is enabled (own rule)
 abbrev pub IsAbstractEnabled : Features → AbstractHeapType → Type 0
 IsAbstractEnabled features abstract.Func = Unit {0}
 IsAbstractEnabled features abstract.Extern = Unit {0}
@@ -23,43 +23,46 @@ IsAbstractEnabled features abstract.Exn = IsTrue features.exceptions
 IsAbstractEnabled features abstract.NoExn = IsTrue features.exceptions × IsTrue features.gc
 IsAbstractEnabled features _ = IsTrue features.gc
 
--- a heap type: shared, concrete and exact types require features of their own (own rule)
+-- a heap type is enabled: shared, concrete and exact types each require a feature (own rule)
 abbrev pub IsHeapTypeEnabled : Features → HeapType → Type 0
 IsHeapTypeEnabled features (Abstract shared ty) = IsAbstractEnabled features ty
     × (IsTrue shared → IsTrue features.shared_everything_threads)
 IsHeapTypeEnabled features (Concrete index) = IsTrue features.gc
 IsHeapTypeEnabled features (Exact index) = IsTrue features.custom_descriptors
 
--- a composite type: arrays, structs and functions with several results require features (own rule)
+-- a composite type is enabled: arrays and structs require a feature, and so do functions with
+-- several results (own rule)
 abbrev pub IsInnerEnabled : Features → CompositeInnerType → Type 0
 IsInnerEnabled features (Array array) = IsTrue features.gc
 IsInnerEnabled features (Func function) = 1 < length function.results → IsTrue features.multi_value
 IsInnerEnabled features (Struct structure) = IsTrue features.gc
 
--- a subtype: types that are not final, have a supertype or are shared require features (own rule)
+-- a subtype is enabled: a type that is not final, has a supertype or is shared requires a feature
+-- (own rule)
 pub record IsSubTypeEnabled (features : Features) (t : SubType) : Type 0 where
   pub inner : IsInnerEnabled features t.composite_type.inner
   pub not_final : t.is_final ≡ false → IsTrue features.gc
   pub supertype : IsSome t.supertype → IsTrue features.gc
   pub shared : IsTrue t.composite_type.shared → IsTrue features.shared_everything_threads
 
--- the only element type of tables if reference types are disabled (own rule): nullable, to unshared
--- functions
+-- nullable references to unshared functions: without reference types, the only element type of
+-- tables (own rule)
 abbrev pub funcref : RefType
 funcref = record { nullable = true; heap_type = Abstract false abstract.Func }
 
--- the element type of a table or a segment: anything but funcref requires reference types (own
+-- the element type of a table or a segment is enabled: all but funcref require reference types (own
 -- rule)
 abbrev pub IsElementTypeEnabled : Features → RefType → Type 0
 IsElementTypeEnabled features element_type = (element_type ≡ funcref → ⊥) → IsTrue features.reference_types
 
--- a group of imports: compact groups require their feature (own rule)
+-- a group of imports is enabled: a compact group requires its feature (own rule)
 abbrev pub IsImportsEnabled : Features → Imports → Type 0
 IsImportsEnabled features (Single imported) = Unit {0}
 IsImportsEnabled features (Compact1 imported_module items) = IsTrue features.compact_imports
 IsImportsEnabled features (Compact2 imported_module entity_type names) = IsTrue features.compact_imports
 
--- an instruction of a constant expression, given the number of imported globals (own rule)
+-- an instruction of a constant expression is enabled, in a module with `imported` imported globals
+-- (own rule)
 abbrev pub IsInstrEnabled : Features → ℕ → ConstInstr → Type 0
 IsInstrEnabled features imported (instr.I32Const value) = Unit {0}
 IsInstrEnabled features imported (instr.I64Const value) = Unit {0}

@@ -8,17 +8,17 @@ use Rattle.smith_syntax.specs.declared.const_instr.ConstInstr.{ConstInstr}
 use Rattle.smith_syntax.specs.declared.const_instr.ConstInstr.TheVariants.{F32Const, F64Const}
 use Rattle.smith_syntax.specs.declared.entity_type.GlobalType.{GlobalType}
 
--- a value type other than a float
+-- a value type is not a float
 abbrev pub IsNoFloat : ValType → Type 0
 IsNoFloat F32 = ⊥
 IsNoFloat F64 = ⊥
 IsNoFloat _ = Unit {0}
 
--- a type without floats among its parameters, results and fields
+-- a type has no floats among its parameters, results and fields
 abbrev pub HasNoFloat : SubType → Type 0
 HasNoFloat t = All IsNoFloat (values_of t.composite_type.inner)
 
--- an instruction other than a float constant
+-- an instruction is not a float constant
 abbrev pub GivesNoFloat : ConstInstr → Type 0
 GivesNoFloat (F32Const bits) = ⊥
 GivesNoFloat (F64Const bits) = ⊥

@@ -1,4 +1,4 @@
--- The record of noted functions that decides which heap types they ground.
+-- A record of functions, which decides the heap types that they ground.
 use Rattle.std.specs.Prelude.{◌≡◌, ◌↔◌, ℕ, ◌<◌, ◌⊎◌, Bool, true, false, ◌&&◌, ◌||◌, IsTrue, List, [], ◌∷◌, ◌++◌, length, Some}
 use Rattle.std.specs.Prelude.{if◌then◌else◌}
 use Rattle.smith_types.specs.Subtyping.{is_abstract_below, IsInRange}
@@ -22,7 +22,7 @@ abbrev pub are_below : Kinds → AbstractHeapType → Bool
 are_below kinds b = ((kinds.arrays && is_abstract_below heap.Array b) || (kinds.funcs && is_abstract_below heap.Func b)) ||
     (kinds.structs && is_abstract_below heap.Struct b)
 
--- the kinds with that of a composite type added
+-- the kinds and the kind of a composite type
 abbrev pub kinds_with : CompositeInnerType → Kinds → Kinds
 kinds_with (Array a) kinds = record kinds { arrays = true }
 kinds_with (Func f) kinds = record kinds { funcs = true }
@@ -33,23 +33,23 @@ abbrev pub kinds_of : NotedKinds → Bool → Kinds
 kinds_of kinds false = kinds.plain
 kinds_of kinds true = kinds.shared
 
--- the kinds with that of a composite type of this sharedness added
+-- the kinds and the kind of a composite type of this sharedness
 abbrev pub noted_with : Bool → CompositeInnerType → NotedKinds → NotedKinds
 noted_with false inner kinds = record kinds { plain = kinds_with inner kinds.plain }
 noted_with true inner kinds = record kinds { shared = kinds_with inner kinds.shared }
 
--- whether a heap type is grounded by the record
+-- whether a function in the record grounds a heap type
 abbrev pub is_noted : FuncGrounds → HeapType → Bool
 is_noted grounds (Abstract s b) = are_below (kinds_of grounds.kinds s) b
 is_noted grounds (Concrete j) = below_at grounds.marks.items j
 is_noted grounds (Exact j) = own_at grounds.marks.items j
 
--- the record is correct for the functions of a context
+-- the record decides which heap types the functions of a context ground
 pub record AreFuncGrounds (context : Context) (grounds : FuncGrounds) : Type 0 where
   pub long : length grounds.marks.items ≡ length context.types
   pub each : (ty : HeapType) → IsInRange context.types ty → IsTrue (is_noted grounds ty) ↔ IsGroundedByFuncs context ty
 
--- a context with one more function, whose type has this index and whose reference is exact or not;
+-- a context with one more function, which has this type index and a reference that is exact or not;
 -- the references of the other functions are unchanged
 pub record IsFunctionAdded (old new : Context) (index : ℕ) (exact : Bool) : Type 0 where
   pub types : new.types ≡ old.types

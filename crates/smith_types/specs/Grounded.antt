@@ -1,5 +1,5 @@
--- Heap types with a subtype of which a non-null reference is available without operands. A rule of
--- this project, over the typing of constant expressions.
+-- Grounded heap types: a constant expression without operands gives a non-null reference to one of
+-- their subtypes. A rule of this project, over the typing of constant expressions.
 use Rattle.std.specs.Prelude.{◌≡◌, ℕ, ◌⊎◌, Bool, true, List, slice_get, Some, All, if◌then◌else◌}
 use Rattle.std.specs.List.{list_all}
 use Rattle.smith_types.specs.Subtyping.{IsBelow, IsValBelow}
@@ -11,26 +11,26 @@ use Rattle.smith_syntax.specs.declared.value_type.ValType.TheVariants.{Ref}
 use Rattle.smith_syntax.specs.declared.composite_type.FieldType.{FieldType}
 use Rattle.smith_syntax.specs.declared.composite_type.SubType.{SubType}
 
--- the type at this index is a struct type whose fields all have defaults, and creating one pushes a
--- reference below the heap type; with custom descriptors that reference is exact
+-- the type at `index` is a struct type whose fields all have defaults, and `struct.new_default`
+-- pushes a reference whose heap type is below `heap_type`; with custom descriptors the reference is
+-- exact
 pub record IsGroundedBy (types : List SubType) (descriptors : Bool) (heap_type : HeapType) (index : ℕ) : Type 0 where
   pub fields : List FieldType
   pub struct : IsStructAt types index fields
   pub defaults : All IsDefaultable (field_values fields)
   pub below : IsBelow types (if descriptors then Exact index else Concrete index) heap_type
 
--- a struct type grounds a heap type
+-- some struct type grounds a heap type
 abbrev pub IsGroundedByStructs : List SubType → Bool → HeapType → Type 0
 IsGroundedByStructs types descriptors heap_type = (index : ℕ) × IsGroundedBy types descriptors heap_type index
 
--- a function grounds a heap type: its reference is below the heap type
+-- some function grounds a heap type: the type of its `ref.func` is below it
 abbrev pub IsGroundedByFuncs : Context → HeapType → Type 0
 IsGroundedByFuncs context heap_type =
     (function : ℕ) × (index : ℕ) × (slice_get context.funcs function ≡ Some index) × IsValBelow context.types
     (function_reference context function index) (reference_to heap_type)
 
--- a heap type is grounded: a struct type or a function provides a non-null reference below it
--- without operands
+-- a struct type or a function grounds a heap type
 abbrev pub IsGrounded : Context → HeapType → Type 0
 IsGrounded context heap_type = IsGroundedByStructs context.types context.features.custom_descriptors heap_type
     ⊎ IsGroundedByFuncs context heap_type

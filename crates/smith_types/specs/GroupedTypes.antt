@@ -1,23 +1,26 @@
--- The type space: the types in the order of their addition, and their groups so far.
+-- The type space under construction: the types in the order of their addition, and their groups so
+-- far.
 use Rattle.std.specs.Prelude.{◌≡◌, ℕ, suc, ◌+◌, ◌^◌, ◌<◌, ◌≤◌, not, ◌&&◌, nat_lt, List, [], ◌∷◌, Some, None, length, slice_get, slice_index}
 use Rattle.std.specs.Prelude.{if◌then◌else◌}
 use Rattle.std.specs.declared.ops.Range.{Range}
 use Rattle.smith_syntax.specs.declared.composite_type.SubType.{SubType}
 use Rattle.smith_types.specs.Types.{IsAlike, IsOrderly, AreConsecutive, next_start}
 
+-- the types of a type space, and the ranges of indices of its groups (Structure, Recursive Types)
 pub record GroupedTypes : Type 0 where
   pub types : List SubType
   pub groups : List (Range ℕ)
 
--- the invariant of a type space; types after the last group belong to no group yet (own rule)
+-- the invariant of a type space: supertypes precede their subtypes, groups are consecutive, and
+-- there are fewer than 2^32 types. Types after the last group belong to no group yet (own rule).
 pub record IsSound (space : GroupedTypes) : Type 0 where
   pub orderly : IsOrderly space.types
   pub consecutive : AreConsecutive 0 space.groups
   pub within : next_start space.groups ≤ length space.types
   pub few : length space.types < 2 ^ 32
 
--- a type may be appended to these: its supertype, if any, exists and is of the same kind and
--- sharedness (Validation, Recursive Types; sharedness: own rule), and an index is available
+-- a type may be appended: its declared supertype, if any, exists and has the same kind and
+-- sharedness (Validation, Recursive Types; sharedness: own rule), and an index is free
 pub record MayFollow (types : List SubType) (t : SubType) : Type 0 where
   pub below : (s : ℕ) → t.supertype ≡ Some s → (u : SubType) × (slice_get types s ≡ Some u) × IsAlike t u
   pub room : length types + 1 < 2 ^ 32
@@ -32,8 +35,8 @@ pub record AreDepths (types : List SubType) (depths : List ℕ) : Type 0 where
   pub long : length depths ≡ length types
   pub each : (i : ℕ) → i < length types → HasDepth types i (slice_index depths i)
 
--- the indices, starting at `first`, of the types that may have subtypes, given the depth of each:
--- types that are not final and have a depth less than 60 (own rule)
+-- the indices, from `first` on, of the types that may have subtypes: those that are not final and
+-- have a depth below 60 (own rule)
 abbrev pub extensible_from : ℕ → List SubType → List ℕ → List ℕ
 extensible_from first [] depths = []
 extensible_from first (t ∷ types) [] = []

@@ -1,4 +1,5 @@
--- Growth of a module under construction: lists grow at their ends, so indices keep their meaning.
+-- Growth of a module under construction. Lists grow at their ends, so that indices keep their
+-- meaning.
 use Rattle.std.specs.Prelude.{◌≡◌, ℕ, ◌≤◌, List, ◌++◌, length, All}
 use Rattle.std.specs.declared.ops.Range.{Range}
 use Rattle.smith_syntax.specs.Features.{Features}
@@ -8,13 +9,13 @@ use Rattle.smith_types.specs.Imports.{EntitySpaces}
 use Rattle.smith_types.specs.Expressions.{Context}
 use Rattle.smith_syntax.specs.declared.composite_type.SubType.{SubType}
 
--- new is old with a possibly empty list appended
+-- `new` is `old` with a possibly empty list appended
 pub record Extends {A : Type 0} (old new : List A) : Type 0 where
   pub more : List A
   pub parts : new ≡ old ++ more
 
--- a context with types, functions and globals appended, the same features and imports, and at least
--- as many visible globals
+-- `new` is `old` with types, functions and globals appended, the same features and imports, and at
+-- least as many visible globals
 pub record IsContextGrown (old new : Context) : Type 0 where
   pub features : new.features ≡ old.features
   pub types : Extends old.types new.types
@@ -24,8 +25,8 @@ pub record IsContextGrown (old new : Context) : Type 0 where
   pub imported_globals : new.imported_globals ≡ old.imported_globals
   pub visible : old.visible ≤ new.visible
 
--- a context in which all functions are imported, with types and imported functions appended, and
--- the same features
+-- all functions of both contexts are imported, and `new` is `old` with types and imported functions
+-- appended and the same features
 pub record AreImportsGrown (old new : Context) : Type 0 where
   pub features : new.features ≡ old.features
   pub types : Extends old.types new.types
@@ -33,7 +34,7 @@ pub record AreImportsGrown (old new : Context) : Type 0 where
   pub imported : old.imported_funcs ≡ length old.funcs
   pub still_imported : new.imported_funcs ≡ length new.funcs
 
--- index spaces with entities of each kind appended
+-- `new` is `old` with entities of each kind appended
 pub record AreSpacesGrown (old new : EntitySpaces) : Type 0 where
   pub tags : Extends old.tags new.tags
   pub funcs : Extends old.funcs new.funcs
@@ -41,7 +42,7 @@ pub record AreSpacesGrown (old new : EntitySpaces) : Type 0 where
   pub memories : Extends old.memories new.memories
   pub globals : Extends old.globals new.globals
 
--- types appended after these, in valid groups that cover them
+-- the types `more` follow `types`, in valid groups that cover `more`
 pub record AreGroupsAdded (features : Features) (types more : List SubType) (groups : List (Range ℕ)) : Type 0 where
   pub orderly : IsOrderly (types ++ more)
   pub consecutive : AreConsecutive (length types) groups

@@ -1,6 +1,6 @@
 -- Imports one by one, and the index spaces that start with them: the sections Structure, Imports,
--- and Validation, Imports, of the WebAssembly Core Specification 3.0. Groups of imports are those
--- of the compact imports proposal.
+-- and Validation, Imports, of the WebAssembly Core Specification 3.0. The compact imports proposal
+-- defines groups of imports.
 use Rattle.std.specs.Prelude.{◌≡◌, ℕ, ◌<◌, List, [], ◌∷◌, ◌++◌, map, length}
 use Rattle.std.specs.List.{flat_map}
 use Rattle.smith_syntax.specs.Features.{Features}
@@ -29,28 +29,27 @@ imports_of (Compact2 from entity_type names) = map (λ name. import_of from name
 abbrev pub flattened : List Imports → List Import
 flattened groups = flat_map imports_of groups
 
--- the tag, function, table, memory or global of an imported entity, if it is of that kind
--- (Validation, Modules)
+-- the type index of an imported tag, or nothing for another entity (Validation, Modules)
 abbrev pub tag_of : EntityType → List ℕ
 tag_of (entity.Tag index) = index ∷ []
 tag_of _ = []
 
--- the function of an imported entity, if it is one (Validation, Modules)
+-- the type index of an imported function, or nothing for another entity (Validation, Modules)
 abbrev pub func_of : EntityType → List ℕ
 func_of (entity.Func index) = index ∷ []
 func_of _ = []
 
--- the table of an imported entity, if it is one (Validation, Modules)
+-- the type of an imported table, or nothing for another entity (Validation, Modules)
 abbrev pub table_of : EntityType → List TableType
 table_of (entity.Table table) = table ∷ []
 table_of _ = []
 
--- the memory of an imported entity, if it is one (Validation, Modules)
+-- the type of an imported memory, or nothing for another entity (Validation, Modules)
 abbrev pub memory_of : EntityType → List MemoryType
 memory_of (entity.Memory memory) = memory ∷ []
 memory_of _ = []
 
--- the global of an imported entity, if it is one (Validation, Modules)
+-- the type of an imported global, or nothing for another entity (Validation, Modules)
 abbrev pub global_of : EntityType → List GlobalType
 global_of (entity.Global global) = global ∷ []
 global_of _ = []
@@ -59,8 +58,8 @@ global_of _ = []
 abbrev pub imported : {A : Type 0} → (EntityType → List A) → List Import → List A
 imported of_kind imports = flat_map (λ (one : Import). of_kind one.entity_type) imports
 
--- the index spaces except that of types (Structure, Indices); tags and functions are given by the
--- indices of their types
+-- the index spaces except the type space (Structure, Indices); a tag and a function are given by
+-- their type index
 pub record EntitySpaces : Type 0 where
   pub tags : List ℕ
   pub funcs : List ℕ
@@ -68,7 +67,7 @@ pub record EntitySpaces : Type 0 where
   pub memories : List MemoryType
   pub globals : List GlobalType
 
--- the index spaces of the imports alone (Validation, Modules)
+-- the index spaces of a module without definitions (Validation, Modules)
 abbrev pub imported_spaces : List Import → EntitySpaces
 imported_spaces imports = record {
   tags = imported tag_of imports;
@@ -78,18 +77,18 @@ imported_spaces imports = record {
   globals = imported global_of imports;
 }
 
--- an index space: the imported items, then `count` defined items (Structure, Indices)
+-- an index space: the imports, then `count` definitions (Structure, Indices)
 pub record Defines {A : Type 0} (imports : List A) (count : ℕ) (space : List A) : Type 0 where
   pub defined : List A
   pub count_is : length defined ≡ count
   pub parts : space ≡ imports ++ defined
 
--- a group of a module is not empty, and is enabled (own rules)
+-- a group of imports is enabled and not empty (own rules)
 pub record IsImportsValid (features : Features) (group : Imports) : Type 0 where
   pub filled : 0 < length (imports_of group)
   pub enabled : IsImportsEnabled features group
 
--- the index spaces of a single entity (Structure, Indices)
+-- the index spaces with one entity and no other (Structure, Indices)
 abbrev pub entity_spaces : EntityType → EntitySpaces
 entity_spaces one = record {
   tags = tag_of one;

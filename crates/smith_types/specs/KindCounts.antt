@@ -11,8 +11,8 @@ use Rattle.smith_types.specs.declared.kind_counts.TypeSet.{TypeSet}
 use Rattle.smith_types.specs.declared.kind_counts.TypeSet.TheVariants.{OfKind, Functions, WithoutResults}
 use Rattle.smith_syntax.specs.Kinds.{shared}
 
--- whether a composite type with the sharedness of the third argument has this kind and the
--- sharedness of the first
+-- whether a composite type has this kind, and its sharedness, the third argument, is that of the
+-- first
 abbrev pub is_inner_of_kind : Bool → AbstractHeapType → Bool → CompositeInnerType → Bool
 is_inner_of_kind false heap.Array is_shared (Array a) = not is_shared
 is_inner_of_kind true heap.Array is_shared (Array a) = is_shared
@@ -95,6 +95,6 @@ counts_with true (Func f) counts =
 counts_with false (Struct s) counts = record counts { structs = counts.structs + 1 }
 counts_with true (Struct s) counts = record counts { shared_structs = counts.shared_structs + 1 }
 
--- the counts of each set are those of these types
+-- each set has the count of these types that it contains
 pub record AreCounts (types : List SubType) (counts : KindCounts) : Type 0 where
   pub each : (set : TypeSet) → count_in counts set ≡ count_where (is_in set) types

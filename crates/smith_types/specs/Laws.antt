@@ -39,7 +39,7 @@ pub record SubtypingIsTransitive : Type 0 where
   pub reference : (types : List SubType) (a b c : RefType) → IsRefBelow types a b → IsRefBelow types b c → IsRefBelow types a c
   pub value : (types : List SubType) (a b c : ValType) → IsValBelow types a b → IsValBelow types b c → IsValBelow types a c
 
--- no concrete type is a subtype of an exact type, not even of its own
+-- no concrete type is a subtype of an exact type, not even of the exact type with its index
 abbrev pub ConcreteIsNeverBelowExact : Type 0
 ConcreteIsNeverBelowExact = (types : List SubType) (i j : ℕ) → ¬ IsBelow types (Concrete i) (Exact j)
 
@@ -58,7 +58,7 @@ abbrev pub MatchingSurvivesGrowth : Type 0
 MatchingSurvivesGrowth = (types more : List SubType) (a b : CompositeType) → IsCompositeMatch types a b
     → IsCompositeMatch (types ++ more) a b
 
--- valid types stay valid when whole valid groups are appended
+-- valid types stay valid when valid groups are appended
 abbrev pub ValidTypesSurviveGrowth : Type 0
 ValidTypesSurviveGrowth = (features : Features) (types more : List SubType) (groups further : List (Range ℕ))
     → AreTypesValid features (record { types = types; groups = groups })

@@ -23,18 +23,18 @@ is_directly_below_at types index j = is_directly_below_in index (slice_get types
 abbrev pub is_marked_below : List SubType → List Ground → ℕ → ℕ → Bool
 is_marked_below types grounds index j = below_at grounds j && is_directly_below_at types index j
 
--- the lists: for each type the indices of its marked direct subtypes, in order; types without a list
--- have none
+-- each list has the indices of a type's marked direct subtypes, in order; a type without a list has
+-- no marked direct subtypes
 pub record AreFamilyLists (types : List SubType) (grounds : List Ground) (lists : List (Vec ℕ Global)) : Type 0 where
   pub each : (s : ℕ) (list : Vec ℕ Global) → slice_get lists s ≡ Some list → list.items ≡ indices_where (is_marked_below types grounds s) 0
       (length types)
   pub others : (s : ℕ) → length lists ≤ s → indices_where (is_marked_below types grounds s) 0 (length types) ≡ []
 
--- the lists are right if they are known
+-- the lists are correct if they are known
 abbrev pub AreMarkedFamilies : List SubType → List Ground → MarkedFamilies → Type 0
 AreMarkedFamilies types grounds families = families.known ≡ true → AreFamilyLists types grounds families.lists.items
 
--- there is room for one more direct subtype of this type, if there is one
+-- the list of `supertype`, if any, has room for one more entry
 abbrev pub HasFamilyRoom : Option ℕ → List (Vec ℕ Global) → Type 0
 HasFamilyRoom supertype lists = (s : ℕ) → supertype ≡ Some s → (list : Vec ℕ Global) × (slice_get lists s ≡ Some list)
     × (vec_len list < vec_capacity list)

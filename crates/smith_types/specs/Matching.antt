@@ -1,5 +1,5 @@
 -- Matching of storage, field and composite types. Sections are those of the WebAssembly Core
--- Specification 3.0. Subtyping of value types includes the own rules of `Subtyping`.
+-- Specification 3.0. Subtyping of value types follows the own rules of `Subtyping`.
 use Rattle.std.specs.Prelude.{◌≡◌, IsTrue, List, [], ◌∷◌, All}
 use Rattle.smith_syntax.specs.declared.value_type.ValType.{ValType}
 use Rattle.smith_syntax.specs.declared.composite_type.StorageType.{StorageType}
@@ -12,7 +12,7 @@ use Rattle.smith_syntax.specs.declared.composite_type.CompositeType.{CompositeTy
 use Rattle.smith_syntax.specs.declared.composite_type.SubType.{SubType}
 use Rattle.smith_types.specs.Subtyping.{IsValBelow, IsValInRange}
 
--- one storage type matches another: packed types match only themselves (Validation, Matching, Field
+-- one storage type matches another: a packed type matches only itself (Validation, Matching, Field
 -- Types)
 abbrev pub IsStorageMatch : List SubType → StorageType → StorageType → Type 0
 IsStorageMatch types I8 I8 = Unit {0}
@@ -20,28 +20,28 @@ IsStorageMatch types I16 I16 = Unit {0}
 IsStorageMatch types (Val a) (Val b) = IsValBelow types a b
 IsStorageMatch types _ _ = ⊥
 
--- one field matches another of the same mutability; mutable fields match in both directions
--- (Validation, Matching, Field Types)
+-- one field type matches another: mutability is the same, and storage types match, for mutable
+-- fields in both directions (Validation, Matching, Field Types)
 pub record IsFieldMatch (types : List SubType) (f g : FieldType) : Type 0 where
   pub same : f.mutable ≡ g.mutable
   pub below : IsStorageMatch types f.element_type g.element_type
   pub above : IsTrue g.mutable → IsStorageMatch types g.element_type f.element_type
 
--- the fields match those of a struct with at most as many fields, in order (Validation, Matching,
--- Composite Types)
+-- the first struct has at least the fields of the second, and its fields match them in order
+-- (Validation, Matching, Composite Types)
 abbrev pub AreFieldsMatched : List SubType → List FieldType → List FieldType → Type 0
 AreFieldsMatched types fs [] = Unit {0}
 AreFieldsMatched types [] (g ∷ gs) = ⊥
 AreFieldsMatched types (f ∷ fs) (g ∷ gs) = IsFieldMatch types f g × AreFieldsMatched types fs gs
 
--- each value type is a subtype of its counterpart in a list of the same length (Validation,
--- Matching, Result Types)
+-- the lists have the same length, and each type of the first is a subtype of its counterpart in the
+-- second (Validation, Matching, Result Types)
 abbrev pub AreBelow : List SubType → List ValType → List ValType → Type 0
 AreBelow types [] [] = Unit {0}
 AreBelow types (a ∷ as') (b ∷ bs) = IsValBelow types a b × AreBelow types as' bs
 AreBelow types _ _ = ⊥
 
--- one function type matches another: contravariant in parameters, covariant in results (Validation,
+-- one function type matches another: parameters are contravariant, results covariant (Validation,
 -- Matching, Composite Types)
 pub record IsFuncMatch (types : List SubType) (f g : FuncType) : Type 0 where
   pub params : AreBelow types g.params f.params
@@ -54,7 +54,8 @@ IsInnerMatch types (Func f) (Func g) = IsFuncMatch types f g
 IsInnerMatch types (Struct s) (Struct r) = AreFieldsMatched types s.fields r.fields
 IsInnerMatch types _ _ = ⊥
 
--- composite types match only if both are shared or neither is (own rule)
+-- one composite type matches another (Validation, Matching, Composite Types); both are shared or
+-- neither is (own rule)
 pub record IsCompositeMatch (types : List SubType) (a b : CompositeType) : Type 0 where
   pub inner : IsInnerMatch types a.inner b.inner
   pub shared : a.shared ≡ b.shared

@@ -7,8 +7,8 @@ use Rattle.smith_types.specs.GroupedTypes.{GroupedTypes}
 use Rattle.smith_types.specs.Types.{IsOrderly, AreConsecutive, next_start}
 use Rattle.smith_types.specs.ValidTypes.{IsTypeValid, IsGroupValid}
 
--- valid groups, followed by types that are valid in a group that will end at `end` (Validation,
--- Recursive Types)
+-- valid groups, then types that are valid in a group that ends at `end` (Validation, Recursive
+-- Types)
 pub record AreTypesOpen (features : Features) (end : ℕ) (space : GroupedTypes) : Type 0 where
   pub consecutive : AreConsecutive 0 space.groups
   pub within : next_start space.groups ≤ length space.types

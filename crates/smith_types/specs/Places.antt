@@ -1,5 +1,5 @@
--- The entry of each type in a type space: its depth, the counts up to it, and two of its supertypes,
--- by which a supertype of any depth is found.
+-- The entry of each type in a type space: its depth, the counts up to it, and links to two of its
+-- supertypes, which lead to a supertype of any depth.
 use Rattle.std.specs.Prelude.{◌≡◌, ℕ, suc, ◌-◌, ◌<◌, ◌≤◌, List, [], ◌∷◌, Some, length, map, take, slice_get, Vec, vec_len, vec_capacity}
 use Rattle.smith_syntax.specs.declared.composite_type.SubType.{SubType}
 use Rattle.std.specs.declared.alloc.Global.{Global}
@@ -10,18 +10,18 @@ use Rattle.smith_types.specs.declared.kind_counts.KindCounts.{KindCounts}
 use Rattle.smith_types.specs.KindCounts.{AreCounts}
 use Rattle.smith_types.specs.Subtyping.{IsBelow}
 
--- ancestor is the type at index i or a supertype of it, and has this depth
+-- `ancestor` is the type at `i` or one of its supertypes, and has this depth
 pub record IsAncestor (types : List SubType) (i depth ancestor : ℕ) : Type 0 where
   pub depth_is : HasDepth types ancestor depth
   pub above : IsBelow types (Concrete i) (Concrete ancestor)
 
--- the type at index j is the type at index i or a supertype of it, and does not follow it
+-- `j` is the type at `i` or one of its supertypes, and does not follow it
 pub record IsLink (types : List SubType) (i j : ℕ) : Type 0 where
   pub above : IsBelow types (Concrete i) (Concrete j)
   pub upto : j ≤ i
 
--- the depth of a type, the counts of the types up to it, its declared supertype, if any, and the
--- end of its jump: a supertype, or the type itself if it has none
+-- the entry of the type at `i`: its depth, the counts of the types up to it, its declared
+-- supertype, if any, and its jump, which leads to a supertype, or to the type itself if it has none
 pub record IsPlace (types : List SubType) (i : ℕ) (place : Place) : Type 0 where
   pub depth : HasDepth types i place.depth
   pub counts : AreCounts (take (suc i) types) place.counts
@@ -30,12 +30,12 @@ pub record IsPlace (types : List SubType) (i : ℕ) (place : Place) : Type 0 whe
   pub jump : IsLink types i place.jump
   pub jumps : 1 < place.depth → place.jump < i
 
--- the place of each type, by its index
+-- each type has its entry
 pub record ArePlaces (types : List SubType) (places : List Place) : Type 0 where
   pub long : length places ≡ length types
   pub each : (i : ℕ) (place : Place) → slice_get places i ≡ Some place → IsPlace types i place
 
--- the type at index j is a proper supertype of the type at index i, and at least as deep as wanted
+-- the type at `j` is a proper supertype of the type at `i`, and its depth is at least `depth`
 pub record IsClimb (types : List SubType) (i depth j : ℕ) : Type 0 where
   pub above : IsBelow types (Concrete i) (Concrete j)
   pub before : j < i

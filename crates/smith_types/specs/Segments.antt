@@ -1,5 +1,5 @@
 -- Element and data segments: the section Validation, Modules, of the WebAssembly Core Specification
--- 3.0. Subtyping of references includes the own rules of `Subtyping`.
+-- 3.0. Subtyping of references follows the own rules of `Subtyping`.
 use Rattle.std.specs.Prelude.{◌≡◌, ℕ, ◌+◌, ◌*◌, ◌^◌, ◌≤◌, Bool, true, false, IsTrue, List, Option, Some, None, length, slice_get, unwrap_or}
 use Rattle.std.specs.Prelude.{All}
 use Rattle.std.specs.Int.{cast_unsigned, w32, w64}
@@ -29,39 +29,41 @@ abbrev pub address_type : Bool → ValType
 address_type true = I64
 address_type false = I32
 
--- an offset for addresses of this width: a constant of the address type, or a visible global of
--- that type (Validation, Element Segments and Data Segments)
+-- an offset has the address type: a constant, or a visible global (Validation, Element Segments and
+-- Data Segments)
 abbrev pub IsOffsetValid : Context → Bool → Offset → Type 0
 IsOffsetValid context wide (Const32 value) = wide ≡ false
 IsOffsetValid context wide (Const64 value) = wide ≡ true
 IsOffsetValid context wide (Global index) = IsVisible context index (address_type wide)
 
--- a function whose reference is a subtype of the item type (Validation, Element Segments)
+-- the type of the function's reference is a subtype of the segment's type (Validation, Element
+-- Segments)
 abbrev pub IsItem : Context → RefType → ℕ → Type 0
 IsItem context ty function = (index : ℕ) × (slice_get context.funcs function ≡ Some index) × IsValBelow context.types
     (function_reference context function index) (Ref ty)
 
--- each item has the type of the segment (Validation, Element Segments); expressions as items
+-- each item has the segment's type (Validation, Element Segments); items that are expressions
 -- require reference types (own rule)
 abbrev pub AreItemsValid : Context → RefType → Elements → Type 0
 AreItemsValid context ty (Functions functions) = All (IsItem context ty) functions
 AreItemsValid context ty (Expressions expressions) = IsTrue context.features.reference_types × All (IsConstExpr context (Ref ty))
     expressions
 
--- the table of an active segment: the first if none is given (Binary Format, Element Section)
+-- the table of an active segment: table 0 if the segment names none (Binary Format, Element
+-- Section)
 abbrev pub table_index : Option ℕ → ℕ
 table_index table = unwrap_or table 0
 
--- the item type is a subtype of the table's element type, and the offset fits the table's addresses
--- (Validation, Element Segments)
+-- the table exists, the segment's type is a subtype of its element type, and the offset has its
+-- address type (Validation, Element Segments)
 pub record IsActiveElementSegment (context : Context) (tables : List TableType) (ty : RefType) (index : ℕ) (offset : Offset) : Type 0 where
   pub table : TableType
   pub stands : slice_get tables index ≡ Some table
   pub below : IsRefBelow context.types ty table.element_type
   pub offset_valid : IsOffsetValid context table.table64 offset
 
--- an active segment is copied into a table that accepts it, the first if none is given; the other
--- forms require bulk memory (own rule)
+-- the mode of an element segment is valid (Validation, Element Segments); every mode except active
+-- without a table index requires bulk memory (own rule)
 abbrev pub IsElementKindValid : Context → List TableType → RefType → ElementKind → Type 0
 IsElementKindValid context tables ty element_kind.Passive = IsTrue context.features.bulk_memory
 IsElementKindValid context tables ty element_kind.Declared = IsTrue context.features.bulk_memory
@@ -69,21 +71,21 @@ IsElementKindValid context tables ty (element_kind.Active None offset) = IsActiv
 IsElementKindValid context tables ty (element_kind.Active (Some table) offset) = IsTrue context.features.bulk_memory
     × IsActiveElementSegment context tables ty table offset
 
--- an element segment (Validation, Element Segments)
+-- an element segment is valid (Validation, Element Segments)
 pub record IsElementSegmentValid (context : Context) (tables : List TableType) (segment : ElementSegment) : Type 0 where
   pub ty : IsRefTypeValid context.features (length context.types) segment.ty
   pub ty_enabled : IsElementTypeEnabled context.features segment.ty
   pub items : AreItemsValid context segment.ty segment.items
   pub kind : IsElementKindValid context tables segment.ty segment.kind
 
--- the memory of an active data segment exists (Validation, Data Segments); passive segments require
--- bulk memory (own rule)
+-- an active segment's memory exists, and the offset has its address type (Validation, Data
+-- Segments); a passive segment requires bulk memory (own rule)
 abbrev pub IsDataKindValid : Context → List MemoryType → DataSegmentKind → Type 0
 IsDataKindValid context memories data_kind.Passive = IsTrue context.features.bulk_memory
 IsDataKindValid context memories (data_kind.Active index offset) =
     (memory : MemoryType) × (slice_get memories index ≡ Some memory) × IsOffsetValid context memory.memory64 offset
 
--- a data segment (Validation, Data Segments)
+-- a data segment is valid (Validation, Data Segments)
 abbrev pub IsDataValid : Context → List MemoryType → DataSegment → Type 0
 IsDataValid context memories segment = IsDataKindValid context memories segment.kind
 
@@ -92,8 +94,8 @@ abbrev pub item_count : Elements → ℕ
 item_count (Functions functions) = length functions
 item_count (Expressions expressions) = length expressions
 
--- a constant offset, read as unsigned, after which `count` items end within `most` (Execution,
--- Instantiation)
+-- the offset is a constant, and `count` items from it, read as unsigned, end within `most`
+-- (Execution, Instantiation)
 abbrev pub IsOffsetInside : Offset → ℕ → ℕ → Type 0
 IsOffsetInside (Const32 value) count most = cast_unsigned w32 value + count ≤ most
 IsOffsetInside (Const64 value) count most = cast_unsigned w64 value + count ≤ most

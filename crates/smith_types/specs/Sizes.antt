@@ -12,8 +12,8 @@ abbrev pub value_count : CompositeInnerType → ℕ
 value_count (inner.Func f) = length f.params + length f.results
 value_count _ = 0
 
--- the size of an entity, counted towards the type size: 1, plus the number of parameters and
--- results for a function (own rule)
+-- what an entity adds to the type size: 1, and for a function also the number of its parameters and
+-- results (own rule)
 abbrev pub size_in : List SubType → EntityType → ℕ
 size_in types (Func i) = 1 + unwrap_or (option_map (λ t. value_count t.composite_type.inner) (slice_get types i)) 0
 size_in types _ = 1

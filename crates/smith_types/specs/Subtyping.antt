@@ -1,6 +1,7 @@
 -- Subtyping of heap, reference and value types. Sections are those of the WebAssembly Core
--- Specification 3.0. Rules of this project: types of equal groups are different, so fewer types are
--- subtypes of one another than in the standard; sharedness; exact types.
+-- Specification 3.0. Sharedness and exact types follow rules of this project. So does type
+-- equivalence: types of equal groups are different, so that fewer types are subtypes than in the
+-- standard.
 use Rattle.std.specs.Prelude.{◌≡◌, ◌<◌, Bool, true, false, IsTrue, List, length, Some, slice_get}
 use Rattle.smith_syntax.specs.declared.value_type.AbstractHeapType.{AbstractHeapType}
 use Rattle.smith_syntax.specs.declared.value_type.AbstractHeapType.TheVariants.{Func, Extern, Any, None, NoExtern, NoFunc, Eq, Struct}
@@ -27,10 +28,11 @@ is_abstract_step NoExtern Extern = true
 is_abstract_step NoExn Exn = true
 is_abstract_step _ _ = false
 
--- one heap type is directly below another (Validation, Matching, Heap Types): abstract types by the
--- table; a type below its declared supertype and its kind, and above the bottom of its kind; own
--- rules: both are shared or neither is; an exact type is below its concrete type, and above nothing
--- but the bottom of its kind
+-- One heap type is directly below another (Validation, Matching, Heap Types). An abstract type is
+-- below as `is_abstract_step` states. A concrete type is below its declared supertype and the
+-- abstract type of its kind, and above its bottom type. Both types are shared or neither is, and an
+-- exact type is directly below only the concrete type with its index, and above only its bottom
+-- type (own rules).
 abbrev pub IsStep : List SubType → HeapType → HeapType → Type 0
 IsStep types (Abstract s a) (Abstract r b) = (s ≡ r) × IsTrue (is_abstract_step a b)
 IsStep types (Abstract s a) (Concrete j) = (t : SubType) × (slice_get types j ≡ Some t) × (s ≡ shared t) × (a ≡ bottom t)
@@ -42,21 +44,19 @@ IsStep types (Exact i) (Abstract r b) = ⊥
 IsStep types (Exact i) (Concrete j) = i ≡ j
 IsStep types (Exact i) (Exact j) = ⊥
 
--- one heap type is a subtype of another: the reflexive transitive closure of the direct steps
--- (Validation, Matching, Heap Types; own rules as in `IsStep`, and types of equal groups are
--- different)
+-- one heap type is a subtype of another: the reflexive, transitive closure of `IsStep` (Validation,
+-- Matching, Heap Types); types of equal groups are different (own rule)
 pub data IsBelow (types : List SubType) : HeapType → HeapType → Type 0 where
   itself : {a : HeapType} → IsBelow types a a
   by_step : {a b c : HeapType} → IsStep types a b → IsBelow types b c → IsBelow types a c
 
--- one reference type is a subtype of another (Validation, Matching, Reference Types; heap types as
--- in `IsBelow`)
+-- one reference type is a subtype of another (Validation, Matching, Reference Types)
 pub record IsRefBelow (types : List SubType) (a b : RefType) : Type 0 where
   pub heap : IsBelow types a.heap_type b.heap_type
   pub nullable : IsTrue a.nullable → IsTrue b.nullable
 
--- one value type is a subtype of another: number and vector types only of themselves (Validation,
--- Matching, Value Types; references as in `IsRefBelow`)
+-- one value type is a subtype of another; number and vector types only of themselves (Validation,
+-- Matching, Value Types)
 abbrev pub IsValBelow : List SubType → ValType → ValType → Type 0
 IsValBelow types I32 I32 = Unit {0}
 IsValBelow types I64 I64 = Unit {0}

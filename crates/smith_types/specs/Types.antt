@@ -9,7 +9,7 @@ pub record IsAlike (t u : SubType) : Type 0 where
   pub kind : kind t ≡ kind u
   pub shared : shared t ≡ shared u
 
--- each declared supertype precedes its subtype and has the same kind and sharedness (Validation,
+-- each declared supertype precedes its subtype, and has the same kind and sharedness (Validation,
 -- Recursive Types; sharedness: own rule)
 pub record IsOrderly (types : List SubType) : Type 0 where
   pub under : (i s : ℕ) (t : SubType) → slice_get types i ≡ Some t → t.supertype ≡ Some s
@@ -24,8 +24,8 @@ end_from start (group ∷ groups) = end_from group.end groups
 abbrev pub next_start : List (Range ℕ) → ℕ
 next_start groups = end_from 0 groups
 
--- each group starts where the group before it ends, the first at `start`; groups may be empty
--- (Structure, Recursive Types)
+-- the first group starts at `start`, and each other group starts where the group before it ends;
+-- groups may be empty (Structure, Recursive Types)
 abbrev pub AreConsecutive : ℕ → List (Range ℕ) → Type 0
 AreConsecutive start [] = Unit {0}
 AreConsecutive start (group ∷ groups) = (group.start ≡ start) × (start ≤ group.end) × AreConsecutive group.end groups

@@ -11,8 +11,8 @@ use smith_syntax::{
 };
 use std::alloc::Global;
 
-/// The index spaces of a module except that of types (Structure, Indices). Tags and functions are
-/// given by the indices of their types.
+/// The index spaces of a module except the type space (Structure, Indices). A tag and a function
+/// are given by their type index.
 #[derive(Drop)]
 pub struct EntitySpaces {
     /// The index of the type of each tag.

@@ -13,8 +13,8 @@ pub(crate) struct Family {
     pub(crate) count: u32,
     // The index of the last direct subtype. Meaningless if there is none.
     pub(crate) last: u32,
-    // The index of the direct subtype before this type, among those of its own supertype.
-    // Meaningless if there is none.
+    // The index of the previous direct subtype of this type's own supertype. Meaningless if there
+    // is none.
     pub(crate) previous: u32,
 }
 

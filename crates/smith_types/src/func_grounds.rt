@@ -65,8 +65,8 @@ impl FuncGrounds {
         self.kinds = self.kinds.with(ty);
     }
 
-    /// Returns whether one of the functions grounds the heap type `ty`. If the record was made over
-    /// fewer types than there are now, none grounds a type that was added since.
+    /// Returns whether one of the functions grounds the heap type `ty`. If types were added after
+    /// the record was made, no function grounds an added type.
     pub fn are_grounding(&self, ty: HeapType) -> bool
         ensures decided { (context : Context) → AreFuncGrounds context self.now → IsInRange context.types ty
             → IsTrue result ↔ IsGroundedByFuncs context ty }

@@ -19,7 +19,7 @@ use smith_syntax::{CompositeInnerType, FieldType, StorageType, SubType, ValType}
 pub(crate) struct Ground {
     // Whether the type is a struct type whose fields all have defaults.
     pub(crate) own: bool,
-    // Whether the type or one of its subtypes is.
+    // Whether the type or one of its subtypes is such a struct type.
     pub(crate) below: bool,
 }
 
@@ -32,8 +32,8 @@ pub(crate) struct GroundKinds {
 }
 
 impl GroundKinds {
-    // Returns the kinds with a further type. `ground` says whether the type is such a struct type,
-    // and `shared` whether it is shared.
+    // Returns the kinds with one more type. `ground` is whether the type is such a struct type, and
+    // `shared` whether it is shared.
     pub(crate) fn with(self, ground: bool, shared: bool) -> GroundKinds
         ensures { result ≡ ground_kinds_with ground shared self }
     {

@@ -13,8 +13,8 @@ use std::alloc::Global;
 #[derive(Drop)]
 pub(crate) struct MarkedFamilies {
     pub(crate) alloc: Global,
-    // Whether `lists` is kept up to date: until a type marks a type before it. A valid type never
-    // does, since its supertype is such a struct type if it is one itself.
+    // Whether `lists` is up to date, which ends when a type marks an earlier type. A valid type
+    // never does: if it is a struct type whose fields all have defaults, so is its supertype.
     pub(crate) known: bool,
     // The lists of the first types, at least up to the last that has marked direct subtypes.
     pub(crate) lists: Vec<Vec<u32>>,
@@ -63,9 +63,9 @@ impl MarkedFamilies {
         Ok(())
     }
 
-    // Updates the lists with the type `index`, the next one, whose supertype is `supertype`. `own`
-    // is its mark, and `changed` says whether those of other types may have changed. Requires room
-    // for one more direct subtype.
+    // Updates the lists with the next type `index`, whose supertype is `supertype`. `own` is its
+    // mark, and `changed` is whether marks of other types may have changed. Requires room for one
+    // more direct subtype.
     pub(crate) fn note(&mut self, changed: bool, own: bool, supertype: Option<u32>, index: u32)
         requires room { HasFamilyRoom supertype self.old.lists.items }
         ensures { (types : List ListedType) (added : ListedType) (old new : List Mark)

@@ -56,9 +56,9 @@ impl MarkedTypes {
         Ok(())
     }
 
-    // Updates the indices with the type `added`, the next one after `types`. `grounds` are the marks
-    // of all of these types, `own` that of `added`, and `changed` says whether those of other types
-    // may have changed. Requires room for one more index.
+    // Updates the indices with the type `added`, the next one after `types`. `grounds` are the
+    // marks of all these types, `own` is the mark of `added`, and `changed` is whether marks of
+    // other types may have changed. Requires room for one more index.
     pub(crate) fn note(
         &mut self,
         changed: bool,

@@ -66,8 +66,8 @@ fn func_type_is_match(space: &TypeSpace, a: &FuncType, b: &FuncType) -> bool
         && are_below(space, a.results.as_slice(), b.results.as_slice())
 }
 
-// Returns whether `a` and `b` have the same length and each type of `a` is a subtype of that of `b`
-// at the same position.
+// Returns whether `a` and `b` have the same length and each type of `a` is a subtype of the type of
+// `b` at the same position.
 fn are_below(space: &TypeSpace, a: &[ValType], b: &[ValType]) -> bool
     requires lower { All (IsValInRange space.now.types) a.now }
     requires upper { All (IsValInRange space.now.types) b.now }
@@ -84,8 +84,8 @@ fn are_below(space: &TypeSpace, a: &[ValType], b: &[ValType]) -> bool
     true
 }
 
-// Returns whether `a` has at least as many fields as `b`, and each field of `b` is matched by that
-// of `a` at the same position.
+// Returns whether `a` has at least as many fields as `b`, and each field of `b` is matched by the
+// field of `a` at the same position.
 fn fields_are_matched(space: &TypeSpace, a: &[FieldType], b: &[FieldType]) -> bool
     requires lower { All (IsFieldInRange space.now.types) a.now }
     requires upper { All (IsFieldInRange space.now.types) b.now }

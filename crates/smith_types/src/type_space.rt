@@ -87,7 +87,7 @@ pub struct TypeSpace {
     ground_kinds: GroundKinds,
     // The indices of the types that are marked as grounded.
     marked: MarkedTypes,
-    // Those of the direct subtypes of each type.
+    // The indices of the marked direct subtypes of each type.
     marked_families: MarkedFamilies,
     groups: Vec<Range<usize>>,
 }
@@ -304,8 +304,8 @@ impl TypeSpace {
     }
 
     /// Returns the indices of the types with the sharedness `shared` that are grounded by a struct
-    /// type whose fields all have defaults, in order: of such struct types and their supertypes.
-    /// Returns `None` after [`TypeSpace::keep_no_grounds`].
+    /// type whose fields all have defaults, in order. These are such struct types and their
+    /// supertypes. Returns `None` after [`TypeSpace::keep_no_grounds`].
     pub fn grounded_by_structs(&self, shared: bool) -> Option<&[u32]>
         ensures { IfSome result (λ indices. (descriptors : Bool) (test : ℕ → Bool)
             → DecidesGrounded self.now.types descriptors shared test
@@ -319,7 +319,8 @@ impl TypeSpace {
 
     /// Returns the indices of the types that declare the type `index` as their supertype and are
     /// grounded by a struct type whose fields all have defaults, in order. Returns `None` after
-    /// [`TypeSpace::keep_no_grounds`], or if such a struct type has a supertype that is none.
+    /// [`TypeSpace::keep_no_grounds`], or if the supertype of such a struct type is not such a
+    /// struct type.
     pub fn grounded_direct_subtypes(&self, index: u32) -> Option<&[u32]>
         ensures { IfSome result (λ indices. (descriptors : Bool) (test : ℕ → Bool)
             → DecidesGroundedBelow self.now.types descriptors index test
@@ -381,8 +382,8 @@ impl TypeSpace {
         self.heap_type_is_sub_type(HeapType::Concrete(index), ty)
     }
 
-    // Returns whether `to` is `from` or a declared supertype of it, direct or indirect: then `to` is
-    // the supertype of `from` of its depth.
+    // Returns whether `to` is `from` or one of its supertypes, declared directly or indirectly.
+    // Then `to` is the supertype of `from` at its depth.
     pub(crate) fn reaches(&self, from: u32, to: u32) -> bool
         requires lower { from < length self.now.types }
         requires upper { to < length self.now.types }

@@ -1,5 +1,5 @@
--- Properties of a whole stated part by part, as the decision procedures establish them. Proofs
--- derive the definitions of validity from them.
+-- Validity stated part by part, as the decision procedures establish it. The definitions of
+-- validity are derived from these by proof.
 use Rattle.std.specs.Prelude.{◌≡◌, ◌<◌, ◌≤◌, ℕ, List, [], Some, All, length, slice_get}
 use Rattle.std.specs.declared.ops.Range.{Range}
 use Rattle.smith_syntax.specs.Features.{Features}
@@ -21,19 +21,19 @@ use Rattle.smith_syntax.specs.declared.entity_type.ExportKind.TheVariants as kin
 use Rattle.smith_syntax.specs.declared.entity_type.GlobalType.{GlobalType}
 use Rattle.smith_syntax.specs.declared.entity_type.TableType.{TableType}
 
--- a stored value type has the property; packed types always do
+-- the value type of a storage type has the property `P`; a packed type has none
 abbrev pub IsStored : (ValType → Type 0) → StorageType → Type 0
 IsStored P I8 = Unit {0}
 IsStored P I16 = Unit {0}
 IsStored P (Val value) = P value
 
--- each value type of a composite type has the property
+-- each value type in a composite type has the property `P`
 abbrev pub AreHeld : (ValType → Type 0) → CompositeInnerType → Type 0
 AreHeld P (Array array) = IsStored P array.0.element_type
 AreHeld P (Func function) = All P function.params × All P function.results
 AreHeld P (Struct structure) = All (λ (field : FieldType). IsStored P field.element_type) structure.fields
 
--- each value type in types, tables and globals has the property
+-- each value type in types, tables and globals has the property `P`
 pub record AreNamed (P : ValType → Type 0) (listed : List SubType) (spaces : EntitySpaces) : Type 0 where
   pub of_types : All (λ (t : SubType). All P (values_of t.composite_type.inner)) listed
   pub of_tables : All (λ (table : TableType). P (Ref table.element_type)) spaces.tables
@@ -52,15 +52,15 @@ abbrev pub IsTagType : CompositeInnerType → Type 0
 IsTagType (Func function) = function.results ≡ []
 IsTagType _ = ⊥
 
--- functions of these types are valid
+-- each function has a valid type index
 pub record AreFuncsValid (types : List SubType) (funcs : List ℕ) : Type 0 where
   pub each : All (IsFuncTypeIndex types) funcs
 
--- tags of these types are valid
+-- each tag has a valid type index
 pub record AreTagsValid (types : List SubType) (tags : List ℕ) : Type 0 where
   pub each : All (IsTagValid types) tags
 
--- each entity is valid, list by list
+-- each entity of the index spaces is valid
 pub record AreListsValid (features : Features) (types : List SubType) (spaces : EntitySpaces) : Type 0 where
   pub of_tags : AreTagsValid types spaces.tags
   pub of_funcs : AreFuncsValid types spaces.funcs

@@ -58,7 +58,7 @@ pub fn are_counts_enabled(features: WasmFeatures, spaces: &EntitySpaces) -> bool
 }
 
 /// Returns whether each of `tags`, given by its type index in `types`, is valid (Validation, Tag
-/// Types). That tags have no results is a rule of this project.
+/// Types). By a rule of this project, a tag has no results.
 pub fn are_tags_valid(types: &[SubType], tags: &[u32]) -> bool
     ensures { IsTrue result ↔ AreTagsValid types.now tags.now }
 {

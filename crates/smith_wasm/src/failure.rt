@@ -22,8 +22,10 @@ pub(crate) enum Failure {
     Refused(Refusal),
     /// No change that was tried makes a file invalid.
     NoChange,
-    /// A binary is not written to a terminal.
+    /// A binary is not written to a terminal, and `--wat` writes a text.
     Terminal,
+    /// An invalid file is not written to a terminal.
+    InvalidTerminal,
     /// A file is no module.
     Malformed(Malformed),
     /// The bodies of a file have more locals than are written as text: its path.
@@ -37,7 +39,11 @@ impl Failure {
     /// configuration file refuses it, a file is no shape, or a binary would go to a terminal, else 1.
     pub(crate) fn status(&self) -> u8 {
         match self {
-            Failure::Config(..) | Failure::Word(..) | Failure::Terminal | Failure::Shape(..) => 2,
+            Failure::Config(..)
+            | Failure::Word(..)
+            | Failure::Terminal
+            | Failure::InvalidTerminal
+            | Failure::Shape(..) => 2,
             _ => 1,
         }
     }
@@ -46,6 +52,9 @@ impl Failure {
 // The refusal of a binary for a terminal.
 const TERMINAL: &str =
     "a binary is not written to a terminal: name a file with --output, or use --wat for text";
+
+// The refusal of an invalid file for a terminal.
+const INVALID_TERMINAL: &str = "a binary is not written to a terminal: name a file with --output";
 
 // The refusal of an input of which no invalid file is made.
 const NO_CHANGE: &str = "no change of these families that was tried makes the file invalid";
@@ -60,6 +69,7 @@ impl fmt::Display for Failure {
             Failure::Refused(refusal) => write!(f, "refused: {refusal}"),
             Failure::NoChange => f.write_str(NO_CHANGE),
             Failure::Terminal => f.write_str(TERMINAL),
+            Failure::InvalidTerminal => f.write_str(INVALID_TERMINAL),
             Failure::Malformed(malformed) => write!(f, "{malformed}"),
             Failure::Locals(path) => write!(f, "{path}: it has more than {LOCALS} locals"),
             Failure::Shape(path, fault) => write!(f, "{path}: {fault}"),

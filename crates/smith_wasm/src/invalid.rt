@@ -10,7 +10,7 @@ use crate::words::{COUNT, FAMILIES, INPUT, OUTPUT, OUTPUT_DIR, SEED, TWINS};
 use clap::ArgMatches;
 use rand_core::{Rng, SeedableRng};
 use rand_xoshiro::Xoshiro256PlusPlus;
-use smith_bytes::{Error, Unstructured};
+use smith_bytes::Unstructured;
 use smith_request::{Form, Manner, Refusal};
 use smith_wrong::{Family, Wrong, WrongRefusal};
 use std::alloc::Global;
@@ -108,7 +108,7 @@ fn make_one(rt: &HostRuntime, asked: &InvalidRequest<'_, '_, '_>) -> Result<(), 
     let matches = asked.request.matches;
     let path = path_of(matches, OUTPUT);
     if path.is_none() && shows_output(rt) {
-        return Err(Failure::Terminal);
+        return Err(Failure::InvalidTerminal);
     }
     let input = read_from(rt, path_of(matches, INPUT))?;
     let wrong = wrong_of(rt.alloc(), asked, input.as_slice())?;
@@ -131,10 +131,8 @@ fn wrong_of(
 
 fn failure_of(refusal: WrongRefusal) -> Failure {
     match refusal {
-        WrongRefusal::Module(error) => Failure::from(error),
-        WrongRefusal::Encoding(error) => Failure::Refused(Refusal::Encoding(error)),
-        WrongRefusal::Memory => Failure::from(Error::Memory),
         WrongRefusal::NoChange => Failure::NoChange,
+        refusal => Failure::Refused(Refusal::from(refusal)),
     }
 }
 

@@ -1,2 +1,4 @@
 mod ChangeLemmas
+mod PreambleLemmas
+mod WithoutLemmas
 mod WrongLemmas

@@ -1,27 +1,30 @@
--- A broken twin is an invalid file with all that is said of it.
-use Rattle.std.proofs.Common.{◌≡◌, ◌⊎◌, inl, inr, ℕ, List, sym, subst}
+-- What is known of a broken file makes it an invalid one with all that is said of it.
+use Rattle.std.proofs.Common.{◌≡◌, ◌⊎◌, inl, inr, ℕ, List, Result, Ok, Err, IfOk, sym, subst}
 use Rattle.smith_config.specs.Features.{features_of}
 use Rattle.smith_config.specs.declared.config.Config.{Config}
 use Rattle.smith_syntax.specs.Features.{Features}
 use Rattle.smith_binary_program.specs.Valid.{IsValidBinary}
 use Rattle.smith_binary_program.proofs.ValidLemmas.{encoded_valid}
 use Rattle.smith_wrong.specs.Changes.{IsChangeOf}
-use Rattle.smith_wrong.specs.Wrong.{IsBroken, IsBrokenTwin, IsRefused, IsTwin, IsWrong}
+use Rattle.smith_wrong.specs.Wrong.{IsBroken, IsRefused, IsTwin, IsWrong}
 use Rattle.smith_wrong.specs.declared.refusal.WrongRefusal.{WrongRefusal}
 use Rattle.smith_wrong.specs.declared.refusal.WrongRefusal.TheVariants as refusal
 use Rattle.smith_wrong.specs.declared.wrong.Wrong.{Wrong}
 
-twin_valid : (config : Config) (input left twin : List ℕ) → IsTwin config input left twin → IsValidBinary twin
+pub twin_valid : (config : Config) (input left twin : List ℕ) → IsTwin config input left twin → IsValidBinary twin
 twin_valid config input left twin h = encoded_valid h.program.«module» h.program.bodies twin h.encoded h.drawn.valid
 
-pub made : (config : Config) (input left twin : List ℕ) (features : Features) (wrong : Wrong) → features ≡ features_of config
-    → IsTwin config input left twin → IsBrokenTwin features twin wrong → IsWrong config input left wrong
-made config input left twin features wrong on origin h = record {
-  twin = subst (IsTwin config input left) (sym h.same) origin;
-  valid = subst IsValidBinary (sym h.same) (twin_valid config input left twin origin);
-  change = subst (λ (bytes : List ℕ). IsChangeOf wrong.change bytes wrong.file.items) (sym h.same) h.change;
-  broken = subst (λ (given : Features). IsBroken given wrong.file.items wrong.answer) on h.broken;
+pub made : (config : Config) (input left twin : List ℕ) (features : Features) (answer : Result Wrong WrongRefusal)
+    → features ≡ features_of config → IsTwin config input left twin → IfOk answer (λ wrong. wrong.twin.items ≡ twin)
+    → IfOk answer (λ wrong. IsChangeOf wrong.change twin wrong.file.items)
+    → IfOk answer (λ wrong. IsBroken features wrong.file.items wrong.answer) → IfOk answer (IsWrong config input left)
+made config input left twin features (Ok wrong) on origin same change broken = record {
+  twin = subst (IsTwin config input left) (sym same) origin;
+  valid = subst IsValidBinary (sym same) (twin_valid config input left twin origin);
+  change = subst (λ (bytes : List ℕ). IsChangeOf wrong.change bytes wrong.file.items) (sym same) change;
+  broken = subst (λ (given : Features). IsBroken given wrong.file.items wrong.answer) on broken;
 }
+made config input left twin features (Err e) on origin same change broken = tt
 
 -- a refusal after the twin is written
 pub refused : (config : Config) (input left twin : List ℕ) (e : WrongRefusal) → IsTwin config input left twin

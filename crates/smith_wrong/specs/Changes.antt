@@ -1,4 +1,4 @@
--- One change of a file.
+-- A single change of a file.
 use Rattle.std.specs.Prelude.{◌≡◌, ℕ, List}
 use Rattle.smith_decode.specs.Modules.{IsModuleBinary, syntax_of}
 use Rattle.smith_decode.specs.declared.locations.Place.{Place}
@@ -11,7 +11,8 @@ use Rattle.smith_wrong.specs.declared.changes.Change.TheVariants as change
 use Rattle.smith_wrong.specs.declared.families.Family.{Family}
 use Rattle.smith_wrong.specs.declared.families.Family.TheVariants as family
 
--- a file spells a module that differs at one place from the one that the twin is (Binary Format, Modules)
+-- the file spells a module that differs from the twin's module at one place (Binary Format,
+-- Modules)
 pub record HasChangedItem (at : Place) (twin file : List ℕ) : Type 0 where
   pub m : Module
   pub read : IsModuleFile twin m
@@ -19,7 +20,7 @@ pub record HasChangedItem (at : Place) (twin file : List ℕ) : Type 0 where
   pub differs : IsChangedAt at m n
   pub spelled : IsModuleBinary (syntax_of n) file
 
--- a file is another one, its twin, with this one change (own rule)
+-- the file is its twin with this one change (own rule)
 abbrev pub IsChangeOf : Change → List ℕ → List ℕ → Type 0
 IsChangeOf (change.Item one at) twin file = HasChangedItem at twin file
 IsChangeOf (change.Bytes one splice) twin file = file ≡ spliced twin splice

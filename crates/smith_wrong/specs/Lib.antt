@@ -1,3 +1,5 @@
 pub mod Changes
 pub mod ExampleChanges
+pub mod Numbers
+pub mod Weights
 pub mod Wrong

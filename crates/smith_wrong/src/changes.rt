@@ -1,6 +1,11 @@
-ghost use Rattle.std.specs.Prelude.{IfOk, IfErr, IfSome, ◌≡◌};
+ghost use Rattle.std.specs.Prelude.{IfOk, IfErr, IfSome, IsSome, ◌≡◌};
+ghost use Rattle.smith_binary_program.specs.Valid.{IsValidBinary};
+ghost use Rattle.smith_decode.specs.ModuleReadings.{module_at};
 ghost use Rattle.smith_decode.specs.Modules.{IsModuleBinary, syntax_of};
+ghost use Rattle.smith_decode.specs.declared.modules.Module as decoded;
 ghost use Rattle.smith_wrong.specs.Changes.{IsChangeOf, family_of};
+ghost use Rattle.smith_wrong_bytes.specs.Splices.{HasPreamble, spliced};
+ghost use Rattle.smith_wrong.specs.declared.changes.Change.TheVariants as change;
 ghost use Rattle.smith_wrong.specs.declared.families.Family.TheVariants as families;
 ghost use Rattle.smith_wrong.specs.declared.refusal.WrongRefusal.TheVariants as refusal;
 
@@ -10,7 +15,7 @@ use smith_bytes::Unstructured;
 use smith_decode::{DecodeError, Module, Place, decode};
 use smith_encode::{EncodeFault, encode};
 use smith_types::WasmFeatures;
-use smith_wrong_bytes::{BytesFamily, Splice, draw_splice, splice};
+use smith_wrong_bytes::{BytesFamily, Splice, break_preamble, draw_splice, splice};
 use smith_wrong_module::{ModuleFamily, draw_change};
 use std::alloc::Global;
 
@@ -118,13 +123,52 @@ fn draw_bytes(
     ensures memory { IfErr result (λ e. e ≡ refusal.Memory) }
 {
     match draw_splice(alloc, family, twin, u) {
-        Ok(Some(drawn)) => match splice(alloc, twin, &drawn) {
-            Ok(bytes) => Ok(Some(ChangedFile {
-                bytes,
-                change: Change::Bytes(family, drawn),
-            })),
-            Err(_) => Err(WrongRefusal::Memory),
-        },
+        Ok(Some(drawn)) => splice_file(alloc, twin, family, drawn),
+        Ok(None) => Ok(None),
+        Err(_) => Err(WrongRefusal::Memory),
+    }
+}
+
+// Makes the change `drawn`, of `family`, in `twin`.
+fn splice_file(
+    alloc: Global,
+    twin: &[u8],
+    family: BytesFamily,
+    drawn: Splice,
+) -> Result<Option<ChangedFile>, WrongRefusal>
+    ensures change { IfOk result (λ made. IfSome made (λ one. one.change ≡ change.Bytes family drawn)) }
+    ensures bytes { IfOk result (λ made. IfSome made (λ one. one.bytes.items ≡ spliced twin.now drawn)) }
+    ensures found { IfOk result IsSome }
+    ensures memory { IfErr result (λ e. e ≡ refusal.Memory) }
+{
+    match splice(alloc, twin, &drawn) {
+        Ok(bytes) => Ok(Some(ChangedFile {
+            bytes,
+            change: Change::Bytes(family, drawn),
+        })),
+        Err(_) => Err(WrongRefusal::Memory),
+    }
+}
+
+/// Draws one change of the first eight bytes of `twin`, of `family`, after which it is no module. Returns
+/// `None` if the family has no such changes. Fails for lack of memory alone.
+pub(crate) fn draw_preamble(
+    alloc: Global,
+    twin: &[u8],
+    family: BytesFamily,
+    u: &mut Unstructured<'_>,
+) -> Result<Option<ChangedFile>, WrongRefusal>
+    requires { IsValidBinary twin.now }
+    ensures change { IfOk result (λ drawn. IfSome drawn (λ one.
+        IsChangeOf one.change twin.now one.bytes.items)) }
+    ensures family { IfOk result (λ drawn. IfSome drawn (λ one. family_of one.change ≡ families.Bytes family)) }
+    ensures broken { IfOk result (λ drawn. IfSome drawn (λ one.
+        (m : decoded.Module) → module_at one.bytes.items ≡ Ok m → ⊥)) }
+    ensures found { HasPreamble family → IfOk result IsSome }
+    ensures memory { IfErr result (λ e. e ≡ refusal.Memory) }
+{
+    match break_preamble(alloc, family, twin, u) {
+        Ok(Some(drawn)) => splice_file(alloc, twin, family, drawn),
         Ok(None) => Ok(None),
         Err(_) => Err(WrongRefusal::Memory),
     }

@@ -1,5 +1,6 @@
-ghost use Rattle.std.specs.Prelude.{◌≡◌, IfSome};
+ghost use Rattle.std.specs.Prelude.{◌≡◌, ◌^◌, ◌-◌, IfSome, min};
 ghost use Rattle.std.specs.List.{Contains};
+ghost use Rattle.smith_wrong.specs.Weights.{bytes_weight_of, drawn_family, family_in, module_weight_of, total_of, weight_of};
 
 use smith_bytes::Unstructured;
 use smith_wrong_bytes::BytesFamily;
@@ -16,7 +17,7 @@ pub enum Family {
 
 impl Family {
     /// Every family.
-    pub const ALL: [Family; 54] = [
+    pub const ALL: [Family; 55] = [
         Family::Module(ModuleFamily::OperandType),
         Family::Module(ModuleFamily::MissingOperand),
         Family::Module(ModuleFamily::ExtraOperand),
@@ -59,6 +60,7 @@ impl Family {
         Family::Bytes(BytesFamily::ListCount),
         Family::Bytes(BytesFamily::FunctionCount),
         Family::Bytes(BytesFamily::DataCount),
+        Family::Bytes(BytesFamily::DataCountMissing),
         Family::Bytes(BytesFamily::SectionOrder),
         Family::Bytes(BytesFamily::SectionTwice),
         Family::Bytes(BytesFamily::UnknownSection),
@@ -90,7 +92,9 @@ impl Family {
     }
 
     /// Returns how often the family is drawn, next to the weights of the others.
-    pub fn weight(self) -> u32 {
+    pub fn weight(self) -> u32
+        ensures { result ≡ weight_of self }
+    {
         match self {
             Family::Module(family) => module_weight(family),
             Family::Bytes(family) => bytes_weight(family),
@@ -98,8 +102,9 @@ impl Family {
     }
 }
 
-/// Draws one of `families` by their weights from the bytes of `u`. Returns `None` if they have none.
+/// Draws one of `families` by their weights from the bytes of `u`. Returns `None` if there are none.
 pub(crate) fn draw_family(families: &[Family], u: &mut Unstructured<'_>) -> Option<Family>
+    ensures exact { result ≡ drawn_family families.now u.old }
     ensures among { IfSome result (Contains families.now) }
 {
     let sum = sum_of(families);
@@ -109,8 +114,10 @@ pub(crate) fn draw_family(families: &[Family], u: &mut Unstructured<'_>) -> Opti
     family_at(families, u.int_in_range(0..=sum - 1))
 }
 
-// Returns the sum of the weights of `families`.
-fn sum_of(families: &[Family]) -> u32 {
+// Returns the sum of the weights of `families`, or the greatest number if it is less.
+fn sum_of(families: &[Family]) -> u32
+    ensures { result ≡ min (total_of families.now) (2 ^ 32 - 1) }
+{
     let mut sum: u32 = 0;
     for family in families {
         sum = sum.saturating_add(family.weight());
@@ -120,6 +127,7 @@ fn sum_of(families: &[Family]) -> u32 {
 
 // Returns the first of `families` with which the sum of the weights is above `place`.
 fn family_at(families: &[Family], place: u32) -> Option<Family>
+    ensures exact { result ≡ family_in families.now place }
     ensures among { IfSome result (Contains families.now) }
 {
     let mut left = place;
@@ -134,7 +142,9 @@ fn family_at(families: &[Family], place: u32) -> Option<Family>
 }
 
 // Families of which few modules have a place have greater weights, so that each is drawn.
-fn module_weight(family: ModuleFamily) -> u32 {
+fn module_weight(family: ModuleFamily) -> u32
+    ensures { result ≡ module_weight_of family }
+{
     match family {
         ModuleFamily::ImmutableGlobal => 32,
         ModuleFamily::Offset => 24,
@@ -145,15 +155,19 @@ fn module_weight(family: ModuleFamily) -> u32 {
         | ModuleFamily::PackedField
         | ModuleFamily::Alignment
         | ModuleFamily::ImportType
-        | ModuleFamily::TagType => 8,
+        | ModuleFamily::TagType
+        | ModuleFamily::DataSegment => 8,
         // No drawn module has a local without a default value.
-        ModuleFamily::UnsetLocal => 1,
+        ModuleFamily::UnsetLocal => 2,
         _ => 4,
     }
 }
 
-fn bytes_weight(family: BytesFamily) -> u32 {
+fn bytes_weight(family: BytesFamily) -> u32
+    ensures { result ≡ bytes_weight_of family }
+{
     match family {
+        BytesFamily::DataCountMissing => 6,
         BytesFamily::DataCount => 4,
         BytesFamily::FunctionCount | BytesFamily::BodySize | BytesFamily::NotUtf8 => 3,
         _ => 2,

@@ -5,6 +5,7 @@
 mod changes;
 mod examples;
 mod families;
+mod numbers;
 mod refusal;
 mod seed;
 mod wrong;

@@ -1,13 +1,19 @@
-ghost use Rattle.std.specs.Prelude.{◌≡◌, ◌⊎◌, IsTrue, IfOk, IfErr, IfSome};
+ghost use Rattle.std.specs.Prelude.{◌≡◌, ◌⊎◌, ◌↔◌, IsTrue, IfOk, IfErr, IfSome, IsSome};
 ghost use Rattle.std.specs.List.{Contains};
+ghost use Rattle.smith_binary_program.specs.Valid.{IsValidBinary};
 ghost use Rattle.smith_config.specs.Features.{features_of};
+ghost use Rattle.smith_decode.specs.ModuleReadings.{module_at};
+ghost use Rattle.smith_decode.specs.declared.modules.Module.{Module};
 ghost use Rattle.smith_judge.specs.Files.{IsValidFile};
 ghost use Rattle.smith_syntax.specs.FeatureBits.{features_in};
+ghost use Rattle.smith_wrong_bytes.specs.Splices.{HasPreamble};
 ghost use Rattle.smith_wrong.specs.Changes.{IsChangeOf, family_of};
-ghost use Rattle.smith_wrong.specs.Wrong.{IsBroken, IsBrokenTwin, IsRefused, IsTwin, IsWrong, NamesRule};
+ghost use Rattle.smith_wrong.specs.Wrong.{AreWithoutPreamble, IsBroken, IsRefused, IsTwin, IsWrong, NamesRule};
+ghost use Rattle.smith_wrong.specs.declared.families.Family.TheVariants as families;
+ghost use Rattle.smith_wrong_bytes.specs.declared.family.BytesFamily.{BytesFamily};
 ghost use Rattle.smith_wrong.specs.declared.refusal.WrongRefusal.TheVariants as refusal;
 
-use crate::changes::{Change, ChangedFile, draw_file};
+use crate::changes::{Change, ChangedFile, draw_file, draw_preamble};
 use crate::families::{Family, draw_family};
 use crate::refusal::WrongRefusal;
 use crate::seed::seed_of;
@@ -16,9 +22,10 @@ use smith_config::Config;
 use smith_judge::{Answer, judge};
 use smith_program::Program;
 use smith_types::WasmFeatures;
+use smith_wrong_bytes::BytesFamily;
 use std::alloc::Global;
 
-/// The greatest number of changes that are tried for a file.
+/// The greatest number of drawn changes that are tried for a file before one of its first eight bytes.
 pub const TRIES: u32 = 16;
 
 /// An invalid file, with the valid one that it was.
@@ -39,7 +46,8 @@ impl Wrong {
     /// in its binary, of one of `families`, that breaks a rule of the format or of validity under the
     /// features of `config`. The change is drawn from the bytes left, which stay in `u`, and, past their
     /// end, from numbers that depend on the binary alone. If a change breaks no rule, the next one is
-    /// tried, at most [`TRIES`] in all.
+    /// tried, at most [`TRIES`] in all. If none of them does, one of the first eight bytes is changed, or
+    /// the file is cut there, by the first of `families` that has such changes: `Preamble` or `CutFile`.
     ///
     /// The binary has no custom sections. If `config` allows raw bodies, these can break a rule
     /// themselves.
@@ -48,7 +56,8 @@ impl Wrong {
     ///
     /// Returns `Module` with the refusal of [`Program::new`], `Encoding` if the program is too long for
     /// the binary format or memory runs out while it is written, `Memory` if memory runs out later, and
-    /// `NoChange` if no change that was tried breaks a rule.
+    /// `NoChange` if no change that was tried breaks a rule, and `families` has neither `Preamble` nor
+    /// `CutFile`.
     pub fn new(
         alloc: Global,
         config: Config,
@@ -62,6 +71,7 @@ impl Wrong {
         ensures made { IfOk result (IsWrong config u.old u.new) }
         ensures family { IfOk result (λ wrong. Contains families.now (family_of wrong.change)) }
         ensures refused { IfErr result (IsRefused config u.old u.new) }
+        ensures found { IfErr result (λ e. e ≡ refusal.NoChange → AreWithoutPreamble families.now) }
     {
         let features = config.features();
         match draw_twin(alloc, config, u) {
@@ -86,6 +96,7 @@ fn draw_twin(
 ) -> Result<Vec<u8>, WrongRefusal>
     ensures twin { IfOk result (λ twin. IsTwin config u.old u.new twin.items) }
     ensures refused { IfErr result (IsRefused config u.old u.new) }
+    ensures drawn { IfErr result (λ e. e ≡ refusal.NoChange → ⊥) }
 {
     match Program::new(alloc, config, u) {
         Ok(program) => match smith_binary_program::encode(alloc, &program) {
@@ -104,9 +115,14 @@ fn break_twin(
     families: &[Family],
     u: &Unstructured<'_>,
 ) -> Result<Wrong, WrongRefusal>
-    ensures broken { IfOk result (IsBrokenTwin (features_in features) twin.items) }
+    requires { IsValidBinary twin.items }
+    ensures twin { IfOk result (λ wrong. wrong.twin.items ≡ twin.items) }
+    ensures change { IfOk result (λ wrong. IsChangeOf wrong.change twin.items wrong.file.items) }
+    ensures broken { IfOk result (λ wrong.
+        IsBroken (features_in features) wrong.file.items wrong.answer) }
     ensures family { IfOk result (λ wrong. Contains families.now (family_of wrong.change)) }
     ensures refused { IfErr result (λ e. (e ≡ refusal.Memory) ⊎ (e ≡ refusal.NoChange)) }
+    ensures found { IfErr result (λ e. e ≡ refusal.NoChange → AreWithoutPreamble families.now) }
 {
     match draw_broken(alloc, features, twin.as_slice(), families, u) {
         Ok(Some((file, answer))) => {
@@ -131,12 +147,14 @@ fn draw_broken(
     families: &[Family],
     u: &Unstructured<'_>,
 ) -> Result<Option<(ChangedFile, Answer)>, WrongRefusal>
+    requires { IsValidBinary twin.now }
     ensures change { IfOk result (λ found. IfSome found (λ one.
         IsChangeOf one.0.change twin.now one.0.bytes.items)) }
     ensures broken { IfOk result (λ found. IfSome found (λ one.
         IsBroken (features_in features) one.0.bytes.items one.1)) }
     ensures family { IfOk result (λ found. IfSome found (λ one.
         Contains families.now (family_of one.0.change))) }
+    ensures found { IfOk result (λ found. found ≡ None → AreWithoutPreamble families.now) }
     ensures memory { IfErr result (λ e. e ≡ refusal.Memory) }
 {
     let seed = match seed_of(alloc, twin, u) {
@@ -149,7 +167,59 @@ fn draw_broken(
             return Ok(Some(found));
         }
     }
+    try_preambles(alloc, features, twin, families, &mut source)
+}
+
+// Changes the first eight bytes of `twin` by the first of `families` that has such changes.
+fn try_preambles(
+    alloc: Global,
+    features: WasmFeatures,
+    twin: &[u8],
+    families: &[Family],
+    u: &mut Unstructured<'_>,
+) -> Result<Option<(ChangedFile, Answer)>, WrongRefusal>
+    requires { IsValidBinary twin.now }
+    ensures change { IfOk result (λ found. IfSome found (λ one.
+        IsChangeOf one.0.change twin.now one.0.bytes.items)) }
+    ensures broken { IfOk result (λ found. IfSome found (λ one.
+        IsBroken (features_in features) one.0.bytes.items one.1)) }
+    ensures family { IfOk result (λ found. IfSome found (λ one.
+        Contains families.now (family_of one.0.change))) }
+    ensures found { IfOk result (λ found. found ≡ None → AreWithoutPreamble families.now) }
+    ensures memory { IfErr result (λ e. e ≡ refusal.Memory) }
+{
+    for family in families {
+        if let Some(found) = try_preamble(alloc, features, twin, *family, u)? {
+            return Ok(Some(found));
+        }
+    }
     Ok(None)
+}
+
+// Changes the first eight bytes of `twin` by a change of `family`, if it has such changes.
+fn try_preamble(
+    alloc: Global,
+    features: WasmFeatures,
+    twin: &[u8],
+    family: Family,
+    u: &mut Unstructured<'_>,
+) -> Result<Option<(ChangedFile, Answer)>, WrongRefusal>
+    requires { IsValidBinary twin.now }
+    ensures change { IfOk result (λ found. IfSome found (λ one.
+        IsChangeOf one.0.change twin.now one.0.bytes.items)) }
+    ensures broken { IfOk result (λ found. IfSome found (λ one.
+        IsBroken (features_in features) one.0.bytes.items one.1)) }
+    ensures family { IfOk result (λ found. IfSome found (λ one. family_of one.0.change ≡ family)) }
+    ensures found { (one : BytesFamily) → family ≡ families.Bytes one → HasPreamble one → IfOk result IsSome }
+    ensures memory { IfErr result (λ e. e ≡ refusal.Memory) }
+{
+    let Family::Bytes(family) = family else {
+        return Ok(None);
+    };
+    match draw_preamble(alloc, twin, family, u)? {
+        Some(file) => judge_change(alloc, features, file),
+        None => Ok(None),
+    }
 }
 
 // Draws one change of `twin`, and judges it. Returns `None` unless it breaks a rule.
@@ -186,6 +256,7 @@ fn judge_change(
     ensures same { IfOk result (λ found. IfSome found (λ one. one.0 ≡ file)) }
     ensures broken { IfOk result (λ found. IfSome found (λ one.
         IsBroken (features_in features) file.bytes.items one.1)) }
+    ensures found { ((m : Module) → module_at file.bytes.items ≡ Ok m → ⊥) → IfOk result IsSome }
     ensures memory { IfErr result (λ e. e ≡ refusal.Memory) }
 {
     match judge(alloc, features, file.bytes.as_slice()) {
@@ -197,7 +268,7 @@ fn judge_change(
 
 // Returns whether `answer` says which rule a file breaks: one of the format, or one of validity.
 fn names_rule(answer: &Answer) -> bool
-    ensures { IsTrue result → NamesRule answer.now }
+    ensures { IsTrue result ↔ NamesRule answer.now }
 {
     matches!(answer, Answer::Invalid(_) | Answer::Malformed { .. })
 }

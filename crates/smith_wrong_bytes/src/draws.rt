@@ -27,11 +27,10 @@ fn function_count(alloc: Global, file: &[u8], picks: Picks) -> Result<Edit, Stop
     }
 }
 
-// Makes the number of data segments another than the stated one, or leaves it out.
+// Makes the number of data segments another than the stated one.
 fn data_count(alloc: Global, file: &[u8], picks: Picks) -> Result<Edit, Stop> {
-    match picks.detail % 4 {
-        0 => section_removed(alloc, file, Kind::DataCountSection, picks),
-        1 => wrong_list(alloc, file, Kind::Segments, picks),
+    match picks.detail % 3 {
+        0 => wrong_list(alloc, file, Kind::Segments, picks),
         _ => wrong_number(alloc, file, Kind::DataCount, picks),
     }
 }
@@ -46,6 +45,9 @@ fn edit_of(alloc: Global, family: BytesFamily, file: &[u8], picks: Picks) -> Res
         BytesFamily::ListCount => wrong_number(alloc, file, Kind::Count, picks),
         BytesFamily::FunctionCount => function_count(alloc, file, picks),
         BytesFamily::DataCount => data_count(alloc, file, picks),
+        BytesFamily::DataCountMissing => {
+            section_removed(alloc, file, Kind::DataCountSection, picks)
+        }
         BytesFamily::SectionOrder => section_order(alloc, file, picks),
         BytesFamily::SectionTwice => section_twice(alloc, file, picks),
         BytesFamily::UnknownSection => unknown_section(alloc, file, picks),

@@ -17,8 +17,10 @@ pub enum BytesFamily {
     ListCount,
     /// The number of functions is not that of bodies (Modules).
     FunctionCount,
-    /// The number of data segments is not the stated one, or is not stated (Modules).
+    /// The number of data segments is not the stated one (Modules).
     DataCount,
+    /// The number of data segments is not stated, though a body may name one (Modules).
+    DataCountMissing,
     /// Two sections are exchanged, or one has the identifier of the one before it (Modules).
     SectionOrder,
     /// A section occurs twice (Modules).
@@ -40,15 +42,15 @@ pub enum BytesFamily {
     MissingEnd,
     /// The `end` of an expression occurs twice (Expressions).
     SecondEnd,
-    /// A bit of the magic number or of the version is another (Modules).
+    /// A byte of the magic number or of the version is another (Modules).
     Preamble,
-    /// The file ends within a section (Modules).
+    /// The file ends within a section, or within the magic number or the version (Modules).
     CutFile,
 }
 
 impl BytesFamily {
     /// Every family, in order.
-    pub const ALL: [BytesFamily; 19] = [
+    pub const ALL: [BytesFamily; 20] = [
         BytesFamily::LongInteger,
         BytesFamily::UnusedBits,
         BytesFamily::SectionSize,
@@ -56,6 +58,7 @@ impl BytesFamily {
         BytesFamily::ListCount,
         BytesFamily::FunctionCount,
         BytesFamily::DataCount,
+        BytesFamily::DataCountMissing,
         BytesFamily::SectionOrder,
         BytesFamily::SectionTwice,
         BytesFamily::UnknownSection,
@@ -82,6 +85,7 @@ impl BytesFamily {
             BytesFamily::ListCount => "list-count",
             BytesFamily::FunctionCount => "function-count",
             BytesFamily::DataCount => "data-count",
+            BytesFamily::DataCountMissing => "data-count-missing",
             BytesFamily::SectionOrder => "section-order",
             BytesFamily::SectionTwice => "section-twice",
             BytesFamily::UnknownSection => "unknown-section",

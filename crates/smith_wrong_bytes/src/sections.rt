@@ -1,5 +1,6 @@
 use crate::edit::{Edit, Picks, bytes_at, bytes_between, replace};
 use crate::places::Kind;
+use crate::preamble::other_byte;
 use crate::stop::Stop;
 use crate::walk::{count_places, pick_place, place_at};
 use std::alloc::Global;
@@ -84,11 +85,11 @@ pub(crate) fn left_over_byte(alloc: Global, file: &[u8], picks: Picks) -> Result
     replace(alloc, file, &place, Vec::from_slice(alloc, &[byte])?)
 }
 
-/// Inverts a bit of the magic number or of the version.
+/// Makes a byte of the magic number or of the version another.
 pub(crate) fn preamble(alloc: Global, file: &[u8], picks: Picks) -> Result<Edit, Stop> {
     let start = (picks.place % 8) as usize;
     let byte = file.get(start).copied().ok_or(Stop::NoPlace)?;
-    let inserted = Vec::from_slice(alloc, &[byte ^ (1 << (picks.form % 8))])?;
+    let inserted = Vec::from_slice(alloc, &[other_byte(byte, picks.form)])?;
     Ok(Edit {
         start,
         end: start + 1,

@@ -1,4 +1,5 @@
-use Rattle.std.proofs.Common.{◌≡◌, Bool, true, false, MatchBool, ◌≤◌, ◌<◌, ℕ, zero, suc, List, [], ◌∷◌, ◌++◌, length, take, drop, set, insert, remove, get_or, refl, sym, ap, subst, ◌∙◌, arith}
+use Rattle.std.proofs.Common.{◌≡◌, Bool, true, false, MatchBool, ◌≤◌, ◌<◌, ℕ, zero, suc}
+use Rattle.std.proofs.Common.{List, [], ◌∷◌, ◌++◌, length, take, drop, set, insert, remove, get_or, refl, sym, ap, subst, ◌∙◌, arith}
 use Rattle.std.proofs.lemmas.List.{take-append-drop, length-take-le}
 use Rattle.std.proofs.Math.Seq.{split_at, set_split}
 use Rattle.smith_wrong_module.specs.Splices.{DifferAt, AtMostOne, OneItem}

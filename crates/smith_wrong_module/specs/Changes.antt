@@ -1,4 +1,4 @@
--- One change of a decoded module: own rules.
+-- A single change of a decoded module. Rules of this project.
 use Rattle.std.specs.Prelude.{◌≡◌, ℕ, Option, MatchOption}
 use Rattle.smith_decode.specs.declared.bodies.Body.{Body}
 use Rattle.smith_decode.specs.declared.definitions.GlobalDefinition.{GlobalDefinition}
@@ -7,20 +7,20 @@ use Rattle.smith_decode.specs.declared.locations.Place.TheVariants as place
 use Rattle.smith_decode.specs.declared.modules.Module.{Module}
 use Rattle.smith_wrong_module.specs.Splices.{DifferAt, AtMostOne, OneItem, AreSpliced}
 
--- bodies whose instructions differ at an index
+-- two bodies differ only in the instruction at `index`
 abbrev pub DifferInInstruction : ℕ → Body → Body → Type 0
 DifferInInstruction index old new =
     DifferAt AtMostOne index old.instructions new.instructions × (new ≡ record old { instructions = new.instructions })
 
--- bodies that differ in one run of locals
+-- two bodies differ only in one run of locals
 abbrev pub DifferInLocals : Body → Body → Type 0
 DifferInLocals old new = AreSpliced old.locals new.locals × (new ≡ record old { locals = new.locals })
 
--- globals whose initialisers differ in one instruction
+-- two globals differ only in one instruction of their initialisers
 abbrev pub DifferInInitial : GlobalDefinition → GlobalDefinition → Type 0
 DifferInInitial old new = AreSpliced old.initial new.initial × (new ≡ record old { initial = new.initial })
 
--- modules that are the same but for what is at a place
+-- two modules differ only at a place
 abbrev pub IsChangedAt : Place → Module → Module → Type 0
 IsChangedAt (place.Types index) m n =
     DifferAt (OneItem AreSpliced) index m.types n.types × (n ≡ record m { types = n.types })
@@ -45,6 +45,6 @@ IsChangedAt (place.Instruction body index) m n =
     DifferAt (OneItem (DifferInInstruction index)) body m.bodies n.bodies × (n ≡ record m { bodies = n.bodies })
 IsChangedAt (place.Data index) m n = DifferAt AtMostOne index m.datas n.datas × (n ≡ record m { datas = n.datas })
 
--- a module that is the same, if there is no place, and else one that is changed there
+-- `n` is `m` if there is no place, and else differs from `m` only there
 abbrev pub IsDrawn : Option Place → Module → Module → Type 0
 IsDrawn found m n = MatchOption found (n ≡ m) (λ place. IsChangedAt place m n)

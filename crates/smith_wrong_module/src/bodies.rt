@@ -45,7 +45,7 @@ fn change_plain(
         ModuleFamily::ExtraOperand => Some(Edit::Insert(draw_number(u))),
         ModuleFamily::ReferenceType => change_reference(instruction, u),
         ModuleFamily::CastHierarchy => change_hierarchy(instruction, u),
-        ModuleFamily::TailCall => call_last(instruction),
+        ModuleFamily::TailCall => call_last(facts, instruction, sought.from),
         ModuleFamily::DeadCode => enter_dead_code(instruction, u),
         ModuleFamily::UnsetLocal => leave_unset(scope.locals, instruction),
         ModuleFamily::ImmutableGlobal => set_immutable(facts, instruction, sought.from),

@@ -32,7 +32,7 @@ pub(crate) enum Change {
         index: usize,
         edit: Edit<SubType>,
     },
-    /// Another type of a single import.
+    /// Another type of a single import, of the first one of a group, or of all of it that have one.
     Import {
         index: usize,
         ty: EntityType,

@@ -5,7 +5,9 @@ use crate::edit::{Edit, edit_items, put_back, take_out};
 use smith_binary_read::{Export, TagDefinition};
 use smith_bytes::Error;
 use smith_decode::{Module, Place};
-use smith_types::{EntityType, GlobalType, Imports, MemoryType, SubType, TableType};
+use smith_types::{
+    EntityType, GlobalType, ImportItem, Imports, Items, MemoryType, SubType, TableType,
+};
 use std::alloc::Global;
 
 /// Makes `edit` at `index` of the types of the group at `group`, and returns its place, if there is one.
@@ -31,7 +33,37 @@ pub(crate) fn edit_group(
     Ok(Some(Place::Types(group)))
 }
 
-/// Gives the single import of the group at `index` the type `ty`.
+// Gives the first of `items` the type `ty`.
+fn change_first(alloc: Global, items: &mut Items<ImportItem>, ty: EntityType) -> Result<(), Error>
+    ensures memory { IfErr result (λ e. e ≡ Error.Memory) }
+{
+    if items.is_empty() {
+        return Ok(());
+    }
+    let mut item = take_out(alloc, items, 0);
+    item.entity_type = ty;
+    put_back(alloc, items, 0, item)
+}
+
+// Gives the single import or the first import that `group` is the type `ty`, or all of it that have one.
+fn change_group(alloc: Global, group: &mut Imports, ty: EntityType) -> Result<(), Error>
+    ensures memory { IfErr result (λ e. e ≡ Error.Memory) }
+{
+    match group {
+        Imports::Single(import) => {
+            import.entity_type = ty;
+            Ok(())
+        }
+        Imports::Compact1 { items, .. } => change_first(alloc, items, ty),
+        Imports::Compact2 { entity_type, .. } => {
+            *entity_type = ty;
+            Ok(())
+        }
+    }
+}
+
+/// Gives the group of imports at `index` the type `ty`: its import, the first one, or all of it that have
+/// one.
 pub(crate) fn change_import(
     alloc: Global,
     module: &mut Module,
@@ -45,9 +77,7 @@ pub(crate) fn change_import(
         return Ok(None);
     }
     let mut changed = take_out(alloc, &mut module.imports, index);
-    if let Imports::Single(import) = &mut changed {
-        import.entity_type = ty;
-    }
+    change_group(alloc, &mut changed, ty)?;
     put_back(alloc, &mut module.imports, index, changed)?;
     Ok(Some(Place::Imports(index)))
 }

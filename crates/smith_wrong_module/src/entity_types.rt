@@ -65,15 +65,25 @@ fn other_entity(ty: EntityType, count: usize, u: &mut Unstructured<'_>) -> Optio
     }
 }
 
-/// Draws another type for the first single import from a drawn group on.
+// Returns the type of the single import or the first import that `group` is, or that all of it have.
+fn entity_of(group: &Imports) -> Option<EntityType> {
+    match group {
+        Imports::Single(import) => Some(import.entity_type),
+        Imports::Compact1 { items, .. } => Some(items.as_slice().first()?.entity_type),
+        Imports::Compact2 { entity_type, .. } => Some(*entity_type),
+    }
+}
+
+/// Draws another type for the first import of a group, or for all of it that have one, from a drawn group
+/// on.
 pub(crate) fn break_import(module: &Module, u: &mut Unstructured<'_>) -> Option<Change> {
     let types = count_types(module);
     let from = usize::from(u.arbitrary::<u16>());
     let groups = module.imports.as_slice();
     for step in 0..groups.len() {
         let index = rotated(from, step, groups.len());
-        if let Imports::Single(import) = &groups[index] {
-            let ty = other_entity(import.entity_type, types, u)?;
+        if let Some(own) = entity_of(&groups[index]) {
+            let ty = other_entity(own, types, u)?;
             return Some(Change::Import { index, ty });
         }
     }

@@ -24,7 +24,8 @@ pub enum ModuleFamily {
     Label,
     /// A test or a cast to a type of another hierarchy (Heap Types).
     CastHierarchy,
-    /// A tail call in place of a call, of another type than the function (Control Instructions).
+    /// A tail call in place of a call, of another type than the function, or of a function with other results
+    /// (Control Instructions).
     TailCall,
     /// An instruction after one that leaves, where it is typed too (Control Instructions).
     DeadCode,
@@ -68,7 +69,7 @@ pub enum ModuleFamily {
     FunctionType,
     /// A type of a tag that has results, is none of functions, or doesn't exist (Tags).
     TagType,
-    /// A type of an imported function, tag, table or memory that isn't valid (Imports).
+    /// A type of an imported entity, or of the entities of a group, that isn't valid (Imports).
     ImportType,
     /// An element segment of another type, for another table or of a function that doesn't exist (Element
     /// Segments).

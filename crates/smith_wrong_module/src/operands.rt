@@ -55,8 +55,8 @@ pub(crate) fn constant_type(instruction: &Instr) -> Option<ValType> {
     }
 }
 
-// Draws an operator on one number.
-fn draw_operator(u: &mut Unstructured<'_>) -> NumericInstr {
+/// Draws an operator on one number.
+pub(crate) fn draw_operator(u: &mut Unstructured<'_>) -> NumericInstr {
     match u.int_in_range(0u8..=3) {
         0 => NumericInstr::I32Unary(IntUnary::Clz),
         1 => NumericInstr::I64Unary(IntUnary::Popcnt),

@@ -2,7 +2,7 @@
 use Rattle.std.specs.Prelude.{◌≡◌, ℕ, ◌≤◌, List, length}
 use Rattle.smith_syntax.specs.declared.code.Code.{Code}
 
--- a body for each of this number of functions, which are the last ones (Functions)
+-- each of the last `defined` functions has a body with a valid type (Functions)
 pub record HasBodies (defined : ℕ) (funcs : List ℕ) (code : List Code) : Type 0 where
   pub each : length code ≡ defined
   pub among : defined ≤ length funcs

@@ -1,6 +1,6 @@
--- The module that the bytes produce, step by step, and the bytes that each step leaves: the
--- definition for `exact` of `Module::new`. The properties of a module are stated separately, and do
--- not depend on it.
+-- The module that the bytes give, step by step, and the bytes that each step leaves: the definition
+-- for `exact` of `Module::new`. The properties of a module are stated separately and do not depend
+-- on it.
 use Rattle.std.specs.Prelude.{ℕ, ◌+◌, ◌-◌, Bool, true, ◌||◌, is_some, Option, Some, None, List, [], length, Result, Ok, if◌then◌else◌}
 use Rattle.smith_bytes.specs.declared.error.Error.{Error}
 use Rattle.smith_types.specs.Expressions.{Context}
@@ -24,7 +24,7 @@ use Rattle.wasm_smith.specs.declared.build.contents.Contents.{Contents}
 use Rattle.smith_draw_definitions.specs.declared.definitions.Definitions.{Definitions}
 use Rattle.wasm_smith.specs.declared.build.parts_so_far.PartsSoFar.{PartsSoFar}
 
--- the context of functions, of which this number is imported, without types and globals
+-- the context of these functions, `imported` of them imported, without types and globals
 abbrev pub functions_over : Config → List ℕ → ℕ → Context
 functions_over config funcs imported = record {
   features = features_of config;
@@ -40,30 +40,31 @@ functions_over config funcs imported = record {
 abbrev pub functions_so_far : Config → ModuleSoFar → Context
 functions_so_far config so_far = functions_over config so_far.spaces.funcs (length so_far.spaces.funcs - so_far.defined.num_funcs)
 
--- the state with more types at the end
+-- the state after types are drawn
 abbrev pub with_types_at : Config → ModuleSoFar → List ℕ → ModuleSoFar × List ℕ
 with_types_at config so_far bytes = let types = types_at config (functions_so_far config so_far) so_far.types bytes in
     (record so_far { types = types.0 }, types.1)
 
--- the state with imports, unless a shape fixes them; with `distinct` no two have the same names
+-- the state after imports are drawn, unless a shape fixes them; with `distinct` their names are
+-- distinct
 unfoldable pub imported_at : Bool → Config → ModuleSoFar → List ℕ → Result (ModuleSoFar × List ℕ) Error
 imported_at distinct config so_far bytes =
     if is_some config.available_imports || is_some config.module_shape then Ok (so_far, bytes)
     else then_with (λ groups. record so_far { groups = groups; spaces = imported_spaces (flattened groups) })
     (in_full (imports_at config so_far.types.types distinct bytes))
 
--- the state with entities defined after those so far
+-- the state after entities are defined
 unfoldable pub defined_at : Config → ModuleSoFar → List ℕ → Result (ModuleSoFar × List ℕ) Error
 defined_at config so_far bytes =
     then_with (λ (made : EntitySpaces × Definitions). record so_far { spaces = made.0; defined = made.1 })
     (definitions_at config so_far.types.types so_far.spaces so_far.defined bytes)
 
--- the amount that the imports of a module add to its type size
+-- what the imports so far add to the type size
 abbrev pub size_so_far : Config → ModuleSoFar → ℕ
 size_so_far config so_far = size_of_imports config so_far.types.types (flattened so_far.groups)
 
--- the state with exports: those of a module shape exist already; those of a shape for exports are
--- each of an entity that is defined for it; else they are drawn
+-- the state after exports are made: with a module shape they exist already; with a shape for
+-- exports, each refers to an entity that is defined for it; else they are drawn
 abbrev pub exported_for : Config → Option Shape → Option Shape → ModuleSoFar → List ℕ → Result (ModuleSoFar × List ℕ) Error
 exported_for config (Some shape) exports so_far bytes = Ok (so_far, bytes)
 exported_for config None (Some shape) so_far bytes =
@@ -79,8 +80,8 @@ exported_for config None None so_far bytes = then_with (λ exports. record so_fa
 unfoldable pub exported_at : Config → ModuleSoFar → List ℕ → Result (ModuleSoFar × List ℕ) Error
 exported_at config so_far bytes = exported_for config config.module_shape config.exports so_far bytes
 
--- the exports, and the type size of a module with them: exports that a shape fixes add nothing to
--- it
+-- the exports and the type size of a module; exports that a shape fixes add nothing to the type
+-- size
 abbrev pub exports_of : Config → ModuleSoFar → Exports
 exports_of config so_far = record {
   exports = so_far.exports;
@@ -88,8 +89,8 @@ exports_of config so_far = record {
       so_far.types.types so_far.spaces so_far.exports);
 }
 
--- the module of a state, the contents drawn after it, and whether an import section is written; its
--- configuration has no available imports, and its interesting values are not drawn
+-- the module of a state, with the contents drawn after it and the flag of the import section; its
+-- configuration has no available imports, and its interesting values are empty
 abbrev pub module_of : Config → ModuleSoFar → Contents → Bool → ModuleParts
 module_of config so_far contents encodes_imports = record {
   config = record config { available_imports = None };
@@ -126,7 +127,7 @@ first_parts_typed_at config bytes = do
   so_far ← first_parts_at config bytes
   Ok (with_types_at config so_far.0 so_far.1)
 
--- the module that the bytes produce, step by step, and the bytes left
+-- the module that the bytes give, and the bytes left
 unfoldable pub module_at : Bool → Config → List ℕ → Result (ModuleParts × List ℕ) Error
 module_at distinct config bytes = do
   typed ← first_parts_typed_at config bytes
@@ -148,11 +149,11 @@ parts_of config drawn =
       interesting_values64 = drawn.interesting_values64;
     }
 
--- a module without its interesting values, which follow from its tables and memories
+-- a module without its interesting values, which its tables and memories determine
 abbrev pub as_drawn : ModuleParts → ModuleParts
 as_drawn m = record m { interesting_values32 = []; interesting_values64 = [] }
 
--- the result is the module that a configuration and bytes produce, with the bytes left, or their
--- refusal, if a module can be drawn for the configuration; only lack of memory is left open
+-- if a module can be drawn for the configuration, the result is the module or the error that the
+-- bytes give, with the bytes left, or lack of memory
 pub record IsGiven (distinct : Bool) (config : Config) (bytes : List ℕ) (answer : Result ModuleParts Error) (left : List ℕ) : Type 0 where
   pub exact : MayGive config → Returns is_memory (λ m. (as_drawn m, left)) answer (module_at distinct config bytes)

@@ -1,4 +1,4 @@
--- The first shape of a configuration that is refused, and the reason. Rules of this project.
+-- The first shape of a configuration that fails its check, and the error. Rules of this project.
 use Rattle.std.specs.Prelude.{⊤, IfSome, IsSomeAnd, Option}
 use Rattle.smith_bytes.specs.declared.error.Error.{Error}
 use Rattle.smith_bytes.specs.declared.error.Which.{Which}
@@ -9,20 +9,19 @@ use Rattle.smith_config.specs.ShapeFaults.{IsRefused}
 use Rattle.smith_config.specs.Shapes.{IsShapeValid}
 use Rattle.smith_module_rules.specs.Refusals.{shape_for}
 
--- a shape for a use is refused: for its first fault, or for lack of memory, which never refuses one
--- that is too long
+-- the error of the shape for a use: its first fault, or lack of memory unless the shape is too long
 abbrev pub IsFaultOf : Config → Option Shape → Which → Error → Type 0
 IsFaultOf config given for_use e = IsSomeAnd given (λ shape. IsRefused for_use config shape e)
 
--- a use is checked before another; with a module shape no other is used
+-- one use is checked before another; with a module shape, no other shape is used
 abbrev pub ComesBefore : Which → Which → Type 0
 ComesBefore which.ModuleShape which.AvailableImports = ⊤
 ComesBefore which.ModuleShape which.Exports = ⊤
 ComesBefore which.AvailableImports which.Exports = ⊤
 ComesBefore _ _ = ⊥
 
--- the first shape of a configuration that fails its check is refused, or memory runs out in its
--- check or an earlier one
+-- the error of the first shape that fails its check, or lack of memory in its check or an earlier
+-- one
 pub record IsFirstFaulty (config : Config) (e : Error) : Type 0 where
   pub for_use : Which
   pub refused : IsFaultOf config (shape_for config for_use) for_use e

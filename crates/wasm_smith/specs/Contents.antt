@@ -20,9 +20,9 @@ use Rattle.smith_draw_contents.specs.DrawnElements.{MayLackItem}
 use Rattle.smith_draw_contents.specs.Exported.{IsIndexed, HasSizeIn32Bits}
 use Rattle.smith_module_rules.specs.Refusals.{MayRefuse}
 
--- contents may be drawn over these index spaces, for the amount that the imports add to the type
--- size: all parts are valid, sizes and indices have 32 bits, and the minimums of tables, memories
--- and globals are met; without shapes function types are small, and an import adds at most 42
+-- Contents may be drawn over these index spaces, where imports add `imports_size` to the type size.
+-- All parts are valid, sizes and indices have 32 bits, and the minimums of tables, memories and
+-- globals are met. Without shapes, function types are small, and an import adds at most 42.
 pub record MayHoldContents (config : Config) (space : GroupedTypes) (spaces : EntitySpaces) (imports_size : ℕ) : Type 0 where
   pub passes : Passes config
   pub sanitized : IsSanitized config
@@ -37,14 +37,13 @@ pub record MayHoldContents (config : Config) (space : GroupedTypes) (spaces : En
   pub within : imports_size ≤ config.max_type_size
   pub small_imports : HasNoShapes config → imports_size ≤ 42 * config.max_imports
 
--- errors of contents: those of a module, or there may be nothing to choose from for an item of a
--- segment
+-- an error of drawing contents: an error of the module, or no candidate for an item of a segment
 abbrev pub MayRefuseContents : Config → Context → List TableType → Error → Type 0
 MayRefuseContents config context tables errors.EmptyChoose = MayLackItem config context tables
 MayRefuseContents config context tables e = MayRefuse config e
 
--- the types and entities that a segment may refer to, with these numbers of imported functions and
--- globals
+-- `over` has the types and entities that a segment may refer to, with these numbers of imported
+-- functions and globals
 pub record AreSpacesOver (space : GroupedTypes) (spaces : EntitySpaces) (num_funcs num_globals : ℕ) (over : Spaces) : Type 0 where
   pub types : over.types.now ≡ space
   pub funcs : over.entities.funcs.now ≡ spaces.funcs

@@ -4,8 +4,7 @@ use Rattle.smith_config.specs.declared.config.Config.{Config}
 use Rattle.smith_module_rules.specs.Module.{ModuleParts}
 use Rattle.wasm_smith.specs.Generated.{IsGenerated}
 
--- two modules that are returned for the same configuration and bytes are equal, and so are the
--- bytes left
+-- a configuration and bytes determine the module and the bytes left
 abbrev pub ModulesAreDetermined : Type 0
 ModulesAreDetermined =
     (distinct : Bool) (given : Config) (bytes left rest : List ℕ) (one other : ModuleParts)

@@ -39,7 +39,7 @@ use Rattle.wasm_smith.specs.declared.build.segments.Segments.{Segments}
 abbrev pub imported_in : Imported → EntitySpaces
 imported_in imported = imported_spaces (flattened imported.groups)
 
--- definitions determine the number of functions and globals of index spaces that are imported
+-- the numbers of defined functions and globals determine the numbers of imported ones
 pub record TellsImported (imported spaces : EntitySpaces) (defined : Definitions) : Type 0 where
   pub funcs : defined.num_funcs + length imported.funcs ≡ length spaces.funcs
   pub globals : length spaces.globals ≡ length imported.globals + length defined.globals
@@ -48,7 +48,7 @@ pub record TellsImported (imported spaces : EntitySpaces) (defined : Definitions
 abbrev pub segment_scope : Config → List SubType → EntitySpaces → EntitySpaces → Context
 segment_scope config types imported spaces = global_scope config (scope_in types imported spaces) spaces.globals
 
--- the result of a step, with its reason for a refusal as the error `IncorrectFormat`
+-- the result of a step, whose reason becomes the error `IncorrectFormat`
 abbrev pub in_full : {A : Type 0} → Result A Why → Result A Error
 in_full (Ok drawn) = Ok drawn
 in_full (Err why) = Err (errors.IncorrectFormat why)
@@ -60,8 +60,8 @@ all_segments_at config types imported spaces bytes = do
   data_segments ← in_full (data_at config (segment_scope config types imported spaces) spaces.memories elems.1)
   Ok (record { elems = elems.0; data_segments = data_segments.0 }, data_segments.1)
 
--- the contents that the bytes produce after exports, over types and index spaces that begin with
--- imports: whether a type section is written, a start function, segments and bodies
+-- the contents that the bytes give after the exports: the flag of the type section, a start
+-- function, segments and bodies
 unfoldable pub after_exports_at : Config → List SubType → EntitySpaces → EntitySpaces → Exports → List ℕ → Result (Contents × List ℕ) Error
 after_exports_at config types imported spaces made bytes = do
   let type_flag = section_flag_at (length types) bytes
@@ -81,8 +81,8 @@ after_exports_at config types imported spaces made bytes = do
     code.1,
   )
 
--- exports are valid, and within the type size together with the imports; unless a shape fixes them,
--- they are as the configuration requires; exports that a shape fixes add nothing
+-- exports are valid, and within the type size together with the imports. Unless a shape fixes them,
+-- they are as the configuration requires; exports that a shape fixes add nothing to the type size.
 pub record AreExportsMade (config : Config) (types : List SubType) (spaces : EntitySpaces) (imports_size : ℕ) (made : Exports)
     : Type 0 where
   pub valid : AreExportsValid spaces made.exports
@@ -93,8 +93,8 @@ pub record AreExportsMade (config : Config) (types : List SubType) (spaces : Ent
   pub fixed_size : FixesExports config → made.type_size ≡ imports_size
   pub within : made.type_size ≤ config.max_type_size
 
--- segments are valid, within the minimums and maximums, and with `disallow_traps` the items and
--- bytes that they copy fit
+-- segments are valid and within the minimums and maximums, and with `disallow_traps` active
+-- segments are inside their tables and memories
 pub record AreSegmentsFit (config : Config) (types : List SubType) (imported spaces : EntitySpaces) (segments : Segments) : Type 0 where
   pub elems : All (IsElementSegmentValid (segment_scope config types imported spaces) spaces.tables) segments.elems
   pub most_elems : length segments.elems ≤ config.max_element_segments
@@ -107,8 +107,8 @@ pub record AreSegmentsFit (config : Config) (types : List SubType) (imported spa
   pub least_data : config.min_data_segments ≤ length segments.data_segments
   pub data_inside : IsTrue config.disallow_traps → All (IsDataInside spaces.memories) segments.data_segments
 
--- exports, a type section if there are types, a valid start function if one is allowed, segments,
--- and a body for each defined function
+-- the contents of a module: exports, a type section if there are types, a valid start function if
+-- one is allowed, segments, and a body for each defined function
 pub record AreContents (config : Config) (types : List SubType) (imported spaces : EntitySpaces) (imports_size : ℕ)
     (contents : Contents) : Type 0 where
   pub exports : AreExportsMade config types spaces imports_size (record { exports = contents.exports; type_size = contents.type_size })
@@ -123,8 +123,8 @@ pub record AreContents (config : Config) (types : List SubType) (imported spaces
 abbrev pub HaveNoFloatItems : List ElementSegment → Type 0
 HaveNoFloatItems segments = All (All GivesNoFloat) (flat_map (λ (segment : ElementSegment). expressions_of segment.items) segments)
 
--- references are nullable or grounded: those of the locals of bodies, and, if the elements of all
--- tables are, those of the items of segments
+-- the types of locals are granted, and if all tables have granted elements, so are the types of
+-- segments
 pub record HasGrantedContents (config : Config) (context : Context) (tables : List TableType) (contents : Contents) : Type 0 where
   pub items : All (HasGroundedElements config context) tables → All (HasGroundedItems config context) contents.segments.elems
   pub locals : All (IsGranted config context) (flat_map (λ (body : Code). body.locals) contents.code)

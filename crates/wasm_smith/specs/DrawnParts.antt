@@ -15,13 +15,13 @@ use Rattle.smith_module_rules.specs.Refusals.{HoldsNonNullable}
 use Rattle.smith_module_rules.specs.InterestingValues.{AreAll, IsInteresting32, IsInteresting64}
 use Rattle.wasm_smith.specs.declared.build.parts_so_far.PartsSoFar.{PartsSoFar}
 
--- no drawn part holds a float
+-- no drawn part has a float
 pub record HasNoFloatParts (drawn : PartsSoFar) : Type 0 where
   pub types : All HasNoFloat drawn.types.types
   pub defined : HaveNoFloats (spaces_in drawn.imported.spaces) drawn.definitions
   pub contents : HasNoFloatContents drawn.contents
 
--- the parts were drawn for a configuration, by one step after another
+-- the parts are drawn for a configuration, step by step
 pub record IsDrawnFor (distinct : Bool) (config : Config) (drawn : PartsSoFar) : Type 0 where
   pub whole : StandsWhole config drawn
   pub least_types : config.min_types ≤ length drawn.types.types

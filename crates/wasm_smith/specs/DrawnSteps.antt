@@ -30,15 +30,15 @@ use Rattle.wasm_smith.specs.declared.build.parts_so_far.PartsSoFar.{PartsSoFar}
 abbrev pub drawn_next : Config → PartsSoFar → Context
 drawn_next config drawn = drawn_beside config drawn.types.types (spaces_in drawn.imported.spaces) drawn.definitions
 
--- references are nullable or grounded: those of the fields, parameters and results of types, of the
--- elements of tables, and of the values of globals
+-- the fields, parameters and results of types, the elements of tables and the values of globals are
+-- granted
 pub record HoldsGrounded (config : Config) (context : Context) (spaces : EntitySpaces) : Type 0 where
   pub fields : HoldsUngroundedField config context → ⊥
   pub types : AreTypesGranted config context
   pub element_types : All (HasGroundedElements config context) spaces.tables
   pub globals : All (HasGroundedValue config context) spaces.globals
 
--- without shapes function types are small, and so is the amount that imports add to the type size
+-- function types are small, and so is what imports add to the type size, as without shapes
 pub record HasSmallSizes (config : Config) (drawn : PartsSoFar) : Type 0 where
   pub types : All IsSmall drawn.types.types
   pub imports : drawn.imported.type_size ≤ 42 * config.max_imports
@@ -49,8 +49,7 @@ pub record HasNoFloatSoFar (drawn : PartsSoFar) : Type 0 where
   pub defined : HaveNoFloats (spaces_in drawn.imported.spaces) drawn.definitions
 
 -- more may be drawn over the parts so far: function types have no more values than a shape may
--- list, references are nullable or grounded unless a shape holds others, and exports that were made
--- are valid
+-- list, value types are granted unless a shape has others, and the exports so far are valid
 pub record MayGoOn (config : Config) (drawn : PartsSoFar) : Type 0 where
   pub so_far : StandsSoFar config drawn
   pub few_values : All (HasFewValues most_listed) drawn.types.types
@@ -76,8 +75,8 @@ pub record AreImportsDrawn (config : Config) (drawn : PartsSoFar) : Type 0 where
   pub small : HasNoShapes config → HasSmallSizes config drawn
   pub floats : config.allow_floats ≡ false → HasNoShapes config → HasNoFloatSoFar drawn
 
--- imports that no shape fixes: with `distinct` no two have the same names, and there are at least
--- the minimum
+-- imports that no shape fixes: with `distinct` their names are distinct, and there are at least the
+-- minimum
 pub record AreFreeImports (distinct : Bool) (config : Config) (imported : Imported) : Type 0 where
   pub apart : IsTrue distinct → AreDistinct {A = List ℕ × List ℕ} (map (λ (one : Import). (one.«module», one.name))
       (flattened imported.groups))
@@ -100,14 +99,14 @@ pub record AreExportsDrawn (config : Config) (drawn : PartsSoFar) : Type 0 where
   pub small : HasNoShapes config → HasSmallSizes config drawn
   pub floats : config.allow_floats ≡ false → HasNoShapes config → HasNoFloatSoFar drawn
 
--- imports are unchanged, whatever is defined in their index spaces
+-- the imports are unchanged
 pub record HasSameImports (old new : Imported) : Type 0 where
   pub groups : new.groups ≡ old.groups
   pub count : new.count ≡ old.count
   pub type_size : new.type_size ≡ old.type_size
 
--- the parts before are kept: types and entities come after them, and imports and exports that a
--- shape fixes stay
+-- `new` extends `old`: types and entities are appended, and imports and exports that a shape fixes
+-- are unchanged
 pub record IsBeyond (config : Config) (old new : ModuleSoFar) : Type 0 where
   pub types : Extends old.types.types new.types.types
   pub groups : Extends old.types.groups new.types.groups
@@ -126,7 +125,7 @@ pub record KeepsModuleSoFar (config : Config) (shape : Shape) (so_far : ModuleSo
   pub imports : so_far.groups ≡ kept_groups config shape
   pub exports : AllZip (IsSameExport (λ mine yours. mine ≡ yours) so_far.spaces (shape_spaces shape)) so_far.exports shape.exports
 
--- available imports are taken, as the bytes pick them
+-- the imports so far are the available imports that the bytes choose and that fit
 pub record KeepsImportsSoFar (config : Config) (bytes : List ℕ) (shape : Shape) (so_far : ModuleSoFar) : Type 0 where
   pub types : BeginsWithTypes shape so_far
   pub imports : flattened so_far.groups ≡ taken_from config (shape_types shape) bytes 0 [] (shape_imports shape)

@@ -1,4 +1,4 @@
--- The first parts of a module, from the shapes that its configuration uses. Rules of this project.
+-- The first parts of a module, from the shapes in use. Rules of this project.
 use Rattle.std.specs.Prelude.{◌≡◌, ℕ, ◌+◌, ◌≤◌, max, false, ◌⊎◌, ⊤, is_some, IfSome, IsSomeAnd, List, [], Option, Some, None, length}
 use Rattle.std.specs.Prelude.{sum_by, All, Result, Ok, if◌then◌else◌}
 use Rattle.std.specs.List.{AllZip, Contains}
@@ -67,8 +67,8 @@ pub record HasNothing (drawn : PartsSoFar) : Type 0 where
   pub so_far : module_so_far drawn ≡ nothing_so_far
   pub imports : HasNoImports drawn.imported
 
--- the state from a module shape: its types and its imports, and its exports, each of an entity that
--- is defined for it
+-- the state from a module shape: its types, its imports, and its exports, with an entity defined
+-- for each
 unfoldable pub first_parts_by_module_at : Config → Shape → List ℕ → Result (ModuleSoFar × List ℕ) Error
 first_parts_by_module_at config shape bytes =
     then_with
@@ -81,7 +81,8 @@ first_parts_by_module_at config shape bytes =
     })
     (required_at false config shape (space_of shape.groups) (imported_spaces (shape_imports shape)) nothing_defined bytes)
 
--- the state from available imports: the types of their shape, and those imports that the bytes take
+-- the state from available imports: the types of the shape, and the imports that the bytes choose
+-- and that fit
 unfoldable pub first_parts_by_imports_at : Config → Shape → List ℕ → ModuleSoFar × List ℕ
 first_parts_by_imports_at config shape bytes =
     let taken = available_at config shape bytes in (
@@ -95,8 +96,7 @@ first_parts_by_imports_at config shape bytes =
       taken.1,
     )
 
--- the state from the shapes that are used: a module shape, else available imports, else the empty
--- state
+-- the state from the shapes in use: a module shape, else available imports, else the empty state
 abbrev pub first_parts_for : Config → Option Shape → Option Shape → List ℕ → Result (ModuleSoFar × List ℕ) Error
 first_parts_for config (Some shape) available bytes = first_parts_by_module_at config shape bytes
 first_parts_for config None (Some shape) bytes = Ok (first_parts_by_imports_at config shape bytes)
@@ -105,7 +105,7 @@ first_parts_for config None None bytes = Ok (nothing_so_far, bytes)
 unfoldable pub first_parts_at : Config → List ℕ → Result (ModuleSoFar × List ℕ) Error
 first_parts_at config bytes = first_parts_for config config.module_shape config.available_imports bytes
 
--- the parts of a module from a module shape, all of them valid
+-- the valid parts of a module from a module shape
 pub record AreFirstPartsByModule (config : Config) (shape : Shape) (drawn : PartsSoFar) : Type 0 where
   pub types : drawn.types ≡ space_of shape.groups
   pub groups : drawn.imported.groups ≡ kept_groups config shape
@@ -123,7 +123,7 @@ pub record AreFirstPartsByModule (config : Config) (shape : Shape) (drawn : Part
       drawn.contents.exports shape.exports
   pub exports_valid : AreExportsValid (spaces_in drawn.imported.spaces) drawn.contents.exports
 
--- the parts of a module from available imports, all of them valid and within the bounds
+-- the valid parts of a module from available imports, within the bounds
 pub record AreFirstPartsByImports (config : Config) (shape : Shape) (bytes : List ℕ) (drawn : PartsSoFar) : Type 0 where
   pub types : drawn.types ≡ space_of shape.groups
   pub kept : flattened drawn.imported.groups ≡ taken_from config (shape_types shape) bytes 0 [] (shape_imports shape)
@@ -145,13 +145,13 @@ pub record AreFirstParts (config : Config) (bytes : List ℕ) (drawn : PartsSoFa
   pub by_imports : IfSome config.available_imports (λ shape. AreFirstPartsByImports config shape bytes drawn)
   pub freely : (FixesImports config → ⊥) → HasNothing drawn
 
--- errors of the shapes that are used: lack of memory, or errors of the exports of a module shape
+-- an error of the first parts: lack of memory, or an error of the exports of a module shape
 abbrev pub MayRefuseFirstParts : Config → Error → Type 0
 MayRefuseFirstParts config e = (e ≡ errors.Memory) ⊎ IsSomeAnd config.module_shape
     (λ shape. MayRefuseRequired config (drawn_beside config (shape_types shape) (imported_spaces (shape_imports shape)) nothing_defined)
     shape e)
 
--- a kind of entities
+-- the items of a count are entities
 abbrev pub IsOfEntities : Count → Type 0
 IsOfEntities counts.Tags = ⊤
 IsOfEntities counts.Funcs = ⊤
@@ -160,23 +160,22 @@ IsOfEntities counts.Memories = ⊤
 IsOfEntities counts.Globals = ⊤
 IsOfEntities _ = ⊥
 
--- the amount that imports add to the type size over these types: nothing if a module shape fixes
--- them, else their sizes, and one more each if they are drawn freely
+-- what imports add to the type size: 0 with a module shape; with available imports, their sizes;
+-- else their sizes and 1 for each
 abbrev pub size_of_imports : Config → List SubType → List Import → ℕ
 size_of_imports config types imports =
     if is_some config.module_shape then 0
     else if is_some config.available_imports then sum_by (λ (one : Import). size_in types one.entity_type) imports
     else sum_by (λ (one : Import). size_in types one.entity_type + 1) imports
 
--- a table, or a memory, has a type of a shape or is within the configured bounds
+-- a table, and a memory, has a type from a shape or is within the configured bounds
 abbrev pub IsTableKept : Config → TableType → Type 0
 IsTableKept config table = Contains (of_shapes (λ spaces. spaces.tables) config) table ⊎ IsTableWithin config table
 
 abbrev pub IsMemoryKept : Config → MemoryType → Type 0
 IsMemoryKept config memory = Contains (of_shapes (λ spaces. spaces.memories) config) memory ⊎ IsMemoryWithin config memory
 
--- the parts of a module so far, whichever shapes it uses: all of them valid, and no more than the
--- shapes and the configuration allow
+-- the valid parts of a module so far, no more than the shapes and the configuration allow
 pub record StandsSoFar (config : Config) (drawn : PartsSoFar) : Type 0 where
   pub groups : All (IsImportsValid (features_of config)) drawn.imported.groups
   pub count : drawn.imported.count ≡ length (flattened drawn.imported.groups)
@@ -191,8 +190,8 @@ pub record StandsSoFar (config : Config) (drawn : PartsSoFar) : Type 0 where
   pub type_size : drawn.imported.type_size ≡ size_of_imports config drawn.types.types (flattened drawn.imported.groups)
   pub within : drawn.imported.type_size ≤ config.max_type_size
 
--- the parts of a module after the exports of a shape are made: the same properties, with the
--- entities that are defined for the exports
+-- the same properties after the exports of a shape are made, with the entities defined for the
+-- exports
 pub record StandsWhole (config : Config) (drawn : PartsSoFar) : Type 0 where
   pub groups : All (IsImportsValid (features_of config)) drawn.imported.groups
   pub count : drawn.imported.count ≡ length (flattened drawn.imported.groups)

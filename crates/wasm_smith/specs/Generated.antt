@@ -18,20 +18,21 @@ use Rattle.smith_module_rules.specs.ShapesKept.{KeepsShapes}
 use Rattle.wasm_smith.specs.declared.module.DuplicateImportsBehavior.{DuplicateImportsBehavior}
 use Rattle.wasm_smith.specs.declared.module.DuplicateImportsBehavior.TheVariants.{Allowed, Disallowed}
 
--- whether no two imports may have the same pair of names, unless a shape fixes them
+-- whether the names of imports must be distinct, unless a shape fixes the imports
 abbrev pub is_distinct : DuplicateImportsBehavior → Bool
 is_distinct Allowed = false
 is_distinct Disallowed = true
 
--- a configuration that does not pass is refused for its first fault, and not for lack of memory
+-- the error of a configuration that does not pass its check is its first fault
 abbrev pub IsFaulted : Config → Error → Type 0
 IsFaulted config (errors.Config fault) = IsFirstFault config fault
 IsFaulted config _ = ⊥
 
--- the result for a configuration of the caller and the bytes of the source, with the bytes left
+-- the contract: the result for the caller's configuration and the bytes of the source, with the
+-- bytes left
 pub record IsGenerated (distinct : Bool) (given : Config) (bytes : List ℕ) (answer : Result ModuleParts Error) (left : List ℕ)
     : Type 0 where
-  -- the module: the one that the configuration and the bytes produce
+  -- the module is the one that the configuration and the bytes give
   pub exact : IsGiven distinct (sanitized given) bytes answer left
   pub config : IfOk answer (λ m. m.config ≡ shown_config given)
   -- properties of every module
@@ -41,13 +42,13 @@ pub record IsGenerated (distinct : Bool) (given : Config) (bytes : List ℕ) (an
   pub shapes : IfOk answer (KeepsShapes (sanitized given) bytes)
   pub promises : IfOk answer (KeepsPromises distinct (sanitized given))
   pub interesting : IfOk answer HasInterestingValues
-  -- conditions for a module, and for its absence
+  -- the conditions for a module, and for each error
   pub may_give : OnOk answer (MayGive (sanitized given))
   pub fault : (Passes (sanitized given) → ⊥) → IsErrAnd answer (IsFaulted (sanitized given))
   pub shape_fault : Passes (sanitized given) → (AreShapesValid (sanitized given) → ⊥) → IsErrAnd answer (IsFirstFaulty (sanitized given))
   pub refusals : IfErr answer (MayRefuse (sanitized given))
   pub needless : AsksNothingImpossible (sanitized given) → IfErr answer (λ e. e ≡ errors.Memory)
-  -- reachable lists, from any bytes that spell them
+  -- each spelling of types and functions, and of the rest, is reached
   pub reach : ReachesMembers (sanitized given) bytes answer
   pub rest : ReachesRests (sanitized given) bytes answer
   -- the rest of the source

@@ -1,5 +1,5 @@
--- Modules with certain types and functions, and apart from them only globals and passive data.
--- Rules of this project.
+-- Modules with given types and functions, and otherwise only globals and passive data. Rules of
+-- this project.
 use Rattle.std.specs.Prelude.{◌≡◌, ℕ, ℤ, List, [], ◌∷◌, None, map}
 use Rattle.smith_syntax.specs.declared.composite_type.SubType.{SubType}
 use Rattle.smith_syntax.specs.declared.const_instr.ConstInstr.{ConstInstr}
@@ -15,8 +15,8 @@ pub record HasMember (groups : List (List SubType)) (funcs : List ℕ) (m : Modu
   pub groups_are : m.groups ≡ (space_of groups).groups
   pub funcs_are : m.funcs ≡ funcs
 
--- a module has globals of these numbers and these passive data, and no table, memory, export, start
--- or element segment
+-- a module has globals with these numbers and these passive data segments, and no table, memory,
+-- export, start function or element segment
 pub record HasRest (numbers : List ℤ) (passive : List (List ℕ)) (m : ModuleParts) : Type 0 where
   pub tables : m.tables ≡ []
   pub memories : m.memories ≡ []

@@ -1,4 +1,4 @@
--- Lists that are recovered from the bytes that spell them. A rule of this project.
+-- Lists that are drawn again from their spelling. A rule of this project.
 use Rattle.std.specs.Prelude.{◌≡◌, ℕ, Bool, List, ◌++◌, Some, Result, Ok, MatchResult}
 use Rattle.smith_bytes.specs.declared.error.Error.{Error}
 use Rattle.smith_bytes.specs.declared.error.Error.TheVariants.{Memory}
@@ -9,8 +9,8 @@ use Rattle.wasm_smith.specs.Generated.{IsGenerated}
 use Rattle.wasm_smith.specs.Members.{HasMember}
 use Rattle.smith_module_rules.specs.Module.{ModuleParts}
 
--- if `spell` returns these bytes for lists of types and functions, a module that is drawn from
--- them, whatever follows, has these lists, unless memory runs out
+-- a module drawn from the bytes that `spell` returns for types and functions, and any bytes after
+-- them, has these types and functions, unless memory runs out
 abbrev pub SpelledComesBack : Type 0
 SpelledComesBack =
     (distinct : Bool) (given : Config) (groups : List (List SubType)) (funcs piece remaining left : List ℕ)

@@ -1,4 +1,4 @@
--- The addition to a module whose calls must end: a global that counts fuel. Rules of this project.
+-- Modules whose calls end, because a global counts fuel. Rules of this project.
 use Rattle.std.specs.Prelude.{◌≡◌, ℕ, true, false, [], ◌∷◌, ◌++◌, length, Result, Ok, Err}
 use Rattle.std.specs.Int.{cast_signed, w32}
 use Rattle.std.specs.List.{Any}
@@ -20,8 +20,8 @@ HasRawBody m = Any (λ (body : Code). IsRaw body.instructions) m.code
 abbrev pub counter : GlobalType
 counter = record { val_type = I32; mutable = true; shared = false }
 
--- `new` is `old` with a counter of this index, which is the last global, is initialised with the
--- number of the same 32 bits as the fuel, and is the last counter; nothing else is new
+-- `new` is `old` with one more fuel counter, which is the last global and the last counter, has the
+-- index `index`, and is initialised with the 32 bits of `fuel`
 pub record AddsCounter (fuel index : ℕ) (old new : ModuleParts) : Type 0 where
   pub last : index ≡ length old.globals
   pub added : new ≡ record old {
@@ -30,7 +30,7 @@ pub record AddsCounter (fuel index : ℕ) (old new : ModuleParts) : Type 0 where
     fuel_globals = old.fuel_globals ++ index ∷ [];
   }
 
--- the reasons why no counter is added: a body is raw bytes, else lack of memory
+-- the reasons why no global is added: a body is raw bytes, else lack of memory
 abbrev pub MayAddNone : ModuleParts → Error → Type 0
 MayAddNone m (errors.IncorrectFormat RawBody) = HasRawBody m
 MayAddNone m errors.Memory = HasRawBody m → ⊥

@@ -75,7 +75,8 @@ fn element_segments()
         (record { ty = func_ref false; items = []; mode = active 0 (I64Const (pos 0) ∷ []) }) }
 {}
 
-// A list of functions of one type is valid as a part of a module, but not in the abstract syntax.
+// A list of functions may be valid as a part of a module without being valid in the abstract
+// syntax.
 fn lists_of_functions_of_one_type()
     ensures part { IsElementSegmentValid (context_with usual_features 3)
         (table (nullable (Concrete 0)) 1 None ∷ []) (record {
@@ -106,8 +107,8 @@ fn data_segments()
         (all_addresses ∷ []) (record { bytes = []; mode = in_memory 0 (I32Const (pos 0) ∷ []) }) }
 {}
 
-// Locals in runs. The grammar allows runs of no locals, of which there may be any number, and each
-// local that is written is a run of its own.
+// Locals in runs. The grammar allows any number of runs of no locals. Each local is written as a
+// run of its own.
 fn runs_of_locals()
     ensures of_no_local { IsLocals [] (0x01 ∷ 0x00 ∷ 0x7F ∷ []) }
     ensures of_no_local_as_written { ¬ IsLocalsWritten [] (0x01 ∷ 0x00 ∷ 0x7F ∷ []) }

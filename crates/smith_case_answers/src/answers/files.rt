@@ -6,7 +6,8 @@ use smith_judge::judge;
 use smith_types::WasmFeatures;
 use std::alloc::Global;
 
-/// Appends to `answer` what `call` says of the file `input`, whose forms may be of `features` alone.
+/// Appends to `answer` the result of `call` on the file `input`, whose forms may be of `features`
+/// alone.
 pub(crate) fn answer_file(
     alloc: Global,
     call: FileCall,
@@ -20,7 +21,7 @@ pub(crate) fn answer_file(
     }
 }
 
-// Appends the text of the module that `input` is, or its first fault and where it is.
+// Appends the text of the module that `input` spells, or the first fault and its place.
 fn answer_decode(
     alloc: Global,
     features: WasmFeatures,

@@ -58,7 +58,7 @@ pub(crate) fn answer_free_type(
     }
 }
 
-// Appends a subtype of one of the types of the case, of which the first may have subtypes.
+// Appends a subtype of one of the types of the case, whose first type may have subtypes.
 fn answer_subtype_of_one(
     over: &Over<'_>,
     limit: u32,

@@ -13,10 +13,10 @@ use wasm_smith::{DuplicateImportsBehavior, Module};
 
 /// Appends to `answer` the text of the module that `call` makes, or its binary if `call` encodes
 /// it, or the refusal. The configuration `config` is used up. The first argument of
-/// `Module::new_internal` is `Allowed` or `Disallowed`; those after it, and the arguments of
+/// `Module::new_internal` is `Allowed` or `Disallowed`. Its other arguments, and the arguments of
 /// `Module::new`, name details to append: `debug` is the line that the module prints for debugging,
-/// `left` the bytes of the input that the call leaves. Those of `Module::ensure_termination` and
-/// `encode` are fuel.
+/// `left` the bytes of the input that the call leaves. The arguments of
+/// `Module::ensure_termination` and `encode` are fuel.
 pub(crate) fn answer_module(
     alloc: Global,
     case: &Case,

@@ -9,9 +9,9 @@ use smith_case::{Case, Fault};
 use std::alloc::Global;
 use std::collections::HashSet;
 
-/// Appends to `answer` the name that `call` draws from `input`, for each call but `limited_str` the
-/// names that are taken afterwards, and the bytes left. The first argument of `case` is the greatest
-/// number of bytes of a name, the others are the names that are taken.
+/// Appends to `answer` the name that `call` draws from `input`, then the taken names unless `call`
+/// is `limited_str`, then the bytes left. The first argument of `case` is the greatest number of
+/// bytes of a name. The other arguments are the names taken before.
 pub(crate) fn answer_name(
     alloc: Global,
     case: &Case,
@@ -24,7 +24,7 @@ pub(crate) fn answer_name(
     write_rest(&u, answer)
 }
 
-// Appends the name that `call` draws from `u`, and the names that are taken afterwards.
+// Appends the name that `call` draws from `u`, and the names taken after the draw.
 fn answer_from(
     alloc: Global,
     case: &Case,
@@ -52,8 +52,7 @@ fn answer_made_name(
     answer_among(alloc, call, most, &mut names, u, answer)
 }
 
-// Appends the name that `call` draws where `names` are taken, and the names that are taken
-// afterwards.
+// Appends the name that `call` draws where `names` are taken, and the names taken after the draw.
 fn answer_among(
     alloc: Global,
     call: NameCall,

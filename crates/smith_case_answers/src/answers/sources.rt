@@ -62,7 +62,7 @@ fn answer_value(case: &Case, u: &mut Unstructured<'_>, answer: &mut String) -> R
     }
 }
 
-// Appends the number of the type `T` that is drawn between the second and the third argument.
+// Draws a number of the type `T` between the second and the third argument, and appends it.
 fn write_in_range<T: Int + FromStr + Display>(
     case: &Case,
     u: &mut Unstructured<'_>,

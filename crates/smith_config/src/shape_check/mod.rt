@@ -34,10 +34,9 @@ use types::are_types_sound;
 impl Shape {
     /// Checks the shape for the use `which` in the configuration `config`.
     ///
-    /// Allocates from `alloc`, unless a list of the shape is too long. Takes memory linear in the
-    /// size of the shape, and time linear in it, apart from names, which are looked up in a set,
-    /// and tests of whether a type is a subtype of another, each of which takes time logarithmic in
-    /// the depth of the types.
+    /// Allocates from `alloc`, unless a list of the shape is too long. Takes memory and time linear
+    /// in the size of the shape, except for names, which are looked up in a set, and for subtype
+    /// tests, each of which takes time logarithmic in the depth of the types.
     ///
     /// # Errors
     ///

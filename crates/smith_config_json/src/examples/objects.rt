@@ -1,4 +1,4 @@
-// Objects of members, and what they make of the default configuration; places in texts. The clauses
+// Objects of members, and their changes of the default configuration; places in texts. The clauses
 // are proved, and nothing calls these functions.
 
 ghost use Rattle.std.specs.Prelude.{◌≡◌, [], ◌∷◌, Ok, Err, true, codes};

@@ -1,4 +1,4 @@
-// Presets by their names, what they change, and the members that are no fields. The clauses are
+// Presets by their names, their changes, and the members that are not fields. The clauses are
 // proved, and nothing calls these functions.
 
 ghost use Rattle.std.specs.Prelude.{◌≡◌, ◌^◌, [], ◌∷◌, Some, None, true, false, codes};

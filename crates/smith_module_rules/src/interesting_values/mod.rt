@@ -1,4 +1,4 @@
-//! The interesting values of a module: those of every module, and those near the limits of its
+//! The interesting values of a module: values for every module, and values near the limits of its
 //! tables and memories.
 
 ghost use Rattle.std.specs.Prelude.{◌≡◌, ◌≤◌, List, All, IfOk, IfErr};
@@ -37,7 +37,7 @@ fn in_order32(mut narrow: Vec<u32>) -> Result<Vec<u32>, Error>
     Ok(narrow)
 }
 
-// Lists the values of 64 bits of a module: those of every module, and `near`, the values near its
+// Lists the 64-bit values of a module: the values for every module, and `near`, the values near its
 // limits.
 fn wide_values(alloc: Global, near: &[u64]) -> Result<Items<u64>, Error>
     ensures those { (tables : List Table) (memories : List Memory)
@@ -49,8 +49,8 @@ fn wide_values(alloc: Global, near: &[u64]) -> Result<Items<u64>, Error>
     merge64(alloc, wide_constants(), &numbers)
 }
 
-// Lists the values of 32 bits of a module: the low halves of its values of 64 bits. `near` holds
-// the values near its limits.
+// Lists the 32-bit values of a module: the low halves of its 64-bit values. `near` has the values
+// near its limits.
 fn narrow_values(alloc: Global, near: &[u64]) -> Result<Items<u32>, Error>
     ensures those { (tables : List Table) (memories : List Memory)
         → AreExactly (Wide (IsNearLimit tables memories)) near.now

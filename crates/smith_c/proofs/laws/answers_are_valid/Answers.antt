@@ -3,21 +3,28 @@ use Rattle.std.proofs.lemmas.List.{take-append-le, take_all}
 use Rattle.smith_binary.specs.declared.error.EncodeError.TheVariants as encoding
 use Rattle.smith_bytes.specs.declared.error.Error.{Error}
 use Rattle.smith_bytes.specs.declared.error.Error.TheVariants as errors
-use Rattle.smith_config_json.specs.declared.fault.Fault.{Fault}
+use Rattle.smith_config.specs.Features.{features_of}
+use Rattle.smith_config.specs.declared.config.Config.{Config}
+use Rattle.smith_config_json.specs.declared.fault.Fault.{Fault as ReadFault}
 use Rattle.smith_config_json.specs.declared.fault.Fault.TheVariants as faults
 use Rattle.smith_binary_program.specs.Valid.{IsValidBinary}
 use Rattle.smith_request.specs.Refusals.{error_status, fault_status, status_of}
 use Rattle.smith_request.specs.ValidFiles.{IsValidFile}
 use Rattle.smith_request.specs.declared.refusal.Refusal.{Refusal}
-use Rattle.smith_request.specs.declared.refusal.Refusal.TheVariants.{NotUtf8, Config, Module, Encoding, Shape}
+use Rattle.smith_judge.specs.Files.{IsValidFile as IsValidModule}
+use Rattle.smith_wrong.specs.declared.wrong.Wrong.{Wrong}
+use Rattle.smith_request.specs.declared.refusal.Refusal.TheVariants.{NotUtf8, Config as OfConfig, Module, Encoding, Shape, NoChange, NoFamily}
 use Rattle.smith_request.proofs.ValidLemmas.{binary_valid, plain_valid}
-use Rattle.smith_request.specs.Requests.{fuel_of}
+use Rattle.smith_request.specs.Requests.{IsConfigured, fuel_of}
 use Rattle.smith_c.specs.CallAnswers.{IsAnswered, IsPut}
+use Rattle.smith_c.specs.Files.{IsInvalidMade}
+use Rattle.smith_c.specs.KeptConfigs.{config_of}
+use Rattle.smith_c.specs.declared.fault.Fault.{Fault}
 use Rattle.smith_c.specs.declared.answer.Answer.{Answer}
 use Rattle.smith_c.proofs.laws.answers_are_valid.Goals as goal
 
 -- no refusal has the number 0
-fault_numbered : (fault : Fault) → fault_status fault ≡ 0 → ⊥
+fault_numbered : (fault : ReadFault) → fault_status fault ≡ 0 → ⊥
 fault_numbered faults.OutOfMemory none = omega (arith, none)
 fault_numbered _ none = omega (arith, none)
 
@@ -27,11 +34,13 @@ error_numbered _ none = omega (arith, none)
 
 numbered : (refusal : Refusal) → status_of refusal ≡ 0 → ⊥
 numbered NotUtf8 none = omega (arith, none)
-numbered (Config refusal) none = fault_numbered refusal.fault none
+numbered (OfConfig refusal) none = fault_numbered refusal.fault none
 numbered (Module e) none = error_numbered e none
 numbered (Encoding encoding.Memory) none = omega (arith, none)
 numbered (Encoding encoding.TooLong) none = omega (arith, none)
 numbered (Shape which fault) none = omega (arith, none)
+numbered NoChange none = omega (arith, none)
+numbered NoFamily none = omega (arith, none)
 
 -- the front of a buffer is what was written to it
 front : (bytes rest : List ℕ) → take (length bytes) (bytes ++ rest) ≡ bytes
@@ -54,6 +63,18 @@ answered_holds P before after answer holds (IsAnswered.made {bytes = bytes} h pu
 answered_holds P before after answer holds (IsAnswered.refused {refusal = refusal} may kept is) done =
     absurd (numbered refusal (sym (ap (λ (a : Answer). a.status) is) ∙ done))
 
+invalid_holds : {IsFile : Wrong → Type 0} {MayRefuse : Refusal → Type 0} (P : List ℕ → Type 0) (old new : Fault) (before after : List ℕ)
+    (answer : Answer) → ((wrong : Wrong) → IsFile wrong → P wrong.file.items)
+    → IsInvalidMade IsFile MayRefuse old new before after answer → answer.status ≡ 0 → P (take answer.length after)
+invalid_holds P old new before after answer holds (IsInvalidMade.made {wrong = wrong} h same put) done =
+    put_holds P wrong.file.items before after answer (holds wrong h) put done
+invalid_holds P old new before after answer holds (IsInvalidMade.refused {refusal = refusal} may kept same is) done =
+    absurd (numbered refusal (sym (ap (λ (a : Answer). a.status) is) ∙ done))
+
+-- bytes spell no valid module of the features of a configuration that the text is
+NoneOf : List ℕ → List ℕ → Type 0
+NoneOf text bytes = (read : Config) × IsConfigured text read × (IsValidModule (features_of read) bytes → ⊥)
+
 pub returns-clause-valid : goal.returns-clause-valid
 returns-clause-valid c =
     λ config input before after answer. answered_holds IsValidFile before after answer
@@ -67,3 +88,13 @@ returns-clause-without_customs c =
 pub returns-clause-shaped : goal.returns-clause-shaped
 returns-clause-shaped c = λ shapes config input before after answer. answered_holds IsValidFile before after answer
     (λ bytes h. binary_valid h.shaped.config h.shaped.fuel input bytes h.binary.left h.binary.binary)
+
+pub returns-clause-invalid : goal.returns-clause-invalid
+returns-clause-invalid c = λ config families input old new before after answer.
+    invalid_holds (NoneOf config) old new before after answer
+    (λ wrong h. (h.config, h.configured, h.invalid.drawn.broken.invalid))
+
+pub returns-clause-invalid_with : goal.returns-clause-invalid_with
+returns-clause-invalid_with c = λ config families input old new before after answer.
+    invalid_holds (λ bytes. IsValidModule (features_of (config_of config)) bytes → ⊥) old new before after answer
+    (λ wrong h. h.drawn.broken.invalid)

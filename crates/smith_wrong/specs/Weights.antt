@@ -1,0 +1,55 @@
+-- How often each family is drawn: own rules.
+use Rattle.std.specs.Prelude.{ℕ, ◌+◌, ◌-◌, ◌^◌, ◌==◌, min, nat_lt, if◌then◌else◌, List, [], ◌∷◌, Option, Some, None}
+use Rattle.smith_bytes.specs.Draws.{range_at}
+use Rattle.smith_wrong_bytes.specs.declared.family.BytesFamily.{BytesFamily}
+use Rattle.smith_wrong_bytes.specs.declared.family.BytesFamily.TheVariants as bytes
+use Rattle.smith_wrong_module.specs.declared.family.ModuleFamily.{ModuleFamily}
+use Rattle.smith_wrong_module.specs.declared.family.ModuleFamily.TheVariants as item
+use Rattle.smith_wrong.specs.declared.families.Family.{Family}
+use Rattle.smith_wrong.specs.declared.families.Family.TheVariants as family
+
+-- the weight of a family: the fewer modules have a place for it, the greater
+abbrev pub module_weight_of : ModuleFamily → ℕ
+module_weight_of item.ImmutableGlobal = 32
+module_weight_of item.Offset = 24
+module_weight_of item.DeadCode = 16
+module_weight_of item.TailCall = 12
+module_weight_of item.UndeclaredFunction = 12
+module_weight_of item.ElementSegment = 12
+module_weight_of item.ImmutableField = 8
+module_weight_of item.PackedField = 8
+module_weight_of item.Alignment = 8
+module_weight_of item.ImportType = 8
+module_weight_of item.TagType = 8
+module_weight_of item.DataSegment = 8
+module_weight_of item.UnsetLocal = 2
+module_weight_of _ = 4
+
+abbrev pub bytes_weight_of : BytesFamily → ℕ
+bytes_weight_of bytes.DataCountMissing = 6
+bytes_weight_of bytes.DataCount = 4
+bytes_weight_of bytes.FunctionCount = 3
+bytes_weight_of bytes.BodySize = 3
+bytes_weight_of bytes.NotUtf8 = 3
+bytes_weight_of _ = 2
+
+abbrev pub weight_of : Family → ℕ
+weight_of (family.Module one) = module_weight_of one
+weight_of (family.Bytes one) = bytes_weight_of one
+
+-- the sum of the weights of families
+abbrev pub total_of : List Family → ℕ
+total_of [] = 0
+total_of (one ∷ rest) = weight_of one + total_of rest
+
+-- the family at a place, where families are in a row, each as often as its weight
+abbrev pub family_in : List Family → ℕ → Option Family
+family_in [] place = None
+family_in (one ∷ rest) place = if nat_lt place (weight_of one) then Some one else family_in rest (place - weight_of one)
+
+-- the family that is drawn: the one at a place drawn below the sum of the weights, which counts up to the
+-- greatest number of 32 bits; none if the sum is 0
+abbrev pub drawn_family : List Family → List ℕ → Option Family
+drawn_family families input =
+    let sum = min (total_of families) (2 ^ 32 - 1) in
+    if sum == 0 then None else family_in families (range_at 0 (sum - 1) input).0
