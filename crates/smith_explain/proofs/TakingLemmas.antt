@@ -58,10 +58,10 @@ module _ (context : BodyContext) (labels : List (List ValType)) (x : Instr) (set
 
   pub tried_step : (there : Bool) (new : Held) → IsTrue there → IsTried context labels x set there (holding wanted false) new
       → (other : Stacked) × IsStep (with_labels context labels) x (stacked wanted set) other
-  tried_step true new yes taken =
+  tried_step true new told taken =
       let r = taken.steps.sound new.known (covers_itself context new taken.valid) in
       step_below r.before (stacked new.known (set ++ sets x)) (covered_below r.before r.covered) r.step
-  tried_step false new so never = absurd (false≢true so)
+  tried_step false new told never = absurd (false≢true told)
 
 plain_taking : (context : BodyContext) (checker : Checker) (x : Instr) (wanted : List Slot) → IsPlain x
     → ((after : Stacked) × IsStep (with_labels context (labels_in checker)) x (stacked wanted checker.log.items) after)
@@ -78,6 +78,6 @@ pub tried_taking : (context : BodyContext) (checker : Checker) (x : Instr) (want
     → IsPlain x
     → IfOk found (λ there. IsTried context (labels_in checker) x checker.log.items there (holding wanted false) new)
     → IfOk found (λ taken. IsTrue taken → IsTaking context checker x wanted)
-tried_taking context checker x wanted (Ok there) new plain tried = λ yes.
-    plain_taking context checker x wanted plain (tried_step context (labels_in checker) x checker.log.items wanted there new yes tried)
+tried_taking context checker x wanted (Ok there) new plain tried = λ told.
+    plain_taking context checker x wanted plain (tried_step context (labels_in checker) x checker.log.items wanted there new told tried)
 tried_taking context checker x wanted (Err e) new plain tried = tt

@@ -28,8 +28,8 @@ fn is_slot_valid(scope: &Scope, slot: Slot) -> bool
 fn are_slots_valid(scope: &Scope, slots: &[Slot]) -> bool
     ensures { IsTrue result → AreSlotsValid (bare scope.now) slots.now }
 {
-    for i in 0..slots.len() {
-        if !is_slot_valid(scope, slots[i]) {
+    for slot in slots {
+        if !is_slot_valid(scope, *slot) {
             return false;
         }
     }
