@@ -61,8 +61,12 @@ other_breaks twin change m begins h read =
 
 -- the front of a list, and nothing after it
 cut_length : (bytes : List ℕ) (at : ℕ) → at ≤ length bytes → length (take at bytes ++ drop (length bytes) bytes) ≡ at
-cut_length bytes at within = omega (arith, length-append (take at bytes) (drop (length bytes) bytes), length-drop (length bytes) bytes,
-    length-take-le at bytes within)
+cut_length bytes at within = omega (
+  arith,
+  length-append (take at bytes) (drop (length bytes) bytes),
+  length-drop (length bytes) bytes,
+  length-take-le at bytes within,
+)
 
 cut_breaks : (twin : List ℕ) (change : Splice) (m : Module) → Begins twin → IsCutPreamble twin change
     → module_at (spliced twin change) ≡ Ok m → ⊥
@@ -70,9 +74,9 @@ cut_breaks twin change m begins h read =
     let long = begins_length twin begins in
     let file = begins_length (spliced twin change) (module_begins (spliced twin change) m read) in
     let short : length (spliced twin change) ≡ change.at =
-        subst (λ (inserted : List ℕ). length (take change.at twin ++ (inserted ++ drop (change.at + change.removed) twin)) ≡ change.at)
-        (sym h.inserted) (subst (λ (end : ℕ). length (take change.at twin ++ drop end twin) ≡ change.at) (sym h.removed)
-        (cut_length twin change.at (omega (arith, long, h.at)))) in
+    subst (λ (inserted : List ℕ). length (take change.at twin ++ (inserted ++ drop (change.at + change.removed) twin)) ≡ change.at)
+    (sym h.inserted) (subst (λ (end : ℕ). length (take change.at twin ++ drop end twin) ≡ change.at) (sym h.removed)
+    (cut_length twin change.at (omega (arith, long, h.at)))) in
     absurd (omega (arith, file, short, h.at))
 
 -- a program whose first eight bytes are changed is no module

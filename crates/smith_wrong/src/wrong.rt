@@ -22,7 +22,6 @@ use smith_config::Config;
 use smith_judge::{Answer, judge};
 use smith_program::Program;
 use smith_types::WasmFeatures;
-use smith_wrong_bytes::BytesFamily;
 use std::alloc::Global;
 
 /// The greatest number of drawn changes that are tried for a file before one of its first eight bytes.
