@@ -1,6 +1,6 @@
 -- Invalid files, and their valid twins: the sections Binary Format, Modules, and Validation, Modules, of the
 -- WebAssembly Core Specification 3.0.
-use Rattle.std.specs.Prelude.{◌≡◌, ℕ, List, Ok, Err}
+use Rattle.std.specs.Prelude.{ℕ, List, Ok, Err}
 use Rattle.std.specs.List.{Contains}
 use Rattle.smith_binary.specs.Faults.{IsFault}
 use Rattle.smith_binary.specs.declared.error.EncodeError.{EncodeError}
@@ -19,7 +19,6 @@ use Rattle.smith_judge.specs.declared.answer.Answer.TheVariants as answer
 use Rattle.smith_wrong_bytes.specs.Splices.{HasPreamble}
 use Rattle.smith_wrong_bytes.specs.declared.family.BytesFamily.{BytesFamily}
 use Rattle.smith_wrong.specs.Changes.{IsChangeOf}
-use Rattle.smith_wrong.specs.declared.changes.Change.{Change}
 use Rattle.smith_wrong.specs.declared.families.Family.{Family}
 use Rattle.smith_wrong.specs.declared.families.Family.TheVariants as family
 use Rattle.smith_wrong.specs.declared.refusal.WrongRefusal.{WrongRefusal}
