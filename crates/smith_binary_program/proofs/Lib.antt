@@ -7,3 +7,5 @@ pub mod SegmentFormLemmas
 pub mod TypeFormLemmas
 pub mod ReferenceFormLemmas
 pub mod AccessLemmas
+pub mod DataCountLemmas
+pub mod DecodedLemmas

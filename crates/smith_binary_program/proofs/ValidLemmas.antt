@@ -21,7 +21,7 @@ count_there written is = subst (λ (b : Bool). Contains (id_if b 12) 12) (sym is
 after_section : (written : Bool) (id : ℕ) (rest : List ℕ) → Contains rest 12 → Contains (id_if written id ++ rest) 12
 after_section written id rest there = Contains-append_right (id_if written id) rest 12 there
 
-count_written : (m : ModuleParts) → CountsData m → Contains (section_ids m) 12
+pub count_written : (m : ModuleParts) → CountsData m → Contains (section_ids m) 12
 count_written m counts =
     let written : writes_data_count m ≡ true = and_from m.config.bulk_memory_enabled (is_filled m.datas) counts.bulk_memory
     (lt-ltb 0 (length m.datas) counts.some) in

@@ -1,4 +1,5 @@
 pub mod Bodies
+pub mod Decoded
 pub mod Forms
 pub mod Long
 pub mod Programs

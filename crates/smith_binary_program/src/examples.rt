@@ -1,4 +1,4 @@
-ghost use Rattle.std.specs.Prelude.{◌^◌, ◌≤◌, List, [], ◌∷◌, ◌++◌, Some, length};
+ghost use Rattle.std.specs.Prelude.{◌≡◌, ◌^◌, ◌≤◌, List, [], ◌∷◌, ◌++◌, Some, length};
 ghost use Rattle.smith_syntax.specs.declared.code.Instructions.TheVariants.{Unreachable};
 ghost use Rattle.smith_syntax.specs.declared.value_type.ValType.{ValType};
 ghost use Rattle.smith_syntax.specs.declared.value_type.ValType.TheVariants.{I32};
@@ -6,6 +6,7 @@ ghost use Rattle.smith_binary_module.specs.ExampleModules.{one_function};
 ghost use Rattle.smith_instr.specs.declared.instr.Instr.TheVariants as instr;
 ghost use Rattle.smith_program.specs.Counted.{check_of};
 ghost use Rattle.smith_program.specs.declared.program.Body.TheVariants as body;
+ghost use Rattle.smith_binary_program.specs.Decoded.{decoded};
 ghost use Rattle.smith_binary_program.specs.ExamplePrograms.{function, nop, preamble};
 ghost use Rattle.smith_binary_program.specs.Long.{IsLongProgram};
 ghost use Rattle.smith_binary_program.specs.Valid.{HasSection, HaveSameInstructions};
@@ -43,6 +44,16 @@ fn same_programs()
     ensures with_another_body { ¬ IsSameProgram (function []) (function [])
         (nop ∷ []) (body.Drawn [] ∷ []) }
     ensures without_its_body { ¬ IsSameProgram (function []) (function []) (nop ∷ []) [] }
+{}
+
+fn decoded_programs()
+    ensures functions { (decoded (function (I32 ∷ [])) (nop ∷ [])).bodies
+        ≡ ((I32 ∷ []), (instr.Nop ∷ [])) ∷ [] }
+    ensures with_the_checks { (decoded (record (function []) { fuel_globals = 5 ∷ [] })
+        (nop ∷ [])).bodies ≡ ([], (check_of 5 ++ instr.Nop ∷ [])) ∷ [] }
+    ensures without_the_checks { ¬ ((decoded (record (function []) { fuel_globals = 5 ∷ [] })
+        (nop ∷ [])).bodies ≡ ([], (instr.Nop ∷ [])) ∷ []) }
+    ensures without_custom_sections { (decoded (function []) (nop ∷ [])).customs ≡ [] }
 {}
 
 fn sections()

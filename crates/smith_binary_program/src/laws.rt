@@ -1,9 +1,13 @@
 ghost use Rattle.std.specs.Prelude.{IsTrue, List};
+ghost use Rattle.std.specs.List.{Contains};
 ghost use Rattle.smith_config.specs.declared.config.Config.{Config};
 ghost use Rattle.smith_config.specs.Features.{features_of};
 ghost use Rattle.smith_module_rules.specs.Module.{IsValid, ModuleParts, shown_config};
 ghost use Rattle.smith_program.specs.Bodies.{AreBodiesOf};
+ghost use Rattle.smith_program.specs.Valid.{IsValidProgram};
 ghost use Rattle.smith_program.specs.declared.program.Body.{Body};
+ghost use Rattle.smith_program.specs.declared.program.Body.TheVariants.{Raw};
+ghost use Rattle.smith_binary_program.specs.Decoded.{EncodedProgramsAreDecoded};
 ghost use Rattle.smith_binary_program.specs.Forms.{AreFormsEnabled, HasLongReferences};
 ghost use Rattle.smith_binary_program.specs.Valid.{ProgramsAreUnambiguous};
 ghost use Rattle.smith_binary_program.specs.Valid.{EncodedProgramsAreValid};
@@ -30,4 +34,15 @@ pub fn forms_are_enabled()
         → AreFormsEnabled m bodies }
     ensures long_references { (config : Config) → HasLongReferences
         (features_of (shown_config config)) → IsTrue (features_of (shown_config config)).gc }
+{}
+
+/// States that the bytes that [`encode`] writes for a valid program without raw bodies are a module for
+/// the decoder. It has exactly the parts, the locals and the instructions of the program, with the
+/// checks of fuel. Without `allow_invalid_funcs`, no body is raw.
+///
+/// [`encode`]: crate::encode
+pub fn encoded_programs_are_decoded()
+    ensures decoded { EncodedProgramsAreDecoded }
+    ensures raw { (m : ModuleParts) (bodies : List Body) → IsValidProgram m bodies
+        → Contains bodies Raw → IsTrue m.config.allow_invalid_funcs }
 {}

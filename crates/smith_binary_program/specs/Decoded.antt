@@ -1,0 +1,36 @@
+-- Programs as modules of the decoder: the sections Structure, Modules, and Binary Format, Modules,
+-- of the WebAssembly Core Specification 3.0.
+use Rattle.std.specs.Prelude.{ℕ, List, [], map}
+use Rattle.std.specs.List.{Contains, zip}
+use Rattle.smith_syntax.specs.declared.code.Code.{Code}
+use Rattle.smith_syntax.specs.declared.value_type.ValType.{ValType}
+use Rattle.smith_instr.specs.declared.instr.Instr.{Instr}
+use Rattle.smith_module_rules.specs.Module.{ModuleParts}
+use Rattle.smith_binary_module.specs.Contents.{contents_of}
+use Rattle.smith_decode.specs.Constants.{with_bodies}
+use Rattle.smith_decode.specs.Modules.{IsModuleBinary, Syntax}
+use Rattle.smith_program.specs.Counted.{counted}
+use Rattle.smith_program.specs.Valid.{IsValidProgram}
+use Rattle.smith_program.specs.declared.program.Body.{Body}
+use Rattle.smith_program.specs.declared.program.Body.TheVariants as body
+use Rattle.smith_binary_program.specs.Programs.{IsEncoded}
+
+-- the instructions of a body, fuel checks included (Structure, Instructions); raw bytes have no
+-- instructions (own rule)
+abbrev pub instructions_of : List ℕ → Body → List Instr
+instructions_of counters (body.Drawn instructions) = counted counters instructions
+instructions_of counters body.Raw = []
+
+-- the locals of a function, and its instructions (Structure, Functions)
+abbrev pub function_of : List ℕ → Code × Body → List ValType × List Instr
+function_of counters given = (given.0.locals, instructions_of counters given.1)
+
+-- a program as a module of the decoder, without custom sections (Structure, Modules)
+abbrev pub decoded : ModuleParts → List Body → Syntax
+decoded m bodies = with_bodies (contents_of m) (map (function_of m.fuel_globals) (zip m.code bodies))
+
+-- the bytes that are written for a valid program without raw bytes are its module, for the decoder
+abbrev pub EncodedProgramsAreDecoded : Type 0
+EncodedProgramsAreDecoded =
+    (m : ModuleParts) (bodies : List Body) (bytes : List ℕ) → IsEncoded m bodies bytes → IsValidProgram m bodies
+    → ¬ Contains bodies body.Raw → IsModuleBinary (decoded m bodies) bytes
