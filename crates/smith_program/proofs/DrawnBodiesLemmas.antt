@@ -85,7 +85,7 @@ function_drawn : (m : ModuleParts) (place : ℕ) (code : Code) (instructions : I
 function_drawn m place code (Arbitrary raw) function drawn bytes left not_raw there exact = absurd (not_raw tt)
 function_drawn m place code Unreachable function drawn bytes left not_raw there exact = rw (there, exact) refl
 
-defined_there : (m : ModuleParts) (place : ℕ) (function : FuncType) → HasDefinedType m place function → defined_func_type m place
+pub defined_there : (m : ModuleParts) (place : ℕ) (function : FuncType) → HasDefinedType m place function → defined_func_type m place
     ≡ Some function
 defined_there m place function (index, here, (t, at, is)) = rw (here, at, is) refl
 

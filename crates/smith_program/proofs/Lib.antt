@@ -1,9 +1,16 @@
 pub mod ScopeLemmas
 pub mod DrawnBodiesLemmas
+pub mod InsertedLemmas
 pub mod CountedLemmas
+pub mod MixLemmas
+pub mod ObservedLemmas
+pub mod MixedLoop
 pub mod WiderLemmas
+pub mod GlobalLemmas
 pub mod TerminationLemmas
 pub mod ValidLemmas
 pub mod DeterminedLemmas
 pub mod GeneratedLemmas
-pub mod FuelExportLemmas
+pub mod GlobalExportLemmas
+pub mod ObservedProgramLemmas
+pub mod ObservedBodiesLemmas

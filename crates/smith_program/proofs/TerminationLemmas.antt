@@ -1,10 +1,8 @@
 -- The bodies of a module to which a counter of fuel is added.
 use Rattle.std.proofs.Common.{◌≡◌, ℕ, ◌<◌, List, [], ◌∷◌, ◌++◌, Some, Result, Ok, Err, length, get_or, refl, sym, subst, ap, ◌∙◌}
-use Rattle.std.proofs.Common.{append-nil}
 use Rattle.std.specs.Prelude.{map, slice_get, option_map}
-use Rattle.std.specs.List.{flat_map, AllByRecursion as Each}
+use Rattle.std.specs.List.{AllByRecursion as Each}
 use Rattle.std.specs.Int.{cast_signed, w32}
-use Rattle.std.proofs.lemmas.Grind.{flat_map-append}
 use Rattle.std.proofs.lemmas.List.{length-map}
 use Rattle.std.proofs.lemmas.List.Elements.{recursion_from_All, All-weaker}
 use Rattle.std.proofs.lemmas.Option.{same_Some, slice_get_within, slice_get-get_or, slice_get-map}
@@ -12,66 +10,25 @@ use Rattle.smith_bytes.specs.declared.error.Error.{Error}
 use Rattle.smith_types.specs.Bodies.{IsCounterGlobal}
 use Rattle.smith_syntax.specs.declared.code.Code.{Code}
 use Rattle.smith_syntax.specs.declared.composite_type.FuncType.{FuncType}
-use Rattle.smith_syntax.specs.declared.const_instr.ConstInstr.{ConstInstr}
 use Rattle.smith_syntax.specs.declared.const_instr.ConstInstr.TheVariants.{I32Const}
 use Rattle.smith_syntax.specs.declared.value_type.ValType.{ValType}
 use Rattle.smith_module_rules.specs.Module.{ModuleParts, IsValid, module_imports}
-use Rattle.smith_instr.specs.Sequences.{IsBodyTyped}
-use Rattle.smith_instr.specs.declared.instr.Instr.{Instr}
 use Rattle.wasm_smith.specs.Termination.{AddsCounter, AnswersCounter, counter}
 use Rattle.smith_program.specs.Bodies.{AreBodiesOf, IsBodyAt, IsOfBody, function_context}
 use Rattle.smith_program.specs.Counted.{counted_body}
-use Rattle.smith_program.specs.References.{named_in, references_of}
 use Rattle.smith_program.specs.declared.program.Body.{Body}
 use Rattle.smith_program.specs.declared.program.Body.TheVariants as body
 use Rattle.smith_program.proofs.CountedLemmas.{IsCounter, counted_typed}
-use Rattle.smith_program.proofs.WiderLemmas.{wider, wider_body}
-
--- a module with a counter of this index
-abbrev counting : ℕ → ℕ → ModuleParts → ModuleParts
-counting fuel index old = record old {
-  globals = old.globals ++ counter ∷ [];
-  defined_globals = old.defined_globals ++ (index, I32Const (cast_signed w32 fuel) ∷ []) ∷ [];
-  fuel_globals = old.fuel_globals ++ index ∷ [];
-}
-
--- the definition of a counter names no function
-same_references : (fuel index : ℕ) (old : ModuleParts) → references_of (counting fuel index old) ≡ references_of old
-same_references fuel index old =
-    let f = λ (global : ℕ × List ConstInstr). named_in global.1 in
-    let none : flat_map f (old.defined_globals ++ (index, I32Const (cast_signed w32 fuel) ∷ []) ∷ []) ≡ flat_map f old.defined_globals =
-    flat_map-append f old.defined_globals ((index, I32Const (cast_signed w32 fuel) ∷ []) ∷ []) ∙ append-nil
-    (flat_map f old.defined_globals) in
-    rw none refl
-
-still_typed : (fuel index : ℕ) (old : ModuleParts) (function : FuncType) (locals : List ValType) (instructions : List Instr)
-    → IsBodyTyped (function_context old function locals) instructions
-    → IsBodyTyped (function_context (counting fuel index old) function locals) instructions
-still_typed fuel index old function locals instructions typed =
-    subst (λ (references : List ℕ). IsBodyTyped (record (wider (function_context old function locals) (counter ∷ []))
-    { references = references }) instructions)
-    (sym (same_references fuel index old)) (wider_body (function_context old function locals) (counter ∷ []) instructions typed)
-
-still_at : (fuel index : ℕ) (old : ModuleParts) (place : ℕ) (code : Code) (given : Body) → IsOfBody (IsBodyAt old place code) code given
-    → IsOfBody (IsBodyAt (counting fuel index old) place code) code given
-still_at fuel index old place code body.Raw raw = raw
-still_at fuel index old place code (body.Drawn instructions) (not_raw, is) = (
-  not_raw,
-  record {
-    function = is.function;
-    there = is.there;
-    typed = still_typed fuel index old is.function code.locals instructions
-        is.typed;
-  },
-)
+use Rattle.smith_program.proofs.GlobalLemmas.{still_of_added}
 
 pub still_bodies : (fuel index : ℕ) (old new : ModuleParts) (bodies : List Body) → AddsCounter fuel index old new → AreBodiesOf old bodies
     → AreBodiesOf new bodies
 still_bodies fuel index old new bodies adds are =
-    subst (λ (m : ModuleParts). AreBodiesOf m bodies) (sym adds.added) (record {
-      each = are.each;
-      in_place = λ place code given at there. still_at fuel index old place code given (are.in_place place code given at there);
-    })
+    still_of_added (record {
+      globals = counter ∷ [];
+      definitions = (index, I32Const (cast_signed w32 fuel) ∷ []) ∷ [];
+      counters = old.fuel_globals ++ index ∷ [];
+    }) old new bodies refl adds.added are
 
 -- the bodies after an attempt to add a counter
 pub answered_bodies : (fuel : ℕ) (old new : ModuleParts) (result : Result ℕ Error) (bodies : List Body) → AnswersCounter fuel old new result

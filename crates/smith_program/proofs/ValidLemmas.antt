@@ -35,7 +35,7 @@ use Rattle.smith_program.specs.Valid.{HaveAll, HasOne, IsDeclared, IsValidProgra
 use Rattle.smith_program.specs.declared.program.Body.{Body}
 use Rattle.smith_program.specs.declared.program.Body.TheVariants as body
 use Rattle.smith_program.proofs.DrawnBodiesLemmas.{code_there}
-use Rattle.smith_program.proofs.FuelExportLemmas.{exporting_bodies}
+use Rattle.smith_program.proofs.GlobalExportLemmas.{exporting_bodies}
 use Rattle.smith_program.proofs.TerminationLemmas.{counted_bodies, still_bodies}
 
 -- an instruction names declared functions, and no data segment if there is none

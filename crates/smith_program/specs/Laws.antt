@@ -4,6 +4,7 @@ use Rattle.smith_config.specs.declared.config.Config.{Config}
 use Rattle.smith_module_rules.specs.Module.{ModuleParts}
 use Rattle.wasm_smith.specs.Termination.{AddsCounter}
 use Rattle.smith_program.specs.Generated.{IsProgram}
+use Rattle.smith_program.specs.Observed.{AnswersObserved}
 use Rattle.smith_program.specs.Valid.{IsValidProgram}
 use Rattle.smith_program.specs.declared.program.Body.{Body}
 use Rattle.smith_program.specs.Parts.{ProgramParts}
@@ -20,3 +21,9 @@ abbrev pub CountedProgramsAreValid : Type 0
 CountedProgramsAreValid =
     (fuel index : ℕ) (old new : ModuleParts) (bodies : List Body) → AddsCounter fuel index old new → IsValidProgram old bodies
     → IsValidProgram new bodies
+
+-- a valid program stays valid with its locals mixed into sinks
+abbrev pub ObservedProgramsAreValid : Type 0
+ObservedProgramsAreValid =
+    (first : ℕ) (old new : ProgramParts) → AnswersObserved old new (Ok first) → IsValidProgram old.«module» old.bodies
+    → IsValidProgram new.«module» new.bodies

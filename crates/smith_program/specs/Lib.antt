@@ -5,5 +5,7 @@ pub mod DrawnBodies
 pub mod Named
 pub mod Generated
 pub mod Counted
+pub mod Copies
+pub mod Observed
 pub mod Valid
 pub mod Laws

@@ -125,7 +125,7 @@ fn budget_at(module: &Module, place: usize, u: &Unstructured<'_>) -> usize
 }
 
 /// Returns the type of the defined function at `place`.
-fn defined_type(module: &Module, place: usize) -> &FuncType
+pub(crate) fn defined_type(module: &Module, place: usize) -> &FuncType
     requires valid { IsValid «module».now }
     requires inside { place < length «module».now.code }
     ensures { HasDefinedType «module».now place result.now }
@@ -207,7 +207,8 @@ fn draw_instructions(
     draw_body(alloc, &scope, budget, u)
 }
 
-fn join_locals(
+/// Returns the types of all locals: `params`, then `locals`.
+pub(crate) fn join_locals(
     alloc: Global,
     params: &[ValType],
     locals: &[ValType],

@@ -1,4 +1,5 @@
-ghost use Rattle.smith_program.specs.Laws.{CountedProgramsAreValid, ProgramsAreDetermined};
+ghost use Rattle.smith_program.specs.Laws.{CountedProgramsAreValid, ObservedProgramsAreValid};
+ghost use Rattle.smith_program.specs.Laws.{ProgramsAreDetermined};
 
 /// States that the configuration and the bytes determine a program: two programs that
 /// [`Program::new`] returns for the same are equal, and leave the same bytes.
@@ -11,4 +12,9 @@ pub fn programs_are_determined()
 /// States that a valid program stays valid with a global that counts fuel.
 pub fn counted_programs_are_valid()
     ensures { CountedProgramsAreValid }
+{}
+
+/// States that a valid program stays valid with its locals mixed into sinks.
+pub fn observed_programs_are_valid()
+    ensures { ObservedProgramsAreValid }
 {}

@@ -3,9 +3,12 @@
 #![tactic(auto)]
 
 mod bodies;
+mod copies;
 mod fuel_export;
 /// Laws: functions with empty bodies whose clauses state theorems.
 pub mod laws;
+mod mixes;
+mod observe;
 mod program;
 mod references;
 mod termination;

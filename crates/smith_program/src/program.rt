@@ -22,7 +22,7 @@ pub struct Program {
     /// The module. Its own bodies are `unreachable`, except those of raw bytes.
     pub(crate) module: Module,
     /// The body of each function that the module defines.
-    bodies: Items<Body>,
+    pub(crate) bodies: Items<Body>,
 }
 
 impl Model for Program {

@@ -2,3 +2,4 @@ pub mod BodyExamples
 pub mod ReferenceExamples
 pub mod SpellingExamples
 pub mod ValidExamples
+pub mod ObservedExamples

@@ -7,6 +7,7 @@ mod contexts;
 mod forms;
 mod fuel_checks;
 mod kept_forms;
+mod observed;
 mod references;
 mod spellings;
 mod types;

@@ -1,33 +1,17 @@
 -- A valid module stays valid with one more global, which counts fuel.
-use Rattle.std.proofs.Common.{rules, arith, ◌≡◌, ℕ, ◌+◌, ◌≤◌, Bool, true, false, List, [], ◌∷◌, ◌++◌, Some, length, inl, inr, refl, sym}
-use Rattle.std.proofs.Common.{subst, ap, ◌∙◌}
-use Rattle.std.specs.Prelude.{slice_get, if◌then◌else◌, Result, Ok, Err}
-use Rattle.smith_bytes.specs.declared.error.Error.{Error}
+use Rattle.std.proofs.Common.{◌≡◌, ℕ, [], ◌∷◌, ◌++◌, length, sym, subst, arith}
+use Rattle.std.specs.Prelude.{Result, Ok, Err}
 use Rattle.std.specs.Int.{cast_signed, w32}
 use Rattle.std.specs.List.{All}
-use Rattle.std.proofs.lemmas.List.{length-append, append_assoc}
-use Rattle.std.proofs.lemmas.List.Elements.{All-nil, All-cons, All-append, All-weaker}
-use Rattle.smith_types.specs.Grown.{IsContextGrown, AreSpacesGrown}
-use Rattle.smith_types.specs.Imports.{Defines}
-use Rattle.smith_types.specs.Entities.{IsGlobalValid}
-use Rattle.smith_types.specs.Expressions.{seeing, seen_by_tables, seen_by_global, seen_by_segments}
-use Rattle.smith_types.specs.Segments.{IsElementSegmentValid, IsDataValid}
+use Rattle.std.proofs.lemmas.List.Elements.{All-nil, All-cons, All-append}
+use Rattle.smith_bytes.specs.declared.error.Error.{Error}
 use Rattle.smith_types.specs.Bodies.{IsCounterGlobal}
-use Rattle.smith_syntax.specs.declared.const_instr.ConstInstr.{ConstInstr}
 use Rattle.smith_syntax.specs.declared.const_instr.ConstInstr.TheVariants.{I32Const}
-use Rattle.smith_syntax.specs.declared.segments.ElementSegment.{ElementSegment}
-use Rattle.smith_syntax.specs.declared.segments.DataSegment.{DataSegment}
 use Rattle.smith_types.proofs.ConstStepLemmas.{number_given}
-use Rattle.smith_types.proofs.ListLemmas.{slice_get-grown, slice_get-last, slice_get-push}
-use Rattle.smith_types.proofs.EntityGrowthLemmas.{no_fewer}
-use Rattle.smith_types.proofs.ExpressionGrowthLemmas.{IsConstExpr-grown}
-use Rattle.smith_types.proofs.SegmentGrowthLemmas.{IsElementSegmentValid-grown, IsDataValid-grown}
-use Rattle.smith_types.proofs.ExportGrowthLemmas.{AreExportsValid-grown}
-use Rattle.smith_module_rules.specs.Module.{module_context, ModuleParts, IsValid, IsGlobalDefined, module_features, module_spaces}
-use Rattle.smith_module_rules.specs.Module.{module_imports, table_context, global_context, segment_context}
+use Rattle.smith_types.proofs.ListLemmas.{slice_get-last}
+use Rattle.smith_module_rules.specs.Module.{ModuleParts, IsValid, module_imports}
 use Rattle.wasm_smith.specs.Termination.{counter, AddsCounter, AnswersCounter}
-use Rattle.smith_draw_definitions.proofs.ExtensionLemmas.{all_kept}
-use Rattle.smith_module_rules.proofs.InitialLemmas.{IsTableInitialised-grown}
+use Rattle.wasm_smith.proofs.AddedGlobalLemmas.{all_globals, defined_valid, still_counters, with_defined}
 
 -- a module with a counter of this index
 abbrev counted : ℕ → ℕ → ModuleParts → ModuleParts
@@ -37,165 +21,17 @@ counted fuel index m = record m {
   fuel_globals = m.fuel_globals ++ index ∷ [];
 }
 
--- a list with nothing added is the same
-no_more : {A : Type 0} (xs : List A) → xs ++ [] ≡ xs
-no_more xs = search rules
+counters_valid : (m : ModuleParts) → IsValid m
+    → All (IsCounterGlobal (m.globals ++ counter ∷ []) (length (module_imports m).globals)) (m.fuel_globals ++ length m.globals ∷ [])
+counters_valid m valid =
+    let P = IsCounterGlobal (m.globals ++ counter ∷ []) (length (module_imports m).globals) in
+    let known = all_globals m valid in
+    All-append P m.fuel_globals (length m.globals ∷ []) (still_counters m counter valid)
+    (All-cons P (length m.globals) [] (record { defined = omega (arith, known); stands = slice_get-last m.globals counter }) (All-nil P))
 
-module _ (fuel : ℕ) (old : ModuleParts) (valid : IsValid old) where
-  abbrev new : ModuleParts
-  new = counted fuel (length old.globals) old
-
-  -- a context of the old module grows into one of the new, if at least as much is visible
-  context_grown : (visible wider : ℕ) → visible ≤ wider → IsContextGrown (seeing (module_context old) visible)
-      (seeing (module_context new) wider)
-  context_grown visible wider more = record {
-    features = refl;
-    types = all_kept old.types;
-    funcs = all_kept old.funcs;
-    globals = record { more = counter ∷ []; parts = refl };
-    imported_funcs = refl;
-    imported_globals = refl;
-    visible = more;
-  }
-
-  global_grown : (place index : ℕ) (initial : List ConstInstr) → IsGlobalDefined old place index initial
-      → IsGlobalDefined new place index initial
-  global_grown place index initial h =
-      let seen = seen_by_global (module_context old) index in
-      record {
-        in_order = h.in_order;
-        global = h.global;
-        stands = slice_get-grown old.globals (counter ∷ []) index h.global h.stands;
-        initialised = IsConstExpr-grown (global_context old index) (global_context new index) (context_grown seen seen (omega arith))
-            h.global.val_type initial h.initialised;
-      }
-
-  -- there are as many globals as are imported and defined
-  all_globals : length old.globals ≡ length (module_imports old).globals + length old.defined_globals
-  all_globals =
-      let spaces = valid.spaces.globals in
-      ap length spaces.parts ∙ length-append (module_imports old).globals spaces.defined ∙ ap (λ n. length (module_imports old).globals + n)
-      spaces.count_is
-
-  counter_defined : IsGlobalDefined new (length old.defined_globals) (length old.globals) (I32Const (cast_signed w32 fuel) ∷ [])
-  counter_defined = record {
-    in_order = all_globals;
-    global = counter;
-    stands = slice_get-last old.globals counter;
-    initialised = number_given (global_context new (length old.globals)) (cast_signed w32 fuel);
-  }
-
-  globals_defined_more : (place index : ℕ) (initial : List ConstInstr) → slice_get new.defined_globals place ≡ Some (index, initial)
-      → IsGlobalDefined new place index initial
-  globals_defined_more place index initial at =
-      elim (slice_get-push old.defined_globals (length old.globals, I32Const (cast_signed w32 fuel) ∷ []) place (index, initial) at) [
-        | inl was ↦ global_grown place index initial (valid.definitions.globals place index initial was)
-        | inr (is, same) ↦ subst (λ (one : ℕ × List ConstInstr). IsGlobalDefined new place one.0 one.1) same
-            (subst (λ n. IsGlobalDefined new n (length old.globals) (I32Const (cast_signed w32 fuel) ∷ [])) (sym is) counter_defined)
-      ]
-
-  segments_grown : IsContextGrown (segment_context old) (segment_context new)
-  segments_grown = context_grown (seen_by_segments (module_context old)) (seen_by_segments (module_context new))
-      (wider (module_features old).gc)
-    where
-      wider : (gc : Bool) → (if gc then length old.globals else length (module_imports old).globals) ≤
-          (if gc then length new.globals else length (module_imports old).globals)
-      wider true = no_fewer old.globals (counter ∷ [])
-      wider false = omega arith
-
-  spaces_grown : AreSpacesGrown (module_spaces old) (module_spaces new)
-  spaces_grown = record {
-    tags = all_kept old.tags;
-    funcs = all_kept old.funcs;
-    tables = all_kept old.tables;
-    memories = all_kept old.memories;
-    globals = record { more = counter ∷ []; parts = refl };
-  }
-
-  element_grown : (segment : ElementSegment) → IsElementSegmentValid (segment_context old) old.tables segment
-      → IsElementSegmentValid (segment_context new) old.tables segment
-  element_grown segment h =
-      subst (λ tables. IsElementSegmentValid (segment_context new) tables segment) (no_more old.tables)
-      (IsElementSegmentValid-grown (segment_context old) (segment_context new) segments_grown old.tables [] segment h)
-
-  data_grown : (segment : DataSegment) → IsDataValid (segment_context old) old.memories segment
-      → IsDataValid (segment_context new) old.memories segment
-  data_grown segment h =
-      subst (λ memories. IsDataValid (segment_context new) memories segment) (no_more old.memories)
-      (IsDataValid-grown (segment_context old) (segment_context new) segments_grown old.memories [] segment h)
-
-  globals_valid : All (IsGlobalValid (module_features old) old.types) new.globals
-  globals_valid =
-      let P = IsGlobalValid (module_features old) old.types in
-      All-append P old.globals (counter ∷ []) valid.entities.globals (All-cons P counter [] (record { value = tt; shared = λ never. cc })
-      (All-nil P))
-
-  fuel_valid : All (IsCounterGlobal new.globals (length (module_imports old).globals)) new.fuel_globals
-  fuel_valid =
-      let imported = length (module_imports old).globals in
-      let P = IsCounterGlobal new.globals imported in
-      let known = all_globals in
-      All-append P old.fuel_globals (length old.globals ∷ [])
-      (All-weaker (IsCounterGlobal old.globals imported) P
-      (λ index h. record { defined = h.defined; stands = slice_get-grown old.globals (counter ∷ []) index counter h.stands })
-      old.fuel_globals valid.bodies.counters)
-      (All-cons P (length old.globals) [] (record { defined = omega (arith, known); stands = slice_get-last old.globals counter })
-      (All-nil P))
-
-  defines_more : Defines (module_imports old).globals (length new.defined_globals) new.globals
-  defines_more =
-      let spaces = valid.spaces.globals in
-      let one = length-append spaces.defined (counter ∷ []) in
-      let also = length-append old.defined_globals ((length old.globals, I32Const (cast_signed w32 fuel) ∷ []) ∷ []) in
-      let counted = spaces.count_is in
-      record {
-        defined = spaces.defined ++ counter ∷ [];
-        count_is = omega (arith, one, also, counted);
-        parts = ap (λ xs. xs ++ counter ∷ []) spaces.parts ∙ append_assoc (module_imports old).globals spaces.defined (counter ∷ []);
-      }
-
-  counted_valid : IsValid new
-  counted_valid = record {
-    types = valid.types;
-    imports = valid.imports;
-    spaces = record {
-      imports = valid.spaces.imports;
-      tags = valid.spaces.tags;
-      funcs = valid.spaces.funcs;
-      tables = valid.spaces.tables;
-      memories = valid.spaces.memories;
-      globals = defines_more;
-    };
-    entities = record {
-      tags = valid.entities.tags;
-      funcs = valid.entities.funcs;
-      tables = valid.entities.tables;
-      memories = valid.entities.memories;
-      globals = globals_valid;
-    };
-    counts = record {
-      tags = valid.counts.tags;
-      several_tables = valid.counts.several_tables;
-      several_memories = valid.counts.several_memories;
-    };
-    definitions = record {
-      tables = λ place initial at.
-          let (table, stands, h) = valid.definitions.tables place initial at in (
-            table,
-            stands,
-            IsTableInitialised-grown (table_context old) (table_context new)
-                (context_grown (seen_by_tables (module_context old)) (seen_by_tables (module_context new)) (omega arith)) table initial h,
-          );
-      globals = globals_defined_more;
-    };
-    exports = AreExportsValid-grown (module_spaces old) (module_spaces new) spaces_grown old.exports valid.exports;
-    start = valid.start;
-    elems = All-weaker (IsElementSegmentValid (segment_context old) old.tables) (IsElementSegmentValid (segment_context new) old.tables)
-        element_grown old.elems valid.elems;
-    data_segments = All-weaker (IsDataValid (segment_context old) old.memories) (IsDataValid (segment_context new) old.memories) data_grown
-        old.datas valid.data_segments;
-    bodies = record { each = valid.bodies.each; bodies = valid.bodies.bodies; counters = fuel_valid };
-  }
+counted_valid : (fuel : ℕ) (m : ModuleParts) → IsValid m → IsValid (counted fuel (length m.globals) m)
+counted_valid fuel m valid = defined_valid counter (I32Const (cast_signed w32 fuel) ∷ []) (m.fuel_globals ++ length m.globals ∷ []) m valid
+    (λ context. number_given context (cast_signed w32 fuel)) (record { value = tt; shared = λ never. cc }) (counters_valid m valid)
 
 pub adds_valid : (fuel index : ℕ) (old new : ModuleParts) → AddsCounter fuel index old new → IsValid old → IsValid new
 adds_valid fuel index old after adds valid = subst IsValid (sym adds.added) (subst (λ n. IsValid (counted fuel n old)) (sym adds.last)

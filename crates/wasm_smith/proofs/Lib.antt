@@ -1,3 +1,4 @@
+pub mod AddedGlobalLemmas
 pub mod AddedImportLemmas
 pub mod ContentsLemmas
 pub mod CountingLemmas
@@ -12,6 +13,7 @@ pub mod FirstPartsStandLemmas
 pub mod FirstPartsTypedLemmas
 pub mod FreelyImportedLemmas
 pub mod FuelExportLemmas
+pub mod GlobalExportLemmas
 pub mod GrantedLaterLemmas
 pub mod GrantedModuleLemmas
 pub mod GrownSizeLemmas
@@ -28,6 +30,8 @@ pub mod ReasonLemmas
 pub mod RefusalLemmas
 pub mod SegmentScopeLemmas
 pub mod ShapeItemLemmas
+pub mod SinkExportLemmas
+pub mod SinkLemmas
 pub mod StandsDefinedLemmas
 pub mod StandsWholeLemmas
 pub mod TypesGrownLemmas

@@ -30,7 +30,7 @@ pub record AddsCounter (fuel index : ℕ) (old new : ModuleParts) : Type 0 where
     fuel_globals = old.fuel_globals ++ index ∷ [];
   }
 
--- the reasons why no counter is added: a body is raw bytes, else lack of memory
+-- the reasons why no global is added: a body is raw bytes, else lack of memory
 abbrev pub MayAddNone : ModuleParts → Error → Type 0
 MayAddNone m (errors.IncorrectFormat RawBody) = HasRawBody m
 MayAddNone m errors.Memory = HasRawBody m → ⊥

@@ -1,50 +1,12 @@
-ghost use Rattle.std.specs.Prelude.{◌≡◌, ◌<◌, false, length, codes, IfOk, IfErr};
+ghost use Rattle.std.specs.Prelude.{◌≡◌, ◌<◌, false, length};
 ghost use Rattle.smith_module_rules.specs.Module.{IsValid};
-ghost use Rattle.smith_draw_contents.specs.Exporting.{is_exported, longest_export};
+ghost use Rattle.smith_draw_contents.specs.Exporting.{is_exported};
 ghost use Rattle.wasm_smith.specs.FuelExport.{AnswersFuelExport, fuel_name};
 
+use crate::global_export::export_global;
 use crate::module::Module;
 use smith_bytes::Error;
-use smith_types::{ExportKind, Name};
 use std::alloc::Global;
-
-/// Returns whether an export has the name `fuel`.
-fn is_taken(exports: &[(Name, ExportKind, u32)]) -> bool
-    ensures { result ≡ is_exported exports.now (codes "fuel") }
-{
-    for (name, _, _) in exports {
-        if name.as_str() == "fuel" {
-            return true;
-        }
-    }
-    false
-}
-
-/// Returns the length of the longest name of an export, or 0 if there is no export.
-fn longest_name(exports: &[(Name, ExportKind, u32)]) -> usize
-    ensures { result ≡ longest_export exports.now }
-{
-    let mut longest = 0;
-    for (name, _, _) in exports {
-        if name.len() > longest {
-            longest = name.len();
-        }
-    }
-    longest
-}
-
-/// Creates a name that no export has.
-fn fuel_name(alloc: Global, exports: &[(Name, ExportKind, u32)]) -> Result<Name, Error>
-    ensures exact { IfOk result (λ name. name ≡ fuel_name exports.now) }
-    ensures memory { IfErr result (λ e. e ≡ Error.Memory) }
-{
-    let mut name = String::from_str(alloc, "fuel")?;
-    if is_taken(exports) {
-        let more = "_".repeat(alloc, longest_name(exports))?;
-        name.push_str(&more)?;
-    }
-    Ok(Name::from_string(name))
-}
 
 impl Module {
     /// Exports the global at `index`, which [`Module::ensure_termination`] returned, so that a
@@ -66,7 +28,6 @@ impl Module {
         ensures valid { IsValid self.old → IsValid self.new }
     {
         let exports = &mut self.drawn.as_mut().contents.exports;
-        let name = fuel_name(alloc, exports.as_slice())?;
-        exports.push((name, ExportKind::Global, index))
+        export_global(alloc, exports, "fuel", index)
     }
 }

@@ -3,11 +3,15 @@
 //! default shared memories and compact imports) follow rules of this project.
 #![tactic(auto)]
 
+mod added_global;
 mod build;
 mod fuel_export;
+mod global_export;
 /// Laws: functions with empty bodies whose clauses state theorems.
 pub mod laws;
 mod module;
+mod raw_bodies;
+mod sinks;
 mod termination;
 
 pub use module::{DuplicateImportsBehavior, Module};

@@ -1,54 +1,17 @@
-ghost use Rattle.std.specs.Prelude.{◌≡◌, ◌<◌, ◌-◌, ◌^◌, ◌++◌, ◌↔◌, [], ◌∷◌, ℕ, List, Any, length};
-ghost use Rattle.std.specs.Prelude.{IsTrue, IfOk, OnOk, OnErr, IfErr};
+ghost use Rattle.std.specs.Prelude.{◌≡◌, ◌<◌, ◌-◌, ◌^◌, ◌++◌, [], ◌∷◌, length};
+ghost use Rattle.std.specs.Prelude.{IfOk, OnOk, OnErr, IfErr};
 ghost use Rattle.std.specs.Int.{cast_signed, w32};
 ghost use Rattle.smith_syntax.specs.declared.const_instr.ConstInstr.TheVariants.{
   I32Const as NumberConst,
 };
-ghost use Rattle.smith_syntax.specs.declared.code.Code.{Code as Body};
 ghost use Rattle.smith_module_rules.specs.Module.{IsValid};
-ghost use Rattle.smith_module_rules.specs.Held.{IsRaw};
 ghost use Rattle.wasm_smith.specs.Termination.{AnswersCounter, counter};
 
+use crate::added_global::{push_global, truncate};
 use crate::module::Module;
 use smith_bytes::{Error, Why};
-use smith_types::{Code, ConstInstr, GlobalType, Instructions, Items, ValType};
+use smith_types::{ConstInstr, GlobalType, Items, ValType};
 use std::alloc::Global;
-use std::mem;
-
-fn is_raw(body: &Code) -> bool
-    ensures { IsTrue result ↔ IsRaw body.now.instructions }
-{
-    match body.instructions {
-        Instructions::Unreachable => false,
-        Instructions::Arbitrary(_) => true,
-    }
-}
-
-fn has_raw_body(code: &[Code]) -> bool
-    ensures { IsTrue result ↔ Any (λ (body : Body). IsRaw body.instructions) code.now }
-{
-    code.iter().any(is_raw)
-}
-
-// Removes the last item of `items`.
-fn take_back<T: Drop>(alloc: Global, items: &mut Items<T>)
-    ensures { (before : List T) (last : T) → items.old ≡ before ++ last ∷ [] → items.new ≡ before }
-{
-    let mut all = mem::replace(items, Items::new(alloc)).into_vec();
-    let _last = all.pop();
-    *items = Items::from_vec(all);
-}
-
-// Creates the definition of a counter.
-fn initial(alloc: Global, index: u32, fuel: u32) -> Result<(u32, Items<ConstInstr>), Error>
-    ensures ok { IfOk result (λ definition.
-        definition ≡ (index, NumberConst (cast_signed w32 fuel) ∷ [])) }
-    ensures memory { IfErr result (λ e. e ≡ Error.Memory) }
-{
-    let mut expression = Items::new(alloc);
-    expression.push(ConstInstr::I32Const(fuel.cast_signed()))?;
-    Ok((index, expression))
-}
 
 // Adds a counter to each of the three lists, or to none.
 fn push_counter(
@@ -73,20 +36,12 @@ fn push_counter(
     ensures fuel_kept { OnErr result (fuel_globals.new ≡ fuel_globals.old) }
     ensures memory { IfErr result (λ e. e ≡ Error.Memory) }
 {
+    let counters = fuel_globals.len();
     let index = globals.len() as u32;
-    let definition = initial(alloc, index, fuel)?;
-    globals.push(GlobalType {
-        val_type: ValType::I32,
-        mutable: true,
-        shared: false,
-    })?;
-    if let Err(error) = fuel_globals.push(index) {
-        take_back(alloc, globals);
-        return Err(error);
-    }
-    if let Err(error) = defined_globals.push(definition) {
-        take_back(alloc, fuel_globals);
-        take_back(alloc, globals);
+    let full = ConstInstr::I32Const(fuel.cast_signed());
+    fuel_globals.push(index)?;
+    if let Err(error) = push_global(alloc, ValType::I32, full, globals, defined_globals) {
+        truncate(alloc, fuel_globals, counters);
         return Err(error);
     }
     Ok(index)
@@ -128,7 +83,7 @@ impl Module {
         ensures answer { AnswersCounter default_fuel self.old self.new result }
         ensures valid { IsValid self.old → IsValid self.new }
     {
-        if has_raw_body(self.drawn.contents.code.as_slice()) {
+        if self.has_raw_body() {
             return Err(Error::IncorrectFormat(Why::RawBody));
         }
         let drawn = self.drawn.as_mut();

@@ -1,4 +1,4 @@
-use Rattle.smith_program.proofs.FuelExportLemmas.{exporting_bodies}
+use Rattle.smith_program.proofs.GlobalExportLemmas.{exporting_bodies}
 use Rattle.smith_program.proofs.program.Program.export_fuel.Goals as goal
 
 pub returns-clause-typed : goal.returns-clause-typed

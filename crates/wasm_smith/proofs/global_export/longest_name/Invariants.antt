@@ -1,6 +1,6 @@
 use Rattle.std.proofs.Common.{◌≡◌, max, drop}
 use Rattle.smith_draw_contents.specs.Exporting.{longest_export}
-use Rattle.wasm_smith.proofs.fuel_export.longest_name.Given as goal
+use Rattle.wasm_smith.proofs.global_export.longest_name.Given as goal
 
 -- the longest name is the longest so far, or one of the rest
 abbrev pub invariant-loop-name : goal.invariant-loop-name

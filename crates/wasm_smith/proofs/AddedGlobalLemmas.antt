@@ -1,0 +1,194 @@
+-- A valid module stays valid with one more global.
+use Rattle.std.proofs.Common.{rules, arith, ◌≡◌, ℕ, ◌+◌, ◌≤◌, Bool, true, false, List, [], ◌∷◌, ◌++◌, Some, length, inl, inr, refl, sym}
+use Rattle.std.proofs.Common.{subst, ap, ◌∙◌}
+use Rattle.std.specs.Prelude.{slice_get, if◌then◌else◌}
+use Rattle.std.specs.List.{All}
+use Rattle.std.proofs.lemmas.List.{length-append, append_assoc}
+use Rattle.std.proofs.lemmas.List.Elements.{All-nil, All-cons, All-append, All-weaker}
+use Rattle.smith_types.specs.Grown.{IsContextGrown, AreSpacesGrown}
+use Rattle.smith_types.specs.Imports.{Defines}
+use Rattle.smith_types.specs.Entities.{IsGlobalValid}
+use Rattle.smith_types.specs.Expressions.{Context, IsConstExpr, seeing, seen_by_tables, seen_by_global, seen_by_segments}
+use Rattle.smith_types.specs.Segments.{IsElementSegmentValid, IsDataValid}
+use Rattle.smith_types.specs.Bodies.{IsCounterGlobal}
+use Rattle.smith_syntax.specs.declared.const_instr.ConstInstr.{ConstInstr}
+use Rattle.smith_syntax.specs.declared.entity_type.GlobalType.{GlobalType}
+use Rattle.smith_syntax.specs.declared.segments.ElementSegment.{ElementSegment}
+use Rattle.smith_syntax.specs.declared.segments.DataSegment.{DataSegment}
+use Rattle.smith_types.proofs.ListLemmas.{slice_get-grown, slice_get-last, slice_get-push}
+use Rattle.smith_types.proofs.EntityGrowthLemmas.{no_fewer}
+use Rattle.smith_types.proofs.ExpressionGrowthLemmas.{IsConstExpr-grown}
+use Rattle.smith_types.proofs.SegmentGrowthLemmas.{IsElementSegmentValid-grown, IsDataValid-grown}
+use Rattle.smith_types.proofs.ExportGrowthLemmas.{AreExportsValid-grown}
+use Rattle.smith_module_rules.specs.Module.{module_context, ModuleParts, IsValid, IsGlobalDefined, module_features, module_spaces}
+use Rattle.smith_module_rules.specs.Module.{module_imports, table_context, global_context, segment_context}
+use Rattle.wasm_smith.specs.Termination.{counter}
+use Rattle.smith_draw_definitions.proofs.ExtensionLemmas.{all_kept}
+use Rattle.smith_module_rules.proofs.InitialLemmas.{IsTableInitialised-grown}
+
+-- a module with one more global of a type, defined by this initialiser, and with these counters
+abbrev pub with_defined : GlobalType → List ConstInstr → List ℕ → ModuleParts → ModuleParts
+with_defined global initial counters m = record m {
+  globals = m.globals ++ global ∷ [];
+  defined_globals = m.defined_globals ++ (length m.globals, initial) ∷ [];
+  fuel_globals = counters;
+}
+
+-- a list with nothing added is the same
+no_more : {A : Type 0} (xs : List A) → xs ++ [] ≡ xs
+no_more xs = search rules
+
+-- a valid module has as many globals as it imports and defines
+pub all_globals : (m : ModuleParts) → IsValid m → length m.globals ≡ length (module_imports m).globals + length m.defined_globals
+all_globals m valid =
+    let spaces = valid.spaces.globals in
+    ap length spaces.parts ∙ length-append (module_imports m).globals spaces.defined ∙ ap (λ n. length (module_imports m).globals + n)
+    spaces.count_is
+
+-- counters of a valid module may still be counters, with one more global
+pub still_counters : (m : ModuleParts) (global : GlobalType) → IsValid m
+    → All (IsCounterGlobal (m.globals ++ global ∷ []) (length (module_imports m).globals)) m.fuel_globals
+still_counters m global valid =
+    let imported = length (module_imports m).globals in
+    All-weaker (IsCounterGlobal m.globals imported) (IsCounterGlobal (m.globals ++ global ∷ []) imported)
+    (λ index h. record { defined = h.defined; stands = slice_get-grown m.globals (global ∷ []) index counter h.stands })
+    m.fuel_globals valid.bodies.counters
+
+module _ (global : GlobalType) (initial : List ConstInstr) (counters : List ℕ) (old : ModuleParts) (valid : IsValid old)
+    (given : (context : Context) → IsConstExpr context global.val_type initial)
+    (of_type : IsGlobalValid (module_features old) old.types global)
+    (counting : All (IsCounterGlobal (old.globals ++ global ∷ []) (length (module_imports old).globals)) counters) where
+  abbrev new : ModuleParts
+  new = with_defined global initial counters old
+
+  -- a context of the old module grows into one of the new, if at least as much is visible
+  context_grown : (visible wider : ℕ) → visible ≤ wider → IsContextGrown (seeing (module_context old) visible)
+      (seeing (module_context new) wider)
+  context_grown visible wider more = record {
+    features = refl;
+    types = all_kept old.types;
+    funcs = all_kept old.funcs;
+    globals = record { more = global ∷ []; parts = refl };
+    imported_funcs = refl;
+    imported_globals = refl;
+    visible = more;
+  }
+
+  global_grown : (place index : ℕ) (expression : List ConstInstr) → IsGlobalDefined old place index expression
+      → IsGlobalDefined new place index expression
+  global_grown place index expression h =
+      let seen = seen_by_global (module_context old) index in
+      record {
+        in_order = h.in_order;
+        global = h.global;
+        stands = slice_get-grown old.globals (global ∷ []) index h.global h.stands;
+        initialised = IsConstExpr-grown (global_context old index) (global_context new index) (context_grown seen seen (omega arith))
+            h.global.val_type expression h.initialised;
+      }
+
+  last_defined : IsGlobalDefined new (length old.defined_globals) (length old.globals) initial
+  last_defined = record {
+    in_order = all_globals old valid;
+    global = global;
+    stands = slice_get-last old.globals global;
+    initialised = given (global_context new (length old.globals));
+  }
+
+  globals_defined_more : (place index : ℕ) (expression : List ConstInstr) → slice_get new.defined_globals place ≡ Some (index, expression)
+      → IsGlobalDefined new place index expression
+  globals_defined_more place index expression at =
+      elim (slice_get-push old.defined_globals (length old.globals, initial) place (index, expression) at) [
+        | inl was ↦ global_grown place index expression (valid.definitions.globals place index expression was)
+        | inr (is, same) ↦ subst (λ (one : ℕ × List ConstInstr). IsGlobalDefined new place one.0 one.1) same
+            (subst (λ n. IsGlobalDefined new n (length old.globals) initial) (sym is) last_defined)
+      ]
+
+  segments_grown : IsContextGrown (segment_context old) (segment_context new)
+  segments_grown = context_grown (seen_by_segments (module_context old)) (seen_by_segments (module_context new))
+      (wider (module_features old).gc)
+    where
+      wider : (gc : Bool) → (if gc then length old.globals else length (module_imports old).globals) ≤
+          (if gc then length new.globals else length (module_imports old).globals)
+      wider true = no_fewer old.globals (global ∷ [])
+      wider false = omega arith
+
+  spaces_grown : AreSpacesGrown (module_spaces old) (module_spaces new)
+  spaces_grown = record {
+    tags = all_kept old.tags;
+    funcs = all_kept old.funcs;
+    tables = all_kept old.tables;
+    memories = all_kept old.memories;
+    globals = record { more = global ∷ []; parts = refl };
+  }
+
+  element_grown : (segment : ElementSegment) → IsElementSegmentValid (segment_context old) old.tables segment
+      → IsElementSegmentValid (segment_context new) old.tables segment
+  element_grown segment h =
+      subst (λ tables. IsElementSegmentValid (segment_context new) tables segment) (no_more old.tables)
+      (IsElementSegmentValid-grown (segment_context old) (segment_context new) segments_grown old.tables [] segment h)
+
+  data_grown : (segment : DataSegment) → IsDataValid (segment_context old) old.memories segment
+      → IsDataValid (segment_context new) old.memories segment
+  data_grown segment h =
+      subst (λ memories. IsDataValid (segment_context new) memories segment) (no_more old.memories)
+      (IsDataValid-grown (segment_context old) (segment_context new) segments_grown old.memories [] segment h)
+
+  globals_valid : All (IsGlobalValid (module_features old) old.types) new.globals
+  globals_valid =
+      let P = IsGlobalValid (module_features old) old.types in
+      All-append P old.globals (global ∷ []) valid.entities.globals (All-cons P global [] of_type (All-nil P))
+
+  defines_more : Defines (module_imports old).globals (length new.defined_globals) new.globals
+  defines_more =
+      let spaces = valid.spaces.globals in
+      let one = length-append spaces.defined (global ∷ []) in
+      let also = length-append old.defined_globals ((length old.globals, initial) ∷ []) in
+      let were = spaces.count_is in
+      record {
+        defined = spaces.defined ++ global ∷ [];
+        count_is = omega (arith, one, also, were);
+        parts = ap (λ xs. xs ++ global ∷ []) spaces.parts ∙ append_assoc (module_imports old).globals spaces.defined (global ∷ []);
+      }
+
+  pub defined_valid : IsValid new
+  defined_valid = record {
+    types = valid.types;
+    imports = valid.imports;
+    spaces = record {
+      imports = valid.spaces.imports;
+      tags = valid.spaces.tags;
+      funcs = valid.spaces.funcs;
+      tables = valid.spaces.tables;
+      memories = valid.spaces.memories;
+      globals = defines_more;
+    };
+    entities = record {
+      tags = valid.entities.tags;
+      funcs = valid.entities.funcs;
+      tables = valid.entities.tables;
+      memories = valid.entities.memories;
+      globals = globals_valid;
+    };
+    counts = record {
+      tags = valid.counts.tags;
+      several_tables = valid.counts.several_tables;
+      several_memories = valid.counts.several_memories;
+    };
+    definitions = record {
+      tables = λ place initial at.
+          let (table, stands, h) = valid.definitions.tables place initial at in (
+            table,
+            stands,
+            IsTableInitialised-grown (table_context old) (table_context new)
+                (context_grown (seen_by_tables (module_context old)) (seen_by_tables (module_context new)) (omega arith)) table initial h,
+          );
+      globals = globals_defined_more;
+    };
+    exports = AreExportsValid-grown (module_spaces old) (module_spaces new) spaces_grown old.exports valid.exports;
+    start = valid.start;
+    elems = All-weaker (IsElementSegmentValid (segment_context old) old.tables) (IsElementSegmentValid (segment_context new) old.tables)
+        element_grown old.elems valid.elems;
+    data_segments = All-weaker (IsDataValid (segment_context old) old.memories) (IsDataValid (segment_context new) old.memories) data_grown
+        old.datas valid.data_segments;
+    bodies = record { each = valid.bodies.each; bodies = valid.bodies.bodies; counters = counting };
+  }

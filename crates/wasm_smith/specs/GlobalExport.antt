@@ -1,0 +1,15 @@
+-- The export of a global that is added to a module. Rules of this project.
+use Rattle.std.specs.Prelude.{ℕ, List, [], ◌∷◌, ◌++◌, codes, if◌then◌else◌}
+use Rattle.std.specs.List.{repeat}
+use Rattle.smith_syntax.specs.declared.entity_type.ExportKind.TheVariants.{Global}
+use Rattle.smith_module_rules.specs.ExportedItems.{Export}
+use Rattle.smith_draw_contents.specs.Exporting.{is_exported, longest_export}
+
+-- this name after exports, and if one of them has it, as many `_` after it as the longest of their
+-- names has bytes
+abbrev pub unused_name : List ℕ → List Export → List ℕ
+unused_name name exports = name ++ (if is_exported exports name then repeat (longest_export exports) (codes "_") else [])
+
+-- exports, and after them one of the global of this index, under this name made unused
+abbrev pub with_global : List ℕ → ℕ → List Export → List Export
+with_global name index exports = exports ++ (unused_name name exports, Global, index) ∷ []

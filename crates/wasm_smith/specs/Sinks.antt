@@ -1,0 +1,35 @@
+-- The addition to a module whose bodies are to show what they compute: three globals, the sinks,
+-- which take values that bodies would drop. Rules of this project.
+use Rattle.std.specs.Prelude.{◌≡◌, ℕ, pos, ◌+◌, true, false, List, [], ◌∷◌, ◌++◌, length, Result, Ok, Err}
+use Rattle.smith_bytes.specs.declared.error.Error.{Error}
+use Rattle.smith_syntax.specs.declared.value_type.ValType.{ValType}
+use Rattle.smith_syntax.specs.declared.value_type.ValType.TheVariants.{I32, I64}
+use Rattle.smith_syntax.specs.declared.entity_type.GlobalType.{GlobalType}
+use Rattle.smith_syntax.specs.declared.const_instr.ConstInstr.{ConstInstr}
+use Rattle.smith_syntax.specs.declared.const_instr.ConstInstr.TheVariants.{I32Const, I64Const}
+use Rattle.smith_module_rules.specs.Module.{ModuleParts}
+use Rattle.wasm_smith.specs.Termination.{HasRawBody, MayAddNone}
+
+-- the type of a sink for values of this type
+abbrev pub sink : ValType → GlobalType
+sink val_type = record { val_type = val_type; mutable = true; shared = false }
+
+-- the types of the sinks
+abbrev pub sinks : List GlobalType
+sinks = sink I32 ∷ sink I64 ∷ sink I64 ∷ []
+
+-- the definitions of the sinks from this index on, which are 0 at first
+abbrev pub sink_definitions : ℕ → List (ℕ × List ConstInstr)
+sink_definitions first = (first, I32Const (pos 0) ∷ []) ∷ (first + 1, I64Const (pos 0) ∷ []) ∷ (first + 2, I64Const (pos 0) ∷ []) ∷ []
+
+-- `new` is `old` with the sinks, of which the first has this index, after its globals; nothing else
+-- is new
+pub record AddsSinks (first : ℕ) (old new : ModuleParts) : Type 0 where
+  pub next : first ≡ length old.globals
+  pub added : new ≡ record old { globals = old.globals ++ sinks; defined_globals = old.defined_globals ++ sink_definitions first }
+
+-- the result: the index of the first sink; or the reason why none was added, with the module
+-- unchanged
+abbrev pub AnswersSinks : ModuleParts → ModuleParts → Result ℕ Error → Type 0
+AnswersSinks old new (Ok first) = (HasRawBody old → ⊥) × AddsSinks first old new
+AnswersSinks old new (Err error) = MayAddNone old error × (new ≡ old)
