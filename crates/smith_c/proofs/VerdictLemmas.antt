@@ -42,7 +42,7 @@ pub right : (features : Features) (file : List ℕ) (verdict : Verdict) (judgeme
     → Decides judgement (IsValidFile features file) → IsAnswer features file judgement → IsVerdict features file verdict
 right features file verdict judgement same decides said = record {
   valid = λ is. decided judgement (IsValidFile features file) decides
-    (sym (ap (λ (v : Verdict). v.kind) same ∙ number_of judgement) ∙ is);
+      (sym (ap (λ (v : Verdict). v.kind) same ∙ number_of judgement) ∙ is);
   invalid = λ is. refuted judgement (IsValidFile features file) decides (either verdict judgement same is);
   judgement = judgement;
   said = said;
