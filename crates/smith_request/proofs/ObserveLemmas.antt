@@ -45,7 +45,7 @@ observing_valid program shown h valid =
     let new : IsValidProgram (with_sink_exports h.first h.mixing.«module») h.mixing.bodies =
     sinks_exported_program_valid h.first h.mixing.«module» h.mixing.bodies there (observed_program_valid h.first program h.mixing h.mixed
     valid) in
-    rw (h.exported, h.bodies) in new
+    rw (h.exported, h.bodies) new
 
 -- the program that is shown is valid
 pub shown_valid : (b : Bool) (program shown : ProgramParts) → IsShown b program shown → IsValidProgram program.«module» program.bodies
