@@ -38,7 +38,9 @@
  *
  * A function may run forever, even the start function. The member {"fuel": N} adds a global that counts down from N, at each call and at
  * each iteration of a loop, and a trap at 0. With {"fuel-export": true} beside it, the last export is that global, a mutable i32 that can
- * be set again before a call. {"max-instructions": 0} makes every body but raw ones `unreachable`. Else whoever instantiates a module
+ * be set again before a call. The member {"observe": true} has functions mix the values of their locals, where they return, into three
+ * mutable globals, an i32 and two i64, which are exported as `sink_i32`, `sink_i64` and `sink_i64_2`, so that engines that compute other
+ * values differ in them. {"max-instructions": 0} makes every body but raw ones `unreachable`. Else whoever instantiates a module
  * should set a time limit.
  */
 #ifndef SMITH_H
