@@ -95,8 +95,8 @@ impl Module {
     }
 
     /// Adds three mutable globals, an i32 and two i64, into which each function mixes the values of its locals where it returns. They are
-    /// exported after the other exports but that of [`Module::ensure_termination`], as `sink_i32`, `sink_i64` and `sink_i64_2`, each with as
-    /// many `_` as the longest name has bytes if an export has that name. So engines that compute other values differ in them.
+    /// exported after the other exports but that of [`Module::ensure_termination`], as `sink_i32`, `sink_i64` and `sink_i64_2`, with `_`
+    /// after a name that another export has. So engines that compute other values differ in them.
     ///
     /// # Errors
     ///
