@@ -47,7 +47,7 @@ func (config *Config) Invalid(input []byte, families ...Family) (*InvalidFile, e
 		case C.SMITH_NO_FAMILY:
 			return nil, &Refused{C.SMITH_NO_FAMILY, "a number is that of no family of changes"}
 		default:
-			return nil, refused(out, config.call(C.shaped(C.smith_refusal_shaped), input, out))
+			return nil, config.refusal(input, out)
 		}
 	}
 }

@@ -104,6 +104,11 @@ func (config *Config) invalid(input []byte, families []Family, fault *C.struct_s
 		pointer(input), length(input), &numbers[0], C.size_t(len(families)), fault, pointer(out), length(out))
 }
 
+// refusal returns why there is no module of input, in words that are put into out.
+func (config *Config) refusal(input, out []byte) *Refused {
+	return refused(out, config.call(C.shaped(C.smith_refusal_shaped), input, out))
+}
+
 // Module returns the module of input, with bodies of instructions, in the binary format. The error is a *Refused.
 func (config *Config) Module(input []byte) ([]byte, error) {
 	out := make([]byte, 1<<16)
@@ -115,7 +120,7 @@ func (config *Config) Module(input []byte) ([]byte, error) {
 		case C.SMITH_SHORT:
 			out = make([]byte, answer.length)
 		default:
-			return nil, refused(out, config.call(C.shaped(C.smith_refusal_shaped), input, out))
+			return nil, config.refusal(input, out)
 		}
 	}
 }

@@ -244,6 +244,12 @@ class Invalid:
     offset: int
 
 
+def _number_of(family: str) -> int:
+    if family not in FAMILIES:
+        raise ValueError(f"`{family}` names no family of changes")
+    return FAMILIES.index(family) + 1
+
+
 def invalid(given: Bytes, config: Config | str | dict = "", families: typing.Iterable[str] = (), **shapes: Shape) -> Invalid:
     """Returns the module of `given` with one change that breaks a rule, of one of `families`, or of any if there are none.
 
@@ -251,7 +257,7 @@ def invalid(given: Bytes, config: Config | str | dict = "", families: typing.Ite
     with status 9, if no change that was tried breaks a rule, and `ValueError` if a name is that of no family.
     """
     config, data = _config_of(config, shapes), bytes(memoryview(given))
-    numbers, fault = [FAMILIES.index(name) + 1 for name in families], _Fault()
+    numbers, fault = [_number_of(family) for family in families], _Fault()
     chosen = (ctypes.c_uint32 * max(len(numbers), 1))(*numbers)
     words = config._kept, config._shapes, data, len(data)
     status, output = _output(_LIBRARY.smith_invalid_shaped, *words, chosen, len(numbers), fault)
