@@ -11,6 +11,17 @@ use smith_request::Refusal;
 use std::alloc::Global;
 use std::str;
 
+/// Sets what `text`, a JSON object, says of a configuration.
+fn read_into(alloc: Global, text: &str, config: &mut Config) -> Result<(), Refusal>
+    ensures ok { OnOk result (IsSet text.now config.old config.new) }
+    ensures refused { IfErr result (IsUnset text.now config.old) }
+{
+    match read_text(alloc, text, config) {
+        Ok(()) => Ok(()),
+        Err(refusal) => Err(Refusal::Config(refusal.in_text(text))),
+    }
+}
+
 /// Sets what `text`, a JSON object or empty, says of a configuration.
 fn set_from(alloc: Global, text: &[u8], config: &mut Config) -> Result<(), Refusal>
     ensures ok { OnOk result (IsSet text.now config.old config.new) }
@@ -19,12 +30,9 @@ fn set_from(alloc: Global, text: &[u8], config: &mut Config) -> Result<(), Refus
     if text.is_empty() {
         return Ok(());
     }
-    let Ok(text) = str::from_utf8(text) else {
-        return Err(Refusal::NotUtf8);
-    };
-    match read_text(alloc, text, config) {
-        Ok(()) => Ok(()),
-        Err(refusal) => Err(Refusal::Config(refusal.in_text(text))),
+    match str::from_utf8(text) {
+        Ok(text) => read_into(alloc, text, config),
+        Err(_) => Err(Refusal::NotUtf8),
     }
 }
 

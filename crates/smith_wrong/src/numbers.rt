@@ -1,4 +1,4 @@
-ghost use Rattle.std.specs.Prelude.{◌≡◌};
+ghost use Rattle.std.specs.Prelude.{◌≡◌, IfSome};
 ghost use Rattle.smith_wrong.specs.Numbers.{bytes_number, family_number, family_numbered, item_number, numbered};
 
 use crate::families::Family;
@@ -19,7 +19,8 @@ impl Family {
     /// Returns the family with the number `number`, if there is one.
     #[tactic(auto, unfolding(crate::specs::Numbers::family_numbered))]
     pub fn from_number(number: u32) -> Option<Family>
-        ensures { result ≡ family_numbered number }
+        ensures exact { result ≡ family_numbered number }
+        ensures number { IfSome result (λ family. family_number family ≡ number) }
     {
         find_numbered(&Family::ALL, number)
     }
@@ -27,7 +28,8 @@ impl Family {
 
 // Returns the first of `families` with the number `number`.
 fn find_numbered(families: &[Family], number: u32) -> Option<Family>
-    ensures { result ≡ numbered number families.now }
+    ensures exact { result ≡ numbered number families.now }
+    ensures number { IfSome result (λ family. family_number family ≡ number) }
 {
     for family in families {
         if family.number() == number {
