@@ -39,7 +39,8 @@ same_references : (added : Added) (old : ModuleParts) → flat_map named_in_glob
 same_references added old none =
     let kept : flat_map named_in_global (old.defined_globals ++ added.definitions) ≡ flat_map named_in_global old.defined_globals =
     flat_map-append named_in_global old.defined_globals added.definitions
-    ∙ (ap (λ (zs : List ℕ). flat_map named_in_global old.defined_globals ++ zs) none ∙ append-nil (flat_map named_in_global old.defined_globals)) in
+    ∙ (ap (λ (zs : List ℕ). flat_map named_in_global old.defined_globals ++ zs) none
+    ∙ append-nil (flat_map named_in_global old.defined_globals)) in
     rw kept refl
 
 pub still_typed : (added : Added) (old : ModuleParts) (function : FuncType) (locals : List ValType) (instructions : List Instr)

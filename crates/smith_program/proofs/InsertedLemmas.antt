@@ -65,7 +65,8 @@ IsAmong context instruction placed =
 -- each instruction does; `else` and `end` stay alone
 abbrev pub Inserts : BodyContext → (Instr → List Instr) → Type 0
 Inserts context f =
-    ((instruction : Instr) → IsAmong context instruction (f instruction)) × (f instr.Else ≡ instr.Else ∷ []) × (f instr.End ≡ instr.End ∷ [])
+    ((instruction : Instr) → IsAmong context instruction (f instruction)) × (f instr.Else ≡ instr.Else ∷ [])
+    × (f instr.End ≡ instr.End ∷ [])
 
 -- the rest of a block, after its start and after its `else`
 ended : (f : Instr → List Instr) (body more : List Instr) → f instr.End ≡ instr.End ∷ []

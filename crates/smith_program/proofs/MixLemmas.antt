@@ -6,7 +6,6 @@ use Rattle.std.specs.List.{AllByRecursion as Each}
 use Rattle.std.proofs.lemmas.List.{length_push}
 use Rattle.smith_types.proofs.ListLemmas.{slice_get-grown, slice_get-last}
 use Rattle.smith_types.specs.Expressions.{IsDefaultable}
-use Rattle.smith_syntax.specs.declared.entity_type.GlobalType.{GlobalType}
 use Rattle.smith_syntax.specs.declared.value_type.ValType.{ValType}
 use Rattle.smith_syntax.specs.declared.value_type.ValType.TheVariants.{I32, I64, F32, F64, V128, Ref}
 use Rattle.smith_instr.specs.Contexts.{BodyContext, IsValid}
@@ -28,8 +27,8 @@ use Rattle.smith_program.specs.Observed.{bits32, bits64, half, mix, mix32, mix64
 use Rattle.smith_program.proofs.InsertedLemmas.{IsNeutral, none_neutral, both_neutral, step_by}
 
 -- an instruction before others: it pushes a value, replaces one, two or three, or pops one
-pushed : (context : BodyContext) (first : Instr) (value : ValType) (base : List ValType) (set : List ℕ) (rest : List Instr) (after : Stacked)
-    → HasInstrType context set first [] (value ∷ []) → sets first ≡ [] → IsValid context value
+pushed : (context : BodyContext) (first : Instr) (value : ValType) (base : List ValType) (set : List ℕ) (rest : List Instr)
+    (after : Stacked) → HasInstrType context set first [] (value ∷ []) → sets first ≡ [] → IsValid context value
     → AreTyped context rest (stacked (base ++ value ∷ []) set) after → AreTyped context (first ∷ rest) (stacked base set) after
 pushed context first value base set rest after typed none valid more =
     step (step_by context first [] (value ∷ []) base base (base ++ value ∷ []) set typed none (sym (append-nil base)) refl
@@ -197,6 +196,7 @@ mixes_neutral context first index front (value ∷ values) back sinks are at (th
     let there : slice_get context.locals index ≡ Some value = rw (are, at) (between front value (values ++ back)) in
     let longer : length (front ++ value ∷ []) ≡ length front + 1 = length_push front value in
     let next : suc index ≡ length (front ++ value ∷ []) = omega arith in
-    both_neutral context (mix first index value) (mixes_from first (suc index) values) (mix_neutral context first index value sinks there this)
+    both_neutral context (mix first index value) (mixes_from first (suc index) values)
+    (mix_neutral context first index value sinks there this)
     (mixes_neutral context first (suc index) (front ++ value ∷ []) values back sinks
     (are ∙ sym (append_assoc front (value ∷ []) (values ++ back))) next others)

@@ -46,12 +46,13 @@ one_observed end first m old new given made each read before this place other wi
     let most : place ≤ end = omega arith in
     elim (eq-or-lt_of_le most) [
       | inl is ↦
-          let same : given ≡ other = read ∙ get_or_from_slice_get old end other given (subst (λ (n : ℕ). slice_get old n ≡ Some other) is at) in
+          let same : given ≡ other = read
+          ∙ get_or_from_slice_get old end other given (subst (λ (n : ℕ). slice_get old n ≡ Some other) is at) in
           let here : length new ≡ place = each ∙ sym is in (
             made,
             subst (λ (n : ℕ). slice_get (new ++ made ∷ []) n ≡ Some made) here (slice_get-last new made),
             subst (λ (b : Body). IsObservedAt first m place b made) same
-            (subst (λ (n : ℕ). IsObservedAt first m n given made) (sym is) this),
+                (subst (λ (n : ℕ). IsObservedAt first m n given made) (sym is) this),
           )
       | inr less ↦
           let (after, there, observes) = before place other less at in

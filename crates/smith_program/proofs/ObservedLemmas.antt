@@ -1,12 +1,11 @@
 -- A body stays typed, and its instructions enabled, if it mixes its locals into sinks.
-use Rattle.std.proofs.Common.{◌≡◌, ℕ, ◌+◌, suc, Bool, true, false, List, [], ◌∷◌, ◌++◌, refl, sym, subst, take, drop, append-nil}
+use Rattle.std.proofs.Common.{ℕ, Bool, true, false, List, [], ◌∷◌, refl, sym, subst, take, drop, append-nil}
 use Rattle.std.specs.Prelude.{All, if◌then◌else◌}
-use Rattle.std.specs.List.{flat_map, AllByRecursion as Each}
 use Rattle.std.proofs.lemmas.List.{take-append-drop}
 use Rattle.std.proofs.lemmas.List.Elements.{All-take, recursion_from_All}
 use Rattle.smith_syntax.specs.declared.value_type.ValType.{ValType}
 use Rattle.smith_instr.specs.Contexts.{BodyContext, AreValid, IsValid}
-use Rattle.smith_instr.specs.Sequences.{Stacked, stacked, AreTyped, IsBodyTyped}
+use Rattle.smith_instr.specs.Sequences.{stacked, AreTyped, IsBodyTyped}
 use Rattle.smith_instr.specs.declared.instr.Instr.{Instr}
 use Rattle.smith_instr.proofs.CompositionLemmas.{typed_append}
 use Rattle.smith_instr.proofs.SequenceLemmas.{finished}

@@ -1,6 +1,6 @@
 -- The bodies of a module whose locals are mixed into sinks.
-use Rattle.std.proofs.Common.{◌≡◌, ℕ, ◌+◌, ◌<◌, suc, Bool, true, false, List, [], ◌∷◌, ◌++◌, Some, Result, Ok, Err, length, get_or, refl, sym, subst}
-use Rattle.std.proofs.Common.{ap, ◌∙◌, arith, take}
+use Rattle.std.proofs.Common.{◌≡◌, ℕ, ◌+◌, ◌<◌, suc, Bool, true, false, List, [], ◌∷◌, ◌++◌, Some, Result, Ok, Err, length, get_or, refl}
+use Rattle.std.proofs.Common.{sym, subst, ◌∙◌, arith, take}
 use Rattle.std.specs.Prelude.{All, IsTrue, slice_get, if◌then◌else◌}
 use Rattle.std.specs.List.{flat_map, AllByRecursion as Each}
 use Rattle.std.proofs.lemmas.List.Elements.{All-nil, All-cons, All-append, All-from_recursion, All-take, recursion_from_All}
@@ -17,15 +17,14 @@ use Rattle.smith_syntax.specs.declared.value_type.ValType.{ValType}
 use Rattle.smith_syntax.specs.declared.value_type.ValType.TheVariants.{I32, I64, F32, F64, V128, Ref}
 use Rattle.smith_module_rules.specs.Module.{ModuleParts, IsValid, module_features}
 use Rattle.smith_instr.specs.Enabled.{has_features}
-use Rattle.smith_instr.specs.Sequences.{IsBodyTyped}
 use Rattle.smith_instr.specs.declared.instr.Instr.{Instr}
 use Rattle.smith_body_nodes.specs.Scopes.{IsScope}
-use Rattle.wasm_smith.specs.Sinks.{AddsSinks, AnswersSinks, sink, sinks, sink_definitions}
+use Rattle.wasm_smith.specs.Sinks.{AddsSinks, sink, sinks, sink_definitions}
 use Rattle.wasm_smith.specs.SinkExports.{with_sink_exports}
 use Rattle.wasm_smith.proofs.SinkExportLemmas.{sinks_exported_valid}
 use Rattle.wasm_smith.proofs.SinkLemmas.{adds_sinks_valid}
 use Rattle.smith_program.specs.Bodies.{AreBodiesOf, HasDefinedType, IsBodyAt, IsOfBody, function_context}
-use Rattle.smith_program.specs.Observed.{AnswersObserved, AreObserved, after_mixes, half, leaves, mix, mix32, mix64, mixes, mixes_from}
+use Rattle.smith_program.specs.Observed.{AnswersObserved, AreObserved, after_mixes, half, leaves, mix, mix64, mixes, mixes_from}
 use Rattle.smith_program.specs.Observed.{observed, observed_body}
 use Rattle.smith_program.specs.Parts.{ProgramParts}
 use Rattle.smith_program.specs.Valid.{HaveAll, IsValidProgram}
@@ -47,8 +46,8 @@ abbrev with_sinks : ℕ → ModuleParts → ModuleParts
 with_sinks first old = with_added (added_sinks first old) old
 
 -- an added global, after the others
-after_others : (others added : List GlobalType) (first place index : ℕ) (global : GlobalType) → first ≡ length others → index ≡ first + place
-    → slice_get added place ≡ Some global → slice_get (others ++ added) index ≡ Some global
+after_others : (others added : List GlobalType) (first place index : ℕ) (global : GlobalType) → first ≡ length others
+    → index ≡ first + place → slice_get added place ≡ Some global → slice_get (others ++ added) index ≡ Some global
 after_others others added first place index global next at there =
     let here : length others + place ≡ index = omega arith in
     subst (λ (n : ℕ). slice_get (others ++ added) n ≡ Some global) here (slice_get-after others added place ∙ there)
@@ -121,7 +120,7 @@ before_observed first m old new place code after are at there =
       get_or old place after,
       was,
       λ function typed. same_Some after (observed_body first (function.params ++ code.locals) (get_or old place after))
-      (sym there ∙ are.in_place place code function (get_or old place after) at typed was),
+          (sym there ∙ are.in_place place code function (get_or old place after) at typed was),
     )
 
 -- the bodies of a module that is changed so

@@ -14,11 +14,14 @@ fn mix32(alloc: Global, sink: u32, mut value: Vec<Instr>) -> Result<Vec<Instr>, 
     ensures ok { IfOk result (λ made. made.items ≡ mix32 sink value.items) }
     ensures memory { IfErr result (λ e. e ≡ Error.Memory) }
 {
-    let mut made = Vec::from_array(alloc, [
-        Instr::GlobalGet(sink),
-        Instr::I32Const(5),
-        Instr::Numeric(NumericInstr::I32Binary(IntBinary::Rotl)),
-    ])?;
+    let mut made = Vec::from_array(
+        alloc,
+        [
+            Instr::GlobalGet(sink),
+            Instr::I32Const(5),
+            Instr::Numeric(NumericInstr::I32Binary(IntBinary::Rotl)),
+        ],
+    )?;
     made.append(&mut value)?;
     made.push(Instr::Numeric(NumericInstr::I32Binary(IntBinary::Xor)))?;
     made.push(Instr::GlobalSet(sink))?;
@@ -30,11 +33,14 @@ fn mix64(alloc: Global, sink: u32, mut value: Vec<Instr>) -> Result<Vec<Instr>, 
     ensures ok { IfOk result (λ made. made.items ≡ mix64 sink value.items) }
     ensures memory { IfErr result (λ e. e ≡ Error.Memory) }
 {
-    let mut made = Vec::from_array(alloc, [
-        Instr::GlobalGet(sink),
-        Instr::I64Const(5),
-        Instr::Numeric(NumericInstr::I64Binary(IntBinary::Rotl)),
-    ])?;
+    let mut made = Vec::from_array(
+        alloc,
+        [
+            Instr::GlobalGet(sink),
+            Instr::I64Const(5),
+            Instr::Numeric(NumericInstr::I64Binary(IntBinary::Rotl)),
+        ],
+    )?;
     made.append(&mut value)?;
     made.push(Instr::Numeric(NumericInstr::I64Binary(IntBinary::Xor)))?;
     made.push(Instr::GlobalSet(sink))?;
@@ -46,15 +52,18 @@ fn bits32(alloc: Global, index: u32) -> Result<Vec<Instr>, Error>
     ensures ok { IfOk result (λ made. made.items ≡ bits32 index) }
     ensures memory { IfErr result (λ e. e ≡ Error.Memory) }
 {
-    Ok(Vec::from_array(alloc, [
-        Instr::LocalGet(index),
-        Instr::Numeric(NumericInstr::Convert(Conversion::I32ReinterpretF32)),
-        Instr::I32Const(0x7FC0_0000),
-        Instr::LocalGet(index),
-        Instr::LocalGet(index),
-        Instr::Numeric(NumericInstr::F32Compare(FloatCompare::Eq)),
-        Instr::Select,
-    ])?)
+    Ok(Vec::from_array(
+        alloc,
+        [
+            Instr::LocalGet(index),
+            Instr::Numeric(NumericInstr::Convert(Conversion::I32ReinterpretF32)),
+            Instr::I32Const(0x7FC0_0000),
+            Instr::LocalGet(index),
+            Instr::LocalGet(index),
+            Instr::Numeric(NumericInstr::F32Compare(FloatCompare::Eq)),
+            Instr::Select,
+        ],
+    )?)
 }
 
 // Returns instructions that produce the bits of a local of `f64`.
@@ -62,15 +71,18 @@ fn bits64(alloc: Global, index: u32) -> Result<Vec<Instr>, Error>
     ensures ok { IfOk result (λ made. made.items ≡ bits64 index) }
     ensures memory { IfErr result (λ e. e ≡ Error.Memory) }
 {
-    Ok(Vec::from_array(alloc, [
-        Instr::LocalGet(index),
-        Instr::Numeric(NumericInstr::Convert(Conversion::I64ReinterpretF64)),
-        Instr::I64Const(0x7FF8_0000_0000_0000),
-        Instr::LocalGet(index),
-        Instr::LocalGet(index),
-        Instr::Numeric(NumericInstr::F64Compare(FloatCompare::Eq)),
-        Instr::Select,
-    ])?)
+    Ok(Vec::from_array(
+        alloc,
+        [
+            Instr::LocalGet(index),
+            Instr::Numeric(NumericInstr::Convert(Conversion::I64ReinterpretF64)),
+            Instr::I64Const(0x7FF8_0000_0000_0000),
+            Instr::LocalGet(index),
+            Instr::LocalGet(index),
+            Instr::Numeric(NumericInstr::F64Compare(FloatCompare::Eq)),
+            Instr::Select,
+        ],
+    )?)
 }
 
 // Returns instructions that produce a half of a local of `v128`.
@@ -78,16 +90,19 @@ fn half(alloc: Global, index: u32, lane: u8) -> Result<Vec<Instr>, Error>
     ensures ok { IfOk result (λ made. made.items ≡ half index lane) }
     ensures memory { IfErr result (λ e. e ≡ Error.Memory) }
 {
-    Ok(Vec::from_array(alloc, [
-        Instr::LocalGet(index),
-        Instr::LocalGet(index),
-        Instr::LocalGet(index),
-        Instr::Vector(VectorInstr::FloatBinary(VectorFloatBinary::F32x4Eq)),
-        Instr::V128Const(-1),
-        Instr::Vector(VectorInstr::Binary(VectorBinary::I64x2Eq)),
-        Instr::Vector(VectorInstr::Binary(VectorBinary::V128And)),
-        Instr::Vector(VectorInstr::ExtractLane(LaneExtract::I64x2, lane)),
-    ])?)
+    Ok(Vec::from_array(
+        alloc,
+        [
+            Instr::LocalGet(index),
+            Instr::LocalGet(index),
+            Instr::LocalGet(index),
+            Instr::Vector(VectorInstr::FloatBinary(VectorFloatBinary::F32x4Eq)),
+            Instr::V128Const(-1),
+            Instr::Vector(VectorInstr::Binary(VectorBinary::I64x2Eq)),
+            Instr::Vector(VectorInstr::Binary(VectorBinary::V128And)),
+            Instr::Vector(VectorInstr::ExtractLane(LaneExtract::I64x2, lane)),
+        ],
+    )?)
 }
 
 // Returns instructions that mix both halves of a local of `v128` into the sinks from `first` on.
@@ -108,8 +123,16 @@ fn mix(alloc: Global, first: u32, index: u32, value: ValType) -> Result<Vec<Inst
     ensures memory { IfErr result (λ e. e ≡ Error.Memory) }
 {
     match value {
-        ValType::I32 => mix32(alloc, first, Vec::from_array(alloc, [Instr::LocalGet(index)])?),
-        ValType::I64 => mix64(alloc, first + 1, Vec::from_array(alloc, [Instr::LocalGet(index)])?),
+        ValType::I32 => mix32(
+            alloc,
+            first,
+            Vec::from_array(alloc, [Instr::LocalGet(index)])?,
+        ),
+        ValType::I64 => mix64(
+            alloc,
+            first + 1,
+            Vec::from_array(alloc, [Instr::LocalGet(index)])?,
+        ),
         ValType::F32 => mix32(alloc, first, bits32(alloc, index)?),
         ValType::F64 => mix64(alloc, first + 1, bits64(alloc, index)?),
         ValType::V128 => mix_halves(alloc, first, index),

@@ -1,5 +1,5 @@
 -- A body that mixes its local into a sink, and one that doesn't.
-use Rattle.std.proofs.Common.{◌≡◌, ℕ, zero, suc, List, [], ◌∷◌, ◌++◌, Some, slice_get, refl, sym, subst}
+use Rattle.std.proofs.Common.{◌≡◌, ℕ, zero, suc, [], ◌∷◌, ◌++◌, Some, slice_get, refl, sym, subst}
 use Rattle.std.proofs.lemmas.Option.{same_Some}
 use Rattle.smith_syntax.specs.declared.code.Code.{Code}
 use Rattle.smith_syntax.specs.declared.composite_type.FuncType.{FuncType}

@@ -1,5 +1,5 @@
 -- A valid module stays valid with one more global, which counts fuel.
-use Rattle.std.proofs.Common.{◌≡◌, ℕ, [], ◌∷◌, ◌++◌, length, sym, subst, arith}
+use Rattle.std.proofs.Common.{ℕ, [], ◌∷◌, ◌++◌, length, sym, subst, arith}
 use Rattle.std.specs.Prelude.{Result, Ok, Err}
 use Rattle.std.specs.Int.{cast_signed, w32}
 use Rattle.std.specs.List.{All}
@@ -11,7 +11,7 @@ use Rattle.smith_types.proofs.ConstStepLemmas.{number_given}
 use Rattle.smith_types.proofs.ListLemmas.{slice_get-last}
 use Rattle.smith_module_rules.specs.Module.{ModuleParts, IsValid, module_imports}
 use Rattle.wasm_smith.specs.Termination.{counter, AddsCounter, AnswersCounter}
-use Rattle.wasm_smith.proofs.AddedGlobalLemmas.{all_globals, defined_valid, still_counters, with_defined}
+use Rattle.wasm_smith.proofs.AddedGlobalLemmas.{all_globals, defined_valid, still_counters}
 
 -- a module with a counter of this index
 abbrev counted : ℕ → ℕ → ModuleParts → ModuleParts

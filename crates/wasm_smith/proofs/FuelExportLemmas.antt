@@ -14,5 +14,6 @@ fuel_is_new exports = unused_is_new (codes "fuel") exports (omega arith)
 -- a valid module stays valid, whatever the result
 pub exported_valid : (index : ℕ) (old new : ModuleParts) (result : Result (Unit {0}) Error) → AnswersFuelExport index old new result
     → index < length old.globals → IsValid old → IsValid new
-exported_valid index old new (Ok u) added within valid = subst IsValid (sym added) (exporting_valid (codes "fuel") index old (omega arith) within valid)
+exported_valid index old new (Ok u) added within valid =
+    subst IsValid (sym added) (exporting_valid (codes "fuel") index old (omega arith) within valid)
 exported_valid index old new (Err error) (memory, kept) within valid = subst IsValid (sym kept) valid

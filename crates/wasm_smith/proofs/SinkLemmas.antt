@@ -1,8 +1,8 @@
 -- A valid module stays valid with the sinks.
-use Rattle.std.proofs.Common.{◌≡◌, ℕ, pos, ◌+◌, List, [], ◌∷◌, ◌++◌, length, refl, sym, subst, arith, rules}
+use Rattle.std.proofs.Common.{◌≡◌, ℕ, pos, ◌+◌, List, [], ◌∷◌, ◌++◌, length, refl, sym, subst, arith, ◌∙◌}
 use Rattle.std.specs.Prelude.{Result, Ok, Err}
 use Rattle.std.proofs.lemmas.List.Elements.{All-nil, All-cons}
-use Rattle.std.proofs.lemmas.List.{length-append}
+use Rattle.std.proofs.lemmas.List.{append_assoc, length-append}
 use Rattle.smith_bytes.specs.declared.error.Error.{Error}
 use Rattle.smith_types.specs.Expressions.{Context, IsConstExpr}
 use Rattle.smith_types.specs.Flags.{IsInstrEnabled}
@@ -41,7 +41,7 @@ wide_valid m valid = defined_valid (sink I64) (I64Const (pos 0) ∷ []) m.fuel_g
 
 -- three items added one by one
 one_by_one : {A : Type 0} (xs : List A) (a b c : A) → ((xs ++ a ∷ []) ++ b ∷ []) ++ c ∷ [] ≡ xs ++ a ∷ b ∷ c ∷ []
-one_by_one xs a b c = search rules
+one_by_one xs a b c = append_assoc (xs ++ a ∷ []) (b ∷ []) (c ∷ []) ∙ append_assoc xs (a ∷ []) (b ∷ c ∷ [])
 
 one_longer : {A : Type 0} (xs : List A) (a : A) → length (xs ++ a ∷ []) ≡ length xs + 1
 one_longer xs a = length-append xs (a ∷ [])
@@ -57,9 +57,9 @@ same_parts : (m : ModuleParts) (globals globals' : List GlobalType) (definitions
     → record m { globals = globals; defined_globals = definitions } ≡ record m { globals = globals'; defined_globals = definitions' }
 same_parts m globals globals' definitions definitions' e f = rw (e, f) refl
 
-pub one_by_one_defined : (definitions : List (ℕ × List ConstInstr)) (globals : List GlobalType)
+one_by_one_defined : (definitions : List (ℕ × List ConstInstr)) (globals : List GlobalType)
     → ((definitions ++ (length globals, I32Const (pos 0) ∷ []) ∷ []) ++ (length (globals ++ sink I32 ∷ []), I64Const (pos 0) ∷ []) ∷ [])
-        ++ (length ((globals ++ sink I32 ∷ []) ++ sink I64 ∷ []), I64Const (pos 0) ∷ []) ∷ [] ≡ definitions ++ sink_definitions (length globals)
+    ++ (length ((globals ++ sink I32 ∷ []) ++ sink I64 ∷ []), I64Const (pos 0) ∷ []) ∷ [] ≡ definitions ++ sink_definitions (length globals)
 one_by_one_defined definitions globals = rw (one_longer globals (sink I32), two_longer globals (sink I32) (sink I64))
     (one_by_one definitions (length globals, I32Const (pos 0) ∷ []) (length globals + 1, I64Const (pos 0) ∷ [])
     (length globals + 2, I64Const (pos 0) ∷ []))

@@ -1,5 +1,5 @@
 -- The export of a global that is added to a module. Rules of this project.
-use Rattle.std.specs.Prelude.{ℕ, List, [], ◌∷◌, ◌++◌, codes, if◌then◌else◌}
+use Rattle.std.specs.Prelude.{◌≡◌, ℕ, ◌<◌, false, List, [], ◌∷◌, ◌++◌, length, codes, if◌then◌else◌}
 use Rattle.std.specs.List.{repeat}
 use Rattle.smith_syntax.specs.declared.entity_type.ExportKind.TheVariants.{Global}
 use Rattle.smith_module_rules.specs.ExportedItems.{Export}
@@ -13,3 +13,7 @@ unused_name name exports = name ++ (if is_exported exports name then repeat (lon
 -- exports, and after them one of the global of this index, under this name made unused
 abbrev pub with_global : List ℕ → ℕ → List Export → List Export
 with_global name index exports = exports ++ (unused_name name exports, Global, index) ∷ []
+
+-- no export has the name that is made unused, unless that is empty
+abbrev pub NamesAreNew : Type 0
+NamesAreNew = (name : List ℕ) (exports : List Export) → 0 < length name → is_exported exports (unused_name name exports) ≡ false

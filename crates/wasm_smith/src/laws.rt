@@ -1,4 +1,5 @@
 ghost use Rattle.wasm_smith.specs.Determined.{ModulesAreDetermined};
+ghost use Rattle.wasm_smith.specs.GlobalExport.{NamesAreNew};
 ghost use Rattle.wasm_smith.specs.SpelledBack.{SpelledComesBack};
 ghost use Rattle.wasm_smith.specs.Termination.{CountingIsValid};
 
@@ -13,6 +14,11 @@ pub fn spelled_comes_back()
 /// States that a valid module stays valid with a global that counts fuel.
 pub fn counting_is_valid()
     ensures { CountingIsValid }
+{}
+
+/// States that an export of a counter or of a sink is under a name that no earlier export has.
+pub fn names_are_new()
+    ensures { NamesAreNew }
 {}
 
 /// States that the configuration and the bytes determine a module: two modules that

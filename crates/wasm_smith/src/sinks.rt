@@ -12,7 +12,7 @@ use smith_types::{ConstInstr, ExportKind, GlobalType, Items, Name, ValType};
 use std::alloc::Global;
 
 // Adds the sinks to both lists. After an error each list may have more items than before.
-fn push_sinks(
+fn push_each_sink(
     alloc: Global,
     globals: &mut Items<GlobalType>,
     definitions: &mut Items<(u32, Items<ConstInstr>)>,
@@ -26,13 +26,31 @@ fn push_sinks(
         (take (length definitions.old) definitions.new ≡ definitions.old) }
     ensures memory { IfErr result (λ e. e ≡ Error.Memory) }
 {
-    push_global(alloc, ValType::I32, ConstInstr::I32Const(0), globals, definitions)?;
-    push_global(alloc, ValType::I64, ConstInstr::I64Const(0), globals, definitions)?;
-    push_global(alloc, ValType::I64, ConstInstr::I64Const(0), globals, definitions)
+    push_global(
+        alloc,
+        ValType::I32,
+        ConstInstr::I32Const(0),
+        globals,
+        definitions,
+    )?;
+    push_global(
+        alloc,
+        ValType::I64,
+        ConstInstr::I64Const(0),
+        globals,
+        definitions,
+    )?;
+    push_global(
+        alloc,
+        ValType::I64,
+        ConstInstr::I64Const(0),
+        globals,
+        definitions,
+    )
 }
 
 // Adds the sinks to both lists, or to none, and returns the index of the first.
-fn push_all(
+fn push_sinks(
     alloc: Global,
     globals: &mut Items<GlobalType>,
     definitions: &mut Items<(u32, Items<ConstInstr>)>,
@@ -52,7 +70,7 @@ fn push_all(
 {
     let count = globals.len();
     let defined = definitions.len();
-    if let Err(error) = push_sinks(alloc, globals, definitions) {
+    if let Err(error) = push_each_sink(alloc, globals, definitions) {
         truncate(alloc, globals, count);
         truncate(alloc, definitions, defined);
         return Err(error);
@@ -61,7 +79,7 @@ fn push_all(
 }
 
 // Exports the sinks from `first` on. After an error there may be more exports than before.
-fn push_exports(
+fn push_each_export(
     alloc: Global,
     exports: &mut Items<(Name, ExportKind, u32)>,
     first: u32,
@@ -76,10 +94,29 @@ fn push_exports(
     export_global(alloc, exports, "sink_i64_2", first + 2)
 }
 
+// Exports the sinks from `first` on, or none of them.
+fn push_exports(
+    alloc: Global,
+    exports: &mut Items<(Name, ExportKind, u32)>,
+    first: u32,
+) -> Result<(), Error>
+    requires room { first + 2 < 2 ^ 32 }
+    ensures ok { OnOk result (exports.new ≡ with_sinks first exports.old) }
+    ensures err { OnErr result (exports.new ≡ exports.old) }
+    ensures memory { IfErr result (λ e. e ≡ Error.Memory) }
+{
+    let count = exports.len();
+    if let Err(error) = push_each_export(alloc, exports, first) {
+        truncate(alloc, exports, count);
+        return Err(error);
+    }
+    Ok(())
+}
+
 impl Module {
     /// Adds three mutable globals, the sinks: one `i32`, then two `i64`, which are 0 at first.
-    /// Returns the index of the first. Instructions can be added to bodies that write values there
-    /// which would be dropped, so that a caller sees them.
+    /// Returns the index of the first. Instructions that are added to bodies can write values to
+    /// them that the bodies drop, so that a caller can read these values.
     ///
     /// The sinks follow all other globals, even past the maximum of the configuration, and are not
     /// exported. A further call adds three more. The definitions are allocated from `alloc`.
@@ -117,18 +154,22 @@ impl Module {
             return Err(Error::IncorrectFormat(Why::RawBody));
         }
         let drawn = self.drawn.as_mut();
-        push_all(alloc, &mut drawn.imported.spaces.globals, &mut drawn.definitions.globals)
+        push_sinks(
+            alloc,
+            &mut drawn.imported.spaces.globals,
+            &mut drawn.definitions.globals,
+        )
     }
 
-    /// Exports the sinks, the first of which is at `first`, as [`Module::add_sinks`] returned it,
-    /// so that a caller can read them. The exports follow all others, even past the maximum of the
+    /// Exports the three sinks from the index `first` on, which [`Module::add_sinks`] returned, so
+    /// that a caller can read them. The exports follow all others, even past the maximum of the
     /// configuration, and add nothing to the type size.
     ///
-    /// The names are `sink_i32`, `sink_i64` and `sink_i64_2`, each followed by as many `_` as the
-    /// longest name of an earlier export has bytes, if an earlier export has the name without them.
-    /// They are allocated from `alloc`.
+    /// The names are `sink_i32`, `sink_i64` and `sink_i64_2`. If an earlier export has one of these
+    /// names, as many `_` follow it as the longest name of an earlier export has bytes. The names
+    /// are allocated from `alloc`.
     ///
-    /// Requires `first + 2` to be less than the number of globals, and to be a `u32`.
+    /// Requires `first + 2` to be less than the number of globals, and less than 2^32.
     ///
     /// # Errors
     ///
@@ -140,11 +181,6 @@ impl Module {
         ensures valid { IsValid self.old → IsValid self.new }
     {
         let exports = &mut self.drawn.as_mut().contents.exports;
-        let count = exports.len();
-        if let Err(error) = push_exports(alloc, exports, first) {
-            truncate(alloc, exports, count);
-            return Err(error);
-        }
-        Ok(())
+        push_exports(alloc, exports, first)
     }
 }

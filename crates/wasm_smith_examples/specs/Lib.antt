@@ -1,1 +1,2 @@
 pub mod ExampleDefinitions
+pub mod ExampleSinks

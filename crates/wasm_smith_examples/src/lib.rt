@@ -13,5 +13,6 @@ mod first_parts;
 mod fuel_export;
 mod imports;
 mod reach;
+mod sinks;
 mod start;
 mod termination;

@@ -4,7 +4,10 @@ use Rattle.smith_program.proofs.ObservedBodiesLemmas.{all_observed, none_observe
 use Rattle.smith_program.proofs.observe.observed_bodies.Goals as goal
 
 pub loop-place-init : goal.loop-place-init
-loop-place-init c = record { each = grind (arith, common_steps); observed = none_observed c.args.first c.args.module.now c.args.bodies.now _ }
+loop-place-init c = record {
+  each = grind (arith, common_steps);
+  observed = none_observed c.args.first c.args.module.now c.args.bodies.now _;
+}
 
 pub loop-place-preserved : goal.loop-place-preserved
 loop-place-preserved c = record {

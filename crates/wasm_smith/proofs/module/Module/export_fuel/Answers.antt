@@ -8,8 +8,5 @@ returns-clause-answer c = search rules
 pub returns-clause-fresh : goal.returns-clause-fresh
 returns-clause-fresh c = fuel_is_new c.args.self.now.exports
 
-pub returns-in_err-name-clause-fresh : goal.returns-in_err-name-clause-fresh
-returns-in_err-name-clause-fresh c = fuel_is_new c.args.self.now.exports
-
 pub returns-clause-valid : goal.returns-clause-valid
 returns-clause-valid c = exported_valid _ _ _ _ (returns-clause-answer c) c.requires.there

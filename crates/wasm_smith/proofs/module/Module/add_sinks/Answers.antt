@@ -1,0 +1,9 @@
+use Rattle.std.proofs.Common.{rules}
+use Rattle.wasm_smith.proofs.SinkLemmas.{sinks_answered_valid}
+use Rattle.wasm_smith.proofs.module.Module.add_sinks.Goals as goal
+
+pub returns-clause-answer : goal.returns-clause-answer
+returns-clause-answer c = search rules
+
+pub returns-clause-valid : goal.returns-clause-valid
+returns-clause-valid c = sinks_answered_valid _ _ _ (returns-clause-answer c)
