@@ -1,5 +1,6 @@
 pub mod ValidLemmas
 pub mod FuelLemmas
+pub mod ObserveLemmas
 pub mod PlainLemmas
 pub mod RequestLemmas
 mod ShapelessLemmas
