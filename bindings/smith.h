@@ -38,9 +38,7 @@
  *
  * A function may run forever, even the start function. The member {"fuel": N} adds a global that counts down from N, at each call and at
  * each iteration of a loop, and a trap at 0. With {"fuel-export": true} beside it, the last export is that global, a mutable i32 that can
- * be set again before a call. The member {"observe": true} has functions mix the values of their locals, where they return, into three
- * mutable globals, an i32 and two i64, which are exported as `sink_i32`, `sink_i64` and `sink_i64_2`, so that engines that compute other
- * values differ in them. {"max-instructions": 0} makes every body but raw ones `unreachable`. Else whoever instantiates a module
+ * be set again before a call. {"max-instructions": 0} makes every body but raw ones `unreachable`. Else whoever instantiates a module
  * should set a time limit.
  */
 #ifndef SMITH_H
@@ -340,8 +338,8 @@ struct smith_fault {
  * of the features that the configuration turns on is spelled by the file, and that the fault is right. The validator must have these
  * features and no others, since a file may be valid under more.
  *
- * The module before the change is one that smith_binary writes for the same configuration and input, as is proved too, but without fuel,
- * sinks and custom sections, which the file never has: smith_binary returns it if the configuration has none of them.
+ * The module before the change is one that smith_binary writes for the same configuration and input, as is proved too, but without fuel
+ * and custom sections, which the file never has: smith_binary returns it if the configuration has neither.
  *
  * If a file is made, the fault is written, and the status is SMITH_MADE if the file was too, or SMITH_SHORT if `out` is too short for it.
  * Otherwise nothing is written. The status is SMITH_NO_CHANGE for one input in 30 of the default configuration, whose modules are often

@@ -4,7 +4,7 @@ use Rattle.smith_config.specs.declared.config.Config.{Config}
 use Rattle.smith_request.specs.Refusals.{IsRefusal, IsRefusalFor, IsUnread, status_of}
 use Rattle.smith_request.specs.Requests.{IsRequest, IsBinary, IsBinaryFor, HasBinary, HasBinaryFor, IsTextOf, IsTextFor}
 use Rattle.smith_request.specs.declared.manner.Form.TheVariants.{Binary, Text}
-use Rattle.smith_request.specs.declared.additions.Fuel.{Fuel}
+use Rattle.smith_request.specs.declared.manner.Fuel.{Fuel}
 use Rattle.smith_request.specs.declared.refusal.Refusal.{Refusal}
 use Rattle.smith_request.specs.declared.request.Request.{Request}
 use Rattle.smith_text.specs.declared.module.Layout.{Layout}
@@ -94,7 +94,7 @@ config_of kept = record {
 
 -- the stored request
 abbrev pub request_of : KeptConfig → Request
-request_of kept = record { config = config_of kept; additions = record { fuel = kept_fuel kept; is_observed = kept.is_observed } }
+request_of kept = record { config = config_of kept; fuel = kept_fuel kept }
 
 -- the request of the text is stored, with status 0; or the text is refused, and the stored request
 -- is unchanged

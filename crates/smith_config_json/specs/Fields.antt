@@ -50,12 +50,8 @@ size set = whole (2 ^ 64 - 1) set
 abbrev pub wide : Setter ℕ → Field
 wide set = whole (2 ^ 128 - 1) set
 
--- a member that is a flag, and no part of a configuration
-abbrev pub member_flag : Field
-member_flag = truth (λ config b. config)
-
--- every field, in the order of `Config`, and four members that set none: a preset changes the
--- configuration before any field is set, and the fuel, its export and the observation of locals are no part of it
+-- every field, in the order of `Config`, and three members that set none: a preset changes the
+-- configuration before any field is set, and the fuel and its export are no part of it
 unfoldable pub fields : Table Field
 fields =
     (codes "min-types", size (λ config n. record config { min_types = n }))
@@ -131,8 +127,7 @@ fields =
     ∷ (codes "module-shape", file)
     ∷ (codes "preset", preset)
     ∷ (codes "fuel", word (λ config n. config))
-    ∷ (codes "fuel-export", member_flag)
-    ∷ (codes "observe", member_flag)
+    ∷ (codes "fuel-export", truth (λ config b. config))
     ∷ []
 
 -- the field with a name

@@ -42,7 +42,3 @@ is_true t = false
 
 abbrev pub is_fuel_exported_in : List Token → Bool
 is_fuel_exported_in ts = is_true (value_of (codes "fuel-export") ts)
-
--- whether the locals of an object's programs are observed: so says its member `observe`
-abbrev pub is_observed_in : List Token → Bool
-is_observed_in ts = is_true (value_of (codes "observe") ts)

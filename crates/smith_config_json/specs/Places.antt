@@ -30,7 +30,7 @@ use Rattle.smith_config_json.specs.declared.place.Flag.TheVariants.{SaturatingFl
 use Rattle.smith_config_json.specs.declared.place.Flag.TheVariants.{WideArithmeticEnabled, AcquireReleaseAtomicsEnabled}
 use Rattle.smith_config_json.specs.declared.place.Flag.TheVariants.{MultibyteArrayAccessEnabled, NonNullableEnabled, CanonicalizeNans}
 use Rattle.smith_config_json.specs.declared.place.Flag.TheVariants.{GenerateCustomSections}
-use Rattle.smith_config_json.specs.Fields.{Setter, Table, Field, whole, truth, kinds, choices, file, preset, member_flag}
+use Rattle.smith_config_json.specs.Fields.{Setter, Table, Field, whole, truth, kinds, choices, file, preset}
 
 -- a configuration with a number of type `usize` set
 abbrev pub with_size : Size → Setter ℕ
@@ -150,8 +150,7 @@ field_of place.AllowedInstructions = kinds (λ config k. record config { allowed
 field_of place.MemoryOffsetChoices = choices (λ config c. record config { memory_offset_choices = c })
 field_of place.File = file
 field_of place.Preset = preset
-field_of place.FuelExport = member_flag
-field_of place.Observe = member_flag
+field_of place.FuelExport = truth (λ config b. config)
 
 -- the fields of a table in the code
 abbrev pub fields_in : List (Bor (List ℕ) × Place) → Table Field

@@ -93,8 +93,7 @@ pub(crate) enum Number {
     Fuel,
 }
 
-/// A field of a configuration, or the preset, the export of the fuel or the observation of locals, which no
-/// field holds.
+/// A field of a configuration, or the preset or the export of the fuel, which no field holds.
 #[derive(Clone, Copy)]
 pub(crate) enum Place {
     Number(Number),
@@ -104,5 +103,4 @@ pub(crate) enum Place {
     File,
     Preset,
     FuelExport,
-    Observe,
 }

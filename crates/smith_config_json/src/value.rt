@@ -3,7 +3,7 @@ ghost use Rattle.std.specs.List.{list_all};
 ghost use Rattle.std.specs.Char.{is_ascii_digit};
 ghost use Rattle.json.specs.Reads.{token_of};
 ghost use Rattle.smith_syntax.specs.Instructions.{no_kind};
-ghost use Rattle.smith_config_json.specs.Fields.{field_named, member_flag};
+ghost use Rattle.smith_config_json.specs.Fields.{field_named};
 ghost use Rattle.smith_config_json.specs.Places.{field_of, most_of, with_number};
 ghost use Rattle.smith_config_json.specs.Values.{
   first,
@@ -255,7 +255,7 @@ pub fn set_field(config: &mut Config, name: &str, reader: &mut Reader<'_>) -> Re
         Some(Place::MemoryOffsetChoices) => read_choices(config, reader),
         Some(Place::File) => no_file(reader),
         Some(Place::Preset) => known_preset(reader),
-        Some(Place::FuelExport | Place::Observe) => read_member_flag(config, reader),
+        Some(Place::FuelExport) => read_fuel_export(config, reader),
         None => Err(Fault::UnknownField),
     }
 }
@@ -315,14 +315,14 @@ fn read_flag(config: &mut Config, flag: Flag, reader: &mut Reader<'_>) -> Result
     Ok(())
 }
 
-/// Reads a flag that no field holds: whether the counter of the fuel is exported, or locals are observed.
-fn read_member_flag(config: &mut Config, reader: &mut Reader<'_>) -> Result<(), Fault>
-    ensures exact { Sets (Some member_flag) config.old reader.old
+/// Reads whether the counter of the fuel is exported, which no field holds.
+fn read_fuel_export(config: &mut Config, reader: &mut Reader<'_>) -> Result<(), Fault>
+    ensures exact { Sets (Some (field_of Place.FuelExport)) config.old reader.old
         (outcome result config.new reader.new) }
     ensures unchanged { IfErr result (λ fault. config.new ≡ config.old) }
     ensures shorter { length reader.new ≤ length reader.old }
 {
-    let _is_set = truth(reader)?;
+    let _is_exported = truth(reader)?;
     Ok(())
 }
 

@@ -5,7 +5,7 @@ use Rattle.smith_bytes.specs.declared.error.Error.{Error}
 use Rattle.wasm_smith.specs.FuelExport.{AnswersFuelExport}
 use Rattle.smith_program.specs.Parts.{ProgramParts}
 use Rattle.smith_request.specs.Output.{IsCounted, IsFuelled}
-use Rattle.smith_request.specs.declared.additions.Fuel.{Fuel}
+use Rattle.smith_request.specs.declared.manner.Fuel.{Fuel}
 
 -- the result of the export of a counter that is to be exported
 pub exporting : (fuel : Fuel) (program counted fuelled : ProgramParts) (result : Result (Unit {0}) Error)

@@ -1,6 +1,5 @@
 pub mod ValidLemmas
 pub mod FuelLemmas
-pub mod ObserveLemmas
 pub mod PlainLemmas
 pub mod RequestLemmas
 mod ShapelessLemmas

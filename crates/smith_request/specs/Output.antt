@@ -6,18 +6,15 @@ use Rattle.smith_binary.specs.declared.error.EncodeError.TheVariants.{Memory, To
 use Rattle.smith_bytes.specs.declared.error.Error.{Error}
 use Rattle.smith_config.specs.declared.config.Config.{Config}
 use Rattle.wasm_smith.specs.FuelExport.{with_fuel_export}
-use Rattle.wasm_smith.specs.SinkExports.{AnswersSinkExports}
 use Rattle.wasm_smith.specs.Termination.{AnswersCounter, MayAddNone}
 use Rattle.smith_program.specs.Generated.{IsProgram}
-use Rattle.smith_program.specs.Observed.{AnswersObserved}
 use Rattle.smith_program.specs.Parts.{ProgramParts as Program}
 use Rattle.smith_binary_program.specs.Long.{IsLongProgram}
 use Rattle.smith_binary_program.specs.Programs.{IsEncoded}
 use Rattle.smith_custom_sections.specs.Additions.{IsAdded}
 use Rattle.smith_custom_sections.specs.CustomDraws.{custom_sections_at}
-use Rattle.smith_request.specs.declared.additions.Additions.{Additions}
 use Rattle.smith_request.specs.declared.manner.Form.{Form}
-use Rattle.smith_request.specs.declared.additions.Fuel.{Fuel}
+use Rattle.smith_request.specs.declared.manner.Fuel.{Fuel}
 use Rattle.smith_request.specs.declared.manner.Form.TheVariants.{Binary, Text}
 use Rattle.smith_request.specs.declared.refusal.Refusal.{Refusal}
 use Rattle.smith_request.specs.declared.refusal.Refusal.TheVariants.{NotUtf8, Config as of_config, Module, Encoding, Shape, NoChange, NoFamily}
@@ -50,25 +47,6 @@ abbrev pub IsBinaryWith : Option Fuel → Program → List ℕ → Type 0
 IsBinaryWith None program bytes = IsEncoded program.«module» program.bodies bytes
 IsBinaryWith (Some fuel) program bytes = IsCountedBinary fuel program bytes
 
--- a program that mixes its locals into sinks, which it exports
-pub record IsObserving (program observing : Program) : Type 0 where
-  pub first : ℕ
-  pub mixing : Program
-  pub mixed : AnswersObserved program mixing (Ok first)
-  pub exported : AnswersSinkExports first mixing.«module» observing.«module» (Ok tt)
-  pub bodies : observing.bodies ≡ mixing.bodies
-
--- the program that is written for another one: one that is observed, if it is to be
-abbrev pub IsShown : Bool → Program → Program → Type 0
-IsShown true program shown = IsObserving program shown
-IsShown false program shown = shown ≡ program
-
--- the bytes are written for a program with these additions
-pub record IsBinaryAs (additions : Additions) (program : Program) (bytes : List ℕ) : Type 0 where
-  pub shown : Program
-  pub is_shown : IsShown additions.is_observed program shown
-  pub encoded : IsBinaryWith additions.fuel shown bytes
-
 -- the bytes are a file, with custom sections if there are to be any: those that are drawn from the
 -- bytes of the input that the program left
 abbrev pub IsFinished : Bool → ℕ → List ℕ → List ℕ → List ℕ → Type 0
@@ -77,9 +55,9 @@ IsFinished false least left file bytes = bytes ≡ file
 
 -- the bytes are the file of a program, with drawn custom sections if its configuration requests
 -- them
-pub record IsFileOf (config : Config) (additions : Additions) (program : Program) (left bytes : List ℕ) : Type 0 where
+pub record IsFileOf (config : Config) (fuel : Option Fuel) (program : Program) (left bytes : List ℕ) : Type 0 where
   pub file : List ℕ
-  pub encoded : IsBinaryAs additions program file
+  pub encoded : IsBinaryWith fuel program file
   pub finished : IsFinished config.generate_custom_sections config.min_uleb_size left file bytes
 
 -- the program is not written, because memory runs out or it is too long for the binary format
@@ -107,28 +85,19 @@ abbrev pub IsUnwrittenWith : Form → Option Fuel → Program → Refusal → Ty
 IsUnwrittenWith form None program refusal = IsUnwritten form program refusal
 IsUnwrittenWith form (Some fuel) program refusal = IsUncounted form fuel program refusal
 
--- a program is not written with these additions: its locals aren't mixed, because a body is raw bytes or for lack
--- of memory; or no indices are left for sinks; or the program that is shown is not written
-pub data IsUnwrittenAs (form : Form) (additions : Additions) (program : Program) (refusal : Refusal) : Type 0 where
-  not_mixed : {e : Error} → MayAddNone program.«module» e → refusal ≡ Module e → IsUnwrittenAs form additions program refusal
-  no_sinks : 2 ^ 32 - 3 ≤ length program.«module».globals → refusal ≡ Encoding TooLong → IsUnwrittenAs form additions program refusal
-  not_shown : {shown : Program} → IsShown additions.is_observed program shown → IsUnwrittenWith form additions.fuel shown refusal →
-      IsUnwrittenAs form additions program refusal
-
 -- the bytes are written for a program that the generator draws from the configuration and the
 -- input, with these bytes of the input left, from which its custom sections are drawn
-pub record IsBinaryOf (config : Config) (additions : Additions) (input bytes left : List ℕ) : Type 0 where
+pub record IsBinaryOf (config : Config) (fuel : Option Fuel) (input bytes left : List ℕ) : Type 0 where
   pub program : Program
   pub drawn : IsProgram config input (Ok program) left
-  pub written : IsFileOf config additions program left bytes
+  pub written : IsFileOf config fuel program left bytes
 
 -- an error is the generator's for the configuration and the input, or the drawn program is not
 -- written
-pub data IsRefusedFor (form : Form) (config : Config) (additions : Additions) (input left : List ℕ) (refusal : Refusal) : Type 0 where
-  not_drawn : {e : Error} → IsProgram config input (Err e) left → refusal ≡ Module e →
-      IsRefusedFor form config additions input left refusal
-  not_written : {program : Program} → IsProgram config input (Ok program) left → IsUnwrittenAs form additions program refusal →
-      IsRefusedFor form config additions input left refusal
+pub data IsRefusedFor (form : Form) (config : Config) (fuel : Option Fuel) (input left : List ℕ) (refusal : Refusal) : Type 0 where
+  not_drawn : {e : Error} → IsProgram config input (Err e) left → refusal ≡ Module e → IsRefusedFor form config fuel input left refusal
+  not_written : {program : Program} → IsProgram config input (Ok program) left → IsUnwrittenWith form fuel program refusal →
+      IsRefusedFor form config fuel input left refusal
 
 -- the bytes are UTF-8, and not empty
 pub record IsText (bytes : List ℕ) : Type 0 where

@@ -7,12 +7,12 @@ use crate::paths::{NO_PATHS, Paths, take_paths};
 use crate::shapes::Shapes;
 use crate::warnings::warn;
 use crate::words::{
-    CONFIG, ENSURE_TERMINATION, FUEL, FUEL_EXPORT, INPUT, NOTES, OBSERVE, OUTPUT, OUTPUT_DIR, WAT,
+    CONFIG, ENSURE_TERMINATION, FUEL, FUEL_EXPORT, INPUT, NOTES, OUTPUT, OUTPUT_DIR, WAT,
 };
 use clap::ArgMatches;
 use smith_bytes::Unstructured;
 use smith_program::Program;
-use smith_request::{Additions, Form, Fuel, Layout, Manner, write_program};
+use smith_request::{Form, Fuel, Layout, Manner, write_program};
 use std::alloc::{AllocError, Global};
 
 // The mark that some editors write at the beginning of a text.
@@ -133,36 +133,22 @@ fn manner_of(
         (true, false) => Form::Text(Layout::Signatures),
         (true, true) => Form::Text(Layout::Notes),
     };
-    let additions = additions_of(rt.alloc(), matches, config)?;
-    Ok(Manner { form, additions })
-}
-
-/// Returns what the words and the text `config` of the configuration file add to programs.
-fn additions_of(
-    alloc: Global,
-    matches: &ArgMatches<'_>,
-    config: &Option<String>,
-) -> Result<Additions, Failure> {
-    let (amount, is_exported, is_observed) = match config {
+    let (in_file, is_exported_in_file) = match config {
         Some(text) => (
-            smith_config_json::fuel(alloc, text.as_str())?,
-            smith_config_json::is_fuel_exported(alloc, text.as_str())?,
-            smith_config_json::is_observed(alloc, text.as_str())?,
+            smith_config_json::fuel(rt.alloc(), text.as_str())?,
+            smith_config_json::is_fuel_exported(rt.alloc(), text.as_str())?,
         ),
-        None => (None, false, false),
+        None => (None, false),
     };
-    let is_exported = is_exported || matches.get_flag(FUEL_EXPORT);
-    let fuel = match amount_of(matches, amount) {
+    let is_exported = is_exported_in_file || matches.get_flag(FUEL_EXPORT);
+    let fuel = match amount_of(matches, in_file) {
         Some(amount) => Some(Fuel {
             amount,
             is_exported,
         }),
         None => None,
     };
-    Ok(Additions {
-        fuel,
-        is_observed: is_observed || matches.get_flag(OBSERVE),
-    })
+    Ok(Manner { form, fuel })
 }
 
 /// Returns the number of calls and iterations that the words select. `in_file` is that of the

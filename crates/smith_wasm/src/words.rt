@@ -55,8 +55,6 @@ pub(crate) const ENSURE_TERMINATION: &str = "ensure-termination";
 pub(crate) const FUEL: &str = "fuel";
 /// The word of the export of the counter.
 pub(crate) const FUEL_EXPORT: &str = "fuel-export";
-/// The word of locals that are mixed into exported globals.
-pub(crate) const OBSERVE: &str = "observe";
 /// The word of the number of modules of a corpus.
 pub(crate) const COUNT: &str = "count";
 /// The word of the number of files of a corpus.
@@ -200,12 +198,7 @@ const FUEL_EXPORT_ABOUT: &str =
     "Exports the global that counts, so that a caller can refill it, after all other exports: as `fuel`, \
 or if an export has that name, as `fuel` and as many `_` as the longest name has bytes.";
 
-/// What is observed, and by which exports.
-const OBSERVE_ABOUT: &str =
-    "Mixes the locals of each function into three globals where it returns, so that engines that compute other values differ in these: \
-they are exported as `sink_i32`, `sink_i64` and `sink_i64_2`.";
-
-static WORDS: [Word; 17] = [
+static WORDS: [Word; 16] = [
     Word {
         name: OUTPUT,
         short: Some('o'),
@@ -277,14 +270,6 @@ static WORDS: [Word; 17] = [
         needs: Some(ENSURE_TERMINATION),
         excludes: &[],
         about: FUEL_EXPORT_ABOUT,
-    },
-    Word {
-        name: OBSERVE,
-        short: None,
-        takes: Takes::Nothing,
-        needs: None,
-        excludes: &[],
-        about: OBSERVE_ABOUT,
     },
     Word {
         name: COUNT,

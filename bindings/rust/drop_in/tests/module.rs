@@ -90,17 +90,6 @@ fn raw_bodies_have_no_counter() {
 }
 
 #[test]
-fn locals_are_mixed_into_sinks() {
-    let has_sinks = |module: &Module| module.to_bytes().windows(8).any(|part| part == b"sink_i64");
-    let mut module = module(Config::default(), 5).unwrap();
-    assert!(!has_sinks(&module));
-    module.observe().unwrap();
-    assert!(has_sinks(&module));
-    module.ensure_termination(9).unwrap();
-    assert!(has_sinks(&module) && module.to_bytes().windows(4).any(|part| part == b"fuel"));
-}
-
-#[test]
 fn a_drawn_configuration_makes_modules_in_several_threads() {
     let threads = (0..4).map(|part| {
         thread::spawn(move || {

@@ -268,11 +268,9 @@ impl Config {
         })
     }
 
-    /// Returns the handle of the configuration with a global that counts a fuel down, and is exported, if there is one, and with locals
-    /// that are mixed into sinks if `is_observed` is set.
-    pub(crate) fn with_additions(&self, fuel: Option<u32>, is_observed: bool) -> crate::Config {
-        let fuel = fuel.map_or("null".to_owned(), |fuel| format!("{fuel}, \"fuel-export\": true"));
-        self.read(&format!("\"fuel\": {fuel}, \"observe\": {is_observed}"))
+    /// Returns the handle of the configuration with a global that counts `fuel` down, and is exported.
+    pub(crate) fn with_fuel(&self, fuel: u32) -> crate::Config {
+        self.read(&format!("\"fuel\": {fuel}, \"fuel-export\": true"))
     }
 
     /// Turns features off that lack others that they need.

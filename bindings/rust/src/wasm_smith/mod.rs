@@ -31,8 +31,6 @@ pub struct Module {
     config: Config,
     input: Vec<u8>,
     bytes: Vec<u8>,
-    fuel: Option<u32>,
-    is_observed: bool,
 }
 
 impl<'a> Arbitrary<'a> for Module {
@@ -65,7 +63,7 @@ impl Module {
         config.sanitize();
         let input = u.bytes(u.len())?.to_vec();
         match crate::module(&config.kept(), &input) {
-            Ok(bytes) => Ok(Module { config, input, bytes, fuel: None, is_observed: false }),
+            Ok(bytes) => Ok(Module { config, input, bytes }),
             Err(refused) if matches!(refused.status, NO_MEMORY | CONFIG_TEXT | CONFIG | SHAPE | NO_SHAPE) => panic!("{refused}"),
             Err(_) => Err(Error::IncorrectFormat),
         }
@@ -89,22 +87,7 @@ impl Module {
     /// Returns the reason if a body is raw bytes, which `allow_invalid_funcs` permits, or if the module is then too long for the binary
     /// format. The module is unchanged then.
     pub fn ensure_termination(&mut self, default_fuel: u32) -> std::result::Result<u32, Refused> {
-        self.bytes = crate::module(&self.config.with_additions(Some(default_fuel), self.is_observed), &self.input)?;
-        self.fuel = Some(default_fuel);
+        self.bytes = crate::module(&self.config.with_fuel(default_fuel), &self.input)?;
         Ok(exports::last_index(&self.bytes).expect("the last export should be the global"))
-    }
-
-    /// Adds three mutable globals, an i32 and two i64, into which each function mixes the values of its locals where it returns. They are
-    /// exported after the other exports but that of [`Module::ensure_termination`], as `sink_i32`, `sink_i64` and `sink_i64_2`, with `_`
-    /// after a name that another export has. So engines that compute other values differ in them.
-    ///
-    /// # Errors
-    ///
-    /// Returns the reason if a body is raw bytes, which `allow_invalid_funcs` permits, or if the module is then too long for the binary
-    /// format. The module is unchanged then.
-    pub fn observe(&mut self) -> std::result::Result<(), Refused> {
-        self.bytes = crate::module(&self.config.with_additions(self.fuel, true), &self.input)?;
-        self.is_observed = true;
-        Ok(())
     }
 }

@@ -1,6 +1,6 @@
 use Rattle.smith_request.specs.Output.{IsCounted}
 use Rattle.smith_request.proofs.FuelLemmas.{exporting}
-use Rattle.smith_request.proofs.additions.add_counter.Goals as goal
+use Rattle.smith_request.proofs.manner.add_counter.Goals as goal
 
 pub returns-then-fuel-clause-counted : goal.returns-then-fuel-clause-counted
 returns-then-fuel-clause-counted c =
