@@ -8,7 +8,7 @@ returns-in-Ok-new-clause-file c = record {
   left = c.new.new.u;
   drawn = rw c.new-u.ensures at c.in-Ok-new.ensures.made;
   among = All-contains (IsAmong c.args.families.now) c.in-Ok.families.items (family_of c.in-Ok-new.wrong.change) c.in-Ok.ensures.among
-    (rw c.as_slice.ensures.value at c.in-Ok-new.ensures.family);
+      (rw c.as_slice.ensures.value at c.in-Ok-new.ensures.family);
 }
 
 pub returns-in-Ok-clause-refused : goal.returns-in-Ok-clause-refused
