@@ -195,7 +195,7 @@ static void try_invalid(struct bytes config, const struct read *read, struct byt
     need(memcmp(&fault.verdict, &same.verdict, sizeof same.verdict) == 0 && fault.family == same.family, 5);
     struct smith_answer again = invalid_file(config, input, fault.family, &same, other, ROOM);
     need(again.status == SMITH_NO_CHANGE || (again.status == SMITH_MADE && same.family == fault.family), 5);
-    need(smith_family_name(fault.family) && !smith_family_name(0) && !smith_family_name(SMITH_FAMILY_CUT_FILE + 1), 5);
+    need(smith_family_name(fault.family) && !smith_family_name(0) && !smith_family_name(SMITH_FAMILY_DATA_COUNT_MISSING + 1), 5);
 }
 
 static void answer_record(struct bytes config, struct bytes input, uint8_t *out, uint8_t *other) {

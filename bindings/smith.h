@@ -309,7 +309,8 @@ enum {
     SMITH_FAMILY_MISSING_END = 51,         /* an expression has no end */
     SMITH_FAMILY_SECOND_END = 52,          /* an expression ends twice */
     SMITH_FAMILY_PREAMBLE = 53,            /* the magic number or the version is another one */
-    SMITH_FAMILY_CUT_FILE = 54             /* the file is cut off */
+    SMITH_FAMILY_CUT_FILE = 54,            /* the file is cut off */
+    SMITH_FAMILY_DATA_COUNT_MISSING = 55   /* a needed number of data segments is not stated */
 };
 
 /* Returns the name of a family, such as "operand-type", or a null pointer if no family has the number. */
@@ -322,6 +323,7 @@ static inline const char *smith_family_name(uint32_t family) {
         "tag-type", "import-type", "element-segment", "data-segment", "long-integer", "unused-bits", "section-size", "body-size",
         "list-count", "function-count", "data-count", "section-order", "section-twice", "unknown-section", "left-over-byte", "not-utf8",
         "unknown-flag", "unknown-type", "unknown-opcode", "missing-end", "second-end", "preamble", "cut-file",
+        "data-count-missing",
     };
     return family >= 1 && family <= sizeof names / sizeof *names ? names[family - 1] : NULL;
 }

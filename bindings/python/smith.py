@@ -224,6 +224,7 @@ FAMILIES = (
     "import-type", "element-segment", "data-segment", "long-integer", "unused-bits", "section-size", "body-size", "list-count",
     "function-count", "data-count", "section-order", "section-twice", "unknown-section", "left-over-byte", "not-utf8", "unknown-flag",
     "unknown-type", "unknown-opcode", "missing-end", "second-end", "preamble", "cut-file",
+    "data-count-missing",
 )
 """The families of changes that make a module an invalid file, in the order of their numbers in smith.h."""
 

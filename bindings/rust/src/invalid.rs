@@ -4,7 +4,7 @@ use std::fmt;
 use std::str::FromStr;
 
 // The names of families, in the order of their numbers in `smith.h`.
-const NAMES: [&str; 54] = [
+const NAMES: [&str; 55] = [
     "operand-type", "missing-operand", "extra-operand", "block-type", "function-result", "index-past-end", "other-entity",
     "reference-type", "label", "cast-hierarchy", "tail-call", "dead-code", "unset-local", "immutable-global", "immutable-field",
     "packed-field", "undeclared-function", "alignment", "offset", "lane", "supertype", "final-type", "forward-reference", "limits",
@@ -12,6 +12,7 @@ const NAMES: [&str; 54] = [
     "import-type", "element-segment", "data-segment", "long-integer", "unused-bits", "section-size", "body-size", "list-count",
     "function-count", "data-count", "section-order", "section-twice", "unknown-section", "left-over-byte", "not-utf8", "unknown-flag",
     "unknown-type", "unknown-opcode", "missing-end", "second-end", "preamble", "cut-file",
+    "data-count-missing",
 ];
 
 /// A family of changes that make a module an invalid file, each of which breaks rules of one kind.

@@ -67,6 +67,7 @@ bytes_number bytes.MissingEnd = 51
 bytes_number bytes.SecondEnd = 52
 bytes_number bytes.Preamble = 53
 bytes_number bytes.CutFile = 54
+bytes_number bytes.DataCountMissing = 55
 
 -- the number of a family
 abbrev pub family_number : Family → ℕ
@@ -90,10 +91,11 @@ families =
     family.Module item.ConstantType ∷ family.Module item.NonConstant ∷ family.Module item.LaterGlobal ∷ family.Module item.FunctionType ∷
     family.Module item.TagType ∷ family.Module item.ImportType ∷ family.Module item.ElementSegment ∷ family.Module item.DataSegment ∷
     family.Bytes bytes.LongInteger ∷ family.Bytes bytes.UnusedBits ∷ family.Bytes bytes.SectionSize ∷ family.Bytes bytes.BodySize ∷
-    family.Bytes bytes.ListCount ∷ family.Bytes bytes.FunctionCount ∷ family.Bytes bytes.DataCount ∷ family.Bytes bytes.SectionOrder ∷
-    family.Bytes bytes.SectionTwice ∷ family.Bytes bytes.UnknownSection ∷ family.Bytes bytes.LeftOverByte ∷ family.Bytes bytes.NotUtf8 ∷
-    family.Bytes bytes.UnknownFlag ∷ family.Bytes bytes.UnknownType ∷ family.Bytes bytes.UnknownOpcode ∷ family.Bytes bytes.MissingEnd ∷
-    family.Bytes bytes.SecondEnd ∷ family.Bytes bytes.Preamble ∷ family.Bytes bytes.CutFile ∷ []
+    family.Bytes bytes.ListCount ∷ family.Bytes bytes.FunctionCount ∷ family.Bytes bytes.DataCount ∷ family.Bytes bytes.DataCountMissing ∷
+    family.Bytes bytes.SectionOrder ∷ family.Bytes bytes.SectionTwice ∷ family.Bytes bytes.UnknownSection ∷
+    family.Bytes bytes.LeftOverByte ∷ family.Bytes bytes.NotUtf8 ∷ family.Bytes bytes.UnknownFlag ∷ family.Bytes bytes.UnknownType ∷
+    family.Bytes bytes.UnknownOpcode ∷ family.Bytes bytes.MissingEnd ∷ family.Bytes bytes.SecondEnd ∷ family.Bytes bytes.Preamble ∷
+    family.Bytes bytes.CutFile ∷ []
 
 -- the family with this number
 unfoldable pub family_numbered : ℕ → Option Family

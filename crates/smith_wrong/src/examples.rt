@@ -21,9 +21,9 @@ fn changes()
 fn numbers()
     ensures first { family_numbered 1 ≡ Some (family.Module item.OperandType) }
     ensures of_bytes { family_numbered 36 ≡ Some (family.Bytes bytes.LongInteger) }
-    ensures last { family_numbered 54 ≡ Some (family.Bytes bytes.CutFile) }
+    ensures last { family_numbered 55 ≡ Some (family.Bytes bytes.DataCountMissing) }
     ensures before { family_numbered 0 ≡ None }
-    ensures past { family_numbered 55 ≡ None }
+    ensures past { family_numbered 56 ≡ None }
 {}
 
 fn rules()

@@ -104,5 +104,6 @@ fn bytes_number(family: BytesFamily) -> u32
         BytesFamily::SecondEnd => 52,
         BytesFamily::Preamble => 53,
         BytesFamily::CutFile => 54,
+        BytesFamily::DataCountMissing => 55,
     }
 }
