@@ -1,7 +1,7 @@
-use Rattle.std.proofs.Common.{◌+◌, ◌<◌, ◌∙◌, ap, subst, take, length, arith, [], MatchBool}
+use Rattle.std.proofs.Common.{◌≡◌, ◌+◌, ◌<◌, ◌∙◌, ap, subst, take, length, arith, [], MatchBool}
 use Rattle.smith_check_operands.specs.declared.frame.Kind.TheVariants as kind
 use Rattle.smith_check_operands.specs.Scopes.{bare}
-use Rattle.smith_check_body.specs.Checks.{Goes, Stops}
+use Rattle.smith_check_body.specs.Checks.{Goes, IsReached, Stops}
 use Rattle.smith_check_body.proofs.BodyLemmas.{one_more, begun, reached_more}
 use Rattle.smith_explain.proofs.body.reach.Goals as goal
 
@@ -30,4 +30,7 @@ loop-i-preserved c =
     (Stops (bare c.args.scope.now) x c.loop-i.checker)) c.if-not-goes.false c.in_ok-goes.ensures.ok)
 
 pub returns-clause-ok : goal.returns-clause-ok
-returns-clause-ok c = c.loop-i.invariant
+returns-clause-ok c =
+    let inside = c.requires.inside in
+    let whole : c.loop-i.i ≡ c.args.at = omega (arith, inside) in
+    subst (λ n. IsReached (bare c.args.scope.now) c.loop-i.checker (take n c.args.body.now)) whole c.loop-i.invariant
