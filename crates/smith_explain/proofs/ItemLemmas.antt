@@ -3,7 +3,7 @@ use Rattle.std.proofs.Common.{◌≡◌, ℕ, List, Option, Some, None, Bor, len
 use Rattle.std.specs.Prelude.{slice_get}
 use Rattle.std.specs.Option.{option_map}
 use Rattle.std.proofs.lemmas.Option.{slice_get_past, slice_get_read}
-use Rattle.core.specs.Slice.{IsItemAt}
+use Rattle.std.specs.Slice.{IsItemAt}
 use Rattle.smith_instr.specs.declared.instr.Instr.{Instr}
 
 pub got_item : (body : List Instr) (at : ℕ) (got : Option (Bor Instr)) → IsItemAt body at got
