@@ -62,8 +62,7 @@ functions_form counters (code ∷ codes) (body.Raw ∷ bodies) (piece ∷ expres
     absurd (drawn (zero, omega arith, refl))
 functions_form counters (code ∷ codes) (body.Drawn instructions ∷ bodies) (piece ∷ expressions) (h, each) nested drawn =
     let one = body.Drawn (counted counters instructions) in
-    let more = map (counted_body counters) bodies in
-    (
+    let more = map (counted_body counters) bodies in (
       refl,
       (All-head IsNested one more nested, h),
       functions_form counters codes bodies expressions each (All-tail IsNested one more nested)
