@@ -1,7 +1,7 @@
 -- What is written for a program is its module, for the decoder.
 use Rattle.std.proofs.Common.{◌≡◌, ℕ, ◌<◌, zero, suc, ◌||◌, Bool, true, false, List, [], ◌∷◌, Some, length, get_or, sym, subst, ap, refl}
 use Rattle.std.proofs.Common.{◌∙◌, arith, map}
-use Rattle.std.specs.Prelude.{All, Any, IsTrue}
+use Rattle.std.specs.Prelude.{All, IsTrue}
 use Rattle.std.specs.List.{Contains, flat_map, list_any, zip}
 use Rattle.std.proofs.lemmas.Bool.{false≢true}
 use Rattle.std.proofs.lemmas.List.Elements.{All-head, All-tail}
