@@ -1,4 +1,4 @@
--- What the functions of a module are judged by.
+-- The parts of a module by which its functions are judged.
 use Rattle.std.specs.Prelude.{◌≡◌, ℕ, ◌<◌, List, [], Some, length, map, slice_get}
 use Rattle.smith_syntax.specs.FeatureBits.{features_in}
 use Rattle.smith_syntax.specs.declared.composite_type.FuncType.{FuncType}

@@ -50,8 +50,8 @@ size set = whole (2 ^ 64 - 1) set
 abbrev pub wide : Setter ℕ → Field
 wide set = whole (2 ^ 128 - 1) set
 
--- every field, in the order of `Config`, and three members that set none: a preset changes the
--- configuration before any field is set, and the fuel and its export are no part of it
+-- every field, in the order of `Config`, and the members that set no field: the preset, which
+-- changes the configuration before any field is set, the fuel, and its export
 unfoldable pub fields : Table Field
 fields =
     (codes "min-types", size (λ config n. record config { min_types = n }))

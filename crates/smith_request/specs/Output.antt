@@ -85,8 +85,8 @@ abbrev pub IsUnwrittenWith : Form → Option Fuel → Program → Refusal → Ty
 IsUnwrittenWith form None program refusal = IsUnwritten form program refusal
 IsUnwrittenWith form (Some fuel) program refusal = IsUncounted form fuel program refusal
 
--- the bytes are written for a program that the generator draws from the configuration and the
--- input, with these bytes of the input left, from which its custom sections are drawn
+-- the bytes are the file of the program that the generator draws for the configuration and the
+-- input; custom sections are drawn from `left`, the unread bytes of the input
 pub record IsBinaryOf (config : Config) (fuel : Option Fuel) (input bytes left : List ℕ) : Type 0 where
   pub program : Program
   pub drawn : IsProgram config input (Ok program) left

@@ -1,4 +1,4 @@
--- What the text of a configuration requests, and the program that it and an input produce.
+-- Requests in the text of a configuration, and the program for a request and an input.
 use Rattle.std.specs.Prelude.{◌≡◌, ℕ, List, [], ◌∷◌, Option, None, option_map, Ok}
 use Rattle.json.specs.Lex.{tokens}
 use Rattle.json.specs.Token.{Token}

@@ -45,8 +45,8 @@ pub record IsBroken (features : Features) (file : List ℕ) (said : Answer) : Ty
   pub answer : IsAnswer features file said
   pub rule : NamesRule said
 
--- a file is drawn for a configuration and an input, with these bytes of the input left: from a valid
--- twin, by one change, and it breaks a rule
+-- an invalid file for a configuration and an input, of which `left` are the unread bytes: its twin is
+-- valid, it has one change, and it breaks a rule
 pub record IsWrong (config : Config) (input left : List ℕ) (wrong : Wrong) : Type 0 where
   pub twin : IsTwin config input left wrong.twin.items
   pub valid : IsValidBinary wrong.twin.items
@@ -66,6 +66,6 @@ IsRefused config input left (refusal.Encoding e) = IsUnwritten config input left
 IsRefused config input left refusal.Memory = Unit {0}
 IsRefused config input left refusal.NoChange = (twin : List ℕ) × IsTwin config input left twin
 
--- none of the families has a change of the first eight bytes, which every module has
+-- none of the families changes the first eight bytes, which every module has
 abbrev pub AreWithoutPreamble : List Family → Type 0
 AreWithoutPreamble families = (one : BytesFamily) → Contains families (family.Bytes one) → HasPreamble one → ⊥
