@@ -1,5 +1,5 @@
 -- The context in which a judge of functions has a body checked.
-use Rattle.std.proofs.Common.{◌≡◌, ◌∙◌, ℕ, List, [], ◌++◌, Result, Option, Ok, Err, Some, None, length, sym, ap, subst}
+use Rattle.std.proofs.Common.{◌≡◌, ◌∙◌, ℕ, List, [], ◌++◌, Result, Option, length, sym, ap, subst}
 use Rattle.std.specs.Prelude.{IfOk, MatchOption}
 use Rattle.std.proofs.lemmas.List.{length-map}
 use Rattle.smith_bytes.specs.declared.error.Error.{Error}

@@ -1,5 +1,5 @@
 -- What is said of a wrong body of a module.
-use Rattle.std.specs.Prelude.{◌≡◌, ℕ, List, length, map}
+use Rattle.std.specs.Prelude.{◌≡◌, ℕ, List, length}
 use Rattle.smith_syntax.specs.Features.{Features}
 use Rattle.smith_syntax.specs.declared.composite_type.FuncType.{FuncType}
 use Rattle.smith_syntax.specs.declared.value_type.ValType.{ValType}
