@@ -5,10 +5,9 @@ use smith_check_operands::Operands;
 use smith_check_rules::Slot;
 use smith_explain::{Cause, Explanation, Space, Unknown};
 use smith_judge::Rule;
-use smith_text::{FromFmt, Sink, TextForm};
+use smith_text::text_of;
 use smith_types::{HeapType, RefType, ValType};
 use std::alloc::Global;
-use std::fmt;
 
 // Returns an item of an index space in words.
 fn space_name(space: Space) -> &'static str {
@@ -43,107 +42,107 @@ const FOUND: Bottoms = Bottoms {
     reference: "(ref bot)",
 };
 
-// Writes the type of a value on the stack.
-fn write_slot<S: Sink>(slot: Slot, bottoms: Bottoms, sink: &mut S) -> fmt::Result {
+// Returns the type of a value on the stack in words.
+fn slot_text(alloc: Global, slot: Slot, bottoms: Bottoms) -> Result<String, Error>
+    ensures memory { IfErr result (λ e. e ≡ Error.Memory) }
+{
     match slot {
-        Slot::Bottom => sink.write_str(bottoms.any),
-        Slot::SomeRef => sink.write_str(bottoms.reference),
-        Slot::EitherRef(ty) => ValType::Ref(RefType {
-            nullable: false,
-            heap_type: HeapType::Abstract { shared: false, ty },
-        })
-        .write_text(sink),
-        Slot::Value(value) => value.write_text(sink),
+        Slot::Bottom => Ok(String::from_str(alloc, bottoms.any)?),
+        Slot::SomeRef => Ok(String::from_str(alloc, bottoms.reference)?),
+        Slot::EitherRef(ty) => {
+            let reference = RefType {
+                nullable: false,
+                heap_type: HeapType::Abstract { shared: false, ty },
+            };
+            text_of(alloc, &ValType::Ref(reference))
+        }
+        Slot::Value(value) => text_of(alloc, &value),
     }
 }
 
-// Writes types, the last on top, after three dots if there are others below.
-fn write_slots<S: Sink>(
+// Returns types in words, the last on top, after two dots if there are others below.
+fn slots_text(
+    alloc: Global,
     slots: &[Slot],
     bottoms: Bottoms,
     others: bool,
-    sink: &mut S,
-) -> fmt::Result {
-    sink.write_str("[")?;
-    if others {
-        sink.write_str("..")?;
-    }
+) -> Result<String, Error>
+    ensures memory { IfErr result (λ e. e ≡ Error.Memory) }
+{
+    let mut text = String::from_str(alloc, if others { "[.." } else { "[" })?;
     for i in 0..slots.len() {
         if i > 0 || others {
-            sink.write_str(" ")?;
+            text.push_str(" ")?;
         }
-        write_slot(slots[i], bottoms, sink)?;
+        let slot = slot_text(alloc, slots[i], bottoms)?;
+        text.push_str(slot.as_str())?;
     }
-    sink.write_str("]")
+    text.push_str("]")?;
+    Ok(text)
 }
 
-// Writes the `count` types on top of the stack, after three dots if there are others below that matter.
-fn write_top<S: Sink>(stack: &Operands, count: usize, is_whole: bool, sink: &mut S) -> fmt::Result {
+// Returns the `count` types on top of the stack in words, after two dots if there are others below that
+// matter.
+fn top_text(alloc: Global, stack: &Operands, count: usize, is_whole: bool) -> Result<String, Error>
+    ensures memory { IfErr result (λ e. e ≡ Error.Memory) }
+{
     let known = stack.known.as_slice();
     if known.len() <= count {
-        return write_slots(known, FOUND, stack.dead && known.len() < count, sink);
+        return slots_text(alloc, known, FOUND, stack.dead && known.len() < count);
     }
-    let (_, top) = known.split_at(known.len() - count);
-    write_slots(top, FOUND, is_whole, sink)
+    slots_text(alloc, &known[known.len() - count..], FOUND, is_whole)
 }
 
-// Writes the types that an instruction takes, and those that are on the stack: as many, and one more where
+// Returns the types that an instruction takes, and those that are on the stack: as many, and one more where
 // the block ends and there may be no others.
-fn write_mismatch<S: Sink>(
+fn mismatch_text(
+    alloc: Global,
     wanted: &[Slot],
     stack: &Operands,
     rule: Rule,
-    sink: &mut S,
-) -> fmt::Result {
+) -> Result<String, Error>
+    ensures memory { IfErr result (λ e. e ≡ Error.Memory) }
+{
     let is_whole = rule == Rule::End;
     let count = if is_whole {
         wanted.len().saturating_add(1)
     } else {
         wanted.len()
     };
-    sink.write_str("type mismatch: ")?;
-    write_slots(wanted, WANTED, false, sink)?;
-    sink.write_str(" expected, ")?;
-    write_top(stack, count, is_whole, sink)?;
-    sink.write_str(" found")
+    let expected = slots_text(alloc, wanted, WANTED, false)?;
+    let found = top_text(alloc, stack, count, is_whole)?;
+    Ok(format!(in alloc; "type mismatch: {expected} expected, {found} found")?)
 }
 
-// Writes an item that is not there.
-fn write_unknown<S: Sink>(unknown: Unknown, sink: &mut S) -> fmt::Result {
+// Returns an item that is not there in words.
+fn unknown_text(alloc: Global, unknown: Unknown) -> Result<String, Error>
+    ensures memory { IfErr result (λ e. e ≡ Error.Memory) }
+{
     let name = space_name(unknown.named.space);
-    ("unknown ", name, (" ", unknown.named.index)).write_text(sink)?;
-    (": their number is ", unknown.count).write_text(sink)
+    let (index, count) = (unknown.named.index, unknown.count);
+    Ok(format!(in alloc; "unknown {name} {index}: their number is {count}")?)
 }
 
 // The most types of the stack that are shown where no cause is known.
 const SHOWN: usize = 8;
 
-/// Writes why an instruction is wrong that breaks the rule `rule`, or what the rule demands and the types on
-/// top of the stack if that is not known.
-pub fn write_cause<S: Sink>(explanation: &Explanation, rule: Rule, sink: &mut S) -> fmt::Result {
-    match &explanation.cause {
-        Cause::Unknown(unknown) => write_unknown(*unknown, sink),
-        Cause::Undeclared { function } => {
-            ("function ", *function, " is not declared").write_text(sink)
-        }
-        Cause::Unset { local } => ("local ", *local, " is not set").write_text(sink),
-        Cause::Operands(wanted) => {
-            write_mismatch(wanted.as_slice(), &explanation.stack, rule, sink)
-        }
-        Cause::Other => {
-            (rule.sentence(), "; on the stack: ").write_text(sink)?;
-            write_top(&explanation.stack, SHOWN, true, sink)
-        }
-    }
-}
-
-/// Returns why an instruction is wrong that breaks the rule `rule`, in words.
+/// Returns why an instruction is wrong that breaks the rule `rule`, in words, or what the rule demands and
+/// the types on top of the stack if that is not known.
 pub fn cause_text(alloc: Global, explanation: &Explanation, rule: Rule) -> Result<String, Error>
     ensures memory { IfErr result (λ e. e ≡ Error.Memory) }
 {
-    let mut sink = FromFmt::new(String::new(alloc));
-    if write_cause(explanation, rule, &mut sink).is_err() {
-        return Err(Error::Memory);
+    let stack = &explanation.stack;
+    match &explanation.cause {
+        Cause::Unknown(unknown) => unknown_text(alloc, *unknown),
+        Cause::Undeclared { function } => {
+            Ok(format!(in alloc; "function {function} is not declared")?)
+        }
+        Cause::Unset { local } => Ok(format!(in alloc; "local {local} is not set")?),
+        Cause::Operands(wanted) => mismatch_text(alloc, wanted.as_slice(), stack, rule),
+        Cause::Other => {
+            let top = top_text(alloc, stack, SHOWN, true)?;
+            let sentence = rule.sentence();
+            Ok(format!(in alloc; "{sentence}; on the stack: {top}")?)
+        }
     }
-    Ok(sink.into_string())
 }
