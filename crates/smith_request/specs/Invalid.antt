@@ -49,7 +49,7 @@ pub data IsUnlisted (numbers : List ℕ) (refusal : Refusal) : Type 0 where
 -- an error for a configuration, families and an input: of the numbers, or because no invalid file was drawn
 pub data IsUnbroken (config : Configuration) (numbers input : List ℕ) (refusal : Refusal) : Type 0 where
   not_listed : IsUnlisted numbers refusal → IsUnbroken config numbers input refusal
-  not_drawn : {left : List ℕ} {reason : WrongRefusal} → IsRefused config input left reason → refusal ≡ refusal_of reason →
+  not_drawn : (left : List ℕ) (reason : WrongRefusal) → IsRefused config input left reason → refusal ≡ refusal_of reason →
       IsUnbroken config numbers input refusal
 
 -- an invalid file for the text of a configuration
@@ -61,7 +61,7 @@ pub record IsInvalid (text numbers input : List ℕ) (wrong : Wrong) : Type 0 wh
 -- an error for the text of a configuration, families and an input
 pub data IsInvalidRefusal (text numbers input : List ℕ) (refusal : Refusal) : Type 0 where
   not_read : IsUnread text refusal → IsInvalidRefusal text numbers input refusal
-  not_made : {config : Configuration} → IsConfigured text config → IsUnbroken config numbers input refusal →
+  not_made : (config : Configuration) → IsConfigured text config → IsUnbroken config numbers input refusal →
       IsInvalidRefusal text numbers input refusal
 
 -- an invalid file for a request with the shapes in some bytes
@@ -73,5 +73,5 @@ pub record IsShapedInvalid (files : ShapeFiles) (request : Request) (numbers inp
 -- an error for a request, shapes, families and an input
 pub data IsShapedInvalidRefusal (files : ShapeFiles) (request : Request) (numbers input : List ℕ) (refusal : Refusal) : Type 0 where
   unshaped : IsUnshaped files refusal → IsShapedInvalidRefusal files request numbers input refusal
-  unmade : {shaped : Request} → IsShaped files request shaped → IsUnbroken shaped.config numbers input refusal →
+  unmade : (shaped : Request) → IsShaped files request shaped → IsUnbroken shaped.config numbers input refusal →
       IsShapedInvalidRefusal files request numbers input refusal
