@@ -29,7 +29,7 @@ function_of counters given = (given.0.locals, instructions_of counters given.1)
 abbrev pub decoded : ModuleParts → List Body → Syntax
 decoded m bodies = with_bodies (contents_of m) (map (function_of m.fuel_globals) (zip m.code bodies))
 
--- the bytes that are written for a valid program without raw bytes are its module, for the decoder
+-- the decoder reads the bytes of a valid program without raw bodies as the module of the program
 abbrev pub EncodedProgramsAreDecoded : Type 0
 EncodedProgramsAreDecoded =
     (m : ModuleParts) (bodies : List Body) (bytes : List ℕ) → IsEncoded m bodies bytes → IsValidProgram m bodies

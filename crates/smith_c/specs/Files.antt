@@ -1,4 +1,4 @@
--- What calls say of files: of invalid ones that they make, and of those that they judge.
+-- The answers of calls about files: invalid files that they make, and files that they judge.
 use Rattle.std.specs.Prelude.{◌≡◌, ◌≢◌, ◌⊎◌, ℕ, List, [], Ok, Err}
 use Rattle.std.specs.Str.{IsUtf8}
 use Rattle.std.specs.String.{string_bytes}
@@ -25,12 +25,12 @@ use Rattle.smith_c.specs.CallAnswers.{IsPut}
 use Rattle.smith_c.specs.declared.answer.Answer.{Answer}
 use Rattle.smith_c.specs.declared.fault.Fault.{Fault}
 
--- what is said of an invalid file: its first fault, and the family of its change, in numbers
+-- the numbers of an invalid file: its first fault, and the family of its change
 abbrev pub fault_of : Wrong → Fault
 fault_of wrong = record { verdict = verdict_of wrong.answer; family = family_number (family_of wrong.change) }
 
--- what is said of such an invalid file was written, and the file to the buffer if it fits, with status 0; or
--- there is a refusal, and nothing was written
+-- the numbers of such an invalid file were written, and the file to the buffer if it fits, with status 0;
+-- or there is an error, and nothing was written
 pub data IsInvalidMade (IsFile : Wrong → Type 0) (MayRefuse : Refusal → Type 0) (fault_before fault_after : Fault)
     (before after : List ℕ) (answer : Answer) : Type 0 where
   made : {wrong : Wrong} → IsFile wrong → fault_after ≡ fault_of wrong → IsPut 0 wrong.file.items before after answer →
@@ -39,7 +39,7 @@ pub data IsInvalidMade (IsFile : Wrong → Type 0) (MayRefuse : Refusal → Type
       answer ≡ record { status = status_of refusal; length = 0 } →
       IsInvalidMade IsFile MayRefuse fault_before fault_after before after answer
 
--- a text sets what it says of a configuration, or nothing if it is empty
+-- a text sets the fields that it names in a configuration, or nothing if it is empty
 pub data IsSet (text : List ℕ) (before after : Config) : Type 0 where
   nothing : text ≡ [] → after ≡ before → IsSet text before after
   read : ReadsAlone before text (Ok (after, [])) → IsSet text before after
@@ -51,18 +51,18 @@ IsUnset text before (refusals.Config refusal) = refusal.fault ≢ OutOfMemory
     → (left : Config) × ReadsAlone before text (Err (refusal.fault, string_bytes refusal.field, left))
 IsUnset text before _ = ⊥
 
--- the configuration whose features are those of every proposal that is known
+-- the configuration that enables every known proposal
 abbrev pub judging_config : Config
 judging_config = with_proposals default_config
 
--- these are the features by which a text has files judged: all that are known, changed by what it sets
+-- the features under which files are judged for a text: all known features, changed by the text
 pub record IsJudgedBy (text : List ℕ) (features : Features) : Type 0 where
   pub config : Config
   pub set : IsSet text judging_config config
   pub same : features ≡ features_of config
 
--- a verdict is right: a file whose kind is 0 is a valid module of these features, one whose kind is 1 or 2 isn't,
--- and the verdict has the numbers of what is said of the file
+-- a verdict is right: with kind 0 the file is a valid module under these features, with kind 1 or 2 it isn't,
+-- and the verdict has the numbers of the answer of `judge`
 pub record IsVerdict (features : Features) (file : List ℕ) (verdict : Verdict) : Type 0 where
   pub valid : verdict.kind ≡ 0 → IsValidFile features file
   pub invalid : (verdict.kind ≡ 1) ⊎ (verdict.kind ≡ 2) → IsValidFile features file → ⊥
@@ -70,7 +70,7 @@ pub record IsVerdict (features : Features) (file : List ℕ) (verdict : Verdict)
   pub said : IsAnswer features file judgement
   pub numbers : verdict ≡ verdict_of judgement
 
--- a verdict is right for the features by which a text has files judged
+-- a verdict is right under the features for a text
 pub record IsVerdictBy (text file : List ℕ) (verdict : Verdict) : Type 0 where
   pub features : Features
   pub judged : IsJudgedBy text features
@@ -80,7 +80,7 @@ pub record IsVerdictBy (text file : List ℕ) (verdict : Verdict) : Type 0 where
 abbrev pub IsUnjudged : List ℕ → Refusal → Type 0
 IsUnjudged text refusal = IsUnset text judging_config refusal ⊎ (refusal ≡ refusals.Module Memory)
 
--- the verdict on a file was written, and words to the buffer if they fit, with status 0; or there is a refusal,
+-- the verdict on a file was written, and words to the buffer if they fit, with status 0; or there is an error,
 -- and nothing was written
 pub data IsChecked (text file : List ℕ) (verdict_before verdict_after : Verdict) (before after : List ℕ) (answer : Answer) : Type 0 where
   judged : {words : List ℕ} → IsVerdictBy text file verdict_after → IsUtf8 words → IsPut 0 words before after answer →

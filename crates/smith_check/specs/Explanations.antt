@@ -1,4 +1,4 @@
--- What is said of a wrong body of a module.
+-- Why an instruction of a module is refused. Rules of this project.
 use Rattle.std.specs.Prelude.{◌≡◌, ℕ, List, length}
 use Rattle.smith_syntax.specs.Features.{Features}
 use Rattle.smith_syntax.specs.declared.composite_type.FuncType.{FuncType}
@@ -24,7 +24,7 @@ pub record ArePartsOf (types : CheckedTypes) (m : Module) (parts : Parts) : Type
   pub elems : parts.elems ≡ element_types types.indices (syntax_of m).elems
   pub references : parts.references ≡ references_of (syntax_of m)
 
--- what is said of the instruction at an index of the body at a place, by canonical indices, is so
+-- an explanation of the instruction at an index of the body at a place, by canonical indices
 -- (Validation, Functions)
 pub record IsBodyExplained (features : Features) (indices : List ℕ) (m : Syntax) (place at : ℕ) (explanation : Explanation) : Type 0 where
   pub function : FuncType

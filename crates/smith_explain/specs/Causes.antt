@@ -1,4 +1,4 @@
--- What is said of a refused instruction.
+-- Why an instruction is refused. Rules of this project, by the rules of the standard.
 use Rattle.std.specs.Prelude.{◌≡◌, ℕ, ◌+◌, ◌≤◌, Option, Some, None, List, ◌∷◌, length, take, slice_get, reverse}
 use Rattle.std.specs.List.{Contains}
 use Rattle.smith_syntax.specs.declared.value_type.ValType.{ValType}
@@ -25,7 +25,7 @@ use Rattle.smith_explain.specs.declared.explanation.Space.{Space}
 use Rattle.smith_explain.specs.declared.explanation.Space.TheVariants as space
 use Rattle.smith_explain.specs.declared.explanation.Unknown.{Unknown}
 
--- the number of items of an index space, where there are so many labels (Validation, Contexts)
+-- the number of items of an index space, given the number of labels (Validation, Contexts)
 abbrev pub count_in : BodyContext → ℕ → Space → ℕ
 count_in context labels space.Type = length context.types
 count_in context labels space.Function = length context.funcs
@@ -43,7 +43,7 @@ pub record IsMissing (context : BodyContext) (labels : ℕ) (unknown : Unknown) 
   pub count : unknown.count ≡ count_in context labels unknown.named.space
   pub past : unknown.count ≤ unknown.named.index
 
--- an instruction is a reference to a function that is not declared (Validation, Reference Instructions)
+-- a `ref.func` instruction names an undeclared function (Validation, Reference Instructions)
 pub record IsUndeclared (context : BodyContext) (instruction : Instr) (function : ℕ) : Type 0 where
   pub is : instruction ≡ instr.Reference (reference.Func function)
   pub undeclared : Contains context.references function → ⊥
@@ -57,15 +57,15 @@ pub record IsUnset (context : BodyContext) (set : List ℕ) (instruction : Instr
 abbrev pub labels_in : Checker → List (List ValType)
 labels_in checker = label_of checker.shape ∷ labels_of (reverse checker.outers.items)
 
--- a block of a kind and a type takes these operands (Validation, Control Instructions)
+-- a block of this kind and type has these operands (Validation, Control Instructions)
 pub record IsBlockTaking (context : BodyContext) (opens : Kind) (ty : BlockType) (wanted : List Slot) : Type 0 where
   pub params : List ValType
   pub results : List ValType
   pub typed : IsBlockType context ty params results
   pub is : wanted ≡ values (taken_by opens params)
 
--- an instruction takes a stack of these types, where the locals of the checker are set (Validation,
--- Instructions); the end of a block takes its results
+-- an instruction accepts a stack of these types, if the locals that the checker has noted are set
+-- (Validation, Instructions); the end of a block accepts the results of the block
 abbrev pub IsTaking : BodyContext → Checker → Instr → List Slot → Type 0
 IsTaking context checker (instr.Block ty) wanted = IsBlockTaking context kind.Block ty wanted
 IsTaking context checker (instr.Loop ty) wanted = IsBlockTaking context kind.Loop ty wanted
@@ -76,7 +76,7 @@ IsTaking context checker instr.End wanted = wanted ≡ values checker.shape.resu
 IsTaking context checker instruction wanted =
     (after : Stacked) × IsStep (with_labels context (labels_in checker)) instruction (stacked wanted checker.log.items) after
 
--- what is said of a block that is opened, and of the end of one, is so
+-- the stated reason is right for the start of a block, and for its end
 abbrev pub IsBlockCause : BodyContext → Kind → BlockType → Cause → Type 0
 IsBlockCause context opens ty (cause.Operands wanted) = IsBlockTaking context opens ty wanted.items
 IsBlockCause context opens ty cause.Other = Unit {0}
@@ -87,7 +87,7 @@ IsEndCause checker (cause.Operands wanted) = wanted.items ≡ values checker.sha
 IsEndCause checker cause.Other = Unit {0}
 IsEndCause checker _ = ⊥
 
--- what is said of an instruction is so
+-- the stated reason is right for an instruction
 abbrev pub IsCause : BodyContext → Checker → Instr → Cause → Type 0
 IsCause context checker instruction (cause.Unknown unknown) =
     IsNamed instruction unknown.named × IsMissing context (length checker.outers.items + 1) unknown
@@ -96,13 +96,13 @@ IsCause context checker instruction (cause.Unset local) = IsUnset context checke
 IsCause context checker instruction (cause.Operands wanted) = IsTaking context checker instruction wanted.items
 IsCause context checker instruction cause.Other = Unit {0}
 
--- what is said of the instruction at a place, or of the end of the body, which is an `end`
+-- the stated reason is right for an instruction, or for the last `end` of a body
 abbrev pub IsCauseAt : BodyContext → Checker → Option Instr → Cause → Type 0
 IsCauseAt context checker (Some instruction) said = IsCause context checker instruction said
 IsCauseAt context checker None said = IsCause context checker instr.End said
 
--- what is said of the instruction at an index of a body: the types on the stack are those that the
--- instructions before it leave in the innermost block, and the cause is so
+-- an explanation of the instruction at an index of a body: its stack has the types that the
+-- instructions before it leave in the innermost block, and its reason is right
 pub record IsExplanation (context : BodyContext) (body : List Instr) (at : ℕ) (explanation : Explanation) : Type 0 where
   pub checker : Checker
   pub reached : IsReached context checker (take at body)

@@ -1,4 +1,4 @@
--- What is said of the instruction at which a body of a file is wrong.
+-- Why an instruction of a file is refused. Rules of this project.
 use Rattle.std.specs.Prelude.{ℕ, List}
 use Rattle.smith_syntax.specs.Features.{Features}
 use Rattle.smith_decode.specs.Forms.{AreFormsEnabled}
@@ -11,15 +11,15 @@ use Rattle.smith_explain.specs.declared.explanation.Explanation.{Explanation}
 use Rattle.smith_judge.specs.declared.answer.Answer.{Answer}
 use Rattle.smith_judge.specs.declared.answer.Answer.TheVariants as answer
 
--- what is said of the instruction at an index of the body at a place of the module that the bytes are, is
--- so (Validation, Functions)
+-- an explanation of the instruction at an index of the body at a place, in the module that the bytes
+-- spell (Validation, Functions)
 pub record IsExplainedFile (features : Features) (bytes : List ℕ) (place at : ℕ) (explanation : Explanation) : Type 0 where
   pub m : Module
   pub spelled : IsModuleBinary (syntax_of m) bytes
   pub enabled : AreFormsEnabled features m
   pub explained : IsExplained features (syntax_of m) place at explanation
 
--- the same of the instruction that an answer finds wrong
+-- an explanation of the instruction that a fault names, and that an answer names
 abbrev pub IsExplainedFault : Features → List ℕ → Fault → Explanation → Type 0
 IsExplainedFault features bytes (fault.Body body instruction) explanation = IsExplainedFile features bytes body instruction explanation
 IsExplainedFault features bytes _ explanation = ⊥

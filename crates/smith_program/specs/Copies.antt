@@ -1,5 +1,5 @@
--- Instructions that are copied apart: on variables and numbers, on memories and vectors, and branches,
--- calls and exceptions. Rules of this project.
+-- Three groups of instructions, each copied by a function of its own: variables and numbers; memories
+-- and vectors; branches, calls and exceptions. Rules of this project.
 use Rattle.std.specs.Prelude.{Bool, true, false}
 use Rattle.smith_instr.specs.declared.instr.Instr.{Instr}
 use Rattle.smith_instr.specs.declared.instr.Instr.TheVariants as instr

@@ -1,5 +1,5 @@
--- Bodies that mix the values of their locals into sinks: three globals in a row, the first of i32, the
--- others of i64, whose values at the end depend on those of the locals. Rules of this project.
+-- Bodies that mix the values of their locals into three globals, the sinks: one i32 and two i64. Rules
+-- of this project.
 use Rattle.std.specs.Prelude.{◌≡◌, ℕ, ◌+◌, suc, pos, negsuc, Bool, true, false, Some, List, [], ◌∷◌, ◌++◌, length, slice_get, take}
 use Rattle.std.specs.Prelude.{Result, Ok, Err, if◌then◌else◌}
 use Rattle.std.specs.List.{flat_map}
@@ -25,7 +25,7 @@ use Rattle.smith_program.specs.Parts.{ProgramParts}
 use Rattle.smith_program.specs.declared.program.Body.{Body}
 use Rattle.smith_program.specs.declared.program.Body.TheVariants as body
 
--- a sink is rotated by 5 bits, and a value is added to it without carry
+-- a sink is rotated left by 5 bits, then combined with a value by exclusive or
 abbrev pub mix32 : ℕ → List Instr → List Instr
 mix32 sink value =
     instr.GlobalGet sink ∷ instr.I32Const (pos 5) ∷ instr.Numeric (numeric.I32Binary int_binary.Rotl) ∷
@@ -36,7 +36,7 @@ mix64 sink value =
     instr.GlobalGet sink ∷ instr.I64Const (pos 5) ∷ instr.Numeric (numeric.I64Binary int_binary.Rotl) ∷
     value ++ instr.Numeric (numeric.I64Binary int_binary.Xor) ∷ instr.GlobalSet sink ∷ []
 
--- the bits of a float; each NaN has those of the positive canonical NaN
+-- the bits of a float, or the bits of the positive canonical NaN for any NaN
 abbrev pub bits32 : ℕ → List Instr
 bits32 index =
     instr.LocalGet index ∷ instr.Numeric (numeric.Convert convert.I32ReinterpretF32) ∷ instr.I32Const (pos 0x7FC00000) ∷
@@ -47,8 +47,8 @@ bits64 index =
     instr.LocalGet index ∷ instr.Numeric (numeric.Convert convert.I64ReinterpretF64) ∷ instr.I64Const (pos 0x7FF8000000000000) ∷
     instr.LocalGet index ∷ instr.LocalGet index ∷ instr.Numeric (numeric.F64Compare float_compare.Eq) ∷ instr.Select ∷ []
 
--- a half of a vector, as two f32; it is 0 if one of them is a NaN, which the upper half of each f64
--- that is a NaN is too
+-- a half of a vector; it is 0 if one of its two f32 is a NaN. The upper f32 of an f64 that is a NaN is
+-- a NaN too
 abbrev pub half : ℕ → ℕ → List Instr
 half index lane =
     instr.LocalGet index ∷ instr.LocalGet index ∷ instr.LocalGet index ∷ instr.Vector (vector.FloatBinary float_binary.F32x4Eq) ∷
@@ -73,7 +73,7 @@ mixes_from first index (value ∷ more) = mix first index value ++ mixes_from fi
 abbrev pub mixes : ℕ → List ValType → List Instr
 mixes first locals = mixes_from first 0 (take 1000 locals)
 
--- an instruction leaves its function, but for a branch to the label of the function
+-- an instruction returns from its function; a branch to the label of the function does not count
 abbrev pub leaves : Instr → Bool
 leaves instr.Return = true
 leaves (instr.ReturnCall function) = true
@@ -81,11 +81,11 @@ leaves (instr.ReturnCallIndirect table ty) = true
 leaves (instr.ReturnCallRef ty) = true
 leaves _ = false
 
--- an instruction, after some others if it leaves its function
+-- an instruction, with `mixed` before it if it returns from its function
 abbrev pub after_mixes : List Instr → Instr → List Instr
 after_mixes mixed instruction = (if leaves instruction then mixed else []) ++ instruction ∷ []
 
--- instructions, with some others before each that leaves its function, and at the end
+-- instructions, with `mixed` before each that returns from its function, and at the end
 abbrev pub observed : List Instr → List Instr → List Instr
 observed mixed instructions = flat_map (after_mixes mixed) instructions ++ mixed
 
@@ -101,8 +101,8 @@ pub record AreObserved (first : ℕ) (m : ModuleParts) (old new : List Body) : T
       → HasDefinedType m place function → slice_get old place ≡ Some body
       → slice_get new place ≡ Some (observed_body first (function.params ++ code.locals) body)
 
--- the result: the index of the first sink, with the bodies observed; or the reason why no sinks are
--- added, with the program unchanged
+-- the result: the index of the first sink, and the bodies mix their locals; or an error, and the
+-- program is unchanged
 abbrev pub AnswersObserved : ProgramParts → ProgramParts → Result ℕ Error → Type 0
 AnswersObserved old new (Ok first) =
     AnswersSinks old.«module» new.«module» (Ok first) × AreObserved first old.«module» old.bodies new.bodies

@@ -42,13 +42,13 @@ abbrev pub total_of : List Family → ℕ
 total_of [] = 0
 total_of (one ∷ rest) = weight_of one + total_of rest
 
--- the family at a place, where families are in a row, each as often as its weight
+-- the family at a place in a row of families in which each occurs as often as its weight
 abbrev pub family_in : List Family → ℕ → Option Family
 family_in [] place = None
 family_in (one ∷ rest) place = if nat_lt place (weight_of one) then Some one else family_in rest (place - weight_of one)
 
--- the family that is drawn: the one at a place drawn below the sum of the weights, which counts up to the
--- greatest number of 32 bits; none if the sum is 0
+-- the drawn family, at a place that is drawn below the sum of the weights, or below 2^32 - 1 if that is
+-- less; none if the sum is 0
 abbrev pub drawn_family : List Family → List ℕ → Option Family
 drawn_family families input =
     let sum = min (total_of families) (2 ^ 32 - 1) in

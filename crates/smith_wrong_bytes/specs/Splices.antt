@@ -14,7 +14,7 @@ spliced file change = take change.at file ++ (change.inserted ++ drop (change.at
 abbrev pub IsWithin : List ℕ → Splice → Type 0
 IsWithin file change = change.at + change.removed ≤ length file
 
--- one of the first eight bytes is another one
+-- one of the first eight bytes is replaced by another byte
 pub record IsOtherPreamble (file : List ℕ) (change : Splice) : Type 0 where
   pub at : change.at < 8
   pub removed : change.removed ≡ 1
@@ -28,7 +28,7 @@ pub record IsCutPreamble (file : List ℕ) (change : Splice) : Type 0 where
   pub removed : change.at + change.removed ≡ length file
   pub inserted : change.inserted ≡ []
 
--- a change of a family that has one of the first eight bytes of every file
+-- a change among the first eight bytes of a file, by a family that has one for every file
 abbrev pub IsOfPreamble : BytesFamily → List ℕ → Splice → Type 0
 IsOfPreamble family.Preamble file change = IsOtherPreamble file change
 IsOfPreamble family.CutFile file change = IsCutPreamble file change

@@ -6,7 +6,7 @@ use Rattle.smith_module_rules.specs.ExportedItems.{Export}
 use Rattle.smith_module_rules.specs.Module.{ModuleParts}
 use Rattle.wasm_smith.specs.GlobalExport.{unused_name, with_global}
 
--- the name of the export after others: `fuel`, made unused
+-- the name of the export: `fuel`, made unused
 abbrev pub fuel_name : List Export → List ℕ
 fuel_name exports = unused_name (codes "fuel") exports
 

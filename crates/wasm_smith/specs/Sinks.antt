@@ -1,5 +1,5 @@
--- The addition to a module whose bodies are to show what they compute: three globals, the sinks,
--- which take values that bodies would drop. Rules of this project.
+-- Three globals that are added to a module, the sinks. Bodies can mix into them the values that they
+-- compute. Rules of this project.
 use Rattle.std.specs.Prelude.{◌≡◌, ℕ, pos, ◌+◌, true, false, List, [], ◌∷◌, ◌++◌, length, Result, Ok, Err}
 use Rattle.smith_bytes.specs.declared.error.Error.{Error}
 use Rattle.smith_syntax.specs.declared.value_type.ValType.{ValType}
@@ -22,8 +22,7 @@ sinks = sink I32 ∷ sink I64 ∷ sink I64 ∷ []
 abbrev pub sink_definitions : ℕ → List (ℕ × List ConstInstr)
 sink_definitions first = (first, I32Const (pos 0) ∷ []) ∷ (first + 1, I64Const (pos 0) ∷ []) ∷ (first + 2, I64Const (pos 0) ∷ []) ∷ []
 
--- `new` is `old` with the sinks, of which the first has this index, after its globals; nothing else
--- is new
+-- `new` is `old` with the sinks after its globals, and nothing else; the first sink has this index
 pub record AddsSinks (first : ℕ) (old new : ModuleParts) : Type 0 where
   pub next : first ≡ length old.globals
   pub added : new ≡ record old { globals = old.globals ++ sinks; defined_globals = old.defined_globals ++ sink_definitions first }

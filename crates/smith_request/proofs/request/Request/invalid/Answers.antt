@@ -12,4 +12,4 @@ returns-in-Ok-new-clause-file c = record {
 }
 
 pub returns-in-Ok-clause-refused : goal.returns-in-Ok-clause-refused
-returns-in-Ok-clause-refused c = IsUnbroken.not_drawn (rw c.new-u.ensures at c.in-Err-new.ensures.refused) c.from.ensures
+returns-in-Ok-clause-refused c = IsUnbroken.not_drawn c.new.new.u _ (rw c.new-u.ensures at c.in-Err-new.ensures.refused) c.from.ensures
