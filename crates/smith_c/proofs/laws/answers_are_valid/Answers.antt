@@ -71,8 +71,8 @@ invalid_holds P old new before after answer holds (IsInvalidMade.made {wrong = w
 invalid_holds P old new before after answer holds (IsInvalidMade.refused {refusal = refusal} may kept same is) done =
     absurd (numbered refusal (sym (ap (λ (a : Answer). a.status) is) ∙ done))
 
--- bytes spell no valid module of the features of a configuration that the text is
-NoneOf : List ℕ → List ℕ → Type 0
+-- bytes spell no valid module under the features of the configuration in the text
+abbrev NoneOf : List ℕ → List ℕ → Type 0
 NoneOf text bytes = (read : Config) × IsConfigured text read × (IsValidModule (features_of read) bytes → ⊥)
 
 pub returns-clause-valid : goal.returns-clause-valid
