@@ -40,6 +40,11 @@
  * each iteration of a loop, and a trap at 0. With {"fuel-export": true} beside it, the last export is that global, a mutable i32 that can
  * be set again before a call. {"max-instructions": 0} makes every body but raw ones `unreachable`. Else whoever instantiates a module
  * should set a time limit.
+ *
+ * The member {"observe": true} adds three mutable globals, the sinks: one i32 and two i64, which are 0 at first. Each function mixes the
+ * values of its locals into them where it ends, so that two engines that compute other values differ in their sinks. They are the last
+ * exports, `sink_i32`, `sink_i64` and `sink_i64_2`. If an earlier export has one of these names, as many `_` follow it as the longest
+ * earlier name has bytes. The counter of fuel comes after them, and is exported, too. A raw body is refused with SMITH_UNMET, as for fuel.
  */
 #ifndef SMITH_H
 #define SMITH_H
@@ -103,7 +108,7 @@ struct smith_answer smith_binary(const uint8_t *config, size_t config_length,
                                  uint8_t *out, size_t out_length);
 
 /* Writes the module in the text format, and after it comments with values that the format cannot express. The status is SMITH_TOO_LONG only
- * if no index is left for the counter of fuel. */
+ * if there is no index for the counter of fuel and the sinks. */
 struct smith_answer smith_text(const uint8_t *config, size_t config_length,
                                const uint8_t *input, size_t input_length,
                                uint8_t *out, size_t out_length);
@@ -340,8 +345,8 @@ struct smith_fault {
  * of the features that the configuration turns on is spelled by the file, and that the fault is right. The validator must have these
  * features and no others, since a file may be valid under more.
  *
- * The module before the change is one that smith_binary writes for the same configuration and input, as is proved too, but without fuel
- * and custom sections, which the file never has: smith_binary returns it if the configuration has neither.
+ * The module before the change is one that smith_binary writes for the same configuration and input, as is proved too, but without fuel,
+ * sinks and custom sections, which the file never has: smith_binary returns it if the configuration has none of them.
  *
  * If a file is made, the fault is written, and the status is SMITH_MADE if the file was too, or SMITH_SHORT if `out` is too short for it.
  * Otherwise nothing is written. The status is SMITH_NO_CHANGE for one input in 30 of the default configuration, whose modules are often

@@ -111,7 +111,7 @@ pub fn module(config: &Config, input: &[u8]) -> Result<Vec<u8>, Refused> {
 ///
 /// # Errors
 ///
-/// Returns an error in the same cases as [`module`], but a module is too long only if no index is left for the global that counts fuel.
+/// Returns an error in the same cases as [`module`], but a module is too long only if there is no index for the counter of fuel and the sinks.
 pub fn text(config: &Config, input: &[u8]) -> Result<String, Refused> {
     config.made(smith_text_shaped, input).map(utf8)
 }

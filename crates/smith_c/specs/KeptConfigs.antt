@@ -4,7 +4,8 @@ use Rattle.smith_config.specs.declared.config.Config.{Config}
 use Rattle.smith_request.specs.Refusals.{IsRefusal, IsRefusalFor, IsUnread, status_of}
 use Rattle.smith_request.specs.Requests.{IsRequest, IsBinary, IsBinaryFor, HasBinary, HasBinaryFor, IsTextOf, IsTextFor}
 use Rattle.smith_request.specs.declared.manner.Form.TheVariants.{Binary, Text}
-use Rattle.smith_request.specs.declared.manner.Fuel.{Fuel}
+use Rattle.smith_request.specs.declared.additions.Additions.{Additions}
+use Rattle.smith_request.specs.declared.additions.Fuel.{Fuel}
 use Rattle.smith_request.specs.declared.refusal.Refusal.{Refusal}
 use Rattle.smith_request.specs.declared.request.Request.{Request}
 use Rattle.smith_text.specs.declared.module.Layout.{Layout}
@@ -15,6 +16,10 @@ use Rattle.smith_c.specs.declared.kept.KeptConfig.{KeptConfig}
 -- the stored fuel, if any
 abbrev pub kept_fuel : KeptConfig → Option Fuel
 kept_fuel kept = if kept.has_fuel then Some (record { amount = kept.fuel; is_exported = kept.is_fuel_exported }) else None
+
+-- what is stored as added to a program
+abbrev pub kept_additions : KeptConfig → Additions
+kept_additions kept = record { fuel = kept_fuel kept; is_observed = kept.is_observed }
 
 -- the stored configuration, without shapes
 abbrev pub config_of : KeptConfig → Config
@@ -94,7 +99,7 @@ config_of kept = record {
 
 -- the stored request
 abbrev pub request_of : KeptConfig → Request
-request_of kept = record { config = config_of kept; fuel = kept_fuel kept }
+request_of kept = record { config = config_of kept; additions = kept_additions kept }
 
 -- the request of the text is stored, with status 0; or the text is refused, and the stored request
 -- is unchanged

@@ -1,10 +1,10 @@
 ghost use Rattle.std.specs.Prelude.{◌≡◌};
 ghost use Rattle.smith_config.specs.InUse.{HasNoShapes};
-ghost use Rattle.smith_c.specs.KeptConfigs.{config_of, kept_fuel, request_of};
+ghost use Rattle.smith_c.specs.KeptConfigs.{config_of, kept_additions, kept_fuel, request_of};
 
 use bitflags::Flags;
 use smith_config::{Config, MemoryOffsetChoices};
-use smith_request::{Fuel, Request};
+use smith_request::{Additions, Fuel, Request};
 use smith_types::InstructionKinds;
 
 // The number of values of 64 bits.
@@ -12,7 +12,7 @@ const WORD: u128 = 1 << 64;
 
 /// What the text of a configuration requests, in memory of the caller: numbers without pointers, so
 /// that it can be copied and needs no release. The fields are those of [`Config`] that a text can
-/// set, in the order of their sizes, and the fuel.
+/// set, in the order of their sizes, and what is added to a program.
 #[repr(C)]
 #[derive(Clone, Copy)]
 pub struct KeptConfig {
@@ -59,6 +59,7 @@ pub struct KeptConfig {
     min_uleb_size: u8,
     has_fuel: bool,
     is_fuel_exported: bool,
+    is_observed: bool,
     memory_max_size_required: bool,
     table_max_size_required: bool,
     limit_arrays_in_const_exprs: bool,
@@ -100,7 +101,7 @@ impl KeptConfig {
     {
         let config = &request.config;
         let MemoryOffsetChoices(inside, between, past) = config.memory_offset_choices;
-        let fuel = request.fuel.unwrap_or(Fuel {
+        let fuel = request.additions.fuel.unwrap_or(Fuel {
             amount: 0,
             is_exported: false,
         });
@@ -146,8 +147,9 @@ impl KeptConfig {
             fuel: fuel.amount,
             allowed_instructions: config.allowed_instructions.bits(),
             min_uleb_size: config.min_uleb_size,
-            has_fuel: request.fuel.is_some(),
+            has_fuel: request.additions.fuel.is_some(),
             is_fuel_exported: fuel.is_exported,
+            is_observed: request.additions.is_observed,
             memory_max_size_required: config.memory_max_size_required,
             table_max_size_required: config.table_max_size_required,
             limit_arrays_in_const_exprs: config.limit_arrays_in_const_exprs,
@@ -188,7 +190,17 @@ impl KeptConfig {
     {
         Request {
             config: self.config(),
+            additions: self.additions(),
+        }
+    }
+
+    // Returns what the request adds to a program.
+    fn additions(&self) -> Additions
+        ensures { result ≡ kept_additions self.now }
+    {
+        Additions {
             fuel: self.fuel(),
+            is_observed: self.is_observed,
         }
     }
 

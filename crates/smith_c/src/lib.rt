@@ -49,8 +49,8 @@ pub extern "C" fn smith_binary(alloc: Global, config: &[u8], input: &[u8], out: 
     }
 }
 
-/// Writes that module in the text format, in UTF-8. It is too long only if no index is left for the
-/// global that counts fuel. No clause states what the text says.
+/// Writes that module in the text format, in UTF-8. It is too long only if there is no index for
+/// each global that is added. No clause states what the text says.
 #[unsafe(no_mangle)]
 pub extern "C" fn smith_text(alloc: Global, config: &[u8], input: &[u8], out: &mut [u8]) -> Answer
     ensures { IsAnswered (IsTextOf config.now input.now)

@@ -53,6 +53,8 @@ pub enum ProgramCall {
     New,
     /// The binary.
     Encode,
+    /// The text, with exported sinks.
+    Observe,
 }
 
 /// Calls on a configuration.
@@ -299,7 +301,7 @@ pub const RECORDED: &str = "recorded";
 const ANY: usize = usize::MAX;
 
 // Each call by its name, with the greatest number of its arguments.
-static CALLS: [(&str, Call, usize); 84] = [
+static CALLS: [(&str, Call, usize); 85] = [
     ("Module::new", Call::Module(ModuleCall::New), ANY),
     (
         "Module::new_internal",
@@ -324,6 +326,7 @@ static CALLS: [(&str, Call, usize); 84] = [
         Call::Program(ProgramCall::Encode),
         ANY,
     ),
+    ("Program::observe", Call::Program(ProgramCall::Observe), ANY),
     ("Config::arbitrary", Call::Config(ConfigCall::Arbitrary), 0),
     ("Config::clone", Call::Config(ConfigCall::Clone), 0),
     ("Config::sanitize", Call::Config(ConfigCall::Sanitize), 0),

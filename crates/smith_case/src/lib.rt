@@ -7,7 +7,8 @@
 //!   `call.rt` lists them. `Module::new of Config::arbitrary` draws the configuration first and the
 //!   module from the bytes left. `encode` adds fuel to the module of `Module::new` for each
 //!   argument and encodes it. `Program::new` adds fuel to the program likewise and answers its text,
-//!   `encode of Program::new` its binary; both report the bytes of the input left. `decode` answers
+//!   `encode of Program::new` its binary, and `Program::observe` adds exported sinks to it first and
+//!   answers its text; all three report the bytes of the input left. `decode` answers
 //!   the text of the module that the input is, or its first fault, and `judge` whether that module is
 //!   valid, in the words of `smith_judge`; for both each feature is on that `config` doesn't turn off.
 //!   `recorded` makes checksums of the results for generated inputs.

@@ -51,7 +51,7 @@ abbrev pub wide : Setter ℕ → Field
 wide set = whole (2 ^ 128 - 1) set
 
 -- every field, in the order of `Config`, and the members that set no field: the preset, which
--- changes the configuration before any field is set, the fuel, and its export
+-- changes the configuration before any field is set, the fuel, its export, and the sinks
 unfoldable pub fields : Table Field
 fields =
     (codes "min-types", size (λ config n. record config { min_types = n }))
@@ -128,6 +128,7 @@ fields =
     ∷ (codes "preset", preset)
     ∷ (codes "fuel", word (λ config n. config))
     ∷ (codes "fuel-export", truth (λ config b. config))
+    ∷ (codes "observe", truth (λ config b. config))
     ∷ []
 
 -- the field with a name

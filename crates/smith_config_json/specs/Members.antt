@@ -35,10 +35,15 @@ or_none (Err fault) = None
 abbrev pub fuel_in : List Token → Option ℕ
 fuel_in ts = or_none (whole_value (2 ^ 32 - 1) (value_of (codes "fuel") ts))
 
--- whether the member `fuel-export` of an object is true, so that the fuel counter is exported
+-- whether a token is `true`
 abbrev pub is_true : Token → Bool
 is_true (boolean b) = b
 is_true t = false
 
+-- whether the member `fuel-export` of an object is true, so that the fuel counter is exported
 abbrev pub is_fuel_exported_in : List Token → Bool
 is_fuel_exported_in ts = is_true (value_of (codes "fuel-export") ts)
+
+-- whether the member `observe` of an object is true, so that the program has sinks, and exports them
+abbrev pub is_observed_in : List Token → Bool
+is_observed_in ts = is_true (value_of (codes "observe") ts)

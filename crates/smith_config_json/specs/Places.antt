@@ -150,7 +150,7 @@ field_of place.AllowedInstructions = kinds (λ config k. record config { allowed
 field_of place.MemoryOffsetChoices = choices (λ config c. record config { memory_offset_choices = c })
 field_of place.File = file
 field_of place.Preset = preset
-field_of place.FuelExport = truth (λ config b. config)
+field_of place.Addition = truth (λ config b. config)
 
 -- the fields of a table in the code
 abbrev pub fields_in : List (Bor (List ℕ) × Place) → Table Field

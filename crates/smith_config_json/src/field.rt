@@ -189,13 +189,14 @@ macro_rules! place {
     };
 }
 
-/// The name and the place of every field, in the order of `Config`, and of the three members that
+/// The name and the place of every field, in the order of `Config`, and of the four members that
 /// are no fields.
-static PLACES: [(&str, Place); 74] = fields!(
+static PLACES: [(&str, Place); 75] = fields!(
     place,
     ("preset", Place::Preset),
     ("fuel", Place::Number(Number::Fuel)),
-    ("fuel-export", Place::FuelExport)
+    ("fuel-export", Place::Addition),
+    ("observe", Place::Addition)
 );
 
 /// Finds the place of the field named `name`.
@@ -235,7 +236,7 @@ fn kind_at(place: Place) -> FieldKind
         Place::Number(Number::Word(_) | Number::Fuel) => FieldKind::Whole(32),
         Place::Number(Number::MinUlebSize) => FieldKind::Whole(8),
         Place::Number(Number::MaxMemory64Bytes) => FieldKind::Whole(128),
-        Place::Flag(_) | Place::FuelExport => FieldKind::Flag,
+        Place::Flag(_) | Place::Addition => FieldKind::Flag,
         Place::AllowedInstructions => FieldKind::InstructionKinds,
         Place::MemoryOffsetChoices => FieldKind::OffsetChoices,
         Place::File => FieldKind::File,

@@ -4,10 +4,11 @@
 //! lists the names, with a description of each field. A field keeps its default if no member names
 //! it, or if its member is `null`.
 //!
-//! Three members are no fields. `preset` names a [`Preset`], which changes the configuration before
+//! Four members are no fields. `preset` names a [`Preset`], which changes the configuration before
 //! the other members do, wherever it is. `fuel` is the number of calls and iterations of loops after
 //! which a program traps; [`fuel`] finds it. `fuel-export` says whether the global that counts them
-//! is exported; [`is_fuel_exported`] finds it.
+//! is exported; [`is_fuel_exported`] finds it. `observe` says whether a program mixes the values of its
+//! locals into exported globals; [`is_observed`] finds it.
 #![tactic(auto)]
 
 mod examples;
@@ -23,7 +24,7 @@ mod value;
 
 pub use fault::Fault;
 pub use field::{FieldKind, kind_of};
-pub use member::{fuel, is_fuel_exported};
+pub use member::{fuel, is_fuel_exported, is_observed};
 pub use preset::{Preset, preset_named};
 pub use read::{config, read_config, read_text};
 pub use refusal::{ConfigRefusal, Refusal};

@@ -3,7 +3,7 @@ ghost use Rattle.json.specs.Lex.{tokens};
 ghost use Rattle.json.specs.Reads.{token_of};
 ghost use Rattle.smith_config_json.specs.Values.{map_ok, number_of};
 ghost use Rattle.smith_config_json.specs.Members.{is_key, value_of, or_none, preset_in, fuel_in};
-ghost use Rattle.smith_config_json.specs.Members.{is_fuel_exported_in};
+ghost use Rattle.smith_config_json.specs.Members.{is_true, is_fuel_exported_in, is_observed_in};
 
 use crate::preset::{Preset, preset_named};
 use crate::value::{next, number};
@@ -67,10 +67,26 @@ pub fn fuel(alloc: Global, text: &str) -> Result<Option<u32>, AllocError>
 pub fn is_fuel_exported(alloc: Global, text: &str) -> Result<bool, AllocError>
     ensures { IfOk result (λ is_exported. is_exported ≡ is_fuel_exported_in (tokens text.now)) }
 {
+    is_member_true(alloc, text, "fuel-export")
+}
+
+/// Returns whether the object in `text`, which [`config`](crate::config) has read, has the values of
+/// locals mixed into sinks, which are exported: whether its member `observe` is `true`. The counter of a
+/// fuel is then exported, too.
+pub fn is_observed(alloc: Global, text: &str) -> Result<bool, AllocError>
+    ensures { IfOk result (λ is_observed. is_observed ≡ is_observed_in (tokens text.now)) }
+{
+    is_member_true(alloc, text, "observe")
+}
+
+/// Returns whether the first member with the name `name` of the object in `text` is `true`.
+fn is_member_true(alloc: Global, text: &str, name: &str) -> Result<bool, AllocError>
+    ensures { IfOk result (λ is. is ≡ is_true (value_of name.now (tokens text.now))) }
+{
     let mut scratch = Scratch::new(alloc);
     let mut reader = Reader::new(text, &mut scratch)?;
-    match value_of(&mut reader, "fuel-export") {
-        Token::Bool(is_exported) => Ok(is_exported),
+    match value_of(&mut reader, name) {
+        Token::Bool(is) => Ok(is),
         _ => Ok(false),
     }
 }

@@ -93,7 +93,8 @@ pub(crate) enum Number {
     Fuel,
 }
 
-/// A field of a configuration, or the preset or the export of the fuel, which no field holds.
+/// A field of a configuration, or a member that no field holds: the preset, or whether something is
+/// added to a program.
 #[derive(Clone, Copy)]
 pub(crate) enum Place {
     Number(Number),
@@ -102,5 +103,5 @@ pub(crate) enum Place {
     MemoryOffsetChoices,
     File,
     Preset,
-    FuelExport,
+    Addition,
 }

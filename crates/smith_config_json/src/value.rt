@@ -255,7 +255,7 @@ pub fn set_field(config: &mut Config, name: &str, reader: &mut Reader<'_>) -> Re
         Some(Place::MemoryOffsetChoices) => read_choices(config, reader),
         Some(Place::File) => no_file(reader),
         Some(Place::Preset) => known_preset(reader),
-        Some(Place::FuelExport) => read_fuel_export(config, reader),
+        Some(Place::Addition) => read_addition(config, reader),
         None => Err(Fault::UnknownField),
     }
 }
@@ -315,14 +315,14 @@ fn read_flag(config: &mut Config, flag: Flag, reader: &mut Reader<'_>) -> Result
     Ok(())
 }
 
-/// Reads whether the counter of the fuel is exported, which no field holds.
-fn read_fuel_export(config: &mut Config, reader: &mut Reader<'_>) -> Result<(), Fault>
-    ensures exact { Sets (Some (field_of Place.FuelExport)) config.old reader.old
+/// Reads whether something is added to a program, which no field holds.
+fn read_addition(config: &mut Config, reader: &mut Reader<'_>) -> Result<(), Fault>
+    ensures exact { Sets (Some (field_of Place.Addition)) config.old reader.old
         (outcome result config.new reader.new) }
     ensures unchanged { IfErr result (λ fault. config.new ≡ config.old) }
     ensures shorter { length reader.new ≤ length reader.old }
 {
-    let _is_exported = truth(reader)?;
+    let _is_added = truth(reader)?;
     Ok(())
 }
 

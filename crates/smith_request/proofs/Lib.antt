@@ -1,5 +1,5 @@
 pub mod ValidLemmas
-pub mod FuelLemmas
+pub mod AdditionLemmas
 pub mod PlainLemmas
 pub mod RequestLemmas
 mod ShapelessLemmas

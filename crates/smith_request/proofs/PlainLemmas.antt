@@ -1,5 +1,5 @@
 -- Files of programs have no custom sections, before some are put into them.
-use Rattle.std.proofs.Common.{◌≢◌, ℕ, Bool, true, false, Option, Some, None, List, [], ◌∷◌, ◌++◌, Ok, refl, subst, arith}
+use Rattle.std.proofs.Common.{◌≢◌, ℕ, Bool, true, false, List, [], ◌∷◌, ◌++◌, Ok, refl, subst, arith}
 use Rattle.std.specs.Prelude.{is_some}
 use Rattle.smith_binary.specs.Pieces.{Each}
 use Rattle.smith_binary.specs.declared.error.EncodeError.TheVariants.{Memory}
@@ -11,9 +11,9 @@ use Rattle.smith_binary_module.specs.Layout.{HasSections}
 use Rattle.smith_program.specs.Generated.{IsProgram}
 use Rattle.smith_program.specs.Parts.{ProgramParts}
 use Rattle.smith_custom_sections.specs.CustomSections.{IsPlain, IsPlainSection}
-use Rattle.smith_request.specs.Output.{IsBinaryWith, IsFileOf, IsFinished, IsUncounted, IsUnwrittenWith}
+use Rattle.smith_request.specs.Output.{IsBinaryWith, IsFileOf, IsFinished, IsUnwrittenWith}
+use Rattle.smith_request.specs.declared.additions.Additions.{Additions}
 use Rattle.smith_request.specs.declared.manner.Form.TheVariants.{Binary}
-use Rattle.smith_request.specs.declared.manner.Fuel.{Fuel}
 use Rattle.smith_request.specs.declared.refusal.Refusal.TheVariants.{Encoding}
 
 -- identifiers of sections that are not custom
@@ -70,20 +70,18 @@ plain_file m file h =
     let sections = plain_each (section_ids m) h.second (sections_own m) h.is_second in
     (sections.sections, record { first = h.first; second = h.second; is_first = h.is_first; is_second = sections.each; whole = h.whole })
 
-pub binary_plain : (fuel : Option Fuel) (program : ProgramParts) (file : List ℕ) → IsBinaryWith fuel program file → IsPlain file
-binary_plain None program file h = plain_file program.«module» file h.sections
-binary_plain (Some fuel) program file h = plain_file h.counted.«module» file h.encoded.sections
+pub binary_plain : (additions : Additions) (program : ProgramParts) (file : List ℕ) → IsBinaryWith additions program file → IsPlain file
+binary_plain additions program file h = plain_file h.extended.«module» file h.encoded.sections
 
 -- memory may run out after such a file is written
-pub lacks_memory : (fuel : Option Fuel) (program : ProgramParts) (file : List ℕ) → IsBinaryWith fuel program file
-    → IsUnwrittenWith Binary fuel program (Encoding Memory)
-lacks_memory None program file h = tt
-lacks_memory (Some fuel) program file h = IsUncounted.not_written h.has_counter tt
+pub lacks_memory : (additions : Additions) (program : ProgramParts) (file : List ℕ) → IsBinaryWith additions program file
+    → IsUnwrittenWith Binary additions program (Encoding Memory)
+lacks_memory additions program file h = IsUnwrittenWith.not_written h.is_extended tt
 
 -- a file of the configuration that a module keeps is one of the configuration that it is drawn for
-pub file_of : {config : Config} {fuel : Option Fuel} {program : ProgramParts} {input left bytes : List ℕ}
+pub file_of : {config : Config} {additions : Additions} {program : ProgramParts} {input left bytes : List ℕ}
     → IsProgram config input (Ok program) left
-    → IsFileOf program.«module».config fuel program left bytes → IsFileOf config fuel program left bytes
+    → IsFileOf program.«module».config additions program left bytes → IsFileOf config additions program left bytes
 file_of {left = left} {bytes = bytes} drawn h = record {
   file = h.file;
   encoded = h.encoded;

@@ -1,11 +1,10 @@
 -- What is made of a request is made of its text.
 use Rattle.std.proofs.Common.{ℕ, List, subst}
-use Rattle.std.specs.Prelude.{Option}
 use Rattle.smith_request.specs.Output.{IsBinaryOf, IsRefusedFor}
 use Rattle.smith_request.specs.Refusals.{IsRefusal, IsRefusalFor}
 use Rattle.smith_request.specs.Requests.{IsRequest, IsBinary, IsBinaryFor, HasBinary, HasBinaryFor, IsTextOf, IsTextFor}
+use Rattle.smith_request.specs.declared.additions.Additions.{Additions}
 use Rattle.smith_request.specs.declared.manner.Form.{Form}
-use Rattle.smith_request.specs.declared.manner.Fuel.{Fuel}
 use Rattle.smith_request.specs.declared.refusal.Refusal.{Refusal}
 use Rattle.smith_request.specs.declared.request.Request.{Request}
 
@@ -15,7 +14,7 @@ binary_of {input = input} {request = request} read bytes made = record {
   config = request.config;
   configured = read.configured;
   left = made.left;
-  binary = subst (λ (fuel : Option Fuel). IsBinaryOf request.config fuel input bytes made.left) read.fuel made.binary;
+  binary = subst (λ (additions : Additions). IsBinaryOf request.config additions input bytes made.left) read.additions made.binary;
 }
 
 pub has_binary_of : {text input : List ℕ} {request : Request} → IsRequest text request → HasBinaryFor request input → HasBinary text input
@@ -34,5 +33,5 @@ pub refusal_of : {text input : List ℕ} {request : Request} (form : Form) → I
     → IsRefusalFor form request input refusal
     → IsRefusal form text input refusal
 refusal_of {input = input} {request = request} form read refusal made =
-    IsRefusal.not_made read.configured (subst (λ (fuel : Option Fuel). IsRefusedFor form request.config fuel input made.left refusal)
-    read.fuel made.unmade)
+    IsRefusal.not_made read.configured
+    (subst (λ (additions : Additions). IsRefusedFor form request.config additions input made.left refusal) read.additions made.unmade)

@@ -61,7 +61,7 @@ named_keeps name (entry ∷ entries) keep = picked (bytes_eq name entry.0) entry
 
 keep_from_70 : AllKeep (drop 70 fields)
 unfolding fields
-keep_from_70 = (tt, (tt, ((λ config x. refl), ((λ config x. refl), tt))))
+keep_from_70 = (tt, (tt, ((λ config x. refl), ((λ config x. refl), ((λ config x. refl), tt)))))
 
 keep_from_65 : AllKeep (drop 65 fields)
 unfolding fields

@@ -1,3 +1,4 @@
+pub mod Additions
 pub mod Invalid
 pub mod Output
 pub mod Refusals

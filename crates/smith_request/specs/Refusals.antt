@@ -12,7 +12,7 @@ use Rattle.smith_config_json.specs.declared.fault.Fault.TheVariants.{OutOfMemory
 use Rattle.smith_config_json.specs.declared.fault.Fault.TheVariants.{OutOfRange, TextAfter}
 use Rattle.smith_config_json.specs.declared.refusal.ConfigRefusal.{ConfigRefusal}
 use Rattle.smith_request.specs.Output.{IsRefusedFor}
-use Rattle.smith_request.specs.Requests.{IsConfigured, fuel_of}
+use Rattle.smith_request.specs.Requests.{IsConfigured, additions_of}
 use Rattle.smith_request.specs.declared.manner.Form.{Form}
 use Rattle.smith_request.specs.declared.refusal.Refusal.{Refusal}
 use Rattle.smith_request.specs.declared.refusal.Refusal.TheVariants.{NotUtf8, Config, Module, Encoding, Shape, NoChange, NoFamily}
@@ -37,14 +37,14 @@ IsUnread text NoFamily = ⊥
 -- an error for a configuration's text and an input
 pub data IsRefusal (form : Form) (text input : List ℕ) (refusal : Refusal) : Type 0 where
   not_read : IsUnread text refusal → IsRefusal form text input refusal
-  not_made : {config : Configuration} {left : List ℕ} → IsConfigured text config → IsRefusedFor form config (fuel_of text) input left
-      refusal →
+  not_made : {config : Configuration} {left : List ℕ} → IsConfigured text config →
+      IsRefusedFor form config (additions_of text) input left refusal →
       IsRefusal form text input refusal
 
 -- an error for a request and an input
 pub record IsRefusalFor (form : Form) (request : Request) (input : List ℕ) (refusal : Refusal) : Type 0 where
   pub left : List ℕ
-  pub unmade : IsRefusedFor form request.config request.fuel input left refusal
+  pub unmade : IsRefusedFor form request.config request.additions input left refusal
 
 -- the number of a fault of a configuration's text
 abbrev pub fault_status : Fault → ℕ

@@ -62,7 +62,7 @@ fn families_of(alloc: Global, numbers: &[u32]) -> Result<Vec<Family>, Refusal>
 impl Request {
     /// Draws a program from `input` for the configuration, and makes a change of it that breaks a rule, of
     /// one of the families with the numbers `families`, or of any if there are none. The file has no custom
-    /// sections, and counts no fuel.
+    /// sections, counts no fuel, and has no sinks.
     ///
     /// # Errors
     ///
@@ -72,7 +72,10 @@ impl Request {
         ensures file { IfOk result (IsInvalidOf self.config families.now input.now) }
         ensures refused { IfErr result (IsUnbroken self.config families.now input.now) }
     {
-        let Request { config, fuel: _ } = self;
+        let Request {
+            config,
+            additions: _,
+        } = self;
         match families_of(alloc, families) {
             Ok(families) => {
                 let mut u = Unstructured::new(input);

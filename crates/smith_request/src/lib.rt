@@ -6,6 +6,7 @@
 //! shapes are given apart from it, as bytes.
 #![tactic(auto)]
 
+mod additions;
 mod customs;
 mod invalid_file;
 /// Laws: functions with empty bodies whose clauses state theorems.
@@ -16,8 +17,9 @@ mod request;
 mod shaped;
 mod writers;
 
+pub use additions::{Additions, Fuel};
 pub use invalid_file::invalid;
-pub use manner::{Form, Fuel, Manner, output, write_program};
+pub use manner::{Form, Manner, output, write_program};
 pub use refusal::Refusal;
 pub use request::{Request, binary, text, wat};
 pub use shaped::ShapeFiles;

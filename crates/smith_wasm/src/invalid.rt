@@ -11,7 +11,7 @@ use clap::ArgMatches;
 use rand_core::{Rng, SeedableRng};
 use rand_xoshiro::Xoshiro256PlusPlus;
 use smith_bytes::Unstructured;
-use smith_request::{Form, Manner, Refusal};
+use smith_request::{Additions, Form, Manner, Refusal};
 use smith_wrong::{Family, Wrong, WrongRefusal};
 use std::alloc::Global;
 
@@ -47,7 +47,10 @@ pub(crate) fn make_invalid(rt: &HostRuntime, matches: &ArgMatches<'_>) -> Result
         config,
         manner: Manner {
             form: Form::Binary,
-            fuel: None,
+            additions: Additions {
+                fuel: None,
+                is_observed: false,
+            },
         },
         shapes,
     };

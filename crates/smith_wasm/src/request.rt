@@ -7,12 +7,12 @@ use crate::paths::{NO_PATHS, Paths, take_paths};
 use crate::shapes::Shapes;
 use crate::warnings::warn;
 use crate::words::{
-    CONFIG, ENSURE_TERMINATION, FUEL, FUEL_EXPORT, INPUT, NOTES, OUTPUT, OUTPUT_DIR, WAT,
+    CONFIG, ENSURE_TERMINATION, FUEL, FUEL_EXPORT, INPUT, NOTES, OBSERVE, OUTPUT, OUTPUT_DIR, WAT,
 };
 use clap::ArgMatches;
 use smith_bytes::Unstructured;
 use smith_program::Program;
-use smith_request::{Form, Fuel, Layout, Manner, write_program};
+use smith_request::{Additions, Form, Fuel, Layout, Manner, write_program};
 use std::alloc::{AllocError, Global};
 
 // The mark that some editors write at the beginning of a text.
@@ -133,22 +133,55 @@ fn manner_of(
         (true, false) => Form::Text(Layout::Signatures),
         (true, true) => Form::Text(Layout::Notes),
     };
-    let (in_file, is_exported_in_file) = match config {
-        Some(text) => (
-            smith_config_json::fuel(rt.alloc(), text.as_str())?,
-            smith_config_json::is_fuel_exported(rt.alloc(), text.as_str())?,
-        ),
-        None => (None, false),
+    let in_file = match config {
+        Some(text) => read_additions(rt.alloc(), text.as_str())?,
+        None => NO_ADDITIONS,
     };
-    let is_exported = is_exported_in_file || matches.get_flag(FUEL_EXPORT);
-    let fuel = match amount_of(matches, in_file) {
+    Ok(Manner {
+        form,
+        additions: additions_of(matches, in_file),
+    })
+}
+
+/// What the text of a configuration file adds to a program.
+#[derive(Clone, Copy)]
+struct FileAdditions {
+    fuel: Option<u32>,
+    is_fuel_exported: bool,
+    is_observed: bool,
+}
+
+// The additions without a configuration file.
+const NO_ADDITIONS: FileAdditions = FileAdditions {
+    fuel: None,
+    is_fuel_exported: false,
+    is_observed: false,
+};
+
+/// Finds what `text`, that of the configuration file, adds to a program.
+fn read_additions(alloc: Global, text: &str) -> Result<FileAdditions, AllocError> {
+    Ok(FileAdditions {
+        fuel: smith_config_json::fuel(alloc, text)?,
+        is_fuel_exported: smith_config_json::is_fuel_exported(alloc, text)?,
+        is_observed: smith_config_json::is_observed(alloc, text)?,
+    })
+}
+
+/// Returns what the words select to be added to a program, beside `in_file`, that of the
+/// configuration file.
+fn additions_of(matches: &ArgMatches<'_>, in_file: FileAdditions) -> Additions {
+    let is_exported = in_file.is_fuel_exported || matches.get_flag(FUEL_EXPORT);
+    let fuel = match amount_of(matches, in_file.fuel) {
         Some(amount) => Some(Fuel {
             amount,
             is_exported,
         }),
         None => None,
     };
-    Ok(Manner { form, fuel })
+    Additions {
+        fuel,
+        is_observed: in_file.is_observed || matches.get_flag(OBSERVE),
+    }
 }
 
 /// Returns the number of calls and iterations that the words select. `in_file` is that of the

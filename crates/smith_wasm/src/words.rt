@@ -7,7 +7,7 @@ use std::alloc::Global;
 
 /// The version of the program, the library for C and its callers. Versions with the same second
 /// number produce the same file of the same configuration and bytes.
-const VERSION: &str = "0.8.0";
+const VERSION: &str = "0.8.1";
 
 /// The command that prints a file.
 pub(crate) const PRINT: &str = "print";
@@ -55,6 +55,8 @@ pub(crate) const ENSURE_TERMINATION: &str = "ensure-termination";
 pub(crate) const FUEL: &str = "fuel";
 /// The word of the export of the counter.
 pub(crate) const FUEL_EXPORT: &str = "fuel-export";
+/// The word of the sinks of the values of locals.
+pub(crate) const OBSERVE: &str = "observe";
 /// The word of the number of modules of a corpus.
 pub(crate) const COUNT: &str = "count";
 /// The word of the number of files of a corpus.
@@ -198,7 +200,12 @@ const FUEL_EXPORT_ABOUT: &str =
     "Exports the global that counts, so that a caller can refill it, after all other exports: as `fuel`, \
 or if an export has that name, as `fuel` and as many `_` as the longest name has bytes.";
 
-static WORDS: [Word; 16] = [
+/// What the sinks are for, and the names of their exports.
+const OBSERVE_ABOUT: &str =
+    "Mixes the values of locals into three globals where functions end, so that two engines can be compared, \
+and exports these as `sink_i32`, `sink_i64` and `sink_i64_2`, followed by `_` like `fuel`; also exports the global that counts.";
+
+static WORDS: [Word; 17] = [
     Word {
         name: OUTPUT,
         short: Some('o'),
@@ -270,6 +277,14 @@ static WORDS: [Word; 16] = [
         needs: Some(ENSURE_TERMINATION),
         excludes: &[],
         about: FUEL_EXPORT_ABOUT,
+    },
+    Word {
+        name: OBSERVE,
+        short: None,
+        takes: Takes::Nothing,
+        needs: None,
+        excludes: &[],
+        about: OBSERVE_ABOUT,
     },
     Word {
         name: COUNT,

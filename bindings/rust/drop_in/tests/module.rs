@@ -76,13 +76,46 @@ fn the_counter_of_fuel_is_the_last_global_and_export() {
     assert_eq!(grown, 50);
 }
 
+fn has_name(module: &Module, name: &str) -> bool {
+    module.to_bytes().windows(name.len()).any(|bytes| bytes == name.as_bytes())
+}
+
 #[test]
-fn raw_bodies_have_no_counter() {
+fn the_sinks_are_the_last_globals_and_exports() {
+    for seed in 0..50 {
+        let config = Config { min_funcs: 1, min_types: 1, min_globals: 2, max_exports: 0, ..Config::default() };
+        let mut module = module(config, seed).unwrap();
+        let first = module.observe().unwrap();
+        assert!((2..=100).contains(&first));
+        let observed = module.to_bytes();
+        assert_eq!(module.observe().unwrap(), first);
+        assert_eq!(module.to_bytes(), observed);
+        assert!(["\u{8}sink_i32\u{3}", "\u{8}sink_i64\u{3}", "\nsink_i64_2\u{3}"].iter().all(|name| has_name(&module, name)));
+        assert!(!has_name(&module, "\u{4}fuel\u{3}"));
+    }
+}
+
+#[test]
+fn a_counter_of_fuel_follows_the_sinks() {
+    for seed in 0..50 {
+        let config = Config { min_funcs: 1, min_types: 1, ..Config::default() };
+        let mut module = module(config, seed).unwrap();
+        let alone = module.ensure_termination(1000).unwrap();
+        assert_eq!(module.observe().unwrap(), alone);
+        let observed = module.to_bytes();
+        assert_eq!(module.ensure_termination(1000).unwrap(), alone + 3);
+        assert_eq!(module.to_bytes(), observed);
+    }
+}
+
+#[test]
+fn raw_bodies_have_no_counter_and_no_sinks() {
     let config = Config { min_funcs: 1, min_types: 1, allow_invalid_funcs: true, max_imports: 0, ..Config::default() };
     let refused = (0..200).filter_map(|seed| {
         let mut module = module(config.clone(), seed).ok()?;
         let before = module.to_bytes();
         let refused = module.ensure_termination(9).err()?;
+        assert_eq!(module.observe().err()?.status, refused.status);
         assert_eq!(module.to_bytes(), before);
         Some(refused.status)
     });

@@ -268,9 +268,11 @@ impl Config {
         })
     }
 
-    /// Returns the handle of the configuration with a global that counts `fuel` down, and is exported.
-    pub(crate) fn with_fuel(&self, fuel: u32) -> crate::Config {
-        self.read(&format!("\"fuel\": {fuel}, \"fuel-export\": true"))
+    /// Returns the handle of the configuration with sinks if `is_observed` is set, and a global that counts `fuel` down if there is one.
+    /// All of them are exported.
+    pub(crate) fn with_additions(&self, is_observed: bool, fuel: Option<u32>) -> crate::Config {
+        let fuel = fuel.map_or("null".to_string(), |fuel| fuel.to_string());
+        self.read(&format!("\"observe\": {is_observed}, \"fuel\": {fuel}, \"fuel-export\": true"))
     }
 
     /// Turns features off that lack others that they need.

@@ -30,6 +30,8 @@ const NO_SHAPE: u32 = 8;
 pub struct Module {
     config: Config,
     input: Vec<u8>,
+    fuel: Option<u32>,
+    is_observed: bool,
     bytes: Vec<u8>,
 }
 
@@ -63,7 +65,7 @@ impl Module {
         config.sanitize();
         let input = u.bytes(u.len())?.to_vec();
         match crate::module(&config.kept(), &input) {
-            Ok(bytes) => Ok(Module { config, input, bytes }),
+            Ok(bytes) => Ok(Module { config, input, fuel: None, is_observed: false, bytes }),
             Err(refused) if matches!(refused.status, NO_MEMORY | CONFIG_TEXT | CONFIG | SHAPE | NO_SHAPE) => panic!("{refused}"),
             Err(_) => Err(Error::IncorrectFormat),
         }
@@ -80,14 +82,37 @@ impl Module {
     }
 
     /// Adds a mutable i32 that counts down from `default_fuel`, at each call and at each iteration of a loop, and a trap at 0. It is the
-    /// last global and the last export of the module. Returns its index.
+    /// last global and the last export of the module. Returns its index. A further call counts from another number.
     ///
     /// # Errors
     ///
     /// Returns the reason if a body is raw bytes, which `allow_invalid_funcs` permits, or if the module is then too long for the binary
     /// format. The module is unchanged then.
     pub fn ensure_termination(&mut self, default_fuel: u32) -> std::result::Result<u32, Refused> {
-        self.bytes = crate::module(&self.config.with_fuel(default_fuel), &self.input)?;
-        Ok(exports::last_index(&self.bytes).expect("the last export should be the global"))
+        self.bytes = crate::module(&self.config.with_additions(self.is_observed, Some(default_fuel)), &self.input)?;
+        self.fuel = Some(default_fuel);
+        Ok(self.last_index())
+    }
+
+    /// Adds three mutable globals that are 0 at first, the sinks: one i32 and two i64. Each function mixes the values of its locals into
+    /// them where it ends, so that two engines that compute other values differ in their sinks. Returns the index of the first.
+    ///
+    /// The sinks are the last exports, `sink_i32`, `sink_i64` and `sink_i64_2`, each followed by `_` if an earlier export has its name. A
+    /// global that counts fuel is added after them, so its index is three higher than before. A further call changes nothing.
+    ///
+    /// The crate `wasm-smith` 0.219.1 has no such call.
+    ///
+    /// # Errors
+    ///
+    /// Returns the reason in the same cases as [`Module::ensure_termination`]. The module is unchanged then.
+    pub fn observe(&mut self) -> std::result::Result<u32, Refused> {
+        self.bytes = crate::module(&self.config.with_additions(true, self.fuel), &self.input)?;
+        self.is_observed = true;
+        Ok(self.last_index() - if self.fuel.is_some() { 3 } else { 2 })
+    }
+
+    /// Returns the index of the last export, a global that was added.
+    fn last_index(&self) -> u32 {
+        exports::last_index(&self.bytes).expect("the last export should be a global that was added")
     }
 }

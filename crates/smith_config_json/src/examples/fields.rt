@@ -8,6 +8,7 @@ fn kinds()
     ensures byte { AreOfKind (field_named (codes "min-uleb-size")) (Some (kind.Whole 8)) }
     ensures truth { AreOfKind (field_named (codes "gc-enabled")) (Some kind.Flag) }
     ensures no_member_of_config { AreOfKind (field_named (codes "fuel-export")) (Some kind.Flag) }
+    ensures sinks { AreOfKind (field_named (codes "observe")) (Some kind.Flag) }
     ensures path { AreOfKind (field_named (codes "exports")) (Some kind.File) }
     ensures no_field { AreOfKind (field_named (codes "max-typos")) None }
 {}

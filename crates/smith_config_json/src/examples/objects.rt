@@ -35,6 +35,9 @@ fn refusals()
     ensures wrong_type { ReadsObject default_config
         (begin_object ∷ key (codes "max-types") ∷ boolean true ∷ end_object ∷ [])
         (Err (WrongType, codes "max-types", default_config)) }
+    ensures wrong_type_of_no_field { ReadsObject default_config
+        (begin_object ∷ key (codes "observe") ∷ number (codes "1") ∷ end_object ∷ [])
+        (Err (WrongType, codes "observe", default_config)) }
     ensures out_of_range { ReadsObject default_config
         (begin_object ∷ key (codes "min-uleb-size") ∷ number (codes "256") ∷ end_object ∷ [])
         (Err (OutOfRange, codes "min-uleb-size", default_config)) }

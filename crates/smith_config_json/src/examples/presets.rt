@@ -5,6 +5,7 @@ ghost use Rattle.std.specs.Prelude.{◌≡◌, ◌^◌, [], ◌∷◌, Some, Non
 ghost use Rattle.json.specs.Token.{begin_object, end_object, key, number, string, boolean};
 ghost use Rattle.smith_config.specs.Config.{default_config};
 ghost use Rattle.smith_config_json.specs.Members.{preset_in, fuel_in, is_fuel_exported_in};
+ghost use Rattle.smith_config_json.specs.Members.{is_observed_in};
 ghost use Rattle.smith_config_json.specs.Presets.{preset_named, with_preset, changed_by};
 ghost use Rattle.smith_config_json.specs.declared.preset.Preset.TheVariants.{Run, Version1};
 ghost use Rattle.smith_config_json.specs.declared.preset.Preset.TheVariants.{Proposals, V8};
@@ -43,4 +44,8 @@ fn members()
     ensures exported { is_fuel_exported_in (begin_object ∷ key (codes "fuel-export")
         ∷ boolean true ∷ end_object ∷ []) ≡ true }
     ensures unexported { is_fuel_exported_in (begin_object ∷ end_object ∷ []) ≡ false }
+    ensures observed { is_observed_in (begin_object ∷ key (codes "fuel-export") ∷ boolean false
+        ∷ key (codes "observe") ∷ boolean true ∷ end_object ∷ []) ≡ true }
+    ensures unobserved { is_observed_in (begin_object ∷ key (codes "fuel-export") ∷ boolean true
+        ∷ end_object ∷ []) ≡ false }
 {}

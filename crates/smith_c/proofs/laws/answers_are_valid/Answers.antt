@@ -15,7 +15,7 @@ use Rattle.smith_judge.specs.Files.{IsValidFile as IsValidModule}
 use Rattle.smith_wrong.specs.declared.wrong.Wrong.{Wrong}
 use Rattle.smith_request.specs.declared.refusal.Refusal.TheVariants.{NotUtf8, Config as OfConfig, Module, Encoding, Shape, NoChange, NoFamily}
 use Rattle.smith_request.proofs.ValidLemmas.{binary_valid, plain_valid}
-use Rattle.smith_request.specs.Requests.{IsConfigured, fuel_of}
+use Rattle.smith_request.specs.Requests.{IsConfigured, additions_of}
 use Rattle.smith_c.specs.CallAnswers.{IsAnswered, IsPut}
 use Rattle.smith_c.specs.Files.{IsInvalidMade}
 use Rattle.smith_c.specs.KeptConfigs.{config_of}
@@ -78,16 +78,16 @@ NoneOf text bytes = (read : Config) × IsConfigured text read × (IsValidModule 
 pub returns-clause-valid : goal.returns-clause-valid
 returns-clause-valid c =
     λ config input before after answer. answered_holds IsValidFile before after answer
-    (λ bytes h. binary_valid h.config (fuel_of config) input bytes h.left h.binary)
+    (λ bytes h. binary_valid h.config (additions_of config) input bytes h.left h.binary)
 
 pub returns-clause-without_customs : goal.returns-clause-without_customs
 returns-clause-without_customs c =
     λ config input before after answer off. answered_holds IsValidBinary before after answer
-    (λ bytes h. plain_valid h.config (fuel_of config) input bytes h.left (off h.config h.configured) h.binary)
+    (λ bytes h. plain_valid h.config (additions_of config) input bytes h.left (off h.config h.configured) h.binary)
 
 pub returns-clause-shaped : goal.returns-clause-shaped
 returns-clause-shaped c = λ shapes config input before after answer. answered_holds IsValidFile before after answer
-    (λ bytes h. binary_valid h.shaped.config h.shaped.fuel input bytes h.binary.left h.binary.binary)
+    (λ bytes h. binary_valid h.shaped.config h.shaped.additions input bytes h.binary.left h.binary.binary)
 
 pub returns-clause-invalid : goal.returns-clause-invalid
 returns-clause-invalid c = λ config families input old new before after answer.

@@ -4,6 +4,9 @@ use Rattle.smith_request.specs.Output.{IsRefusedFor}
 use Rattle.smith_request.proofs.PlainLemmas.{file_of}
 use Rattle.smith_request.proofs.manner.output.Goals as goal
 
+pub write_program-requires : goal.write_program-requires
+write_program-requires c = record { valid = λ observed. c.in-Ok.ensures.valid.valid }
+
 pub returns-in-Ok-clause-binary : goal.returns-in-Ok-clause-binary
 returns-in-Ok-clause-binary c = λ is.
     IfOk-weaker c.write_program.result _ _

@@ -6,7 +6,7 @@ use Rattle.smith_request.specs.declared.manner.Form.TheVariants.{Binary}
 use Rattle.smith_request.proofs.manner.write_file.Goals as goal
 
 pub finish-requires : goal.finish-requires
-finish-requires c = record { plain = binary_plain c.args.fuel c.args.program c.in-Ok.file.items (c.in-Ok.ensures.binary refl) }
+finish-requires c = record { plain = binary_plain c.args.additions c.args.program c.in-Ok.file.items (c.in-Ok.ensures.binary refl) }
 
 pub returns-in-Ok-clause-binary : goal.returns-in-Ok-clause-binary
 returns-in-Ok-clause-binary c =
@@ -17,6 +17,6 @@ returns-in-Ok-clause-binary c =
 pub returns-in-Ok-clause-refused : goal.returns-in-Ok-clause-refused
 returns-in-Ok-clause-refused c =
     IfErr-weaker c.finish.result _ _
-    (λ refusal is. subst (IsUnwrittenWith Binary c.args.fuel c.args.program) (sym is)
-    (lacks_memory c.args.fuel c.args.program c.in-Ok.file.items (c.in-Ok.ensures.binary refl)))
+    (λ refusal is. subst (IsUnwrittenWith Binary c.args.additions c.args.program) (sym is)
+    (lacks_memory c.args.additions c.args.program c.in-Ok.file.items (c.in-Ok.ensures.binary refl)))
     c.finish.ensures.memory

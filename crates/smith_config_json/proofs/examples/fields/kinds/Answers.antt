@@ -14,6 +14,10 @@ pub returns-clause-no_member_of_config : goal.returns-clause-no_member_of_config
 unfolding fields
 returns-clause-no_member_of_config c = tt
 
+pub returns-clause-sinks : goal.returns-clause-sinks
+unfolding fields
+returns-clause-sinks c = tt
+
 pub returns-clause-path : goal.returns-clause-path
 unfolding fields
 returns-clause-path c = tt

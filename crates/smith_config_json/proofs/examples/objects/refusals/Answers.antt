@@ -16,6 +16,10 @@ pub returns-clause-wrong_type : goal.returns-clause-wrong_type
 unfolding fields
 returns-clause-wrong_type c = refuses refl refl refl
 
+pub returns-clause-wrong_type_of_no_field : goal.returns-clause-wrong_type_of_no_field
+unfolding fields
+returns-clause-wrong_type_of_no_field c = refuses refl refl refl
+
 pub returns-clause-out_of_range : goal.returns-clause-out_of_range
 unfolding fields
 returns-clause-out_of_range c = refuses refl refl refl

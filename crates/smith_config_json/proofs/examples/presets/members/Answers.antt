@@ -23,3 +23,9 @@ returns-clause-exported c = refl
 
 pub returns-clause-unexported : goal.returns-clause-unexported
 returns-clause-unexported c = refl
+
+pub returns-clause-observed : goal.returns-clause-observed
+returns-clause-observed c = refl
+
+pub returns-clause-unobserved : goal.returns-clause-unobserved
+returns-clause-unobserved c = refl

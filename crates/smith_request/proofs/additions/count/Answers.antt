@@ -1,6 +1,6 @@
-use Rattle.smith_request.specs.Output.{IsCounted}
-use Rattle.smith_request.proofs.FuelLemmas.{exporting}
-use Rattle.smith_request.proofs.manner.add_counter.Goals as goal
+use Rattle.smith_request.specs.Additions.{IsCounted}
+use Rattle.smith_request.proofs.AdditionLemmas.{exporting}
+use Rattle.smith_request.proofs.additions.count.Goals as goal
 
 pub returns-then-fuel-clause-counted : goal.returns-then-fuel-clause-counted
 returns-then-fuel-clause-counted c =
