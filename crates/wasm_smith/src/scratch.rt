@@ -47,8 +47,8 @@ impl Module {
     /// are 0 at first. Returns the index of the first.
     ///
     /// The scratch globals follow all other globals, even past the maximum of the configuration,
-    /// and are not exported. They are added without `allow_floats`, too, and to a module with raw
-    /// bodies. A further call adds as many more. The definitions are allocated from `alloc`.
+    /// and are not exported. They are added even without `allow_floats`. Bodies are unchanged, raw
+    /// ones too. A further call adds as many more. The definitions are allocated from `alloc`.
     ///
     /// Requires the module to have fewer than 2^32 - 3 globals.
     ///
