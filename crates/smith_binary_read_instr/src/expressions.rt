@@ -82,7 +82,7 @@ fn read_nested_instr(blocks: &mut Vec<bool>, reader: &mut Reader<'_>) -> Result<
     Ok(instruction)
 }
 
-// Reads instructions up to the end of an expression, of which there are fewer than `most`.
+// Reads fewer than `most` instructions, up to the end of an expression.
 fn read_nested(reader: &mut Reader<'_>, most: usize) -> Result<Items<Instr>, ReadError>
     ensures { Gives result reader.new (nested_at most [] reader.old) }
 {

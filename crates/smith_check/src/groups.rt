@@ -25,8 +25,8 @@ pub(crate) fn are_few(groups: &[Items<SubType>]) -> bool
     true
 }
 
-/// Returns the index of the first of `groups` that is wrong, of which not all are valid. Groups are
-/// tried by halves: as many times as their number has binary digits.
+/// Returns the index of the first wrong group of `groups`, which aren't all valid. Groups are tried by
+/// halves: as many times as their number has binary digits.
 pub(crate) fn first_wrong_group(
     alloc: Global,
     features: WasmFeatures,

@@ -1,8 +1,8 @@
 //! Judges whether a decoded module is valid, and if not, what its first fault is. The standard is the
 //! WebAssembly Core Specification 3.0. Sections in parentheses are sections of the standard.
 //!
-//! Which instructions of bodies are of which features is not judged here: `smith_decode::decode` refuses
-//! those of other features.
+//! The features of the instructions of bodies are not judged here: `smith_decode::decode` refuses
+//! instructions of other features.
 #![tactic(auto)]
 
 mod elements;

@@ -15,8 +15,8 @@ use smith_check_operands::lookups::is_valid;
 use smith_check_operands::{Operands, Scope};
 use smith_types::{HeapType, RefType, ValType, WasmFeatures};
 
-/// Returns the least valid type as one of which a non-null reference to `heap_type` counts: a
-/// nullable one, if only those are enabled.
+/// Returns the least valid type that a non-null reference to `heap_type` has: a nullable one, if only
+/// those are enabled.
 pub fn offer(scope: &Scope, heap_type: HeapType) -> Option<ValType>
     requires { IsHeapValid (bare scope.now) heap_type }
     ensures { MatchOption result (HasNoOffer (bare scope.now) (reference_to heap_type))

@@ -156,8 +156,8 @@ fn ref_is_null(operands: &mut Operands, scope: &Scope) -> Result<bool, Error>
     Ok(true)
 }
 
-/// Returns the least valid type as one of which a reference of the type `top` counts that is not
-/// null (Validation, Reference Instructions, ref.as_non_null).
+/// Returns the least valid type that a reference of the type `top` has if it isn't null (Validation,
+/// Reference Instructions, ref.as_non_null).
 fn non_null(scope: &Scope, top: Slot) -> Option<Slot>
     requires { IsSlotValid (bare scope.now) top }
     ensures { MatchOption result (HasNoneOf (bare scope.now) (HasNonNull (bare scope.now)) top)

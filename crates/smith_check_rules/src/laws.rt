@@ -10,8 +10,8 @@ pub fn typed_sequences_stay_typed()
     ensures { TypedSequencesStayTyped }
 {}
 
-/// States that without shared-everything-threads, a reference that is shared or not counts as one of
-/// the valid types of which an unshared one counts.
+/// States that without shared-everything-threads, a reference that is shared or not has each valid
+/// type that an unshared one has.
 pub fn either_is_unshared()
     ensures { EitherIsUnshared }
 {}

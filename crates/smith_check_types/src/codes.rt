@@ -26,7 +26,7 @@ ghost use Rattle.smith_check_types.specs.Renamed.{
 };
 
 use smith_bytes::Error;
-use smith_syntax::{
+use smith_types::{
     AbstractHeapType, CompositeInnerType, FieldType, HeapType, Items, StorageType, SubType, ValType,
 };
 use std::alloc::Global;

@@ -241,7 +241,8 @@ pub struct Config {
     /// `unreachable`. Ignored for a module, whose bodies have no drawn instructions.
     pub max_instructions: usize,
 
-    /// Whether NaN results are made canonical. Defaults to `false`. Ignored: no result is changed.
+    /// Whether NaN results are made canonical. Defaults to `false`. No draw depends on it: a caller
+    /// applies it to a drawn program.
     pub canonicalize_nans: bool,
 
     /// Whether custom sections are drawn. Defaults to `false`. Only the bytes of a module in the

@@ -1,4 +1,4 @@
-use smith_syntax::{Items, Name};
+use smith_types::{Items, Name};
 
 /// A custom section (Custom Section), and its place among the sections of a file without custom
 /// sections.

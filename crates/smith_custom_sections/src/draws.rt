@@ -6,7 +6,7 @@ ghost use Rattle.smith_custom_sections.specs.CustomDraws.{name_section_at, plain
 
 use crate::custom_section::CustomSection;
 use smith_bytes::{Error, Unstructured, goes_on, limited_string};
-use smith_syntax::{Items, Name};
+use smith_types::{Items, Name};
 use std::alloc::Global;
 
 // The greatest number of custom sections.

@@ -22,7 +22,7 @@ pub struct LocalRun {
 /// The body of a function (Code Section).
 #[derive(Debug, Drop)]
 pub struct Body {
-    /// The locals in runs, of which six bytes may have 2^32 - 1. A body has no more.
+    /// The locals, in runs: six bytes may spell 2^32 - 1 of them, and a body has no more.
     pub locals: Items<LocalRun>,
     /// The instructions of the expression, without its last `end`. The start of a block, `else` and
     /// `end` are instructions of their own.

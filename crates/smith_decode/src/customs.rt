@@ -49,7 +49,7 @@ fn read_next_section(
     Ok(after)
 }
 
-// Returns the custom sections among those of `reader`, of which there are no more than `most`.
+// Returns the custom sections among the sections of `reader`, which has at most `most`.
 fn gather(reader: &mut Reader<'_>, most: usize) -> Result<Items<Custom>, ReadError>
     ensures { GivesWhole result (gathered_at most None [] reader.old) }
 {

@@ -87,8 +87,7 @@ fn pass_instructions(reader: &mut Reader<'_>, count: usize) -> Result<(), ReadEr
     Ok(())
 }
 
-// Reads sections, of which there are no more than `most`, up to the first with the identifier `id`.
-// Returns its content.
+// Reads at most `most` sections, up to the first with the identifier `id`. Returns its content.
 fn find_content<'a>(reader: &mut Reader<'a>, id: u8, most: usize) -> Result<&'a [u8], ReadError>
     ensures { GivesBy (λ content. content.now) result reader.new
         (section_content_at most id reader.old) }

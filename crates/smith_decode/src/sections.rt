@@ -86,7 +86,7 @@ pub(crate) fn read_sized<T: DecodeWhole>(reader: &mut Reader<'_>) -> Result<T, R
     }
 }
 
-// Skips custom sections, of which there are no more than `most`.
+// Skips custom sections, at most `most` of them.
 fn skip_most(reader: &mut Reader<'_>, most: usize) -> Result<(), ReadError>
     ensures { GivesRest result reader.new (skip_customs most reader.old) }
 {

@@ -6,8 +6,7 @@ ghost use Rattle.smith_encode.specs.Nesting.{is_nested};
 use smith_instr::Instr;
 use std::alloc::{AllocError, Global};
 
-// Adds a block to the open blocks, of which the innermost is the last, with whether it may have an
-// `else`.
+// Adds a block to the open blocks, the innermost last, with whether it may have an `else`.
 fn open(has_else: bool, blocks: &mut Vec<bool>) -> Result<(), AllocError>
     ensures { OnOk result (reverse blocks.new.items ≡ has_else ∷ reverse blocks.old.items) }
 {

@@ -20,7 +20,7 @@ pub enum Answer {
     /// The file is no module of the features that are on: the first item with a form of another feature
     /// begins at the byte `offset`, counted from 0.
     FeatureOff { offset: usize },
-    /// The file is a module of which this is not judged, and all that is judged before it is valid.
+    /// The file is a module with a part that is not judged. All that is judged before it is valid.
     NotJudged(Gap),
 }
 
