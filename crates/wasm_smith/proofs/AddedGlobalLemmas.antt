@@ -1,18 +1,21 @@
--- A valid module stays valid with one more global.
+-- A valid module stays valid with one more global, or several.
 use Rattle.std.proofs.Common.{rules, arith, ◌≡◌, ℕ, ◌+◌, ◌≤◌, Bool, true, false, List, [], ◌∷◌, ◌++◌, Some, length, inl, inr, refl, sym}
 use Rattle.std.proofs.Common.{subst, ap, ◌∙◌}
 use Rattle.std.specs.Prelude.{slice_get, if◌then◌else◌}
 use Rattle.std.specs.List.{All}
 use Rattle.std.proofs.lemmas.List.{length-append, append_assoc}
-use Rattle.std.proofs.lemmas.List.Elements.{All-nil, All-cons, All-append, All-weaker}
+use Rattle.std.proofs.lemmas.List.Elements.{All-nil, All-cons, All-head, All-tail, All-append, All-weaker}
+use Rattle.smith_syntax.specs.Features.{Features}
 use Rattle.smith_types.specs.Grown.{IsContextGrown, AreSpacesGrown}
 use Rattle.smith_types.specs.Imports.{Defines}
 use Rattle.smith_types.specs.Entities.{IsGlobalValid}
+use Rattle.smith_types.specs.ValidTypes.{IsValTypeValid}
 use Rattle.smith_types.specs.Expressions.{Context, IsConstExpr, seeing, seen_by_tables, seen_by_global, seen_by_segments}
 use Rattle.smith_types.specs.Segments.{IsElementSegmentValid, IsDataValid}
 use Rattle.smith_types.specs.Bodies.{IsCounterGlobal}
 use Rattle.smith_syntax.specs.declared.const_instr.ConstInstr.{ConstInstr}
 use Rattle.smith_syntax.specs.declared.entity_type.GlobalType.{GlobalType}
+use Rattle.smith_syntax.specs.declared.value_type.ValType.{ValType}
 use Rattle.smith_syntax.specs.declared.segments.ElementSegment.{ElementSegment}
 use Rattle.smith_syntax.specs.declared.segments.DataSegment.{DataSegment}
 use Rattle.smith_types.proofs.ListLemmas.{slice_get-grown, slice_get-last, slice_get-push}
@@ -23,6 +26,8 @@ use Rattle.smith_types.proofs.ExportGrowthLemmas.{AreExportsValid-grown}
 use Rattle.smith_module_rules.specs.Module.{module_context, ModuleParts, IsValid, IsGlobalDefined, module_features, module_spaces}
 use Rattle.smith_module_rules.specs.Module.{module_imports, table_context, global_context, segment_context}
 use Rattle.wasm_smith.specs.Termination.{counter}
+use Rattle.wasm_smith.specs.Sinks.{sink}
+use Rattle.wasm_smith.specs.AddedGlobals.{added_types, added_definitions}
 use Rattle.smith_draw_definitions.proofs.ExtensionLemmas.{all_kept}
 use Rattle.smith_module_rules.proofs.InitialLemmas.{IsTableInitialised-grown}
 
@@ -55,7 +60,7 @@ still_counters m global valid =
     m.fuel_globals valid.bodies.counters
 
 module _ (global : GlobalType) (initial : List ConstInstr) (counters : List ℕ) (old : ModuleParts) (valid : IsValid old)
-    (given : (context : Context) → IsConstExpr context global.val_type initial)
+    (given : IsConstExpr (global_context (with_defined global initial counters old) (length old.globals)) global.val_type initial)
     (of_type : IsGlobalValid (module_features old) old.types global)
     (counting : All (IsCounterGlobal (old.globals ++ global ∷ []) (length (module_imports old).globals)) counters) where
   abbrev new : ModuleParts
@@ -91,7 +96,7 @@ module _ (global : GlobalType) (initial : List ConstInstr) (counters : List ℕ)
     in_order = all_globals old valid;
     global = global;
     stands = slice_get-last old.globals global;
-    initialised = given (global_context new (length old.globals));
+    initialised = given;
   }
 
   globals_defined_more : (place index : ℕ) (expression : List ConstInstr) → slice_get new.defined_globals place ≡ Some (index, expression)
@@ -192,3 +197,49 @@ module _ (global : GlobalType) (initial : List ConstInstr) (counters : List ℕ)
         old.datas valid.data_segments;
     bodies = record { each = valid.bodies.each; bodies = valid.bodies.bodies; counters = counting };
   }
+
+-- a global of this type with this initialiser is valid in each module with these features and types
+pub record IsAddable (features : Features) (types : ℕ) (one : ValType × ConstInstr) : Type 0 where
+  pub value : IsValTypeValid features types one.0
+  pub given : (context : Context) → context.features ≡ features → IsConstExpr context one.0 (one.1 ∷ [])
+
+-- a module with these globals and definitions after its own
+abbrev with_more : List GlobalType → List (ℕ × List ConstInstr) → ModuleParts → ModuleParts
+with_more globals definitions m = record m {
+  globals = m.globals ++ globals;
+  defined_globals = m.defined_globals ++ definitions;
+}
+
+same_parts : (m : ModuleParts) (globals globals' : List GlobalType) (definitions definitions' : List (ℕ × List ConstInstr))
+    → globals ≡ globals' → definitions ≡ definitions'
+    → record m { globals = globals; defined_globals = definitions } ≡ record m { globals = globals'; defined_globals = definitions' }
+same_parts m globals globals' definitions definitions' e f = rw (e, f) refl
+
+one_valid : (one : ValType × ConstInstr) (m : ModuleParts) → IsAddable (module_features m) (length m.types) one → IsValid m
+    → IsValid (with_defined (sink one.0) (one.1 ∷ []) m.fuel_globals m)
+one_valid one m addable valid =
+    defined_valid (sink one.0) (one.1 ∷ []) m.fuel_globals m valid (addable.given _ refl)
+    (record { value = addable.value; shared = λ never. cc }) (still_counters m (sink one.0) valid)
+
+all_valid : (added : List (ValType × ConstInstr)) (m : ModuleParts) → All (IsAddable (module_features m) (length m.types)) added → IsValid m
+    → IsValid (with_more (added_types added) (added_definitions (length m.globals) added) m)
+all_valid [] m addable valid = subst IsValid (same_parts m _ _ _ _ (sym (no_more m.globals)) (sym (no_more m.defined_globals))) valid
+all_valid (one ∷ rest) m addable valid =
+    let P = IsAddable (module_features m) (length m.types) in
+    let next = with_defined (sink one.0) (one.1 ∷ []) m.fuel_globals m in
+    let definition : ℕ × List ConstInstr = (length m.globals, one.1 ∷ []) in
+    let longer = length-append m.globals (sink one.0 ∷ []) in
+    subst IsValid
+    (same_parts m _ _ _ _ (append_assoc m.globals (sink one.0 ∷ []) (added_types rest))
+    (ap (λ n. (m.defined_globals ++ definition ∷ []) ++ added_definitions n rest) longer
+    ∙ append_assoc m.defined_globals (definition ∷ []) (added_definitions (length m.globals + 1) rest)))
+    (all_valid rest next (All-tail P one rest addable) (one_valid one m (All-head P one rest addable) valid))
+
+-- a valid module stays valid with several more globals, of which the first has this index
+pub all_added_valid : (added : List (ValType × ConstInstr)) (first : ℕ) (definitions : List (ℕ × List ConstInstr)) (old new : ModuleParts)
+    → All (IsAddable (module_features old) (length old.types)) added → definitions ≡ added_definitions first added
+    → first ≡ length old.globals → new ≡ with_more (added_types added) definitions old → IsValid old → IsValid new
+all_added_valid added first definitions old after addable defined next is valid =
+    let same : definitions ≡ added_definitions (length old.globals) added = defined ∙ ap (λ n. added_definitions n added) next in
+    subst IsValid (sym is)
+    (subst (λ definitions. IsValid (with_more (added_types added) definitions old)) (sym same) (all_valid added old addable valid))

@@ -31,7 +31,7 @@ counters_valid m valid =
 
 counted_valid : (fuel : ℕ) (m : ModuleParts) → IsValid m → IsValid (counted fuel (length m.globals) m)
 counted_valid fuel m valid = defined_valid counter (I32Const (cast_signed w32 fuel) ∷ []) (m.fuel_globals ++ length m.globals ∷ []) m valid
-    (λ context. number_given context (cast_signed w32 fuel)) (record { value = tt; shared = λ never. cc }) (counters_valid m valid)
+    (number_given _ (cast_signed w32 fuel)) (record { value = tt; shared = λ never. cc }) (counters_valid m valid)
 
 pub adds_valid : (fuel index : ℕ) (old new : ModuleParts) → AddsCounter fuel index old new → IsValid old → IsValid new
 adds_valid fuel index old after adds valid = subst IsValid (sym adds.added) (subst (λ n. IsValid (counted fuel n old)) (sym adds.last)

@@ -25,9 +25,11 @@ pub mod NoFloatLemmas
 pub mod NoShapeLemmas
 pub mod NonNullableLemmas
 pub mod PartsLemmas
+pub mod PushedGlobalLemmas
 pub mod ReachedLemmas
 pub mod ReasonLemmas
 pub mod RefusalLemmas
+pub mod ScratchLemmas
 pub mod SegmentScopeLemmas
 pub mod ShapeItemLemmas
 pub mod SinkExportLemmas

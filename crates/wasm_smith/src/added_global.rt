@@ -1,4 +1,6 @@
-ghost use Rattle.std.specs.Prelude.{◌≡◌, ◌<◌, ◌^◌, ◌++◌, [], ◌∷◌, length, take, IfErr, OnOk, OnErr};
+ghost use Rattle.std.specs.Prelude.{◌≡◌, ◌+◌, ◌<◌, ◌^◌, ◌++◌, [], ◌∷◌, length, take};
+ghost use Rattle.std.specs.Prelude.{IfOk, IfErr, OnOk, OnErr};
+ghost use Rattle.wasm_smith.specs.AddedGlobals.{added_types, added_definitions};
 ghost use Rattle.wasm_smith.specs.Sinks.{sink};
 
 use smith_bytes::Error;
@@ -45,4 +47,37 @@ pub(crate) fn push_global(
         return Err(error);
     }
     Ok(())
+}
+
+/// Adds mutable, unshared globals of the types of `added`, and their definitions with the
+/// initialisers beside the types, or nothing. Returns the index of the first.
+pub(crate) fn push_globals(
+    alloc: Global,
+    added: &[(ValType, ConstInstr)],
+    globals: &mut Items<GlobalType>,
+    definitions: &mut Items<(u32, Items<ConstInstr>)>,
+) -> Result<u32, Error>
+    requires room { length globals.old + length added.now < 2 ^ 32 }
+
+    // The globals.
+    ensures first { IfOk result (λ first. first ≡ length globals.old) }
+    ensures globals { OnOk result (globals.new ≡ globals.old ++ added_types added.now) }
+    ensures definitions { OnOk result (definitions.new
+        ≡ definitions.old ++ added_definitions (length globals.old) added.now) }
+
+    // Refusals.
+    ensures globals_kept { OnErr result (globals.new ≡ globals.old) }
+    ensures definitions_kept { OnErr result (definitions.new ≡ definitions.old) }
+    ensures memory { IfErr result (λ e. e ≡ Error.Memory) }
+{
+    let count = globals.len();
+    let defined = definitions.len();
+    for (val_type, initial) in added {
+        if let Err(error) = push_global(alloc, *val_type, *initial, globals, definitions) {
+            truncate(alloc, globals, count);
+            truncate(alloc, definitions, defined);
+            return Err(error);
+        }
+    }
+    Ok(count as u32)
 }

@@ -11,6 +11,7 @@ mod global_export;
 pub mod laws;
 mod module;
 mod raw_bodies;
+mod scratch;
 mod sinks;
 mod termination;
 

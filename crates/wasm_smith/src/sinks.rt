@@ -4,50 +4,12 @@ ghost use Rattle.smith_module_rules.specs.Module.{IsValid};
 ghost use Rattle.wasm_smith.specs.Sinks.{AnswersSinks, sinks, sink_definitions};
 ghost use Rattle.wasm_smith.specs.SinkExports.{AnswersSinkExports, with_sinks};
 
-use crate::added_global::{push_global, truncate};
+use crate::added_global::{push_globals, truncate};
 use crate::global_export::export_global;
 use crate::module::Module;
 use smith_bytes::{Error, Why};
 use smith_types::{ConstInstr, ExportKind, GlobalType, Items, Name, ValType};
 use std::alloc::Global;
-
-// Adds the sinks to both lists. After an error each list may have more items than before.
-fn push_each_sink(
-    alloc: Global,
-    globals: &mut Items<GlobalType>,
-    definitions: &mut Items<(u32, Items<ConstInstr>)>,
-) -> Result<(), Error>
-    requires room { length globals.old < 2 ^ 32 - 3 }
-    ensures globals { OnOk result (globals.new ≡ globals.old ++ sinks) }
-    ensures definitions { OnOk result (definitions.new
-        ≡ definitions.old ++ sink_definitions (length globals.old)) }
-    ensures globals_begin { OnErr result (take (length globals.old) globals.new ≡ globals.old) }
-    ensures definitions_begin { OnErr result
-        (take (length definitions.old) definitions.new ≡ definitions.old) }
-    ensures memory { IfErr result (λ e. e ≡ Error.Memory) }
-{
-    push_global(
-        alloc,
-        ValType::I32,
-        ConstInstr::I32Const(0),
-        globals,
-        definitions,
-    )?;
-    push_global(
-        alloc,
-        ValType::I64,
-        ConstInstr::I64Const(0),
-        globals,
-        definitions,
-    )?;
-    push_global(
-        alloc,
-        ValType::I64,
-        ConstInstr::I64Const(0),
-        globals,
-        definitions,
-    )
-}
 
 // Adds the sinks to both lists, or to none, and returns the index of the first.
 fn push_sinks(
@@ -68,14 +30,12 @@ fn push_sinks(
     ensures definitions_kept { OnErr result (definitions.new ≡ definitions.old) }
     ensures memory { IfErr result (λ e. e ≡ Error.Memory) }
 {
-    let count = globals.len();
-    let defined = definitions.len();
-    if let Err(error) = push_each_sink(alloc, globals, definitions) {
-        truncate(alloc, globals, count);
-        truncate(alloc, definitions, defined);
-        return Err(error);
-    }
-    Ok(count as u32)
+    let added = [
+        (ValType::I32, ConstInstr::I32Const(0)),
+        (ValType::I64, ConstInstr::I64Const(0)),
+        (ValType::I64, ConstInstr::I64Const(0)),
+    ];
+    push_globals(alloc, &added, globals, definitions)
 }
 
 // Exports the sinks from `first` on. After an error there may be more exports than before.
