@@ -15,7 +15,8 @@ use Rattle.smith_instr.proofs.SequenceLemmas.{count_as_themselves}
 use Rattle.smith_body_nodes.proofs.NodeLemmas.{one_valid, no_valid}
 use Rattle.wasm_smith.specs.Termination.{counter}
 use Rattle.smith_program.specs.Counted.{check_of, checks_of, checked_after, counted}
-use Rattle.smith_program.proofs.InsertedLemmas.{IsAmong, framed_by, inserted_typed, none_neutral, step_by}
+use Rattle.smith_program.proofs.InsertedLemmas.{IsAmong, inserted_typed, neutral_follow, none_neutral}
+use Rattle.smith_program.proofs.StepLemmas.{framed_by, step_by}
 
 -- a global of this index counts fuel
 abbrev pub IsCounter : BodyContext → ℕ → Type 0
@@ -85,9 +86,11 @@ in_place context counters count (instr.Loop ty) = (
   checks_of counters,
   refl,
   none_neutral context,
-  λ labels rest base set after more. checks_then (record context { labels = labels }) counters rest base set after count more,
+  neutral_follow context (instr.Loop ty) (checks_of counters)
+      (λ labels rest base set after more. checks_then (record context { labels = labels }) counters rest base set after count more),
 )
-in_place context counters count _ = ([], [], refl, none_neutral context, none_neutral context)
+in_place context counters count instruction =
+    ([], [], refl, none_neutral context, neutral_follow context instruction [] (none_neutral context))
 
 -- a body with the checks of globals that count fuel
 pub counted_typed : (context : BodyContext) (counters : List ℕ) (body : List Instr) → Each (IsCounter context) counters

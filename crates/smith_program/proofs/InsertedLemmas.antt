@@ -1,43 +1,14 @@
--- A body stays typed with instructions in it that take no values and leave none.
-use Rattle.std.proofs.Common.{◌≡◌, ℕ, List, [], ◌∷◌, ◌++◌, refl, sym, subst, ap, ◌∙◌, append_assoc, append-nil}
+-- A body stays typed with instructions in it that leave the stack as it is.
+use Rattle.std.proofs.Common.{◌≡◌, ◌⊎◌, ℕ, Bool, true, false, List, [], ◌∷◌, ◌++◌, inl, inr, refl, sym, subst, ap, ◌∙◌, append_assoc}
+use Rattle.std.specs.Prelude.{IsTrue}
 use Rattle.std.specs.List.{flat_map}
 use Rattle.std.proofs.lemmas.Grind.{flat_map-append}
 use Rattle.smith_syntax.specs.declared.value_type.ValType.{ValType}
-use Rattle.smith_instr.specs.Contexts.{BodyContext, AreValid}
-use Rattle.smith_instr.specs.InstrTypes.{sets, HasInstrType}
-use Rattle.smith_instr.specs.Sequences.{Stacked, stacked, IsFramed, IsStep, AreTyped, nothing, step, block, loop, if_alone, if_else}
+use Rattle.smith_instr.specs.Contexts.{BodyContext}
+use Rattle.smith_instr.specs.Sequences.{Stacked, stacked, IsStep, AreTyped, nothing, step, block, loop, if_alone, if_else}
 use Rattle.smith_instr.specs.Sequences.{try_table}
 use Rattle.smith_instr.specs.declared.instr.Instr.{Instr}
 use Rattle.smith_instr.specs.declared.instr.Instr.TheVariants as instr
-use Rattle.smith_instr.proofs.SequenceLemmas.{below_themselves, count_as_themselves}
-
--- a step that takes the topmost values and sets no local
-pub framed_by : (context : BodyContext) (operands results base before after : List ValType) (set : List ℕ) → before ≡ base ++ operands
-    → after ≡ base ++ results → AreValid context results
-    → IsFramed context operands results [] (stacked before set) (stacked after set)
-framed_by context operands results base before after set under over valid = record {
-  rest = base;
-  taken = operands;
-  given = results;
-  under = under;
-  accepted = below_themselves context.types operands;
-  offered = count_as_themselves context results valid;
-  over = over;
-  set_then = sym (append-nil set);
-}
-
--- an instruction that sets no local
-pub step_by : (context : BodyContext) (instruction : Instr) (operands results base before after : List ValType) (set : List ℕ)
-    → HasInstrType context set instruction operands results
-    → sets instruction ≡ [] → before ≡ base ++ operands → after ≡ base ++ results → AreValid context results
-    → IsStep context instruction (stacked before set) (stacked after set)
-step_by context instruction operands results base before after set typed none under over valid = record {
-  operands = operands;
-  results = results;
-  typed = typed;
-  framed = subst (λ (more : List ℕ). IsFramed context operands results more (stacked before set) (stacked after set)) (sym none)
-      (framed_by context operands results base before after set under over valid);
-}
 
 -- instructions that can be placed before any others, whatever the stack and the labels
 abbrev pub IsNeutral : BodyContext → List Instr → Type 0
@@ -56,11 +27,36 @@ both_neutral context one other first second labels rest base set after typed =
     (sym (append_assoc one other rest))
     (first labels (other ++ rest) base set after (second labels rest base set after typed))
 
+-- the instruction starts a block
+abbrev pub opens : Instr → Bool
+opens (instr.Block ty) = true
+opens (instr.Loop ty) = true
+opens (instr.If ty) = true
+opens (instr.TryTable ty clauses) = true
+opens _ = false
+
+-- a stack after an instruction; after the start of a block it may be any
+abbrev pub IsPast : BodyContext → Instr → Stacked → Type 0
+IsPast context instruction between = IsTrue (opens instruction) ⊎ ((before : Stacked) × IsStep context instruction before between)
+
+-- instructions that can be placed after an instruction, whatever the labels
+abbrev pub Follow : BodyContext → Instr → List Instr → Type 0
+Follow context instruction placed =
+    (labels : List (List ValType)) (rest : List Instr) (between after : Stacked)
+    → IsPast (record context { labels = labels }) instruction between
+    → AreTyped (record context { labels = labels }) rest between after
+    → AreTyped (record context { labels = labels }) (placed ++ rest) between after
+
+pub neutral_follow : (context : BodyContext) (instruction : Instr) (placed : List Instr) → IsNeutral context placed
+    → Follow context instruction placed
+neutral_follow context instruction placed neutral labels rest between after past typed =
+    neutral labels rest between.stack between.set after typed
+
 -- an instruction becomes itself with such instructions before and after it
 abbrev pub IsAmong : BodyContext → Instr → List Instr → Type 0
 IsAmong context instruction placed =
     (before : List Instr) × (after : List Instr) × (placed ≡ before ++ instruction ∷ after) × IsNeutral context before
-    × IsNeutral context after
+    × Follow context instruction after
 
 -- each instruction does; `else` and `end` stay alone
 abbrev pub Inserts : BodyContext → (Instr → List Instr) → Type 0
@@ -103,7 +99,7 @@ inserted_typed {context = context} {before = before} {after = after} f inserts (
     subst (λ (zs : List Instr). AreTyped context zs before after)
     (sym (begun f front back instruction more (flat_map f more) (instruction ∷ more) refl is refl))
     (first context.labels (instruction ∷ (back ++ flat_map f more)) before.stack before.set after
-    (step s (then context.labels (flat_map f more) between.stack between.set after (inserted_typed f inserts rest))))
+    (step s (then context.labels (flat_map f more) between after (inr (before, s)) (inserted_typed f inserts rest))))
 inserted_typed {context = context} {before = before} {after = after} f inserts (block {ty = ty} {all = all} {body = body} {more = more}
     {params = params} {results = results} {set = set} is fits inner framed rest) =
     let (front, back, at, first, then) = inserts.0 (instr.Block ty) in
@@ -112,7 +108,8 @@ inserted_typed {context = context} {before = before} {after = after} f inserts (
     (sym (begun f front back (instr.Block ty) (body ++ instr.End ∷ more) tail all is at (ended f body more inserts.2)))
     (first context.labels (instr.Block ty ∷ (back ++ tail)) before.stack before.set after
     (block (opened (instr.Block ty) back (flat_map f body) (instr.End ∷ flat_map f more)) fits
-    (then (results ∷ context.labels) (flat_map f body) params before.set (stacked results set) (inserted_typed f inserts inner)) framed
+    (then (results ∷ context.labels) (flat_map f body) (stacked params before.set) (stacked results set) (inl refl)
+    (inserted_typed f inserts inner)) framed
     (inserted_typed f inserts rest)))
 inserted_typed {context = context} {before = before} {after = after} f inserts (loop {ty = ty} {all = all} {body = body} {more = more}
     {params = params} {results = results} {set = set} is fits inner framed rest) =
@@ -122,7 +119,8 @@ inserted_typed {context = context} {before = before} {after = after} f inserts (
     (sym (begun f front back (instr.Loop ty) (body ++ instr.End ∷ more) tail all is at (ended f body more inserts.2)))
     (first context.labels (instr.Loop ty ∷ (back ++ tail)) before.stack before.set after
     (loop (opened (instr.Loop ty) back (flat_map f body) (instr.End ∷ flat_map f more)) fits
-    (then (params ∷ context.labels) (flat_map f body) params before.set (stacked results set) (inserted_typed f inserts inner)) framed
+    (then (params ∷ context.labels) (flat_map f body) (stacked params before.set) (stacked results set) (inl refl)
+    (inserted_typed f inserts inner)) framed
     (inserted_typed f inserts rest)))
 inserted_typed {context = context} {before = before} {after = after} f inserts (if_alone {ty = ty} {all = all} {body = body} {more = more}
     {params = params} {results = results} {set = set} is fits inner same framed rest) =
@@ -132,7 +130,8 @@ inserted_typed {context = context} {before = before} {after = after} f inserts (
     (sym (begun f front back (instr.If ty) (body ++ instr.End ∷ more) tail all is at (ended f body more inserts.2)))
     (first context.labels (instr.If ty ∷ (back ++ tail)) before.stack before.set after
     (if_alone (opened (instr.If ty) back (flat_map f body) (instr.End ∷ flat_map f more)) fits
-    (then (results ∷ context.labels) (flat_map f body) params before.set (stacked results set) (inserted_typed f inserts inner)) same framed
+    (then (results ∷ context.labels) (flat_map f body) (stacked params before.set) (stacked results set) (inl refl)
+    (inserted_typed f inserts inner)) same framed
     (inserted_typed f inserts rest)))
 inserted_typed {context = context} {before = before} {after = after} f inserts (if_else {ty = ty} {all = all} {body = body} {other = other}
     {more = more} {params = params} {results = results} {set = set} is fits inner last framed rest) =
@@ -143,7 +142,8 @@ inserted_typed {context = context} {before = before} {after = after} f inserts (
     (ended_else f body other more inserts.1 inserts.2)))
     (first context.labels (instr.If ty ∷ (back ++ (flat_map f body ++ past))) before.stack before.set after
     (if_else (opened (instr.If ty) back (flat_map f body) past) fits
-    (then (results ∷ context.labels) (flat_map f body) params before.set (stacked results set) (inserted_typed f inserts inner))
+    (then (results ∷ context.labels) (flat_map f body) (stacked params before.set) (stacked results set) (inl refl)
+    (inserted_typed f inserts inner))
     (inserted_typed f inserts last) framed (inserted_typed f inserts rest)))
 inserted_typed {context = context} {before = before} {after = after} f inserts (try_table {ty = ty} {clauses = clauses} {all = all}
     {body = body} {more = more} {params = params} {results = results} {set = set} is fits caught inner framed rest) =
@@ -153,5 +153,6 @@ inserted_typed {context = context} {before = before} {after = after} f inserts (
     (sym (begun f front back (instr.TryTable ty clauses) (body ++ instr.End ∷ more) tail all is at (ended f body more inserts.2)))
     (first context.labels (instr.TryTable ty clauses ∷ (back ++ tail)) before.stack before.set after
     (try_table (opened (instr.TryTable ty clauses) back (flat_map f body) (instr.End ∷ flat_map f more)) fits caught
-    (then (results ∷ context.labels) (flat_map f body) params before.set (stacked results set) (inserted_typed f inserts inner)) framed
+    (then (results ∷ context.labels) (flat_map f body) (stacked params before.set) (stacked results set) (inl refl)
+    (inserted_typed f inserts inner)) framed
     (inserted_typed f inserts rest)))

@@ -1,9 +1,12 @@
 pub mod ScopeLemmas
 pub mod DrawnBodiesLemmas
 pub mod InsertedLemmas
+pub mod StepLemmas
 pub mod CountedLemmas
 pub mod MixLemmas
 pub mod ObservedLemmas
+pub mod NanLemmas
+pub mod CanonicalLemmas
 pub mod MixedLoop
 pub mod WiderLemmas
 pub mod GlobalLemmas

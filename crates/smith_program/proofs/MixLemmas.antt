@@ -1,6 +1,6 @@
 -- Instructions that mix the values of locals into sinks take no values and leave none.
 use Rattle.std.proofs.Common.{◌≡◌, ℕ, ◌+◌, ◌<◌, suc, List, [], ◌∷◌, ◌++◌, Some, inl, inr, length, refl, sym, subst, ◌∙◌, append_assoc}
-use Rattle.std.proofs.Common.{append-nil, arith, pos, negsuc, lit<}
+use Rattle.std.proofs.Common.{arith, pos, negsuc, lit<}
 use Rattle.std.specs.Prelude.{slice_get}
 use Rattle.std.specs.List.{AllByRecursion as Each}
 use Rattle.std.proofs.lemmas.List.{length_push}
@@ -9,8 +9,7 @@ use Rattle.smith_types.specs.Expressions.{IsDefaultable}
 use Rattle.smith_syntax.specs.declared.value_type.ValType.{ValType}
 use Rattle.smith_syntax.specs.declared.value_type.ValType.TheVariants.{I32, I64, F32, F64, V128, Ref}
 use Rattle.smith_instr.specs.Contexts.{BodyContext, IsValid}
-use Rattle.smith_instr.specs.InstrTypes.{sets, HasInstrType}
-use Rattle.smith_instr.specs.Sequences.{Stacked, stacked, AreTyped, step}
+use Rattle.smith_instr.specs.Sequences.{Stacked, stacked, AreTyped}
 use Rattle.smith_instr.specs.declared.instr.Instr.{Instr}
 use Rattle.smith_instr.specs.declared.instr.Instr.TheVariants as instr
 use Rattle.smith_instr.specs.declared.numeric.Conversion.TheVariants as convert
@@ -21,51 +20,10 @@ use Rattle.smith_instr.specs.declared.vector.LaneExtract.TheVariants as extract
 use Rattle.smith_instr.specs.declared.vector.VectorBinary.TheVariants as binary
 use Rattle.smith_instr.specs.declared.vector.VectorFloatBinary.TheVariants as float_binary
 use Rattle.smith_instr.specs.declared.vector.VectorInstr.TheVariants as vector
-use Rattle.smith_body_nodes.proofs.NodeLemmas.{one_valid, no_valid}
 use Rattle.wasm_smith.specs.Sinks.{sink}
 use Rattle.smith_program.specs.Observed.{bits32, bits64, half, mix, mix32, mix64, mixes_from}
-use Rattle.smith_program.proofs.InsertedLemmas.{IsNeutral, none_neutral, both_neutral, step_by}
-
--- an instruction before others: it pushes a value, replaces one, two or three, or pops one
-pushed : (context : BodyContext) (first : Instr) (value : ValType) (base : List ValType) (set : List ℕ) (rest : List Instr)
-    (after : Stacked) → HasInstrType context set first [] (value ∷ []) → sets first ≡ [] → IsValid context value
-    → AreTyped context rest (stacked (base ++ value ∷ []) set) after → AreTyped context (first ∷ rest) (stacked base set) after
-pushed context first value base set rest after typed none valid more =
-    step (step_by context first [] (value ∷ []) base base (base ++ value ∷ []) set typed none (sym (append-nil base)) refl
-    (one_valid context value valid)) more
-
-replaced : (context : BodyContext) (first : Instr) (operand value : ValType) (base : List ValType) (set : List ℕ) (rest : List Instr)
-    (after : Stacked) → HasInstrType context set first (operand ∷ []) (value ∷ []) → sets first ≡ [] → IsValid context value
-    → AreTyped context rest (stacked (base ++ value ∷ []) set) after
-    → AreTyped context (first ∷ rest) (stacked (base ++ operand ∷ []) set) after
-replaced context first operand value base set rest after typed none valid more =
-    step (step_by context first (operand ∷ []) (value ∷ []) base (base ++ operand ∷ []) (base ++ value ∷ []) set typed none refl refl
-    (one_valid context value valid)) more
-
-joined : (context : BodyContext) (first : Instr) (operand value : ValType) (base : List ValType) (set : List ℕ) (rest : List Instr)
-    (after : Stacked) → HasInstrType context set first (operand ∷ operand ∷ []) (value ∷ []) → sets first ≡ [] → IsValid context value
-    → AreTyped context rest (stacked (base ++ value ∷ []) set) after
-    → AreTyped context (first ∷ rest) (stacked ((base ++ operand ∷ []) ++ operand ∷ []) set) after
-joined context first operand value base set rest after typed none valid more =
-    step (step_by context first (operand ∷ operand ∷ []) (value ∷ []) base ((base ++ operand ∷ []) ++ operand ∷ []) (base ++ value ∷ []) set
-    typed none (append_assoc base (operand ∷ []) (operand ∷ [])) refl (one_valid context value valid)) more
-
-chosen : (context : BodyContext) (value : ValType) (base : List ValType) (set : List ℕ) (rest : List Instr) (after : Stacked)
-    → HasInstrType context set instr.Select (value ∷ value ∷ I32 ∷ []) (value ∷ []) → IsValid context value
-    → AreTyped context rest (stacked (base ++ value ∷ []) set) after
-    → AreTyped context (instr.Select ∷ rest) (stacked (((base ++ value ∷ []) ++ value ∷ []) ++ I32 ∷ []) set) after
-chosen context value base set rest after typed valid more =
-    step (step_by context instr.Select (value ∷ value ∷ I32 ∷ []) (value ∷ []) base (((base ++ value ∷ []) ++ value ∷ []) ++ I32 ∷ [])
-    (base ++ value ∷ []) set typed refl
-    (append_assoc (base ++ value ∷ []) (value ∷ []) (I32 ∷ []) ∙ append_assoc base (value ∷ []) (value ∷ I32 ∷ [])) refl
-    (one_valid context value valid)) more
-
-popped : (context : BodyContext) (first : Instr) (operand : ValType) (base : List ValType) (set : List ℕ) (rest : List Instr)
-    (after : Stacked) → HasInstrType context set first (operand ∷ []) [] → sets first ≡ []
-    → AreTyped context rest (stacked base set) after → AreTyped context (first ∷ rest) (stacked (base ++ operand ∷ []) set) after
-popped context first operand base set rest after typed none more =
-    step (step_by context first (operand ∷ []) [] base (base ++ operand ∷ []) base set typed none refl (sym (append-nil base))
-    (no_valid context)) more
+use Rattle.smith_program.proofs.InsertedLemmas.{IsNeutral, none_neutral, both_neutral}
+use Rattle.smith_program.proofs.StepLemmas.{chosen, joined, popped, pushed, replaced}
 
 -- a sink of this index
 abbrev pub IsSink : BodyContext → ℕ → ValType → Type 0
@@ -131,7 +89,7 @@ bits32_produced context index there labels base set rest after more =
     (get both set _ after
     (get (both ++ F32 ∷ []) set _ after
     (joined now (instr.Numeric (numeric.F32Compare float_compare.Eq)) F32 I32 both set _ after (refl, refl) refl tt
-    (chosen now I32 base set rest after (I32, tt, (refl, refl)) tt more))))))
+    (chosen now instr.Select I32 I32 base set rest after (I32, tt, (refl, refl)) refl tt more))))))
 
 bits64_produced : (context : BodyContext) (index : ℕ) → slice_get context.locals index ≡ Some F64 → Produces context (bits64 index) I64
 bits64_produced context index there labels base set rest after more =
@@ -145,7 +103,7 @@ bits64_produced context index there labels base set rest after more =
     (get both set _ after
     (get (both ++ F64 ∷ []) set _ after
     (joined now (instr.Numeric (numeric.F64Compare float_compare.Eq)) F64 I32 both set _ after (refl, refl) refl tt
-    (chosen now I64 base set rest after (I64, tt, (refl, refl)) tt more))))))
+    (chosen now instr.Select I64 I32 base set rest after (I64, tt, (refl, refl)) refl tt more))))))
 
 half_produced : (context : BodyContext) (index lane : ℕ) → lane < 2 → slice_get context.locals index ≡ Some V128 → IsValid context V128
     → Produces context (half index lane) I64

@@ -1,6 +1,6 @@
 -- A body stays typed, and its instructions enabled, if it mixes its locals into sinks.
 use Rattle.std.proofs.Common.{ℕ, Bool, true, false, List, [], ◌∷◌, refl, sym, subst, take, drop, append-nil}
-use Rattle.std.specs.Prelude.{All, if◌then◌else◌}
+use Rattle.std.specs.Prelude.{if◌then◌else◌}
 use Rattle.std.proofs.lemmas.List.{take-append-drop}
 use Rattle.std.proofs.lemmas.List.Elements.{All-take, recursion_from_All}
 use Rattle.smith_syntax.specs.declared.value_type.ValType.{ValType}
@@ -10,7 +10,7 @@ use Rattle.smith_instr.specs.declared.instr.Instr.{Instr}
 use Rattle.smith_instr.proofs.CompositionLemmas.{typed_append}
 use Rattle.smith_instr.proofs.SequenceLemmas.{finished}
 use Rattle.smith_program.specs.Observed.{after_mixes, leaves, mixes, observed}
-use Rattle.smith_program.proofs.InsertedLemmas.{Inserts, IsNeutral, inserted_typed, none_neutral}
+use Rattle.smith_program.proofs.InsertedLemmas.{Inserts, IsNeutral, inserted_typed, neutral_follow, none_neutral}
 use Rattle.smith_program.proofs.MixLemmas.{AreSinks, mixes_neutral}
 
 -- instructions or none
@@ -26,7 +26,7 @@ mixes_inserted context mixed neutral = (
     [],
     refl,
     some_neutral context mixed (leaves instruction) neutral,
-    none_neutral context,
+    neutral_follow context instruction [] (none_neutral context),
   ),
   refl,
   refl,

@@ -7,5 +7,7 @@ pub mod Generated
 pub mod Counted
 pub mod Copies
 pub mod Observed
+pub mod Nans
+pub mod Canonical
 pub mod Valid
 pub mod Laws
