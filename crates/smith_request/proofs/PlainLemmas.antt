@@ -11,7 +11,7 @@ use Rattle.smith_binary_module.specs.Layout.{HasSections}
 use Rattle.smith_program.specs.Generated.{IsProgram}
 use Rattle.smith_program.specs.Parts.{ProgramParts}
 use Rattle.smith_custom_sections.specs.CustomSections.{IsPlain, IsPlainSection}
-use Rattle.smith_request.specs.Output.{IsBinaryWith, IsFileOf, IsFinished, IsUnwrittenWith}
+use Rattle.smith_request.specs.Output.{IsBinaryWith, IsFileOf, IsFinished, IsUnextended, IsUnwrittenWith}
 use Rattle.smith_request.specs.declared.additions.Additions.{Additions}
 use Rattle.smith_request.specs.declared.manner.Form.TheVariants.{Binary}
 use Rattle.smith_request.specs.declared.refusal.Refusal.TheVariants.{Encoding}
@@ -71,12 +71,12 @@ plain_file m file h =
     (sections.sections, record { first = h.first; second = h.second; is_first = h.is_first; is_second = sections.each; whole = h.whole })
 
 pub binary_plain : (additions : Additions) (program : ProgramParts) (file : List ℕ) → IsBinaryWith additions program file → IsPlain file
-binary_plain additions program file h = plain_file h.extended.«module» file h.encoded.sections
+binary_plain additions program file h = plain_file h.encoded.extended.«module» file h.encoded.encoded.sections
 
 -- memory may run out after such a file is written
 pub lacks_memory : (additions : Additions) (program : ProgramParts) (file : List ℕ) → IsBinaryWith additions program file
     → IsUnwrittenWith Binary additions program (Encoding Memory)
-lacks_memory additions program file h = IsUnwrittenWith.not_written h.is_extended tt
+lacks_memory additions program file h = IsUnwrittenWith.not_extended h.nans (IsUnextended.not_written h.encoded.is_extended tt)
 
 -- a file of the configuration that a module keeps is one of the configuration that it is drawn for
 pub file_of : {config : Config} {additions : Additions} {program : ProgramParts} {input left bytes : List ℕ}

@@ -9,6 +9,7 @@ use Rattle.wasm_smith.specs.Termination.{AddsCounter, counter}
 use Rattle.smith_program.specs.Valid.{IsValidProgram}
 use Rattle.smith_program.specs.Parts.{ProgramParts}
 use Rattle.smith_program.specs.declared.program.Body.{Body}
+use Rattle.smith_program.proofs.CanonicalProgramLemmas.{canonical_program_valid}
 use Rattle.smith_program.proofs.ObservedProgramLemmas.{observed_program_valid, sinks_exported_program_valid}
 use Rattle.smith_program.proofs.ValidLemmas.{counted_valid, exported_program_valid}
 use Rattle.smith_binary_program.specs.Valid.{IsValidBinary}
@@ -17,7 +18,8 @@ use Rattle.smith_custom_sections.specs.CustomSections.{IsPlain}
 use Rattle.smith_custom_sections.specs.WithoutCustoms.{IsWithoutCustoms}
 use Rattle.smith_custom_sections.proofs.LeftLemmas.{plain_left}
 use Rattle.smith_request.specs.Additions.{HasCounter, HasSinks, IsCounted, IsExporting, IsFuelled, IsObserved, counted_fuel}
-use Rattle.smith_request.specs.Output.{IsBinaryOf, IsBinaryWith, IsFileOf, IsFinished}
+use Rattle.smith_request.specs.CanonicalNans.{HasCanonicalNans, has_canonical_nans}
+use Rattle.smith_request.specs.Output.{IsBinaryOf, IsBinaryWith, IsExtendedBinary, IsFileOf, IsFinished}
 use Rattle.smith_request.specs.ValidFiles.{IsValidFile}
 use Rattle.smith_request.specs.declared.additions.Additions.{Additions}
 use Rattle.smith_request.specs.declared.additions.Fuel.{Fuel}
@@ -76,13 +78,25 @@ with_sinks_if : (is_observed : Bool) (program observed : ProgramParts) → HasSi
 with_sinks_if true program observed has valid = with_sinks program observed has valid
 with_sinks_if false program observed has valid = subst (λ (p : ProgramParts). IsValidProgram p.«module» p.bodies) (sym has) valid
 
-written_valid : (additions : Additions) (program : ProgramParts) (bytes : List ℕ) → IsBinaryWith additions program bytes
+extended_valid : (additions : Additions) (program : ProgramParts) (bytes : List ℕ) → IsExtendedBinary additions program bytes
     → IsValidProgram program.«module» program.bodies → IsValidBinary bytes
-written_valid additions program bytes h valid =
+extended_valid additions program bytes h valid =
     let has = h.is_extended in
     encoded_valid h.extended.«module» h.extended.bodies bytes h.encoded
     (with_counter_if (counted_fuel additions) has.observed h.extended has.counter
     (with_sinks_if additions.is_observed program has.observed has.sinks valid))
+
+-- a valid program is valid with canonical NaNs
+with_canonical_if : (b : Bool) (program canonical : ProgramParts) → HasCanonicalNans b program canonical
+    → IsValidProgram program.«module» program.bodies → IsValidProgram canonical.«module» canonical.bodies
+with_canonical_if true program canonical has valid = canonical_program_valid program canonical has valid
+with_canonical_if false program canonical has valid = subst (λ (p : ProgramParts). IsValidProgram p.«module» p.bodies) (sym has) valid
+
+written_valid : (additions : Additions) (program : ProgramParts) (bytes : List ℕ) → IsBinaryWith additions program bytes
+    → IsValidProgram program.«module» program.bodies → IsValidBinary bytes
+written_valid additions program bytes h valid =
+    extended_valid additions h.canonical bytes h.encoded
+    (with_canonical_if (has_canonical_nans program.«module».config) program h.canonical h.nans valid)
 
 -- a file without custom sections is left as it is
 finished_without : (b : Bool) (least : ℕ) (left file bytes : List ℕ) → IsPlain file → IsFinished b least left file bytes

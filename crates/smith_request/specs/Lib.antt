@@ -1,4 +1,5 @@
 pub mod Additions
+pub mod CanonicalNans
 pub mod Invalid
 pub mod Output
 pub mod Refusals

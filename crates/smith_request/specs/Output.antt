@@ -13,6 +13,7 @@ use Rattle.smith_binary_program.specs.Programs.{IsEncoded}
 use Rattle.smith_custom_sections.specs.Additions.{IsAdded}
 use Rattle.smith_custom_sections.specs.CustomDraws.{custom_sections_at}
 use Rattle.smith_request.specs.Additions.{IsExtended, added_globals}
+use Rattle.smith_request.specs.CanonicalNans.{HasCanonicalNans, IsNotCanonical, has_canonical_nans}
 use Rattle.smith_request.specs.declared.additions.Additions.{Additions}
 use Rattle.smith_request.specs.declared.manner.Form.{Form}
 use Rattle.smith_request.specs.declared.manner.Form.TheVariants.{Binary, Text}
@@ -20,10 +21,17 @@ use Rattle.smith_request.specs.declared.refusal.Refusal.{Refusal}
 use Rattle.smith_request.specs.declared.refusal.Refusal.TheVariants.{NotUtf8, Config as of_config, Module, Encoding, Shape, NoChange, NoFamily}
 
 -- the bytes are the encoding of the program with additions
-pub record IsBinaryWith (additions : Additions) (program : Program) (bytes : List ℕ) : Type 0 where
+pub record IsExtendedBinary (additions : Additions) (program : Program) (bytes : List ℕ) : Type 0 where
   pub extended : Program
   pub is_extended : IsExtended additions program extended
   pub encoded : IsEncoded extended.«module» extended.bodies bytes
+
+-- the bytes are the encoding of the program with additions, and with canonical NaNs before them if
+-- its configuration requests these
+pub record IsBinaryWith (additions : Additions) (program : Program) (bytes : List ℕ) : Type 0 where
+  pub canonical : Program
+  pub nans : HasCanonicalNans (has_canonical_nans program.«module».config) program canonical
+  pub encoded : IsExtendedBinary additions canonical bytes
 
 -- the bytes are a file, with custom sections if there are to be any: those that are drawn from the
 -- bytes of the input that the program left
@@ -52,13 +60,21 @@ IsUnwritten form program NoFamily = ⊥
 -- the program is not written with additions: globals are to be added, but none can be, because a body is
 -- raw bytes or memory runs out, or not each of them has an index; or the program with its additions is
 -- not written
-pub data IsUnwrittenWith (form : Form) (additions : Additions) (program : Program) (refusal : Refusal) : Type 0 where
+pub data IsUnextended (form : Form) (additions : Additions) (program : Program) (refusal : Refusal) : Type 0 where
   not_added : {e : Error} → 0 < added_globals additions → MayAddNone program.«module» e → refusal ≡ Module e →
-      IsUnwrittenWith form additions program refusal
+      IsUnextended form additions program refusal
   no_index : 0 < added_globals additions → 2 ^ 32 ≤ length program.«module».globals + added_globals additions →
       refusal ≡ Encoding TooLong →
-      IsUnwrittenWith form additions program refusal
+      IsUnextended form additions program refusal
   not_written : {extended : Program} → IsExtended additions program extended → IsUnwritten form extended refusal →
+      IsUnextended form additions program refusal
+
+-- the program is not written with additions, and with canonical NaNs before them if its configuration
+-- requests these
+pub data IsUnwrittenWith (form : Form) (additions : Additions) (program : Program) (refusal : Refusal) : Type 0 where
+  not_canonical : IsNotCanonical program refusal → IsUnwrittenWith form additions program refusal
+  not_extended : {canonical : Program} → HasCanonicalNans (has_canonical_nans program.«module».config) program canonical →
+      IsUnextended form additions canonical refusal →
       IsUnwrittenWith form additions program refusal
 
 -- the bytes are the file of the program that the generator draws for the configuration and the

@@ -2,6 +2,7 @@ ghost use Rattle.std.specs.Prelude.{◌≡◌, false, ℕ, None, List};
 ghost use Rattle.smith_config.specs.declared.config.Config.{Config};
 ghost use Rattle.smith_binary_program.specs.Valid.{IsValidBinary};
 ghost use Rattle.smith_wrong.specs.Wrong.{IsTwin};
+ghost use Rattle.smith_request.specs.CanonicalNans.{has_canonical_nans};
 ghost use Rattle.smith_request.specs.Output.{IsBinaryOf};
 ghost use Rattle.smith_request.specs.Requests.{IsBinary};
 ghost use Rattle.smith_request.specs.Shaped.{IsShapedBinary};
@@ -34,11 +35,12 @@ pub fn binaries_are_valid()
 {}
 
 /// States that the file of which an invalid one is made is one that [`output`] writes in the binary format
-/// for the same configuration and input, without additions, if the configuration has no custom sections.
+/// for the same configuration and input, without additions, if the configuration has no custom sections
+/// and no canonical NaNs.
 ///
 /// [`output`]: crate::output
 pub fn twins_are_binaries()
     ensures { (config : Config) (input left twin : List ℕ) → config.generate_custom_sections ≡ false
-        → IsTwin config input left twin
+        → has_canonical_nans config ≡ false → IsTwin config input left twin
         → IsBinaryOf config (record { fuel = None; is_observed = false }) input twin left }
 {}

@@ -12,6 +12,7 @@ mod invalid_file;
 /// Laws: functions with empty bodies whose clauses state theorems.
 pub mod laws;
 mod manner;
+mod nans;
 mod refusal;
 mod request;
 mod shaped;

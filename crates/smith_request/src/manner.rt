@@ -3,12 +3,14 @@ ghost use Rattle.smith_module_rules.specs.Module.{IsValid};
 ghost use Rattle.smith_binary_program.specs.Programs.{IsEncoded};
 ghost use Rattle.smith_request.specs.Additions.{added_globals};
 ghost use Rattle.smith_request.specs.Output.{IsBinaryOf, IsBinaryWith, IsFileOf, IsRefusedFor};
+ghost use Rattle.smith_request.specs.Output.{IsExtendedBinary, IsUnextended};
 ghost use Rattle.smith_request.specs.Output.{IsText, IsUnwritten, IsUnwrittenWith, IsWrittenText};
 ghost use Rattle.smith_request.specs.declared.manner.Form.TheVariants.{Binary, Text};
 ghost use Rattle.smith_text.specs.declared.module.Layout.{Layout as TextLayout};
 
 use crate::additions::{Additions, added_globals, extend};
 use crate::customs::{finish, has_customs, least_length};
+use crate::nans::canonicalize;
 use crate::refusal::Refusal;
 use crate::writers::{write_binary, write_text};
 use smith_binary::EncodeError;
@@ -36,9 +38,10 @@ pub struct Manner {
     pub additions: Additions,
 }
 
-/// Draws a program from the bytes of `u` under `config`, as [`Program::new`] does, adds to it what
-/// `manner` says, and writes it in the form of `manner`. If `config` has custom sections, the binary
-/// format has some, drawn from the bytes of `u` that the program leaves; these stay in `u`.
+/// Draws a program from the bytes of `u` under `config`, as [`Program::new`] does, makes its NaNs
+/// canonical if `config` says so and allows floats, adds to it what `manner` says, and writes it in the
+/// form of `manner`. If `config` has custom sections, the binary format has some, drawn from the bytes
+/// of `u` that the program leaves; these stay in `u`.
 ///
 /// # Errors
 ///
@@ -65,9 +68,9 @@ pub fn output(
     }
 }
 
-/// Adds to `program` what `manner` says, and writes it in the form of `manner`. If the configuration
-/// of `program` has custom sections, they are drawn from the bytes of `u`, which stay in `u`, and are
-/// written in the binary format alone.
+/// Adds to `program` what `manner` says, after canonical NaNs if its configuration says so, and writes
+/// it in the form of `manner`. If the configuration has custom sections, they are drawn from the bytes
+/// of `u`, which stay in `u`, and are written in the binary format alone.
 ///
 /// Requires the module to be valid if its locals are to be observed. That of a drawn program is.
 ///
@@ -118,10 +121,11 @@ fn write_file(
     }
 }
 
-/// Writes `program` with the additions of `manner` in the form of `manner`, without custom sections.
+/// Writes `program` with the additions of `manner` in the form of `manner`, after canonical NaNs if its
+/// configuration says so, and without custom sections.
 fn write_without_customs(
     alloc: Global,
-    program: Program,
+    mut program: Program,
     manner: Manner,
 ) -> Result<Vec<u8>, Refusal>
     requires valid { manner.additions.is_observed ≡ true → IsValid program.«module» }
@@ -130,6 +134,24 @@ fn write_without_customs(
     ensures text { (layout : TextLayout) → manner.form ≡ Text layout
         → IfOk result (λ bytes. IsText bytes.items) }
     ensures refused { IfErr result (IsUnwrittenWith manner.form manner.additions program) }
+{
+    match canonicalize(alloc, &mut program) {
+        Ok(()) => write_with_additions(alloc, program, manner),
+        Err(refusal) => {
+            drop(program);
+            Err(refusal)
+        }
+    }
+}
+
+/// Writes `program` with the additions of `manner` in the form of `manner`, without custom sections.
+fn write_with_additions(alloc: Global, program: Program, manner: Manner) -> Result<Vec<u8>, Refusal>
+    requires valid { manner.additions.is_observed ≡ true → IsValid program.«module» }
+    ensures binary { manner.form ≡ Binary
+        → IfOk result (λ bytes. IsExtendedBinary manner.additions program bytes.items) }
+    ensures text { (layout : TextLayout) → manner.form ≡ Text layout
+        → IfOk result (λ bytes. IsText bytes.items) }
+    ensures refused { IfErr result (IsUnextended manner.form manner.additions program) }
 {
     let added = added_globals(manner.additions);
     if added != 0 {
@@ -153,10 +175,10 @@ fn write_extended(
     requires some { 0 < added }
     requires few { added ≤ 4 }
     ensures binary { manner.form ≡ Binary
-        → IfOk result (λ bytes. IsBinaryWith manner.additions program bytes.items) }
+        → IfOk result (λ bytes. IsExtendedBinary manner.additions program bytes.items) }
     ensures text { (layout : TextLayout) → manner.form ≡ Text layout
         → IfOk result (λ bytes. IsText bytes.items) }
-    ensures refused { IfErr result (IsUnwrittenWith manner.form manner.additions program) }
+    ensures refused { IfErr result (IsUnextended manner.form manner.additions program) }
 {
     if program.module().globals().len() > u32::MAX as usize - added {
         return Err(Refusal::Encoding(EncodeError::TooLong));

@@ -1,23 +1,21 @@
-use Rattle.std.proofs.Common.{◌≡◌, arith}
 use Rattle.std.proofs.lemmas.Result.{IfOk-weaker, IfErr-weaker}
-use Rattle.smith_request.specs.Additions.{added_globals}
 use Rattle.smith_request.specs.Output.{IsUnwrittenWith}
-use Rattle.smith_request.proofs.AdditionLemmas.{nothing_added}
 use Rattle.smith_request.proofs.manner.write_without_customs.Goals as goal
 
-pub returns-clause-binary : goal.returns-clause-binary
-returns-clause-binary c = λ is.
-    let none : added_globals c.args.manner.additions ≡ 0 = grind arith in
-    IfOk-weaker c.write_in-bytes.result _ _ (λ bytes encoded. record {
-      extended = c.args.program;
-      is_extended = nothing_added c.args.manner.additions c.args.program none;
-      encoded = encoded;
-    })
-    (c.write_in-bytes.ensures.binary is)
+pub write_with_additions-requires : goal.write_with_additions-requires
+write_with_additions-requires c = record { valid = λ observed. c.in-Ok.ensures.valid (c.requires.valid observed) }
 
-pub returns-clause-refused : goal.returns-clause-refused
-returns-clause-refused c =
-    let none : added_globals c.args.manner.additions ≡ 0 = grind arith in
-    IfErr-weaker c.write_in-bytes.result _ _
-    (λ refusal unwritten. IsUnwrittenWith.not_written (nothing_added c.args.manner.additions c.args.program none) unwritten)
-    c.write_in-bytes.ensures.refused
+pub returns-in-Ok-clause-binary : goal.returns-in-Ok-clause-binary
+returns-in-Ok-clause-binary c = λ is.
+    IfOk-weaker c.write_with_additions.result _ _
+    (λ bytes encoded. record { canonical = _; nans = c.in-Ok.ensures.canonical; encoded = encoded })
+    (c.write_with_additions.ensures.binary is)
+
+pub returns-in-Ok-clause-refused : goal.returns-in-Ok-clause-refused
+returns-in-Ok-clause-refused c =
+    IfErr-weaker c.write_with_additions.result _ _
+    (λ refusal unextended. IsUnwrittenWith.not_extended c.in-Ok.ensures.canonical unextended)
+    c.write_with_additions.ensures.refused
+
+pub returns-in-Err-clause-refused : goal.returns-in-Err-clause-refused
+returns-in-Err-clause-refused c = IsUnwrittenWith.not_canonical c.in-Err.ensures.refused
