@@ -3,12 +3,11 @@ use crate::failure::Failure;
 use crate::request::Request;
 use smith_config::Config;
 
-// The fields for two features without instructions here, and the fields of the Rust crate for NaNs
-// in bodies and for components, neither of which exist here.
-const WITHOUT_EFFECT: [&str; 9] = [
+// The fields for two features without instructions here, and the fields of the Rust crate for
+// components, which don't exist here.
+const WITHOUT_EFFECT: [&str; 8] = [
     "acquire-release-atomics-enabled",
     "multibyte-array-access-enabled",
-    "canonicalize-nans",
     "max-aliases",
     "max-components",
     "max-instances",
@@ -38,11 +37,10 @@ pub(crate) fn warn(rt: &HostRuntime, asked: &Request<'_, '_>) -> Result<(), Fail
 
 /// Returns of each field without effect, in their order, whether `config` has another value than the
 /// default.
-fn are_changed(config: &Config) -> [bool; 9] {
+fn are_changed(config: &Config) -> [bool; 8] {
     [
         config.acquire_release_atomics_enabled,
         config.multibyte_array_access_enabled,
-        config.canonicalize_nans,
         config.max_aliases != 1000,
         config.max_components != 10,
         config.max_instances != 10,

@@ -214,7 +214,8 @@ define_config! {
     memory_offset_choices: MemoryOffsetChoices = MemoryOffsetChoices::default(),
     /// The maximum number of statements and values to choose for a body, besides leaves, such as constants and locals. Defaults to `100`.
     max_instructions: usize = 100,
-    /// Ignored: no NaN is made canonical. Defaults to `false`.
+    /// Whether each NaN whose bits an engine chooses is made the positive canonical NaN, where floats are
+    /// allowed. Defaults to `false`.
     canonicalize_nans: bool = false,
     /// Ignored: there are no custom sections. Defaults to `false`.
     generate_custom_sections: bool = false,
