@@ -1,7 +1,9 @@
 -- The bodies of a module to which globals are added whose definitions name no function.
-use Rattle.std.proofs.Common.{◌≡◌, ℕ, List, [], ◌++◌, refl, sym, subst, ap, ◌∙◌, append-nil}
+use Rattle.std.proofs.Common.{◌≡◌, ℕ, ◌+◌, List, [], ◌++◌, Some, length, refl, sym, subst, ap, ◌∙◌, append-nil, arith}
+use Rattle.std.specs.Prelude.{slice_get}
 use Rattle.std.specs.List.{flat_map}
 use Rattle.std.proofs.lemmas.Grind.{flat_map-append}
+use Rattle.smith_types.proofs.ListLemmas.{slice_get-after}
 use Rattle.smith_syntax.specs.declared.code.Code.{Code}
 use Rattle.smith_syntax.specs.declared.composite_type.FuncType.{FuncType}
 use Rattle.smith_syntax.specs.declared.const_instr.ConstInstr.{ConstInstr}
@@ -29,6 +31,13 @@ with_added added old = record old {
   defined_globals = old.defined_globals ++ added.definitions;
   fuel_globals = added.counters;
 }
+
+-- an added global, after the others
+pub after_others : (others added : List GlobalType) (first place index : ℕ) (global : GlobalType) → first ≡ length others
+    → index ≡ first + place → slice_get added place ≡ Some global → slice_get (others ++ added) index ≡ Some global
+after_others others added first place index global next at there =
+    let here : length others + place ≡ index = omega arith in
+    subst (λ (n : ℕ). slice_get (others ++ added) n ≡ Some global) here (slice_get-after others added place ∙ there)
 
 -- the functions that a definition names
 abbrev pub named_in_global : ℕ × List ConstInstr → List ℕ

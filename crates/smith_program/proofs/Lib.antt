@@ -10,6 +10,7 @@ pub mod CanonicalLemmas
 pub mod MixedLoop
 pub mod WiderLemmas
 pub mod GlobalLemmas
+pub mod MappedLemmas
 pub mod TerminationLemmas
 pub mod ValidLemmas
 pub mod DeterminedLemmas
@@ -17,3 +18,4 @@ pub mod GeneratedLemmas
 pub mod GlobalExportLemmas
 pub mod ObservedProgramLemmas
 pub mod ObservedBodiesLemmas
+pub mod CanonicalProgramLemmas

@@ -126,7 +126,7 @@ vector_vector (vector.RelaxedFloatTernary op) float operands results is typed =
     typed.1 ∙ ap (λ (value : ValType). value ∷ []) (relaxed_ternary_vector op float is)
 vector_vector _ float operands results is typed = absurd (cc is)
 
--- Such an instruction gives a value of the float.
+-- such an instruction gives a value of the float
 pub gives_float : (vectors : Bool) (instruction : Instr) (float : Float) (context : BodyContext) (set : List ℕ)
     (operands results : List ValType) → nan_of vectors instruction ≡ Some float
     → HasInstrType context set instruction operands results → results ≡ value_of float ∷ []

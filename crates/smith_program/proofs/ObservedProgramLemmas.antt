@@ -8,11 +8,9 @@ use Rattle.std.proofs.lemmas.Option.{same_Some, slice_get_within, slice_get-get_
 use Rattle.smith_bytes.specs.declared.error.Error.{Error}
 use Rattle.smith_types.specs.Bodies.{IsBodyValid}
 use Rattle.smith_types.specs.ValidTypes.{IsValTypeValid}
-use Rattle.smith_types.proofs.ListLemmas.{slice_get-after}
 use Rattle.smith_syntax.specs.Features.{Features}
 use Rattle.smith_syntax.specs.declared.code.Code.{Code}
 use Rattle.smith_syntax.specs.declared.composite_type.FuncType.{FuncType}
-use Rattle.smith_syntax.specs.declared.entity_type.GlobalType.{GlobalType}
 use Rattle.smith_syntax.specs.declared.value_type.ValType.{ValType}
 use Rattle.smith_syntax.specs.declared.value_type.ValType.TheVariants.{I32, I64, F32, F64, V128, Ref}
 use Rattle.smith_module_rules.specs.Module.{ModuleParts, IsValid, module_features}
@@ -32,7 +30,7 @@ use Rattle.smith_program.specs.declared.program.Body.{Body}
 use Rattle.smith_program.specs.declared.program.Body.TheVariants as body
 use Rattle.smith_program.proofs.DrawnBodiesLemmas.{code_there}
 use Rattle.smith_program.proofs.GlobalExportLemmas.{sink_exporting_bodies}
-use Rattle.smith_program.proofs.GlobalLemmas.{Added, still_typed, with_added}
+use Rattle.smith_program.proofs.GlobalLemmas.{Added, after_others, still_typed, with_added}
 use Rattle.smith_program.proofs.MixLemmas.{AreSinks}
 use Rattle.smith_program.proofs.ObservedLemmas.{observed_typed}
 use Rattle.smith_program.proofs.ScopeLemmas.{defined_there, module_scope, type_index}
@@ -44,13 +42,6 @@ added_sinks first old = record { globals = sinks; definitions = sink_definitions
 
 abbrev with_sinks : ℕ → ModuleParts → ModuleParts
 with_sinks first old = with_added (added_sinks first old) old
-
--- an added global, after the others
-after_others : (others added : List GlobalType) (first place index : ℕ) (global : GlobalType) → first ≡ length others
-    → index ≡ first + place → slice_get added place ≡ Some global → slice_get (others ++ added) index ≡ Some global
-after_others others added first place index global next at there =
-    let here : length others + place ≡ index = omega arith in
-    subst (λ (n : ℕ). slice_get (others ++ added) n ≡ Some global) here (slice_get-after others added place ∙ there)
 
 sinks_there : (first : ℕ) (old : ModuleParts) (function : FuncType) (locals : List ValType) → first ≡ length old.globals
     → AreSinks (function_context (with_sinks first old) function locals) first

@@ -1,11 +1,9 @@
 -- The bodies of a module to which a counter of fuel is added.
-use Rattle.std.proofs.Common.{◌≡◌, ℕ, ◌<◌, List, [], ◌∷◌, ◌++◌, Some, Result, Ok, Err, length, get_or, refl, sym, subst, ap, ◌∙◌}
-use Rattle.std.specs.Prelude.{map, slice_get, option_map}
+use Rattle.std.proofs.Common.{◌≡◌, ℕ, List, [], ◌∷◌, ◌++◌, Result, Ok, Err, length, refl, ap}
+use Rattle.std.specs.Prelude.{map}
 use Rattle.std.specs.List.{AllByRecursion as Each}
 use Rattle.std.specs.Int.{cast_signed, w32}
-use Rattle.std.proofs.lemmas.List.{length-map}
 use Rattle.std.proofs.lemmas.List.Elements.{recursion_from_All, All-weaker}
-use Rattle.std.proofs.lemmas.Option.{same_Some, slice_get_within, slice_get-get_or, slice_get-map}
 use Rattle.smith_bytes.specs.declared.error.Error.{Error}
 use Rattle.smith_types.specs.Bodies.{IsCounterGlobal}
 use Rattle.smith_syntax.specs.declared.code.Code.{Code}
@@ -20,6 +18,7 @@ use Rattle.smith_program.specs.declared.program.Body.{Body}
 use Rattle.smith_program.specs.declared.program.Body.TheVariants as body
 use Rattle.smith_program.proofs.CountedLemmas.{IsCounter, counted_typed}
 use Rattle.smith_program.proofs.GlobalLemmas.{still_of_added}
+use Rattle.smith_program.proofs.MappedLemmas.{mapped_bodies}
 
 pub still_bodies : (fuel index : ℕ) (old new : ModuleParts) (bodies : List Body) → AddsCounter fuel index old new → AreBodiesOf old bodies
     → AreBodiesOf new bodies
@@ -63,21 +62,7 @@ counted_at m valid place code (body.Drawn instructions) (not_raw, is) = (
   },
 )
 
--- an item of a mapped list is the image of an item
-unmapped : {A B : Type 0} (f : A → B) (xs : List A) (d : A) (place : ℕ) (y : B) → slice_get (map f xs) place ≡ Some y
-    → (x : A) × (slice_get xs place ≡ Some x) × (f x ≡ y)
-unmapped f xs d place y at =
-    let within : place < length (map f xs) = slice_get_within (map f xs) place y at in
-    let inside : place < length xs = subst (λ (n : ℕ). place < n) (length-map xs f) within in
-    let here : slice_get xs place ≡ Some (get_or xs place d) = slice_get-get_or xs place d inside in
-    (get_or xs place d, here, same_Some (f (get_or xs place d)) y (sym (ap (option_map f) here) ∙ (sym (slice_get-map f xs place) ∙ at)))
-
 -- bodies with the checks of the counters of their module
 pub counted_bodies : (m : ModuleParts) (bodies : List Body) → IsValid m → AreBodiesOf m bodies
     → AreBodiesOf m (map (counted_body m.fuel_globals) bodies)
-counted_bodies m bodies valid are = record {
-  each = length-map bodies (counted_body m.fuel_globals) ∙ are.each;
-  in_place = λ place code given at there.
-      let (drawn, was, is) = unmapped (counted_body m.fuel_globals) bodies given place given there in
-      subst (IsOfBody (IsBodyAt m place code) code) is (counted_at m valid place code drawn (are.in_place place code drawn at was));
-}
+counted_bodies m bodies valid are = mapped_bodies m m (counted_body m.fuel_globals) bodies refl (counted_at m valid) are

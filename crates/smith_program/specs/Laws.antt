@@ -3,6 +3,7 @@ use Rattle.std.specs.Prelude.{◌≡◌, ℕ, List, Ok}
 use Rattle.smith_config.specs.declared.config.Config.{Config}
 use Rattle.smith_module_rules.specs.Module.{ModuleParts}
 use Rattle.wasm_smith.specs.Termination.{AddsCounter}
+use Rattle.smith_program.specs.Canonical.{AnswersCanonical}
 use Rattle.smith_program.specs.Generated.{IsProgram}
 use Rattle.smith_program.specs.Observed.{AnswersObserved}
 use Rattle.smith_program.specs.Valid.{IsValidProgram}
@@ -25,4 +26,10 @@ CountedProgramsAreValid =
 abbrev pub ObservedProgramsAreValid : Type 0
 ObservedProgramsAreValid =
     (first : ℕ) (old new : ProgramParts) → AnswersObserved old new (Ok first) → IsValidProgram old.«module» old.bodies
+    → IsValidProgram new.«module» new.bodies
+
+-- a valid program stays valid with canonical NaNs
+abbrev pub CanonicalProgramsAreValid : Type 0
+CanonicalProgramsAreValid =
+    (old new : ProgramParts) → AnswersCanonical old new (Ok tt) → IsValidProgram old.«module» old.bodies
     → IsValidProgram new.«module» new.bodies

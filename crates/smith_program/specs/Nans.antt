@@ -42,6 +42,7 @@ conversion_nan convert.F32DemoteF64 = Some F32
 conversion_nan convert.F64PromoteF32 = Some F64
 conversion_nan _ = None
 
+-- numeric instructions
 abbrev pub numeric_nan : NumericInstr → Option Float
 numeric_nan (numeric.F32Unary op) = unary_nan F32 op
 numeric_nan (numeric.F64Unary op) = unary_nan F64 op
@@ -83,7 +84,8 @@ vector_binary_nan vector_binary.F64x2Min = Some F64x2
 vector_binary_nan vector_binary.F64x2Max = Some F64x2
 vector_binary_nan _ = None
 
--- relaxed operators, each on floats (Execution, Numerics, Relaxed Operations)
+-- relaxed minimum and maximum, and multiplication with addition (Execution, Numerics, Relaxed
+-- Operations)
 abbrev pub relaxed_binary_nan : RelaxedFloatBinary → Option Float
 relaxed_binary_nan relaxed_binary.F32x4Min = Some F32x4
 relaxed_binary_nan relaxed_binary.F32x4Max = Some F32x4
@@ -96,6 +98,7 @@ relaxed_ternary_nan relaxed_ternary.F32x4Nmadd = Some F32x4
 relaxed_ternary_nan relaxed_ternary.F64x2Madd = Some F64x2
 relaxed_ternary_nan relaxed_ternary.F64x2Nmadd = Some F64x2
 
+-- vector instructions
 abbrev pub vector_nan : VectorInstr → Option Float
 vector_nan (vector.FloatUnary op) = vector_unary_nan op
 vector_nan (vector.FloatBinary op) = vector_binary_nan op

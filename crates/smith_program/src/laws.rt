@@ -1,4 +1,5 @@
-ghost use Rattle.smith_program.specs.Laws.{CountedProgramsAreValid, ObservedProgramsAreValid};
+ghost use Rattle.smith_program.specs.Laws.{CanonicalProgramsAreValid, CountedProgramsAreValid};
+ghost use Rattle.smith_program.specs.Laws.{ObservedProgramsAreValid};
 ghost use Rattle.smith_program.specs.Laws.{ProgramsAreDetermined};
 
 /// States that the configuration and the bytes determine a program: two programs that
@@ -17,4 +18,9 @@ pub fn counted_programs_are_valid()
 /// States that a valid program stays valid with its locals mixed into sinks.
 pub fn observed_programs_are_valid()
     ensures { ObservedProgramsAreValid }
+{}
+
+/// States that a valid program stays valid with canonical NaNs.
+pub fn canonical_programs_are_valid()
+    ensures { CanonicalProgramsAreValid }
 {}

@@ -3,11 +3,14 @@
 #![tactic(auto)]
 
 mod bodies;
+mod canonical;
 mod copies;
+mod examples;
 mod fuel_export;
 /// Laws: functions with empty bodies whose clauses state theorems.
 pub mod laws;
 mod mixes;
+mod nans;
 mod observe;
 mod program;
 mod references;
