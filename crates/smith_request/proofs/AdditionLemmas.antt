@@ -12,7 +12,7 @@ use Rattle.smith_module_rules.specs.Module.{ModuleParts}
 use Rattle.wasm_smith.specs.FuelExport.{AnswersFuelExport}
 use Rattle.wasm_smith.specs.SinkExports.{AnswersSinkExports}
 use Rattle.wasm_smith.specs.Sinks.{sinks}
-use Rattle.wasm_smith.specs.Termination.{HasRawBody, MayAddNone}
+use Rattle.wasm_smith.specs.Termination.{MayAddNone}
 use Rattle.smith_program.specs.Observed.{AnswersObserved}
 use Rattle.smith_program.specs.Parts.{ProgramParts}
 use Rattle.smith_request.specs.Additions.{HasCounter, HasSinks, IsCounted, IsExtended, IsFuelled, IsObserved, added_globals}

@@ -202,8 +202,9 @@ or if an export has that name, as `fuel` and as many `_` as the longest name has
 
 /// What the sinks are for, and the names of their exports.
 const OBSERVE_ABOUT: &str =
-    "Mixes the values of locals into three globals where functions end, so that two engines can be compared, \
-and exports these as `sink_i32`, `sink_i64` and `sink_i64_2`, followed by `_` like `fuel`; also exports the global that counts.";
+    "Mixes the values of locals into three globals where functions end, so that engines can be compared, and exports these \
+after all other exports: as `sink_i32`, `sink_i64` and `sink_i64_2`, each with `_` after it if an export has that name, as after `fuel`. \
+Also exports the global that counts.";
 
 static WORDS: [Word; 17] = [
     Word {
