@@ -1,8 +1,6 @@
 ghost use Rattle.std.specs.Prelude.{◌≡◌, true, false, [], ◌∷◌, ◌++◌};
 ghost use Rattle.smith_types.specs.Flags.{funcref};
-ghost use Rattle.smith_syntax.specs.declared.instruction_kind.InstructionKind.TheVariants.{
-  NumericInt,
-};
+ghost use Rattle.smith_syntax.specs.declared.instruction_kind.InstructionKind.TheVariants.{NumericInt};
 ghost use Rattle.smith_syntax.specs.declared.value_type.ValType.TheVariants.{I32};
 ghost use Rattle.smith_config.specs.Config.{default_config};
 ghost use Rattle.smith_instr.specs.declared.aggregate.AggregateInstr.TheVariants as aggregate;
@@ -21,8 +19,7 @@ ghost use Rattle.smith_instr.specs.declared.numeric.SaturatingConversion.TheVari
 ghost use Rattle.smith_instr.specs.declared.reference.ReferenceInstr.TheVariants as reference;
 ghost use Rattle.smith_instr.specs.declared.table.TableInstr.TheVariants as table;
 ghost use Rattle.smith_instr.specs.declared.vector.VectorLoad.TheVariants as vector_load;
-ghost use Rattle.smith_instr_examples.specs.ExampleBodies.{aligned, function_of, kinds_of, number};
-ghost use Rattle.smith_instr_examples.specs.ExampleBodies.{some_func};
+ghost use Rattle.smith_instr_examples.specs.ExampleBodies.{aligned, function_of, kinds_of, number, some_func};
 ghost use Rattle.smith_body.specs.Bodies.{body_at};
 ghost use Rattle.smith_body_nodes.specs.Traps.{IsTrapless, may_trap};
 ghost use Rattle.smith_body_examples.specs.ExampleAggregates.{nested, paired, some};
@@ -31,29 +28,23 @@ ghost use Rattle.smith_body_examples.specs.ExampleBytes.{narrow, trapless};
 fn numbers()
     ensures division { may_trap (instr.Numeric (numeric.I32Binary int_binary.DivS)) ≡ true }
     ensures remainder { may_trap (instr.Numeric (numeric.I64Binary int_binary.RemU)) ≡ true }
-    ensures division_of_floats { may_trap (instr.Numeric (numeric.F32Binary float_binary.Div))
-        ≡ false }
+    ensures division_of_floats { may_trap (instr.Numeric (numeric.F32Binary float_binary.Div)) ≡ false }
     ensures shift { may_trap (instr.Numeric (numeric.I32Binary int_binary.Shl)) ≡ false }
     ensures truncation { may_trap (instr.Numeric (numeric.Convert convert.I32TruncF64U)) ≡ true }
-    ensures saturating_truncation { may_trap
-        (instr.Numeric (numeric.Saturate saturate.I32TruncSatF64U)) ≡ false }
+    ensures saturating_truncation { may_trap (instr.Numeric (numeric.Saturate saturate.I32TruncSatF64U)) ≡ false }
     ensures wrap { may_trap (instr.Numeric (numeric.Convert convert.I32WrapI64)) ≡ false }
 {}
 
 fn divisions_and_truncations()
-    ensures unsigned_division { may_trap (instr.Numeric (numeric.I64Binary int_binary.DivU))
-        ≡ true }
+    ensures unsigned_division { may_trap (instr.Numeric (numeric.I64Binary int_binary.DivU)) ≡ true }
     ensures signed_remainder { may_trap (instr.Numeric (numeric.I32Binary int_binary.RemS)) ≡ true }
     ensures i32_from_f32 { may_trap (instr.Numeric (numeric.Convert convert.I32TruncF32S)) ≡ true }
-    ensures unsigned_i32_from_f32 { may_trap (instr.Numeric (numeric.Convert convert.I32TruncF32U))
-        ≡ true }
+    ensures unsigned_i32_from_f32 { may_trap (instr.Numeric (numeric.Convert convert.I32TruncF32U)) ≡ true }
     ensures i32_from_f64 { may_trap (instr.Numeric (numeric.Convert convert.I32TruncF64S)) ≡ true }
     ensures i64_from_f32 { may_trap (instr.Numeric (numeric.Convert convert.I64TruncF32S)) ≡ true }
-    ensures unsigned_i64_from_f32 { may_trap (instr.Numeric (numeric.Convert convert.I64TruncF32U))
-        ≡ true }
+    ensures unsigned_i64_from_f32 { may_trap (instr.Numeric (numeric.Convert convert.I64TruncF32U)) ≡ true }
     ensures i64_from_f64 { may_trap (instr.Numeric (numeric.Convert convert.I64TruncF64S)) ≡ true }
-    ensures unsigned_i64_from_f64 { may_trap (instr.Numeric (numeric.Convert convert.I64TruncF64U))
-        ≡ true }
+    ensures unsigned_i64_from_f64 { may_trap (instr.Numeric (numeric.Convert convert.I64TruncF64U)) ≡ true }
 {}
 
 fn memories_and_tables()
@@ -120,69 +111,46 @@ fn control()
 {}
 
 fn with_traps()
-    ensures division { body_at default_config (function_of [] (I32 ∷ [])) 1
-        (0 ∷ 1 ∷ 6 ∷ narrow 5 ++ narrow 7)
+    ensures division { body_at default_config (function_of [] (I32 ∷ [])) 1 (0 ∷ 1 ∷ 6 ∷ narrow 5 ++ narrow 7)
         ≡ (number 5 ∷ number 7 ∷ instr.Numeric (numeric.I32Binary int_binary.DivS) ∷ [], []) }
-    ensures stop { body_at default_config (function_of [] []) 1 (252 ∷ 7 ∷ [])
-        ≡ (instr.Unreachable ∷ [], []) }
-    ensures constant_that_is_none { body_at default_config (function_of [] (some_func ∷ [])) 1
-        (0 ∷ 0 ∷ 4 ∷ 15 ∷ [])
+    ensures stop { body_at default_config (function_of [] []) 1 (252 ∷ 7 ∷ []) ≡ (instr.Unreachable ∷ [], []) }
+    ensures constant_that_is_none { body_at default_config (function_of [] (some_func ∷ [])) 1 (0 ∷ 0 ∷ 4 ∷ 15 ∷ [])
         ≡ (instr.Unreachable ∷ [], []) }
 {}
 
 fn without_traps()
-    ensures division { body_at trapless (function_of [] (I32 ∷ [])) 1
-        (0 ∷ 1 ∷ 6 ∷ narrow 5 ++ narrow 7)
-        ≡ (number 5 ∷ [], narrow 7) }
-    ensures subtraction { body_at trapless
-        (function_of [] (I32 ∷ [])) 1 (0 ∷ 1 ∷ 4 ∷ narrow 5 ++ narrow 7)
+    ensures division { body_at trapless (function_of [] (I32 ∷ [])) 1 (0 ∷ 1 ∷ 6 ∷ narrow 5 ++ narrow 7) ≡ (number 5 ∷ [], narrow 7) }
+    ensures subtraction { body_at trapless (function_of [] (I32 ∷ [])) 1 (0 ∷ 1 ∷ 4 ∷ narrow 5 ++ narrow 7)
         ≡ (number 5 ∷ number 7 ∷ instr.Numeric (numeric.I32Binary int_binary.Sub) ∷ [], []) }
-    ensures call { body_at trapless (function_of [] []) 1 (1 ∷ 5 ∷ 0 ∷ [])
-        ≡ (instr.Call 0 ∷ [], []) }
+    ensures call { body_at trapless (function_of [] []) 1 (1 ∷ 5 ∷ 0 ∷ []) ≡ (instr.Call 0 ∷ [], []) }
     ensures stop { body_at trapless (function_of [] []) 1 (252 ∷ 7 ∷ []) ≡ ([], []) }
     ensures growth { body_at trapless (function_of [] (I32 ∷ [])) 1 (0 ∷ 15 ∷ 1 ∷ 0 ∷ 2 ∷ [])
         ≡ (number 2 ∷ instr.Memory (memory.Grow 0) ∷ [], []) }
-    ensures thrown { body_at trapless (function_of [] []) 1 (252 ∷ 4 ∷ 1 ∷ narrow 5)
-        ≡ (number 5 ∷ instr.Throw 0 ∷ [], []) }
-    ensures thrown_again { body_at trapless (function_of [] []) 1 (252 ∷ 4 ∷ 7 ∷ 4 ∷ [])
-        ≡ ([], 4 ∷ []) }
-    ensures block_that_catches { body_at trapless
-        (function_of [] (I32 ∷ [])) 1 (0 ∷ 34 ∷ 0 ∷ narrow 5)
+    ensures thrown { body_at trapless (function_of [] []) 1 (252 ∷ 4 ∷ 1 ∷ narrow 5) ≡ (number 5 ∷ instr.Throw 0 ∷ [], []) }
+    ensures thrown_again { body_at trapless (function_of [] []) 1 (252 ∷ 4 ∷ 7 ∷ 4 ∷ []) ≡ ([], 4 ∷ []) }
+    ensures block_that_catches { body_at trapless (function_of [] (I32 ∷ [])) 1 (0 ∷ 34 ∷ 0 ∷ narrow 5)
         ≡ (instr.TryTable (block.Value I32) [] ∷ number 5 ∷ instr.End ∷ [], []) }
-    ensures drawn_all_the_same { ¬ (body_at trapless (function_of [] (I32 ∷ [])) 1
-        (0 ∷ 1 ∷ 6 ∷ narrow 5 ++ narrow 7)
+    ensures drawn_all_the_same { ¬ (body_at trapless (function_of [] (I32 ∷ [])) 1 (0 ∷ 1 ∷ 6 ∷ narrow 5 ++ narrow 7)
         ≡ (number 5 ∷ number 7 ∷ instr.Numeric (numeric.I32Binary int_binary.DivS) ∷ [], [])) }
 {}
 
 fn in_place_of_a_stop()
     ensures function { body_at trapless (function_of [] (some_func ∷ [])) 1 (0 ∷ 0 ∷ 4 ∷ [])
         ≡ (instr.Reference (reference.Func 1) ∷ [], []) }
-    ensures nothing { body_at trapless
-        (record (function_of [] (some_func ∷ [])) { references = [] }) 1 (0 ∷ 0 ∷ 4 ∷ [])
+    ensures nothing { body_at trapless (record (function_of [] (some_func ∷ [])) { references = [] }) 1 (0 ∷ 0 ∷ 4 ∷ [])
         ≡ (instr.Unreachable ∷ [], []) }
-    ensures struct_of_default_values { body_at trapless
-        (function_of [] (some 2 ∷ [])) 1 (0 ∷ 0 ∷ 4 ∷ [])
+    ensures struct_of_default_values { body_at trapless (function_of [] (some 2 ∷ [])) 1 (0 ∷ 0 ∷ 4 ∷ [])
         ≡ (instr.Aggregate (aggregate.StructNewDefault 2) ∷ [], []) }
-    ensures struct_of_a_struct { body_at trapless
-        (record nested { results = some 1 ∷ [] }) 1 (0 ∷ 0 ∷ 4 ∷ [])
+    ensures struct_of_a_struct { body_at trapless (record nested { results = some 1 ∷ [] }) 1 (0 ∷ 0 ∷ 4 ∷ [])
+        ≡ (instr.Aggregate (aggregate.StructNewDefault 0) ∷ instr.Aggregate (aggregate.StructNew 1) ∷ [], []) }
+    ensures struct_of_a_struct_of_a_struct { body_at trapless (record nested { results = some 3 ∷ [] }) 1 (0 ∷ 0 ∷ 4 ∷ [])
         ≡ (
-          instr.Aggregate (aggregate.StructNewDefault 0)
-              ∷ instr.Aggregate (aggregate.StructNew 1) ∷ [],
+          instr.Aggregate (aggregate.StructNewDefault 0) ∷ instr.Aggregate (aggregate.StructNew 1) ∷ instr.Aggregate
+              (aggregate.StructNew 3) ∷ [],
           [],
         ) }
-    ensures struct_of_a_struct_of_a_struct { body_at trapless
-        (record nested { results = some 3 ∷ [] }) 1 (0 ∷ 0 ∷ 4 ∷ [])
-        ≡ (
-          instr.Aggregate (aggregate.StructNewDefault 0)
-              ∷ instr.Aggregate (aggregate.StructNew 1)
-              ∷ instr.Aggregate (aggregate.StructNew 3) ∷ [],
-          [],
-        ) }
-    ensures pair_of_pairs { body_at trapless (record paired { results = some 2 ∷ [] }) 1
-        (0 ∷ 0 ∷ 4 ∷ []) ≡ (instr.Unreachable ∷ [], []) }
-    ensures zero { body_at (record trapless { allowed_instructions = kinds_of NumericInt })
-        (function_of [] (I32 ∷ [])) 1 (0 ∷ 0 ∷ 2 ∷ 1 ∷ [])
-        ≡ (number 0 ∷ [], []) }
-    ensures budget { body_at trapless (function_of [] (I32 ∷ [])) 0 []
-        ≡ (instr.Unreachable ∷ [], []) }
+    ensures pair_of_pairs { body_at trapless (record paired { results = some 2 ∷ [] }) 1 (0 ∷ 0 ∷ 4 ∷ []) ≡ (instr.Unreachable ∷ [], []) }
+    ensures zero { body_at (record trapless { allowed_instructions = kinds_of NumericInt }) (function_of [] (I32 ∷ [])) 1
+        (0 ∷ 0 ∷ 2 ∷ 1 ∷ []) ≡ (number 0 ∷ [], []) }
+    ensures budget { body_at trapless (function_of [] (I32 ∷ [])) 0 [] ≡ (instr.Unreachable ∷ [], []) }
 {}

@@ -46,8 +46,7 @@ ghost use Rattle.smith_instr_examples.specs.ExampleTyping.{IsAmong, IsBarred, Is
 fn parametric()
     ensures drop { IsOfKind kind.Parametric instr.Drop }
     ensures select { IsOfKind kind.Parametric instr.Select }
-    ensures select_typed { (values : List ValType) → IsOfKind kind.Parametric
-        (instr.SelectTyped values) }
+    ensures select_typed { (values : List ValType) → IsOfKind kind.Parametric (instr.SelectTyped values) }
 {}
 
 #[tactic(auto, unfolding(smith_instr::specs::Enabled::is_enabled))]
@@ -63,25 +62,18 @@ fn variables()
 fn integers()
     ensures i32_const { IsOfKind kind.NumericInt (instr.I32Const (pos 0)) }
     ensures i64_const { IsOfKind kind.NumericInt (instr.I64Const (pos 0)) }
-    ensures i32_unary { (op : IntUnary) → IsOfKind kind.NumericInt
-        (instr.Numeric (numeric.I32Unary op)) }
-    ensures i64_binary { (op : IntBinary) → IsOfKind kind.NumericInt
-        (instr.Numeric (numeric.I64Binary op)) }
-    ensures i32_compare { (op : IntCompare) → IsOfKind kind.NumericInt
-        (instr.Numeric (numeric.I32Compare op)) }
-    ensures extend { (op : SignExtension) → IsOfKind kind.NumericInt
-        (instr.Numeric (numeric.Extend op)) }
-    ensures wide { (op : WideArithmetic) → IsOfKind kind.NumericInt
-        (instr.Numeric (numeric.Wide op)) }
+    ensures i32_unary { (op : IntUnary) → IsOfKind kind.NumericInt (instr.Numeric (numeric.I32Unary op)) }
+    ensures i64_binary { (op : IntBinary) → IsOfKind kind.NumericInt (instr.Numeric (numeric.I64Binary op)) }
+    ensures i32_compare { (op : IntCompare) → IsOfKind kind.NumericInt (instr.Numeric (numeric.I32Compare op)) }
+    ensures extend { (op : SignExtension) → IsOfKind kind.NumericInt (instr.Numeric (numeric.Extend op)) }
+    ensures wide { (op : WideArithmetic) → IsOfKind kind.NumericInt (instr.Numeric (numeric.Wide op)) }
 {}
 
 #[tactic(auto, unfolding(smith_instr::specs::Enabled::is_enabled))]
 fn other_integers()
     ensures i64_eqz { IsOfKind kind.NumericInt (instr.Numeric numeric.I64Eqz) }
-    ensures i64_extend_i32_u { IsOfKind kind.NumericInt
-        (instr.Numeric (numeric.Convert convert.I64ExtendI32U)) }
-    ensures i64_extend_i32_s { IsOfKind kind.NumericInt
-        (instr.Numeric (numeric.Convert convert.I64ExtendI32S)) }
+    ensures i64_extend_i32_u { IsOfKind kind.NumericInt (instr.Numeric (numeric.Convert convert.I64ExtendI32U)) }
+    ensures i64_extend_i32_s { IsOfKind kind.NumericInt (instr.Numeric (numeric.Convert convert.I64ExtendI32S)) }
 {}
 
 #[tactic(auto, unfolding(smith_instr::specs::Enabled::is_enabled))]
@@ -90,114 +82,69 @@ fn floats()
     ensures f32_const_barred { IsBarred without_floats (instr.F32Const 0) }
     ensures f64_const { IsAmong kind.Numeric (instr.F64Const 0) }
     ensures f64_const_barred { IsBarred without_floats (instr.F64Const 0) }
-    ensures f32_unary { (op : FloatUnary) → IsAmong kind.Numeric
-        (instr.Numeric (numeric.F32Unary op)) }
-    ensures f32_unary_barred { (op : FloatUnary) → IsBarred without_floats
-        (instr.Numeric (numeric.F32Unary op)) }
-    ensures f64_unary { (op : FloatUnary) → IsAmong kind.Numeric
-        (instr.Numeric (numeric.F64Unary op)) }
-    ensures f64_unary_barred { (op : FloatUnary) → IsBarred without_floats
-        (instr.Numeric (numeric.F64Unary op)) }
-    ensures f32_binary { (op : FloatBinary) → IsAmong kind.Numeric
-        (instr.Numeric (numeric.F32Binary op)) }
-    ensures f32_binary_barred { (op : FloatBinary) → IsBarred without_floats
-        (instr.Numeric (numeric.F32Binary op)) }
-    ensures f64_binary { (op : FloatBinary) → IsAmong kind.Numeric
-        (instr.Numeric (numeric.F64Binary op)) }
-    ensures f64_binary_barred { (op : FloatBinary) → IsBarred without_floats
-        (instr.Numeric (numeric.F64Binary op)) }
-    ensures f32_compare { (op : FloatCompare) → IsAmong kind.Numeric
-        (instr.Numeric (numeric.F32Compare op)) }
-    ensures f32_compare_barred { (op : FloatCompare) → IsBarred without_floats
-        (instr.Numeric (numeric.F32Compare op)) }
-    ensures f64_compare { (op : FloatCompare) → IsAmong kind.Numeric
-        (instr.Numeric (numeric.F64Compare op)) }
-    ensures f64_compare_barred { (op : FloatCompare) → IsBarred without_floats
-        (instr.Numeric (numeric.F64Compare op)) }
-    ensures saturate { (op : SaturatingConversion) → IsAmong kind.Numeric
-        (instr.Numeric (numeric.Saturate op)) }
-    ensures saturate_barred { (op : SaturatingConversion) → IsBarred without_floats
-        (instr.Numeric (numeric.Saturate op)) }
+    ensures f32_unary { (op : FloatUnary) → IsAmong kind.Numeric (instr.Numeric (numeric.F32Unary op)) }
+    ensures f32_unary_barred { (op : FloatUnary) → IsBarred without_floats (instr.Numeric (numeric.F32Unary op)) }
+    ensures f64_unary { (op : FloatUnary) → IsAmong kind.Numeric (instr.Numeric (numeric.F64Unary op)) }
+    ensures f64_unary_barred { (op : FloatUnary) → IsBarred without_floats (instr.Numeric (numeric.F64Unary op)) }
+    ensures f32_binary { (op : FloatBinary) → IsAmong kind.Numeric (instr.Numeric (numeric.F32Binary op)) }
+    ensures f32_binary_barred { (op : FloatBinary) → IsBarred without_floats (instr.Numeric (numeric.F32Binary op)) }
+    ensures f64_binary { (op : FloatBinary) → IsAmong kind.Numeric (instr.Numeric (numeric.F64Binary op)) }
+    ensures f64_binary_barred { (op : FloatBinary) → IsBarred without_floats (instr.Numeric (numeric.F64Binary op)) }
+    ensures f32_compare { (op : FloatCompare) → IsAmong kind.Numeric (instr.Numeric (numeric.F32Compare op)) }
+    ensures f32_compare_barred { (op : FloatCompare) → IsBarred without_floats (instr.Numeric (numeric.F32Compare op)) }
+    ensures f64_compare { (op : FloatCompare) → IsAmong kind.Numeric (instr.Numeric (numeric.F64Compare op)) }
+    ensures f64_compare_barred { (op : FloatCompare) → IsBarred without_floats (instr.Numeric (numeric.F64Compare op)) }
+    ensures saturate { (op : SaturatingConversion) → IsAmong kind.Numeric (instr.Numeric (numeric.Saturate op)) }
+    ensures saturate_barred { (op : SaturatingConversion) → IsBarred without_floats (instr.Numeric (numeric.Saturate op)) }
 {}
 
 #[tactic(auto, unfolding(smith_instr::specs::Enabled::is_enabled))]
 fn conversions_of_floats()
-    ensures i32_trunc_f32_s { IsAmong kind.Numeric
-        (instr.Numeric (numeric.Convert convert.I32TruncF32S)) }
-    ensures i32_trunc_f32_s_barred { IsBarred without_floats
-        (instr.Numeric (numeric.Convert convert.I32TruncF32S)) }
-    ensures i32_trunc_f64_u { IsAmong kind.Numeric
-        (instr.Numeric (numeric.Convert convert.I32TruncF64U)) }
-    ensures i32_trunc_f64_u_barred { IsBarred without_floats
-        (instr.Numeric (numeric.Convert convert.I32TruncF64U)) }
-    ensures i64_trunc_f64_u { IsAmong kind.Numeric
-        (instr.Numeric (numeric.Convert convert.I64TruncF64U)) }
-    ensures i64_trunc_f64_u_barred { IsBarred without_floats
-        (instr.Numeric (numeric.Convert convert.I64TruncF64U)) }
-    ensures f32_convert_i32_s { IsAmong kind.Numeric
-        (instr.Numeric (numeric.Convert convert.F32ConvertI32S)) }
-    ensures f32_convert_i32_s_barred { IsBarred without_floats
-        (instr.Numeric (numeric.Convert convert.F32ConvertI32S)) }
-    ensures f64_convert_i64_u { IsAmong kind.Numeric
-        (instr.Numeric (numeric.Convert convert.F64ConvertI64U)) }
-    ensures f64_convert_i64_u_barred { IsBarred without_floats
-        (instr.Numeric (numeric.Convert convert.F64ConvertI64U)) }
-    ensures f32_demote_f64 { IsAmong kind.Numeric
-        (instr.Numeric (numeric.Convert convert.F32DemoteF64)) }
-    ensures f32_demote_f64_barred { IsBarred without_floats
-        (instr.Numeric (numeric.Convert convert.F32DemoteF64)) }
-    ensures f64_promote_f32 { IsAmong kind.Numeric
-        (instr.Numeric (numeric.Convert convert.F64PromoteF32)) }
-    ensures f64_promote_f32_barred { IsBarred without_floats
-        (instr.Numeric (numeric.Convert convert.F64PromoteF32)) }
-    ensures i32_reinterpret_f32 { IsAmong kind.Numeric
-        (instr.Numeric (numeric.Convert convert.I32ReinterpretF32)) }
-    ensures i32_reinterpret_f32_barred { IsBarred without_floats
-        (instr.Numeric (numeric.Convert convert.I32ReinterpretF32)) }
-    ensures f64_reinterpret_i64 { IsAmong kind.Numeric
-        (instr.Numeric (numeric.Convert convert.F64ReinterpretI64)) }
-    ensures f64_reinterpret_i64_barred { IsBarred without_floats
-        (instr.Numeric (numeric.Convert convert.F64ReinterpretI64)) }
+    ensures i32_trunc_f32_s { IsAmong kind.Numeric (instr.Numeric (numeric.Convert convert.I32TruncF32S)) }
+    ensures i32_trunc_f32_s_barred { IsBarred without_floats (instr.Numeric (numeric.Convert convert.I32TruncF32S)) }
+    ensures i32_trunc_f64_u { IsAmong kind.Numeric (instr.Numeric (numeric.Convert convert.I32TruncF64U)) }
+    ensures i32_trunc_f64_u_barred { IsBarred without_floats (instr.Numeric (numeric.Convert convert.I32TruncF64U)) }
+    ensures i64_trunc_f64_u { IsAmong kind.Numeric (instr.Numeric (numeric.Convert convert.I64TruncF64U)) }
+    ensures i64_trunc_f64_u_barred { IsBarred without_floats (instr.Numeric (numeric.Convert convert.I64TruncF64U)) }
+    ensures f32_convert_i32_s { IsAmong kind.Numeric (instr.Numeric (numeric.Convert convert.F32ConvertI32S)) }
+    ensures f32_convert_i32_s_barred { IsBarred without_floats (instr.Numeric (numeric.Convert convert.F32ConvertI32S)) }
+    ensures f64_convert_i64_u { IsAmong kind.Numeric (instr.Numeric (numeric.Convert convert.F64ConvertI64U)) }
+    ensures f64_convert_i64_u_barred { IsBarred without_floats (instr.Numeric (numeric.Convert convert.F64ConvertI64U)) }
+    ensures f32_demote_f64 { IsAmong kind.Numeric (instr.Numeric (numeric.Convert convert.F32DemoteF64)) }
+    ensures f32_demote_f64_barred { IsBarred without_floats (instr.Numeric (numeric.Convert convert.F32DemoteF64)) }
+    ensures f64_promote_f32 { IsAmong kind.Numeric (instr.Numeric (numeric.Convert convert.F64PromoteF32)) }
+    ensures f64_promote_f32_barred { IsBarred without_floats (instr.Numeric (numeric.Convert convert.F64PromoteF32)) }
+    ensures i32_reinterpret_f32 { IsAmong kind.Numeric (instr.Numeric (numeric.Convert convert.I32ReinterpretF32)) }
+    ensures i32_reinterpret_f32_barred { IsBarred without_floats (instr.Numeric (numeric.Convert convert.I32ReinterpretF32)) }
+    ensures f64_reinterpret_i64 { IsAmong kind.Numeric (instr.Numeric (numeric.Convert convert.F64ReinterpretI64)) }
+    ensures f64_reinterpret_i64_barred { IsBarred without_floats (instr.Numeric (numeric.Convert convert.F64ReinterpretI64)) }
 {}
 
 #[tactic(auto, unfolding(smith_instr::specs::Enabled::is_enabled))]
 fn vectors()
     ensures constant { IsOfKind kind.VectorInt (instr.V128Const (pos 0)) }
     ensures unary { (op : VectorUnary) → IsOfKind kind.VectorInt (instr.Vector (vector.Unary op)) }
-    ensures binary { (op : VectorBinary) → IsOfKind kind.VectorInt
-        (instr.Vector (vector.Binary op)) }
-    ensures relaxed_binary { (op : RelaxedBinary) → IsOfKind kind.VectorInt
-        (instr.Vector (vector.RelaxedBinary op)) }
-    ensures relaxed_ternary { (op : RelaxedTernary) → IsOfKind kind.VectorInt
-        (instr.Vector (vector.RelaxedTernary op)) }
+    ensures binary { (op : VectorBinary) → IsOfKind kind.VectorInt (instr.Vector (vector.Binary op)) }
+    ensures relaxed_binary { (op : RelaxedBinary) → IsOfKind kind.VectorInt (instr.Vector (vector.RelaxedBinary op)) }
+    ensures relaxed_ternary { (op : RelaxedTernary) → IsOfKind kind.VectorInt (instr.Vector (vector.RelaxedTernary op)) }
     ensures splat { IsOfKind kind.VectorInt (instr.Vector (vector.Splat shape.I64x2)) }
-    ensures extract_lane { IsOfKind kind.VectorInt
-        (instr.Vector (vector.ExtractLane extract.I16x8U 0)) }
-    ensures replace_lane { IsOfKind kind.VectorInt
-        (instr.Vector (vector.ReplaceLane shape.I32x4 0)) }
+    ensures extract_lane { IsOfKind kind.VectorInt (instr.Vector (vector.ExtractLane extract.I16x8U 0)) }
+    ensures replace_lane { IsOfKind kind.VectorInt (instr.Vector (vector.ReplaceLane shape.I32x4 0)) }
     ensures bitmask { (ty : IntShape) → IsOfKind kind.VectorInt (instr.Vector (vector.Bitmask ty)) }
 {}
 
 #[tactic(auto, unfolding(smith_instr::specs::Enabled::is_enabled))]
 fn vectors_of_floats()
-    ensures float_unary { (op : VectorFloatUnary) → IsAmong kind.Vector
-        (instr.Vector (vector.FloatUnary op)) }
-    ensures float_unary_barred { (op : VectorFloatUnary) → IsBarred without_floats
-        (instr.Vector (vector.FloatUnary op)) }
-    ensures float_binary { (op : VectorFloatBinary) → IsAmong kind.Vector
-        (instr.Vector (vector.FloatBinary op)) }
-    ensures float_binary_barred { (op : VectorFloatBinary) → IsBarred without_floats
-        (instr.Vector (vector.FloatBinary op)) }
-    ensures relaxed_float_unary { (op : RelaxedFloatUnary) → IsAmong kind.Vector
-        (instr.Vector (vector.RelaxedFloatUnary op)) }
-    ensures relaxed_float_unary_barred { (op : RelaxedFloatUnary) → IsBarred without_floats
-        (instr.Vector (vector.RelaxedFloatUnary op)) }
-    ensures relaxed_float_binary { (op : RelaxedFloatBinary) → IsAmong kind.Vector
-        (instr.Vector (vector.RelaxedFloatBinary op)) }
+    ensures float_unary { (op : VectorFloatUnary) → IsAmong kind.Vector (instr.Vector (vector.FloatUnary op)) }
+    ensures float_unary_barred { (op : VectorFloatUnary) → IsBarred without_floats (instr.Vector (vector.FloatUnary op)) }
+    ensures float_binary { (op : VectorFloatBinary) → IsAmong kind.Vector (instr.Vector (vector.FloatBinary op)) }
+    ensures float_binary_barred { (op : VectorFloatBinary) → IsBarred without_floats (instr.Vector (vector.FloatBinary op)) }
+    ensures relaxed_float_unary { (op : RelaxedFloatUnary) → IsAmong kind.Vector (instr.Vector (vector.RelaxedFloatUnary op)) }
+    ensures relaxed_float_unary_barred { (op : RelaxedFloatUnary) → IsBarred without_floats (instr.Vector (vector.RelaxedFloatUnary op)) }
+    ensures relaxed_float_binary { (op : RelaxedFloatBinary) → IsAmong kind.Vector (instr.Vector (vector.RelaxedFloatBinary op)) }
     ensures relaxed_float_binary_barred { (op : RelaxedFloatBinary) → IsBarred without_floats
         (instr.Vector (vector.RelaxedFloatBinary op)) }
-    ensures relaxed_float_ternary { (op : RelaxedFloatTernary) → IsAmong kind.Vector
-        (instr.Vector (vector.RelaxedFloatTernary op)) }
+    ensures relaxed_float_ternary { (op : RelaxedFloatTernary) → IsAmong kind.Vector (instr.Vector (vector.RelaxedFloatTernary op)) }
     ensures relaxed_float_ternary_barred { (op : RelaxedFloatTernary) → IsBarred without_floats
         (instr.Vector (vector.RelaxedFloatTernary op)) }
 {}
@@ -206,24 +153,16 @@ fn vectors_of_floats()
 fn lanes_of_floats()
     ensures f32x4_splat { IsAmong kind.Vector (instr.Vector (vector.Splat shape.F32x4)) }
     ensures f32x4_splat_barred { IsBarred without_floats (instr.Vector (vector.Splat shape.F32x4)) }
-    ensures f32x4_extract_lane { IsAmong kind.Vector
-        (instr.Vector (vector.ExtractLane extract.F32x4 0)) }
-    ensures f32x4_extract_lane_barred { IsBarred without_floats
-        (instr.Vector (vector.ExtractLane extract.F32x4 0)) }
-    ensures f32x4_replace_lane { IsAmong kind.Vector
-        (instr.Vector (vector.ReplaceLane shape.F32x4 0)) }
-    ensures f32x4_replace_lane_barred { IsBarred without_floats
-        (instr.Vector (vector.ReplaceLane shape.F32x4 0)) }
+    ensures f32x4_extract_lane { IsAmong kind.Vector (instr.Vector (vector.ExtractLane extract.F32x4 0)) }
+    ensures f32x4_extract_lane_barred { IsBarred without_floats (instr.Vector (vector.ExtractLane extract.F32x4 0)) }
+    ensures f32x4_replace_lane { IsAmong kind.Vector (instr.Vector (vector.ReplaceLane shape.F32x4 0)) }
+    ensures f32x4_replace_lane_barred { IsBarred without_floats (instr.Vector (vector.ReplaceLane shape.F32x4 0)) }
     ensures f64x2_splat { IsAmong kind.Vector (instr.Vector (vector.Splat shape.F64x2)) }
     ensures f64x2_splat_barred { IsBarred without_floats (instr.Vector (vector.Splat shape.F64x2)) }
-    ensures f64x2_extract_lane { IsAmong kind.Vector
-        (instr.Vector (vector.ExtractLane extract.F64x2 0)) }
-    ensures f64x2_extract_lane_barred { IsBarred without_floats
-        (instr.Vector (vector.ExtractLane extract.F64x2 0)) }
-    ensures f64x2_replace_lane { IsAmong kind.Vector
-        (instr.Vector (vector.ReplaceLane shape.F64x2 0)) }
-    ensures f64x2_replace_lane_barred { IsBarred without_floats
-        (instr.Vector (vector.ReplaceLane shape.F64x2 0)) }
+    ensures f64x2_extract_lane { IsAmong kind.Vector (instr.Vector (vector.ExtractLane extract.F64x2 0)) }
+    ensures f64x2_extract_lane_barred { IsBarred without_floats (instr.Vector (vector.ExtractLane extract.F64x2 0)) }
+    ensures f64x2_replace_lane { IsAmong kind.Vector (instr.Vector (vector.ReplaceLane shape.F64x2 0)) }
+    ensures f64x2_replace_lane_barred { IsBarred without_floats (instr.Vector (vector.ReplaceLane shape.F64x2 0)) }
 {}
 
 #[tactic(auto, unfolding(smith_instr::specs::Enabled::is_enabled))]
@@ -236,27 +175,19 @@ fn memories()
     ensures i32_store { (at : MemArg) → IsOfKind kind.MemoryInt (instr.Store store.I32 at) }
     ensures i64_store { (at : MemArg) → IsOfKind kind.MemoryInt (instr.Store store.I64 at) }
     ensures i64_store8 { (at : MemArg) → IsOfKind kind.MemoryInt (instr.Store store.I64To8 at) }
-    ensures v128_load { (op : VectorLoad) (at : MemArg) → IsAmong kind.MemoryInt
-        (instr.VectorLoad op at) }
-    ensures v128_load_barred { (op : VectorLoad) (at : MemArg) → IsBarred (all_but kind.MemoryInt)
-        (instr.VectorLoad op at) }
+    ensures v128_load { (op : VectorLoad) (at : MemArg) → IsAmong kind.MemoryInt (instr.VectorLoad op at) }
+    ensures v128_load_barred { (op : VectorLoad) (at : MemArg) → IsBarred (all_but kind.MemoryInt) (instr.VectorLoad op at) }
     ensures v128_store { (at : MemArg) → IsOfKind kind.MemoryInt (instr.VectorStore at) }
 {}
 
 #[tactic(auto, unfolding(smith_instr::specs::Enabled::is_enabled))]
 fn lanes_and_atomics()
-    ensures load_lane { (bytes lane : ℕ) (at : MemArg) → IsAmong kind.MemoryInt
-        (instr.VectorLoadLane bytes at lane) }
-    ensures load_lane_barred { (bytes lane : ℕ) (at : MemArg) → IsBarred (all_but kind.MemoryInt)
-        (instr.VectorLoadLane bytes at lane) }
-    ensures store_lane { (bytes lane : ℕ) (at : MemArg) → IsAmong kind.MemoryInt
-        (instr.VectorStoreLane bytes at lane) }
-    ensures store_lane_barred { (bytes lane : ℕ) (at : MemArg) → IsBarred (all_but kind.MemoryInt)
-        (instr.VectorStoreLane bytes at lane) }
-    ensures atomic { (op : AtomicAccess) (at : MemArg) → IsAmong kind.MemoryInt
-        (instr.Atomic op at) }
-    ensures atomic_barred { (op : AtomicAccess) (at : MemArg) → IsBarred (all_but kind.MemoryInt)
-        (instr.Atomic op at) }
+    ensures load_lane { (bytes lane : ℕ) (at : MemArg) → IsAmong kind.MemoryInt (instr.VectorLoadLane bytes at lane) }
+    ensures load_lane_barred { (bytes lane : ℕ) (at : MemArg) → IsBarred (all_but kind.MemoryInt) (instr.VectorLoadLane bytes at lane) }
+    ensures store_lane { (bytes lane : ℕ) (at : MemArg) → IsAmong kind.MemoryInt (instr.VectorStoreLane bytes at lane) }
+    ensures store_lane_barred { (bytes lane : ℕ) (at : MemArg) → IsBarred (all_but kind.MemoryInt) (instr.VectorStoreLane bytes at lane) }
+    ensures atomic { (op : AtomicAccess) (at : MemArg) → IsAmong kind.MemoryInt (instr.Atomic op at) }
+    ensures atomic_barred { (op : AtomicAccess) (at : MemArg) → IsBarred (all_but kind.MemoryInt) (instr.Atomic op at) }
     ensures fence { IsOfKind kind.MemoryInt instr.AtomicFence }
 {}
 
@@ -274,8 +205,7 @@ fn memories_of_floats()
 
 #[tactic(auto, unfolding(smith_instr::specs::Enabled::is_enabled))]
 fn others()
-    ensures reference { (ty : HeapType) → IsOfKind kind.Reference
-        (instr.Reference (reference.Null ty)) }
+    ensures reference { (ty : HeapType) → IsOfKind kind.Reference (instr.Reference (reference.Null ty)) }
     ensures table { (index : ℕ) → IsOfKind kind.Table (instr.Table (table.Size index)) }
     ensures aggregate { IsOfKind kind.Aggregate (instr.Aggregate aggregate.RefI31Shared) }
     ensures call { (index : ℕ) → IsOfKind kind.Control (instr.Call index) }
@@ -288,20 +218,13 @@ fn others()
 {}
 
 fn data()
-    ensures memory_init { (index other : ℕ) → IsTrue
-        (names_data (instr.Memory (memory.Init index other))) }
+    ensures memory_init { (index other : ℕ) → IsTrue (names_data (instr.Memory (memory.Init index other))) }
     ensures data_drop { (index : ℕ) → IsTrue (names_data (instr.Memory (memory.DataDrop index))) }
-    ensures array_new_data { (index other : ℕ) → IsTrue
-        (names_data (instr.Aggregate (aggregate.ArrayNewData index other))) }
-    ensures array_init_data { (index other : ℕ) → IsTrue
-        (names_data (instr.Aggregate (aggregate.ArrayInitData index other))) }
-    ensures memory_copy { (index other : ℕ) → ¬ IsTrue
-        (names_data (instr.Memory (memory.Copy index other))) }
-    ensures table_init { (index other : ℕ) → ¬ IsTrue
-        (names_data (instr.Table (table.Init index other))) }
+    ensures array_new_data { (index other : ℕ) → IsTrue (names_data (instr.Aggregate (aggregate.ArrayNewData index other))) }
+    ensures array_init_data { (index other : ℕ) → IsTrue (names_data (instr.Aggregate (aggregate.ArrayInitData index other))) }
+    ensures memory_copy { (index other : ℕ) → ¬ IsTrue (names_data (instr.Memory (memory.Copy index other))) }
+    ensures table_init { (index other : ℕ) → ¬ IsTrue (names_data (instr.Table (table.Init index other))) }
     ensures elem_drop { (index : ℕ) → ¬ IsTrue (names_data (instr.Table (table.ElemDrop index))) }
-    ensures array_new_elem { (index other : ℕ) → ¬ IsTrue
-        (names_data (instr.Aggregate (aggregate.ArrayNewElem index other))) }
-    ensures array_init_elem { (index other : ℕ) → ¬ IsTrue
-        (names_data (instr.Aggregate (aggregate.ArrayInitElem index other))) }
+    ensures array_new_elem { (index other : ℕ) → ¬ IsTrue (names_data (instr.Aggregate (aggregate.ArrayNewElem index other))) }
+    ensures array_init_elem { (index other : ℕ) → ¬ IsTrue (names_data (instr.Aggregate (aggregate.ArrayInitElem index other))) }
 {}
