@@ -11,10 +11,10 @@ ghost use Rattle.smith_instr_examples.specs.ExampleManaged.{managed};
 fn indirect()
     ensures by_a_table { HasInstrType (managed [] []) [] (instr.CallIndirect 0 6) (I64 ∷ I32 ∷ []) (I32 ∷ []) }
     ensures by_a_wide_table { HasInstrType (managed [] []) [] (instr.CallIndirect 2 6) (I64 ∷ I64 ∷ []) (I32 ∷ []) }
-    ensures by_a_narrow_index_of_a_wide_table { (results : List ValType) → ¬ HasInstrType (managed [] []) [] (instr.CallIndirect 2 6)
-        (I64 ∷ I32 ∷ []) results }
-    ensures by_a_wide_index_of_a_narrow_table { (results : List ValType) → ¬ HasInstrType (managed [] []) [] (instr.CallIndirect 0 6)
-        (I64 ∷ I64 ∷ []) results }
+    ensures by_a_narrow_index_of_a_wide_table { (results : List ValType) → ¬ HasInstrType (managed [] []) [] (instr.CallIndirect 2 6) (I64
+        ∷ I32 ∷ []) results }
+    ensures by_a_wide_index_of_a_narrow_table { (results : List ValType) → ¬ HasInstrType (managed [] []) [] (instr.CallIndirect 0 6) (I64
+        ∷ I64 ∷ []) results }
     ensures of_external_references { (operands results : List ValType) → ¬ HasInstrType (managed [] []) []
         (instr.CallIndirect 1 6) operands results }
     ensures past_the_last_table { (operands results : List ValType) → ¬ HasInstrType (managed [] []) []
@@ -29,20 +29,20 @@ fn indirect()
 
 fn by_reference()
     ensures of_its_type { HasInstrType (managed [] []) [] (instr.CallRef 6) (I64 ∷ nullable_to (Concrete 6) ∷ []) (I32 ∷ []) }
-    ensures of_another_type { (results : List ValType) → ¬ HasInstrType (managed [] []) [] (instr.CallRef 6)
-        (I64 ∷ nullable_to (Concrete 7) ∷ []) results }
-    ensures of_any_function { (results : List ValType) → ¬ HasInstrType (managed [] []) [] (instr.CallRef 6)
-        (I64 ∷ Ref funcref ∷ []) results }
+    ensures of_another_type { (results : List ValType) → ¬ HasInstrType (managed [] []) [] (instr.CallRef 6) (I64 ∷ nullable_to (Concrete 7)
+        ∷ []) results }
+    ensures of_any_function { (results : List ValType) → ¬ HasInstrType (managed [] []) [] (instr.CallRef 6) (I64 ∷ Ref funcref
+        ∷ []) results }
     ensures of_a_struct { (operands results : List ValType) → ¬ HasInstrType (managed [] []) [] (instr.CallRef 0) operands results }
-    ensures reference_first { (results : List ValType) → ¬ HasInstrType (managed [] []) [] (instr.CallRef 6)
-        (nullable_to (Concrete 6) ∷ I64 ∷ []) results }
+    ensures reference_first { (results : List ValType) → ¬ HasInstrType (managed [] []) [] (instr.CallRef 6) (nullable_to (Concrete 6) ∷ I64
+        ∷ []) results }
     ensures past_the_last_type { (operands results : List ValType) → ¬ HasInstrType (managed [] []) [] (instr.CallRef 8) operands results }
 {}
 
 fn tail()
     ensures call { HasInstrType (managed [] (I32 ∷ [])) [] (instr.ReturnCall 0) (I32 ∷ I64 ∷ []) (F32 ∷ []) }
-    ensures call_with_another_operand { (results : List ValType) → ¬ HasInstrType (managed [] (I32 ∷ [])) [] (instr.ReturnCall 0)
-        (I32 ∷ []) results }
+    ensures call_with_another_operand { (results : List ValType) → ¬ HasInstrType (managed [] (I32 ∷ [])) [] (instr.ReturnCall 0) (I32
+        ∷ []) results }
     ensures call_with_other_results { (operands results : List ValType) → ¬ HasInstrType (managed [] (I64 ∷ [])) []
         (instr.ReturnCall 0) operands results }
     ensures past_the_last { (operands results : List ValType) → ¬ HasInstrType (managed [] []) [] (instr.ReturnCall 2) operands results }
@@ -56,8 +56,8 @@ fn tail()
     ensures reference { HasInstrType (managed [] (I32 ∷ [])) [] (instr.ReturnCallRef 6) (I64 ∷ nullable_to (Concrete 6) ∷ []) (F32 ∷ []) }
     ensures reference_with_other_results { (operands results : List ValType) → ¬ HasInstrType (managed [] (I64 ∷ [])) []
         (instr.ReturnCallRef 6) operands results }
-    ensures reference_to_any_function { (results : List ValType) → ¬ HasInstrType (managed [] (I32 ∷ [])) [] (instr.ReturnCallRef 6)
-        (I64 ∷ Ref funcref ∷ []) results }
+    ensures reference_to_any_function { (results : List ValType) → ¬ HasInstrType (managed [] (I32 ∷ [])) [] (instr.ReturnCallRef 6) (I64
+        ∷ Ref funcref ∷ []) results }
     ensures indirect_past_the_last_table { (operands results : List ValType) → ¬ HasInstrType (managed [] (I32 ∷ [])) []
         (instr.ReturnCallIndirect 3 6) operands results }
     ensures indirect_past_the_last_type { (operands results : List ValType) → ¬ HasInstrType (managed [] (I32 ∷ [])) []

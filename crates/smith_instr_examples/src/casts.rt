@@ -16,19 +16,19 @@ fn tests()
         (instr.Reference (reference.Test some_struct)) (Ref external ∷ []) results }
     ensures past_the_last_type { (operands results : List ValType) → ¬ HasInstrType (managed [] []) []
         (instr.Reference (reference.Test (not_null (Concrete 8)))) operands results }
-    ensures leaves_no_reference { ¬ HasInstrType (managed [] []) [] (instr.Reference (reference.Test some_struct)) (Ref anything ∷ [])
-        (Ref some_struct ∷ []) }
+    ensures leaves_no_reference { ¬ HasInstrType (managed [] []) [] (instr.Reference (reference.Test some_struct)) (Ref anything
+        ∷ []) (Ref some_struct ∷ []) }
 {}
 
 fn casts()
-    ensures downwards { HasInstrType (managed [] []) [] (instr.Reference (reference.Cast some_struct)) (Ref anything ∷ [])
-        (Ref some_struct ∷ []) }
+    ensures downwards { HasInstrType (managed [] []) [] (instr.Reference (reference.Cast some_struct)) (Ref anything ∷ []) (Ref some_struct
+        ∷ []) }
     ensures of_another_hierarchy { (results : List ValType) → ¬ HasInstrType (managed [] []) []
         (instr.Reference (reference.Cast some_struct)) (Ref external ∷ []) results }
     ensures past_the_last_type { (operands results : List ValType) → ¬ HasInstrType (managed [] []) []
         (instr.Reference (reference.Cast (not_null (Concrete 8)))) operands results }
-    ensures null_passes { ¬ HasInstrType (managed [] []) [] (instr.Reference (reference.Cast any_struct)) (Ref anything ∷ [])
-        (Ref some_struct ∷ []) }
+    ensures null_passes { ¬ HasInstrType (managed [] []) [] (instr.Reference (reference.Cast any_struct)) (Ref anything
+        ∷ []) (Ref some_struct ∷ []) }
 {}
 
 fn branches_on_success()

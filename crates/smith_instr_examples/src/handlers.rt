@@ -17,14 +17,14 @@ fn try_tables()
         ∷ instr.Throw 0 ∷ instr.End ∷ []) (stacked [] []) (stacked [] []) }
     ensures with_a_result { AreTyped (managed ([] ∷ []) []) (instr.TryTable (block.Value I32) (catch.All 0 ∷ []) ∷ number 1 ∷ instr.End
         ∷ []) (stacked [] []) (stacked (I32 ∷ []) []) }
-    ensures to_its_own_label { (before after : Stacked) → ¬ AreTyped (managed [] [])
-        (instr.TryTable (block.Value I32) (catch.One 0 0 ∷ []) ∷ number 1 ∷ instr.End ∷ []) before after }
+    ensures to_its_own_label { (before after : Stacked) → ¬ AreTyped (managed [] []) (instr.TryTable (block.Value I32) (catch.One 0 0 ∷ [])
+        ∷ number 1 ∷ instr.End ∷ []) before after }
     ensures second_clause_to_another_type { (before after : Stacked) → ¬ AreTyped (managed ((I32 ∷ []) ∷ []) [])
         (instr.TryTable block.Empty (catch.One 0 0 ∷ catch.All 0 ∷ []) ∷ instr.End ∷ []) before after }
-    ensures body_without_its_result { (before after : Stacked) → ¬ AreTyped (managed [] [])
-        (instr.TryTable (block.Value I32) [] ∷ instr.End ∷ []) before after }
-    ensures body_with_a_value_left { (before after : Stacked) → ¬ AreTyped (managed [] [])
-        (instr.TryTable block.Empty [] ∷ number 1 ∷ instr.End ∷ []) before after }
+    ensures body_without_its_result { (before after : Stacked) → ¬ AreTyped (managed [] []) (instr.TryTable (block.Value I32) [] ∷ instr.End
+        ∷ []) before after }
+    ensures body_with_a_value_left { (before after : Stacked) → ¬ AreTyped (managed [] []) (instr.TryTable block.Empty [] ∷ number 1
+        ∷ instr.End ∷ []) before after }
 {}
 
 fn clauses()

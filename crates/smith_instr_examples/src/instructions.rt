@@ -36,12 +36,12 @@ fn accesses()
     ensures of_its_alignment { HasInstrType (function_of [] []) [] (instr.Load load.I32 (aligned 0 2)) (I32 ∷ []) (I32 ∷ []) }
     ensures above_its_alignment { ¬ HasInstrType (function_of [] []) [] (instr.Load load.I32 (aligned 0 3)) (I32 ∷ []) (I32 ∷ []) }
     ensures of_a_wide_memory { HasInstrType (function_of [] []) [] (instr.Store store.F64 (aligned 1 3)) (I64 ∷ F64 ∷ []) [] }
-    ensures of_a_wide_memory_by_a_narrow_address { ¬ HasInstrType (function_of [] []) [] (instr.Store store.F64 (aligned 1 3))
-        (I32 ∷ F64 ∷ []) [] }
+    ensures of_a_wide_memory_by_a_narrow_address { ¬ HasInstrType (function_of [] []) [] (instr.Store store.F64 (aligned 1 3)) (I32 ∷ F64
+        ∷ []) [] }
     ensures value_below_the_address { ¬ HasInstrType (function_of [] []) [] (instr.Store store.F64 (aligned 0 3)) (F64 ∷ I32 ∷ []) [] }
     ensures atomic { HasInstrType (function_of [] []) [] (instr.Atomic (atomic.Load width.I32) (aligned 0 2)) (I32 ∷ []) (I32 ∷ []) }
-    ensures atomic_below_its_alignment { ¬ HasInstrType (function_of [] []) [] (instr.Atomic (atomic.Load width.I32) (aligned 0 1))
-        (I32 ∷ []) (I32 ∷ []) }
+    ensures atomic_below_its_alignment { ¬ HasInstrType (function_of [] []) [] (instr.Atomic (atomic.Load width.I32) (aligned 0 1)) (I32
+        ∷ []) (I32 ∷ []) }
 {}
 
 fn fields()
@@ -49,10 +49,10 @@ fn fields()
         (nullable_to (Concrete 2) ∷ []) (I32 ∷ []) }
     ensures packed_without_extension { ¬ HasInstrType (function_of [] []) [] (instr.Aggregate (aggregate.StructGet 2 0 extension.Unpacked))
         (nullable_to (Concrete 2) ∷ []) (I32 ∷ []) }
-    ensures variable_is_set { HasInstrType (function_of [] []) [] (instr.Aggregate (aggregate.StructSet 2 1))
-        (nullable_to (Concrete 2) ∷ I64 ∷ []) [] }
-    ensures constant_is_set { ¬ HasInstrType (function_of [] []) [] (instr.Aggregate (aggregate.StructSet 2 0))
-        (nullable_to (Concrete 2) ∷ I32 ∷ []) [] }
+    ensures variable_is_set { HasInstrType (function_of [] []) [] (instr.Aggregate (aggregate.StructSet 2 1)) (nullable_to (Concrete 2)
+        ∷ I64 ∷ []) [] }
+    ensures constant_is_set { ¬ HasInstrType (function_of [] []) [] (instr.Aggregate (aggregate.StructSet 2 0)) (nullable_to (Concrete 2)
+        ∷ I32 ∷ []) [] }
 {}
 
 fn exceptions()
@@ -97,8 +97,8 @@ fn branches()
     ensures br_if { HasInstrType (labelled (function_of [] []) (I64 ∷ [])) [] (instr.BrIf 0) (I64 ∷ I32 ∷ []) (I64 ∷ []) }
     ensures br_if_without_condition { ¬ HasInstrType (labelled (function_of [] []) (I64 ∷ [])) [] (instr.BrIf 0) (I64 ∷ []) (I64 ∷ []) }
     ensures br_on_non_null { HasInstrType (labelled (function_of [] []) (some_func ∷ [])) [] (instr.BrOnNonNull 0) (Ref funcref ∷ []) [] }
-    ensures br_on_non_null_without_reference { ¬ HasInstrType (labelled (function_of [] []) []) [] (instr.BrOnNonNull 0)
-        (Ref funcref ∷ []) [] }
+    ensures br_on_non_null_without_reference { ¬ HasInstrType (labelled (function_of [] []) []) [] (instr.BrOnNonNull 0) (Ref funcref
+        ∷ []) [] }
 {}
 
 fn clauses()

@@ -24,13 +24,13 @@ fn parametric()
 
 fn locals()
     ensures kept { HasInstrType (function_of (some_func ∷ []) []) [] (instr.LocalTee 0) (some_func ∷ []) (some_func ∷ []) }
-    ensures kept_of_another_type { (results : List ValType) → ¬ HasInstrType (function_of (I64 ∷ []) []) [] (instr.LocalTee 0)
-        (I32 ∷ []) results }
+    ensures kept_of_another_type { (results : List ValType) → ¬ HasInstrType (function_of (I64 ∷ []) []) [] (instr.LocalTee 0) (I32
+        ∷ []) results }
     ensures kept_past_the_last { (operands results : List ValType) → ¬ HasInstrType (function_of (I64 ∷ []) []) []
         (instr.LocalTee 1) operands results }
     ensures not_kept { ¬ HasInstrType (function_of (I64 ∷ []) []) [] (instr.LocalTee 0) (I64 ∷ []) [] }
     ensures set_past_the_last { (operands results : List ValType) → ¬ HasInstrType (function_of (I64 ∷ []) []) []
         (instr.LocalSet 1) operands results }
-    ensures parameter_is_read { HasInstrType (record (function_of (some_func ∷ []) []) { params = 1 }) [] (instr.LocalGet 0) []
-        (some_func ∷ []) }
+    ensures parameter_is_read { HasInstrType (record (function_of (some_func ∷ []) []) { params = 1 }) [] (instr.LocalGet 0) [] (some_func
+        ∷ []) }
 {}

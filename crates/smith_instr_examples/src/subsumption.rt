@@ -15,17 +15,16 @@ ghost use Rattle.smith_instr_examples.specs.ExampleManaged.{managed};
 
 // A value where an instruction takes values of another type.
 fn operands()
-    ensures function_where_any_may_be_null { IsBodyTyped (function_of [] [])
-        (instr.Reference (reference.Func 1) ∷ instr.Reference reference.IsNull ∷ instr.Drop ∷ []) }
-    ensures function_into_a_table { IsBodyTyped (function_of [] []) (number 0 ∷ instr.Reference (reference.Func 1) ∷ instr.Table
-        (table.Set 0) ∷ []) }
-    ensures wide_number_where_a_narrow_one_is_taken { ¬ IsBodyTyped (function_of [] [])
-        (wide_number 0 ∷ instr.Numeric numeric.I32Eqz ∷ instr.Drop ∷ []) }
-    ensures null_where_none_is_taken { ¬ IsBodyTyped (function_of (some_func ∷ []) [])
-        (instr.Reference (reference.Null (plain heap.Func)) ∷ instr.LocalSet 0 ∷ []) }
-    ensures any_reference_where_a_struct_is_taken { ¬ IsBodyTyped (managed [] [])
-        (instr.Reference (reference.Null (plain heap.Any)) ∷ instr.Aggregate (aggregate.StructGet 0 1 extension.Unpacked) ∷ instr.Drop
-        ∷ []) }
+    ensures function_where_any_may_be_null { IsBodyTyped (function_of [] []) (instr.Reference (reference.Func 1)
+        ∷ instr.Reference reference.IsNull ∷ instr.Drop ∷ []) }
+    ensures function_into_a_table { IsBodyTyped (function_of [] []) (number 0 ∷ instr.Reference (reference.Func 1)
+        ∷ instr.Table (table.Set 0) ∷ []) }
+    ensures wide_number_where_a_narrow_one_is_taken { ¬ IsBodyTyped (function_of [] []) (wide_number 0 ∷ instr.Numeric numeric.I32Eqz
+        ∷ instr.Drop ∷ []) }
+    ensures null_where_none_is_taken { ¬ IsBodyTyped (function_of (some_func ∷ []) []) (instr.Reference (reference.Null (plain heap.Func))
+        ∷ instr.LocalSet 0 ∷ []) }
+    ensures any_reference_where_a_struct_is_taken { ¬ IsBodyTyped (managed [] []) (instr.Reference (reference.Null (plain heap.Any))
+        ∷ instr.Aggregate (aggregate.StructGet 0 1 extension.Unpacked) ∷ instr.Drop ∷ []) }
 {}
 
 // Values whose type is past the last count as no type.

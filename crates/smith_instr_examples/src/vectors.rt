@@ -19,21 +19,21 @@ fn operators()
     ensures unary { (op : VectorUnary) → HasOnlyType (instr.Vector (vector.Unary op)) (V128 ∷ []) (V128 ∷ []) }
     ensures unary_on_floats { (op : VectorFloatUnary) → HasOnlyType (instr.Vector (vector.FloatUnary op)) (V128 ∷ []) (V128 ∷ []) }
     ensures binary { (op : VectorBinary) → HasOnlyType (instr.Vector (vector.Binary op)) (V128 ∷ V128 ∷ []) (V128 ∷ []) }
-    ensures binary_on_floats { (op : VectorFloatBinary) → HasOnlyType (instr.Vector (vector.FloatBinary op)) (V128 ∷ V128 ∷ [])
-        (V128 ∷ []) }
+    ensures binary_on_floats { (op : VectorFloatBinary) → HasOnlyType (instr.Vector (vector.FloatBinary op)) (V128 ∷ V128 ∷ []) (V128
+        ∷ []) }
 {}
 
 fn relaxed()
     ensures unary { (op : RelaxedFloatUnary) → HasOnlyType (instr.Vector (vector.RelaxedFloatUnary op)) (V128 ∷ []) (V128 ∷ []) }
     ensures binary { (op : RelaxedBinary) → HasOnlyType (instr.Vector (vector.RelaxedBinary op)) (V128 ∷ V128 ∷ []) (V128 ∷ []) }
-    ensures binary_on_floats { (op : RelaxedFloatBinary) → HasOnlyType (instr.Vector (vector.RelaxedFloatBinary op)) (V128 ∷ V128 ∷ [])
-        (V128 ∷ []) }
+    ensures binary_on_floats { (op : RelaxedFloatBinary) → HasOnlyType (instr.Vector (vector.RelaxedFloatBinary op)) (V128 ∷ V128
+        ∷ []) (V128 ∷ []) }
 {}
 
 fn relaxed_on_three()
     ensures ternary { (op : RelaxedTernary) → HasOnlyType (instr.Vector (vector.RelaxedTernary op)) (V128 ∷ V128 ∷ V128 ∷ []) (V128 ∷ []) }
-    ensures ternary_on_floats { (op : RelaxedFloatTernary) → HasOnlyType (instr.Vector (vector.RelaxedFloatTernary op))
-        (V128 ∷ V128 ∷ V128 ∷ []) (V128 ∷ []) }
+    ensures ternary_on_floats { (op : RelaxedFloatTernary) → HasOnlyType (instr.Vector (vector.RelaxedFloatTernary op)) (V128 ∷ V128 ∷ V128
+        ∷ []) (V128 ∷ []) }
 {}
 
 fn tests()
