@@ -70,7 +70,6 @@ fn statements()
 {}
 
 fn locals()
-    ensures set_within { body_at default_config (function_of (some_func ∷ []) (some_func ∷ [])) 2
-        (1 ∷ 7 ∷ 0 ∷ 0 ∷ 1 ∷ 15 ∷ 4 ∷ 15 ∷ 0 ∷ 15 ∷ [])
-        ≡ (instr.Block (block.Func 0) ∷ instr.Unreachable ∷ instr.LocalSet 0 ∷ instr.End ∷ instr.Unreachable ∷ [], []) }
+    ensures set_within { body_at default_config (function_of (some_func ∷ []) (some_func ∷ [])) 2 (1 ∷ 7 ∷ 0 ∷ 0 ∷ 1 ∷ 15 ∷ 4 ∷ 15 ∷ 0 ∷ 15
+        ∷ []) ≡ (instr.Block (block.Func 0) ∷ instr.Unreachable ∷ instr.LocalSet 0 ∷ instr.End ∷ instr.Unreachable ∷ [], []) }
 {}

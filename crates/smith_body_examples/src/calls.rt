@@ -21,8 +21,8 @@ fn of_functions()
     ensures of_its_own_type_once_more { statement_choice_at default_config (function_of [] []) (5 ∷ 0 ∷ 0 ∷ 9 ∷ [])
         ≡ (node_of [] (instr.Call 0) 0, 9 ∷ []) }
     ensures of_other_results { statement_choice_at default_config (calling []) (5 ∷ 0 ∷ 9 ∷ []) ≡ (node_of [] (instr.Call 0) 1, 9 ∷ []) }
-    ensures of_other_parameters { value_choice_at default_config (record (calling (I32 ∷ [])) { locals = I32 ∷ []; params = 1 }) I32
-        (8 ∷ 0 ∷ 9 ∷ []) ≡ (Some (node_of [] (instr.Call 0) 0), 9 ∷ []) }
+    ensures of_other_parameters { value_choice_at default_config (record (calling (I32 ∷ [])) { locals = I32 ∷ []; params = 1 }) I32 (8 ∷ 0
+        ∷ 9 ∷ []) ≡ (Some (node_of [] (instr.Call 0) 0), 9 ∷ []) }
     ensures for_a_value { value_choice_at default_config (calling (I32 ∷ [])) I32 (8 ∷ 0 ∷ 1 ∷ 9 ∷ [])
         ≡ (Some (node_of (I64 ∷ []) (instr.Call 1) 1), 9 ∷ []) }
 {}

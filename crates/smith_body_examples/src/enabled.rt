@@ -32,16 +32,15 @@ fn kinds()
 {}
 
 fn features()
-    ensures wide_arithmetic { body_at default_config (record (function_of [] (I64 ∷ [])) {
-      features = record usual_features { wide_arithmetic = false };
-    }) 1 (0 ∷ 1 ∷ 32 ∷ wide 1) ≡ (wide_number 1 ∷ [], []) }
+    ensures wide_arithmetic { body_at default_config
+        (record (function_of [] (I64 ∷ [])) { features = record usual_features { wide_arithmetic = false } }) 1 (0 ∷ 1 ∷ 32 ∷ wide 1)
+        ≡ (wide_number 1 ∷ [], []) }
 {}
 
 fn kinds_without_floats()
     ensures all { kinds_of_bodies default_config ≡ every_kind }
-    ensures all_on_integers { kinds_bits (kinds_of_bodies without_floats)
-        ≡ union_of (kind.NumericInt ∷ kind.VectorInt ∷ kind.Reference ∷ kind.Parametric ∷ kind.Variable ∷ kind.Table ∷ kind.MemoryInt
-        ∷ kind.Control ∷ kind.Aggregate ∷ []) }
+    ensures all_on_integers { kinds_bits (kinds_of_bodies without_floats) ≡ union_of (kind.NumericInt ∷ kind.VectorInt ∷ kind.Reference
+        ∷ kind.Parametric ∷ kind.Variable ∷ kind.Table ∷ kind.MemoryInt ∷ kind.Control ∷ kind.Aggregate ∷ []) }
     ensures numbers { kinds_bits (kinds_of_bodies (record without_floats { allowed_instructions = kinds_of kind.Numeric }))
         ≡ kind_bits kind.NumericInt }
 {}

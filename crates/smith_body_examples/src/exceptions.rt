@@ -61,8 +61,7 @@ fn features()
     ensures no_throw { body_at default_config (without_exceptions []) 1 (252 ∷ 4 ∷ 1 ∷ narrow 5) ≡ ([], narrow 5) }
     ensures no_throw_of_a_reference { body_at default_config (without_exceptions []) 1 (252 ∷ 4 ∷ 7 ∷ []) ≡ ([], []) }
     ensures no_block { body_at default_config (without_exceptions (I32 ∷ [])) 1 (0 ∷ 34 ∷ 0 ∷ narrow 5) ≡ (number 5 ∷ [], []) }
-    ensures no_reference { body_at default_config (record (function_of [] []) {
-      features = record usual_features { function_references = false };
-    }) 1 (1 ∷ 29 ∷ 1 ∷ 0 ∷ 1 ∷ 0 ∷ [])
+    ensures no_reference { body_at default_config
+        (record (function_of [] []) { features = record usual_features { function_references = false } }) 1 (1 ∷ 29 ∷ 1 ∷ 0 ∷ 1 ∷ 0 ∷ [])
         ≡ (instr.TryTable (block.Func 0) (catch.All 0 ∷ []) ∷ instr.End ∷ [], []) }
 {}

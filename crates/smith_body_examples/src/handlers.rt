@@ -22,9 +22,8 @@ fn other_blocks()
     ensures without_exceptions { is_of_handler (record usual_features { exceptions = false }) 240 ≡ false }
     ensures without_references_that_are_not_null { is_of_handler (record usual_features { function_references = false }) 240 ≡ false }
     ensures with_both { is_of_handler usual_features 240 ≡ true }
-    ensures without_a_handler { any_block_at (record (function_of [] []) {
-      features = record usual_features { function_references = false };
-    }) (240 ∷ 0 ∷ 9 ∷ [])
+    ensures without_a_handler { any_block_at
+        (record (function_of [] []) { features = record usual_features { function_references = false } }) (240 ∷ 0 ∷ 9 ∷ [])
         ≡ (Some (blocked (Some opening.Block) (block.Func 0) [] [] 0), 9 ∷ []) }
 {}
 

@@ -12,9 +12,8 @@ ghost use Rattle.smith_body_examples.specs.ExampleBytes.{narrow, wide, wide_numb
 fn loads()
     ensures of_a_narrow_memory { body_at default_config (function_of [] (I32 ∷ [])) 1 (0 ∷ 13 ∷ 4 ∷ 0 ∷ 1 ∷ 0 ∷ 0 ∷ 8 ∷ 0 ∷ 3 ∷ [])
         ≡ (number 3 ∷ instr.Load load.I32From16U (record (aligned 0 1) { offset = 8 }) ∷ [], []) }
-    ensures of_a_wide_memory { body_at default_config (function_of [] (F64 ∷ [])) 1
-        (0 ∷ 13 ∷ 1 ∷ 3 ∷ 90 ∷ 0 ∷ 0 ∷ 0 ∷ 1 ∷ 0 ∷ 0 ∷ 0 ∷ 0 ∷ wide 3)
-        ≡ (wide_number 3 ∷ instr.Load load.F64 (record (aligned 1 3) { offset = 4295032832 }) ∷ [], []) }
+    ensures of_a_wide_memory { body_at default_config (function_of [] (F64 ∷ [])) 1 (0 ∷ 13 ∷ 1 ∷ 3 ∷ 90 ∷ 0 ∷ 0 ∷ 0 ∷ 1 ∷ 0 ∷ 0 ∷ 0 ∷ 0
+        ∷ wide 3) ≡ (wide_number 3 ∷ instr.Load load.F64 (record (aligned 1 3) { offset = 4295032832 }) ∷ [], []) }
     ensures without_a_memory { body_at default_config (record (function_of [] (I32 ∷ [])) { memories = [] }) 1 (0 ∷ 13 ∷ 4 ∷ narrow 3)
         ≡ (number 3 ∷ [], []) }
 {}

@@ -46,9 +46,5 @@ fn bodies()
     ensures below { body_at (record default_config { memory_offset_choices = record { 0 = 1; 1 = 0; 2 = 0 } }) (function_of [] (I32 ∷ [])) 1
         (0 ∷ 13 ∷ 4 ∷ 0 ∷ 1 ∷ 0 ∷ 8 ∷ 0 ∷ 3 ∷ []) ≡ (number 3 ∷ instr.Load load.I32From16U (record (aligned 0 1) { offset = 8 }) ∷ [], []) }
     ensures past { body_at (record default_config { memory_offset_choices = record { 0 = 0; 1 = 0; 2 = 1 } }) (function_of [] (I32 ∷ [])) 1
-        (0 ∷ 13 ∷ 4 ∷ 0 ∷ 1 ∷ narrow 3) ≡ (
-          number 3 ∷ instr.Load load.I32From16U (record (aligned 0 1) { offset = 2 ^ 32 - 1 })
-              ∷ [],
-          [],
-        ) }
+        (0 ∷ 13 ∷ 4 ∷ 0 ∷ 1 ∷ narrow 3) ≡ (number 3 ∷ instr.Load load.I32From16U (record (aligned 0 1) { offset = 2 ^ 32 - 1 }) ∷ [], []) }
 {}

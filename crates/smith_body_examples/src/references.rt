@@ -38,6 +38,6 @@ fn values()
     ensures maybe_null { reference_value_at (function_of [] []) (Ref funcref) (7 ∷ [])
         ≡ (Some (node_of (Ref funcref ∷ []) (instr.Reference reference.AsNonNull) 0), 7 ∷ []) }
     ensures number { reference_value_at (function_of [] []) F64 (7 ∷ []) ≡ (None, 7 ∷ []) }
-    ensures one_of_two { select_typed_node (Ref funcref) ≡ node_of (Ref funcref ∷ Ref funcref ∷ I32 ∷ [])
-        (instr.SelectTyped (Ref funcref ∷ [])) 0 }
+    ensures one_of_two { select_typed_node (Ref funcref) ≡ node_of (Ref funcref ∷ Ref funcref ∷ I32
+        ∷ []) (instr.SelectTyped (Ref funcref ∷ [])) 0 }
 {}

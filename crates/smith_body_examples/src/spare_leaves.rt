@@ -42,31 +42,31 @@ fn pairs()
     ensures i31_of_a_global { first_leaf (record trapless { allowed_instructions = record { 0 = 2 ^ 11 + 2 ^ 6 } }) untyped []
         (some_of heap.I31) ≡ instr.GlobalGet 0 ∷ instr.Aggregate aggregate.RefI31 ∷ [] }
     ensures internal_local { first_leaf (record trapless { allowed_instructions = record { 0 = 2 ^ 11 + 2 ^ 6 } })
-        (record untyped { globals = []; locals = some_of heap.Extern ∷ []; params = 1 }) [] (some_of heap.Any)
-        ≡ instr.LocalGet 0 ∷ instr.Aggregate aggregate.AnyConvertExtern ∷ [] }
+        (record untyped { globals = []; locals = some_of heap.Extern ∷ []; params = 1 }) [] (some_of heap.Any) ≡ instr.LocalGet 0
+        ∷ instr.Aggregate aggregate.AnyConvertExtern ∷ [] }
     ensures conversion_that_is_not_allowed { first_leaf (record trapless { allowed_instructions = kinds_of Variable })
         (record untyped { locals = some_of heap.Extern ∷ []; params = 1 }) [] (some_of heap.Any) ≡ instr.Unreachable ∷ [] }
 {}
 
 fn created_structs()
-    ensures of_a_struct { first_leaf trapless nested [] (some 1) ≡ instr.Aggregate (aggregate.StructNewDefault 0) ∷ instr.Aggregate
-        (aggregate.StructNew 1) ∷ [] }
-    ensures beside_numbers { first_leaf trapless nested [] (some 2) ≡ instr.GlobalGet 0 ∷ instr.I64Const (pos 0) ∷ instr.Aggregate
-        (aggregate.StructNewDefault 0) ∷ instr.Aggregate (aggregate.StructNew 2) ∷ [] }
-    ensures beside_numbers_without_globals { first_leaf trapless (record nested { globals = [] }) [] (some 2) ≡ number 0 ∷ instr.I64Const
-        (pos 0) ∷ instr.Aggregate (aggregate.StructNewDefault 0) ∷ instr.Aggregate (aggregate.StructNew 2) ∷ [] }
-    ensures of_a_function { first_leaf trapless nested [] (some 4) ≡ instr.Reference (reference.Func 0) ∷ instr.Aggregate
-        (aggregate.StructNew 4) ∷ [] }
+    ensures of_a_struct { first_leaf trapless nested [] (some 1) ≡ instr.Aggregate (aggregate.StructNewDefault 0)
+        ∷ instr.Aggregate (aggregate.StructNew 1) ∷ [] }
+    ensures beside_numbers { first_leaf trapless nested [] (some 2) ≡ instr.GlobalGet 0 ∷ instr.I64Const (pos 0)
+        ∷ instr.Aggregate (aggregate.StructNewDefault 0) ∷ instr.Aggregate (aggregate.StructNew 2) ∷ [] }
+    ensures beside_numbers_without_globals { first_leaf trapless (record nested { globals = [] }) [] (some 2) ≡ number 0
+        ∷ instr.I64Const (pos 0) ∷ instr.Aggregate (aggregate.StructNewDefault 0) ∷ instr.Aggregate (aggregate.StructNew 2) ∷ [] }
+    ensures of_a_function { first_leaf trapless nested [] (some 4) ≡ instr.Reference (reference.Func 0)
+        ∷ instr.Aggregate (aggregate.StructNew 4) ∷ [] }
     ensures without_functions { first_leaf trapless (record nested { references = [] }) [] (some 4) ≡ instr.Unreachable ∷ [] }
-    ensures two_levels { first_leaf trapless nested [] (some 3) ≡ instr.Aggregate (aggregate.StructNewDefault 0) ∷ instr.Aggregate
-        (aggregate.StructNew 1) ∷ instr.Aggregate (aggregate.StructNew 3) ∷ [] }
-    ensures pair { first_leaf trapless paired [] (some 1) ≡ instr.Aggregate (aggregate.StructNewDefault 0) ∷ instr.Aggregate
-        (aggregate.StructNewDefault 0) ∷ instr.Aggregate (aggregate.StructNew 1) ∷ [] }
+    ensures two_levels { first_leaf trapless nested [] (some 3) ≡ instr.Aggregate (aggregate.StructNewDefault 0)
+        ∷ instr.Aggregate (aggregate.StructNew 1) ∷ instr.Aggregate (aggregate.StructNew 3) ∷ [] }
+    ensures pair { first_leaf trapless paired [] (some 1) ≡ instr.Aggregate (aggregate.StructNewDefault 0)
+        ∷ instr.Aggregate (aggregate.StructNewDefault 0) ∷ instr.Aggregate (aggregate.StructNew 1) ∷ [] }
     ensures pair_of_pairs { first_leaf trapless paired [] (some 2) ≡ instr.Unreachable ∷ [] }
-    ensures any_struct { first_leaf trapless wrapped [] (some_of heap.Struct) ≡ instr.Reference (reference.Func 0) ∷ instr.Aggregate
-        (aggregate.StructNew 0) ∷ [] }
-    ensures of_any_struct { first_leaf trapless wrapped [] (some 1) ≡ instr.Reference (reference.Func 0) ∷ instr.Aggregate
-        (aggregate.StructNew 0) ∷ instr.Aggregate (aggregate.StructNew 1) ∷ [] }
+    ensures any_struct { first_leaf trapless wrapped [] (some_of heap.Struct) ≡ instr.Reference (reference.Func 0)
+        ∷ instr.Aggregate (aggregate.StructNew 0) ∷ [] }
+    ensures of_any_struct { first_leaf trapless wrapped [] (some 1) ≡ instr.Reference (reference.Func 0)
+        ∷ instr.Aggregate (aggregate.StructNew 0) ∷ instr.Aggregate (aggregate.StructNew 1) ∷ [] }
     ensures two_levels_from_a_local { first_leaf trapless (record nested { locals = some 1 ∷ []; params = 1 }) [] (some 3)
         ≡ instr.LocalGet 0 ∷ instr.Aggregate (aggregate.StructNew 3) ∷ [] }
     ensures kind_that_is_not_allowed { first_leaf (record trapless { allowed_instructions = kinds_of Variable })
@@ -103,8 +103,8 @@ fn in_place_of_null()
         ≡ (instr.Reference (reference.Null (Concrete 1)) ∷ [], 9 ∷ []) }
     ensures kind_that_is_not_allowed { leaf_at (of_kinds (kinds_of Reference)) unnamed [] (any 0) (4 ∷ 0 ∷ 9 ∷ [])
         ≡ (instr.Reference (reference.Null (Concrete 0)) ∷ [], 9 ∷ []) }
-    ensures local_without_null { leaf_at default_config (record unnamed { locals = any 0 ∷ some 0 ∷ []; params = 2 }) [] (any 0)
-        (4 ∷ 0 ∷ 9 ∷ []) ≡ (instr.LocalGet 1 ∷ [], 9 ∷ []) }
+    ensures local_without_null { leaf_at default_config (record unnamed { locals = any 0 ∷ some 0 ∷ []; params = 2 }) [] (any 0) (4 ∷ 0 ∷ 9
+        ∷ []) ≡ (instr.LocalGet 1 ∷ [], 9 ∷ []) }
     ensures local_that_may_be_null { leaf_at default_config (record unnamed { locals = any 1 ∷ []; params = 1 }) [] (any 1) (4 ∷ 0 ∷ 9 ∷ [])
         ≡ (instr.LocalGet 0 ∷ [], 9 ∷ []) }
     ensures never_of_another_type { ¬ (leaf_at default_config unnamed [] (any 2) (4 ∷ 0 ∷ 3 ∷ 9 ∷ [])

@@ -1,3 +1,7 @@
+ghost use Rattle.std.specs.List.{AllByRecursion as Each};
+ghost use Rattle.smith_instr.specs.declared.aggregate.AggregateInstr.{AggregateInstr};
+ghost use Rattle.smith_instr.specs.declared.instr.Instr.{Instr};
+ghost use Rattle.smith_instr.specs.declared.numeric.NumericInstr.{NumericInstr};
 ghost use Rattle.std.specs.Prelude.{◌≡◌, true, false, [], ◌∷◌, ◌++◌};
 ghost use Rattle.smith_types.specs.Flags.{funcref};
 ghost use Rattle.smith_syntax.specs.declared.instruction_kind.InstructionKind.TheVariants.{NumericInt};
@@ -26,86 +30,34 @@ ghost use Rattle.smith_body_examples.specs.ExampleAggregates.{nested, paired, so
 ghost use Rattle.smith_body_examples.specs.ExampleBytes.{narrow, trapless};
 
 fn numbers()
-    ensures division { may_trap (instr.Numeric (numeric.I32Binary int_binary.DivS)) ≡ true }
-    ensures remainder { may_trap (instr.Numeric (numeric.I64Binary int_binary.RemU)) ≡ true }
-    ensures division_of_floats { may_trap (instr.Numeric (numeric.F32Binary float_binary.Div)) ≡ false }
-    ensures shift { may_trap (instr.Numeric (numeric.I32Binary int_binary.Shl)) ≡ false }
-    ensures truncation { may_trap (instr.Numeric (numeric.Convert convert.I32TruncF64U)) ≡ true }
-    ensures saturating_truncation { may_trap (instr.Numeric (numeric.Saturate saturate.I32TruncSatF64U)) ≡ false }
-    ensures wrap { may_trap (instr.Numeric (numeric.Convert convert.I32WrapI64)) ≡ false }
-{}
-
-fn divisions_and_truncations()
-    ensures unsigned_division { may_trap (instr.Numeric (numeric.I64Binary int_binary.DivU)) ≡ true }
-    ensures signed_remainder { may_trap (instr.Numeric (numeric.I32Binary int_binary.RemS)) ≡ true }
-    ensures i32_from_f32 { may_trap (instr.Numeric (numeric.Convert convert.I32TruncF32S)) ≡ true }
-    ensures unsigned_i32_from_f32 { may_trap (instr.Numeric (numeric.Convert convert.I32TruncF32U)) ≡ true }
-    ensures i32_from_f64 { may_trap (instr.Numeric (numeric.Convert convert.I32TruncF64S)) ≡ true }
-    ensures i64_from_f32 { may_trap (instr.Numeric (numeric.Convert convert.I64TruncF32S)) ≡ true }
-    ensures unsigned_i64_from_f32 { may_trap (instr.Numeric (numeric.Convert convert.I64TruncF32U)) ≡ true }
-    ensures i64_from_f64 { may_trap (instr.Numeric (numeric.Convert convert.I64TruncF64S)) ≡ true }
-    ensures unsigned_i64_from_f64 { may_trap (instr.Numeric (numeric.Convert convert.I64TruncF64U)) ≡ true }
-{}
-
-fn memories_and_tables()
-    ensures load { may_trap (instr.Load load.I32 (aligned 0 0)) ≡ true }
-    ensures notify { may_trap (instr.Atomic atomic.Notify (aligned 0 2)) ≡ true }
-    ensures fence { may_trap instr.AtomicFence ≡ false }
-    ensures growth { may_trap (instr.Memory (memory.Grow 0)) ≡ false }
-    ensures fill { may_trap (instr.Memory (memory.Fill 0)) ≡ true }
-    ensures dropped_data { may_trap (instr.Memory (memory.DataDrop 0)) ≡ false }
-    ensures element { may_trap (instr.Table (table.Get 0)) ≡ true }
-    ensures table_size { may_trap (instr.Table (table.Size 0)) ≡ false }
-{}
-
-fn more_accesses()
-    ensures store { may_trap (instr.Store store.I32 (aligned 0 0)) ≡ true }
-    ensures vector { may_trap (instr.VectorLoad vector_load.V128 (aligned 0 0)) ≡ true }
-    ensures vector_stored { may_trap (instr.VectorStore (aligned 0 0)) ≡ true }
-    ensures lane { may_trap (instr.VectorLoadLane 0 (aligned 0 0) 0) ≡ true }
-    ensures lane_stored { may_trap (instr.VectorStoreLane 0 (aligned 0 0) 0) ≡ true }
-    ensures copy { may_trap (instr.Memory (memory.Copy 0 0)) ≡ true }
-    ensures segment_copied { may_trap (instr.Memory (memory.Init 0 0)) ≡ true }
-    ensures element_set { may_trap (instr.Table (table.Set 0)) ≡ true }
-    ensures table_filled { may_trap (instr.Table (table.Fill 0)) ≡ true }
-    ensures table_copied { may_trap (instr.Table (table.Copy 0 0)) ≡ true }
-    ensures elements_copied { may_trap (instr.Table (table.Init 0 0)) ≡ true }
+    ensures that_may { Each (λ (op : NumericInstr). may_trap (instr.Numeric op) ≡ true) (numeric.I32Binary int_binary.DivS
+        ∷ numeric.I64Binary int_binary.RemU ∷ numeric.Convert convert.I32TruncF64U ∷ numeric.I64Binary int_binary.DivU
+        ∷ numeric.I32Binary int_binary.RemS ∷ numeric.Convert convert.I32TruncF32S ∷ numeric.Convert convert.I32TruncF32U
+        ∷ numeric.Convert convert.I32TruncF64S ∷ numeric.Convert convert.I64TruncF32S ∷ numeric.Convert convert.I64TruncF32U
+        ∷ numeric.Convert convert.I64TruncF64S ∷ numeric.Convert convert.I64TruncF64U ∷ []) }
+    ensures that_do_not { Each (λ (op : NumericInstr). may_trap (instr.Numeric op) ≡ false) (numeric.F32Binary float_binary.Div
+        ∷ numeric.I32Binary int_binary.Shl ∷ numeric.Saturate saturate.I32TruncSatF64U ∷ numeric.Convert convert.I32WrapI64 ∷ []) }
 {}
 
 fn structures_and_arrays()
-    ensures field { may_trap (instr.Aggregate (aggregate.StructGet 2 1 extension.Unpacked)) ≡ true }
-    ensures array_of_elements { may_trap (instr.Aggregate (aggregate.ArrayNewElem 3 0)) ≡ true }
-    ensures item { may_trap (instr.Aggregate (aggregate.ArrayGet 3 extension.Unpacked)) ≡ true }
-    ensures item_set { may_trap (instr.Aggregate (aggregate.ArraySet 3)) ≡ true }
-    ensures array_length { may_trap (instr.Aggregate aggregate.ArrayLen) ≡ true }
-    ensures array_filled { may_trap (instr.Aggregate (aggregate.ArrayFill 3)) ≡ true }
-    ensures array_copied { may_trap (instr.Aggregate (aggregate.ArrayCopy 3 3)) ≡ true }
-    ensures filled_from_data { may_trap (instr.Aggregate (aggregate.ArrayInitData 3 0)) ≡ true }
-    ensures filled_from_elements { may_trap (instr.Aggregate (aggregate.ArrayInitElem 3 0)) ≡ true }
-    ensures unsigned_small_number { may_trap (instr.Aggregate aggregate.I31GetU) ≡ true }
+    ensures that_may { Each (λ (op : AggregateInstr). may_trap (instr.Aggregate op) ≡ true) (aggregate.StructGet 2 1 extension.Unpacked
+        ∷ aggregate.ArrayNewElem 3 0 ∷ aggregate.ArrayGet 3 extension.Unpacked ∷ aggregate.ArraySet 3 ∷ aggregate.ArrayLen
+        ∷ aggregate.ArrayFill 3 ∷ aggregate.ArrayCopy 3 3 ∷ aggregate.ArrayInitData 3 0 ∷ aggregate.ArrayInitElem 3 0 ∷ aggregate.I31GetU
+        ∷ aggregate.StructSet 2 1 ∷ aggregate.ArrayNewData 3 0 ∷ aggregate.I31GetS ∷ []) }
+    ensures new_array { Each (λ (op : AggregateInstr). may_trap (instr.Aggregate op) ≡ false) (aggregate.ArrayNew 3 ∷ []) }
 {}
 
-fn references()
-    ensures cast_to_a_type { may_trap (instr.Reference (reference.Cast funcref)) ≡ true }
-    ensures cast { may_trap (instr.Reference reference.AsNonNull) ≡ true }
-    ensures test { may_trap (instr.Reference reference.IsNull) ≡ false }
-    ensures branch { may_trap (instr.BrOnNull 0) ≡ false }
-    ensures field { may_trap (instr.Aggregate (aggregate.StructSet 2 1)) ≡ true }
-    ensures new_array { may_trap (instr.Aggregate (aggregate.ArrayNew 3)) ≡ false }
-    ensures array_of_data { may_trap (instr.Aggregate (aggregate.ArrayNewData 3 0)) ≡ true }
-    ensures small_number { may_trap (instr.Aggregate aggregate.I31GetS) ≡ true }
-{}
-
-fn control()
-    ensures stop { may_trap instr.Unreachable ≡ true }
-    ensures call { may_trap (instr.Call 0) ≡ false }
-    ensures call_through_a_table { may_trap (instr.CallIndirect 0 0) ≡ true }
-    ensures call_by_reference { may_trap (instr.CallRef 0) ≡ true }
-    ensures tail_call_through_a_table { may_trap (instr.ReturnCallIndirect 0 0) ≡ true }
-    ensures tail_call_by_reference { may_trap (instr.ReturnCallRef 0) ≡ true }
-    ensures thrown { may_trap (instr.Throw 0) ≡ false }
-    ensures thrown_again { may_trap instr.ThrowRef ≡ true }
-    ensures block_that_catches { may_trap (instr.TryTable (block.Value I32) []) ≡ false }
+fn others()
+    ensures that_may { Each (λ (op : Instr). may_trap op ≡ true) (instr.Load load.I32 (aligned 0 0)
+        ∷ instr.Atomic atomic.Notify (aligned 0 2) ∷ instr.Memory (memory.Fill 0) ∷ instr.Table (table.Get 0)
+        ∷ instr.Store store.I32 (aligned 0 0) ∷ instr.VectorLoad vector_load.V128 (aligned 0 0) ∷ instr.VectorStore (aligned 0 0)
+        ∷ instr.VectorLoadLane 0 (aligned 0 0) 0 ∷ instr.VectorStoreLane 0 (aligned 0 0) 0 ∷ instr.Memory (memory.Copy 0 0)
+        ∷ instr.Memory (memory.Init 0 0) ∷ instr.Table (table.Set 0) ∷ instr.Table (table.Fill 0) ∷ instr.Table (table.Copy 0 0)
+        ∷ instr.Table (table.Init 0 0) ∷ instr.Reference (reference.Cast funcref) ∷ instr.Reference reference.AsNonNull ∷ instr.Unreachable
+        ∷ instr.CallIndirect 0 0 ∷ instr.CallRef 0 ∷ instr.ReturnCallIndirect 0 0 ∷ instr.ReturnCallRef 0 ∷ instr.ThrowRef ∷ []) }
+    ensures that_do_not { Each (λ (op : Instr). may_trap op ≡ false) (instr.AtomicFence ∷ instr.Memory (memory.Grow 0)
+        ∷ instr.Memory (memory.DataDrop 0) ∷ instr.Table (table.Size 0) ∷ instr.Reference reference.IsNull ∷ instr.BrOnNull 0 ∷ instr.Call 0
+        ∷ instr.Throw 0 ∷ instr.TryTable (block.Value I32) [] ∷ []) }
     ensures stop_is_left { IsTrapless instr.Unreachable }
     ensures load_is_not { ¬ IsTrapless (instr.Load load.I32 (aligned 0 0)) }
 {}
@@ -150,7 +102,7 @@ fn in_place_of_a_stop()
           [],
         ) }
     ensures pair_of_pairs { body_at trapless (record paired { results = some 2 ∷ [] }) 1 (0 ∷ 0 ∷ 4 ∷ []) ≡ (instr.Unreachable ∷ [], []) }
-    ensures zero { body_at (record trapless { allowed_instructions = kinds_of NumericInt }) (function_of [] (I32 ∷ [])) 1
-        (0 ∷ 0 ∷ 2 ∷ 1 ∷ []) ≡ (number 0 ∷ [], []) }
+    ensures zero { body_at (record trapless { allowed_instructions = kinds_of NumericInt }) (function_of [] (I32 ∷ [])) 1 (0 ∷ 0 ∷ 2 ∷ 1
+        ∷ []) ≡ (number 0 ∷ [], []) }
     ensures budget { body_at trapless (function_of [] (I32 ∷ [])) 0 [] ≡ (instr.Unreachable ∷ [], []) }
 {}

@@ -49,8 +49,8 @@ fn numeric()
         ≡ (number 5 ∷ number 7 ∷ instr.Numeric (numeric.I32Binary Sub) ∷ [], []) }
     ensures last_operand_first { ¬ (body_at default_config (function_of [] (I32 ∷ [])) 1 (0 ∷ 1 ∷ 4 ∷ narrow 5 ++ narrow 7)
         ≡ (number 7 ∷ number 5 ∷ instr.Numeric (numeric.I32Binary Sub) ∷ [], [])) }
-    ensures second_result_is_dropped { body_at default_config (function_of [] (I64 ∷ [])) 1
-        (0 ∷ 1 ∷ 32 ∷ wide 1 ++ wide 2 ++ wide 3 ++ wide 4)
+    ensures second_result_is_dropped { body_at default_config (function_of [] (I64 ∷ [])) 1 (0 ∷ 1 ∷ 32
+        ∷ wide 1 ++ wide 2 ++ wide 3 ++ wide 4)
         ≡ (wide_number 1 ∷ wide_number 2 ∷ wide_number 3 ∷ wide_number 4 ∷ instr.Numeric (numeric.Wide Add128) ∷ instr.Drop ∷ [], []) }
     ensures select { body_at default_config (function_of [] (I64 ∷ [])) 1 (0 ∷ 6 ∷ wide 1 ++ wide 2 ++ narrow 3)
         ≡ (wide_number 1 ∷ wide_number 2 ∷ number 3 ∷ instr.Select ∷ [], []) }
