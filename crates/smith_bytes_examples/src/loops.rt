@@ -27,8 +27,8 @@ fn loops_of_one_call<'a, F: FnMut(&mut Unstructured<'a>) -> Result<bool, Error>>
 
 fn turns_and_ends<'a, F: FnMut(&mut Unstructured<'a>) -> Result<bool, Error>>()
     ensures full { (f f' : F) (answer : Result Bool Error) (bytes bytes' : List ℕ) → ¬ Turn F.FnMut 0 2 2 f bytes answer f' bytes' }
-    ensures not_asked_for { (f f' : F) (answer : Result Bool Error) (bytes bytes' : List ℕ) → ¬ Turn F.FnMut 0 2 1 f
-        (0 ∷ bytes) answer f' bytes' }
+    ensures not_asked_for { (f f' : F) (answer : Result Bool Error) (bytes bytes' : List ℕ) → ¬ Turn F.FnMut 0 2 1 f (0
+        ∷ bytes) answer f' bytes' }
     ensures success_below_the_minimum { (f : F) (bytes bytes' : List ℕ) → ¬ EndsAt F.FnMut 2 5 1 f bytes (Ok tt) bytes' }
     ensures full_and_a_byte_taken { (f : F) → ¬ EndsAt F.FnMut 0 2 2 f (0 ∷ []) (Ok tt) [] }
 {}

@@ -23,16 +23,16 @@ fn fields()
         ≡ (record { fields = replicate 5 (constant I8) }, []) }
     ensures past_the_most_extra { matching_struct_type_at default_config (context_of_types []) false 0 (record { fields = [] }) (6 ∷ [])
         ≡ (record { fields = [] }, []) }
-    ensures extra_ones_last { matching_struct_type_at default_config (context_of_types []) false 0 (record { fields = constant I8 ∷ [] })
-        (1 ∷ 0 ∷ 1 ∷ []) ≡ (record { fields = constant I8 ∷ variable I8 ∷ [] }, []) }
+    ensures extra_ones_last { matching_struct_type_at default_config (context_of_types []) false 0 (record { fields = constant I8 ∷ [] }) (1
+        ∷ 0 ∷ 1 ∷ []) ≡ (record { fields = constant I8 ∷ variable I8 ∷ [] }, []) }
 {}
 
 #[tactic(auto, unfolding(smith_draw_types::specs::CompositeTypes::func_type_at, smith_draw_types::specs::CompositeTypes::val_types_at, smith_draw_types::specs::ValueTypes::val_type_at, smith_draw_types::specs::Choices::chosen_at, smith_bytes::specs::Growth::grow_at, smith_bytes::specs::Draws::bool_at, smith_bytes::specs::Draws::range_at, smith_bytes::specs::Draws::digit_count))]
 fn functions()
     ensures at_most { func_type_at default_config (context_of_types []) false 0 (replicate 90 1)
         ≡ (record { params = replicate 20 I64; results = replicate 20 I64 }, replicate 10 1) }
-    ensures one_result { func_type_at (record default_config { multi_value_enabled = false }) (context_of_types []) false 0
-        (0 ∷ replicate 9 1) ≡ (record { params = []; results = I64 ∷ [] }, replicate 7 1) }
+    ensures one_result { func_type_at (record default_config { multi_value_enabled = false }) (context_of_types []) false 0 (0
+        ∷ replicate 9 1) ≡ (record { params = []; results = I64 ∷ [] }, replicate 7 1) }
 {}
 
 #[tactic(auto, unfolding(smith_draw_types::specs::CompositeTypes::composite_type_at, smith_draw_types::specs::CompositeTypes::func_type_at, smith_draw_types::specs::CompositeTypes::val_types_at, smith_draw_types::specs::CompositeTypes::struct_type_at, smith_draw_types::specs::ValueTypes::sharedness_at, smith_draw_types::specs::FieldTypes::fields_until_at, smith_draw_types::specs::FieldTypes::field_type_at, smith_draw_types::specs::FieldTypes::storage_type_at, smith_bytes::specs::Growth::grow_at, smith_bytes::specs::Draws::ratio_at, smith_bytes::specs::Draws::bool_at, smith_bytes::specs::Draws::range_at, smith_bytes::specs::Draws::digit_count))]
@@ -45,8 +45,8 @@ fn composite_types()
         ≡ (record { inner = struct (constant I8 ∷ []); shared = false }, 7 ∷ []) }
     ensures without_gc { composite_type_at (record default_config { gc_enabled = false }) (context_of_types []) 0 []
         ≡ (record { inner = plain_func; shared = false }, []) }
-    ensures shared { composite_type_at (record default_config { shared_everything_threads_enabled = true }) (context_of_types []) 0
-        (0 ∷ 2 ∷ 0 ∷ []) ≡ (record { inner = empty_struct; shared = true }, []) }
+    ensures shared { composite_type_at (record default_config { shared_everything_threads_enabled = true }) (context_of_types []) 0 (0 ∷ 2
+        ∷ 0 ∷ []) ≡ (record { inner = empty_struct; shared = true }, []) }
 {}
 
 #[tactic(auto, unfolding(smith_draw_types::specs::SubTypes::root_type_at, smith_draw_types::specs::SubTypes::sub_type_of_at, smith_draw_types::specs::MatchingComposites::matching_composite_type_at, smith_draw_types::specs::MatchingComposites::matching_struct_type_at, smith_draw_types::specs::MatchingTypes::matched_fields_at, smith_draw_types::specs::MatchingTypes::each_at, smith_draw_types::specs::CompositeTypes::composite_type_at, smith_draw_types::specs::CompositeTypes::func_type_at, smith_draw_types::specs::CompositeTypes::val_types_at, smith_draw_types::specs::ValueTypes::sharedness_at, smith_draw_types::specs::FieldTypes::fields_until_at, smith_draw_types::specs::FieldTypes::field_type_at, smith_draw_types::specs::FieldTypes::storage_type_at, smith_draw_types::specs::Choices::chosen_at, smith_bytes::specs::Growth::grow_at, smith_bytes::specs::Draws::bool_at, smith_bytes::specs::Draws::range_at, smith_bytes::specs::Draws::digit_count))]
@@ -75,6 +75,6 @@ fn rare_choices()
         ≡ (true, []) }
     ensures no_clone_of_255 { clone_wanted_at default_config (record { types = []; groups = record { start = 0; end = 0 } ∷ [] }) (254 ∷ [])
         ≡ (false, []) }
-    ensures a_clone_past_255 { clone_wanted_at default_config (record { types = []; groups = record { start = 0; end = 0 } ∷ [] })
-        (255 ∷ []) ≡ (true, []) }
+    ensures a_clone_past_255 { clone_wanted_at default_config (record { types = []; groups = record { start = 0; end = 0 } ∷ [] }) (255
+        ∷ []) ≡ (true, []) }
 {}

@@ -33,12 +33,12 @@ fn globals()
     ensures mutable { global_type_at default_config (context_of_types []) (0 ∷ 1 ∷ 7 ∷ []) ≡ (variable_global I32, 7 ∷ []) }
     ensures vector { global_type_at default_config (context_of_types []) (4 ∷ 0 ∷ []) ≡ (constant_global V128, []) }
     ensures reference { global_type_at default_config (context_of_types []) (5 ∷ 3 ∷ 1 ∷ []) ≡ (variable_global anyref, []) }
-    ensures shared_number { global_type_at (record default_config { shared_everything_threads_enabled = true }) (context_of_types [])
-        (1 ∷ 0 ∷ 1 ∷ []) ≡ (record (variable_global I64) { shared = true }, []) }
-    ensures unshared_number { global_type_at (record default_config { shared_everything_threads_enabled = true }) (context_of_types [])
-        (1 ∷ 1 ∷ 1 ∷ []) ≡ (variable_global I64, []) }
-    ensures shared_reference { global_type_at (record default_config { shared_everything_threads_enabled = true }) (context_of_types [])
-        (5 ∷ 0 ∷ 3 ∷ 1 ∷ []) ≡ (record (variable_global shared_anyref) { shared = true }, []) }
+    ensures shared_number { global_type_at (record default_config { shared_everything_threads_enabled = true }) (context_of_types []) (1 ∷ 0
+        ∷ 1 ∷ []) ≡ (record (variable_global I64) { shared = true }, []) }
+    ensures unshared_number { global_type_at (record default_config { shared_everything_threads_enabled = true }) (context_of_types []) (1
+        ∷ 1 ∷ 1 ∷ []) ≡ (variable_global I64, []) }
+    ensures shared_reference { global_type_at (record default_config { shared_everything_threads_enabled = true }) (context_of_types []) (5
+        ∷ 0 ∷ 3 ∷ 1 ∷ []) ≡ (record (variable_global shared_anyref) { shared = true }, []) }
     ensures reference_to_a_shared_type { global_type_at default_config (context_of_types (shared_type plain_func ∷ [])) (5 ∷ 1 ∷ 1 ∷ [])
         ≡ (record (variable_global (Ref (nullable (Concrete 0)))) { shared = true }, []) }
 {}
@@ -63,8 +63,8 @@ fn tables()
         ≡ (table funcref 996093 None, []) }
     ensures with_a_maximum { table_type_at default_config (context_of_types []) (0 ∷ 0 ∷ 0 ∷ 0 ∷ 0 ∷ 1 ∷ 0 ∷ 0 ∷ 9 ∷ 1 ∷ [])
         ≡ (table (nullable (Abstract false heap.Extern)) 0 (Some 9), []) }
-    ensures where_one_is_required { table_type_at (record default_config { table_max_size_required = true }) (context_of_types [])
-        (0 ∷ 0 ∷ 0 ∷ 0 ∷ 0 ∷ 0 ∷ 0 ∷ 9 ∷ []) ≡ (table funcref 0 (Some 9), []) }
+    ensures where_one_is_required { table_type_at (record default_config { table_max_size_required = true }) (context_of_types []) (0 ∷ 0
+        ∷ 0 ∷ 0 ∷ 0 ∷ 0 ∷ 0 ∷ 9 ∷ []) ≡ (table funcref 0 (Some 9), []) }
     ensures with_traps_disallowed { table_type_at (record default_config { max_table_elements = 0; disallow_traps = true })
         (context_of_types []) [] ≡ (table funcref 1 None, []) }
     ensures shared { table_type_at (record default_config { shared_everything_threads_enabled = true }) (context_of_types []) []

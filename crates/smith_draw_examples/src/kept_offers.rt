@@ -90,17 +90,17 @@ fn whole()
 fn classes()
     ensures nothing_read { (classes : Classes) → HasClasses classes [] [] → AreGlobalClasses classes }
     ensures all_globals { (classes : Classes) → HasClasses classes (Some I32 ∷ None ∷ []) (0 ∷ 1 ∷ 0 ∷ []) → AreGlobalClasses classes }
-    ensures two_classes_of_one_type { (classes : Classes) → HasClasses classes (Some I32 ∷ None ∷ Some I32 ∷ []) (0 ∷ 1 ∷ 2 ∷ [])
-        → AreGlobalClasses classes }
-    ensures a_mutable_global_in_a_class_of_numbers { (classes : Classes) → HasClasses classes (Some I32 ∷ []) (0 ∷ 0 ∷ [])
-        → ¬ AreGlobalClasses classes }
-    ensures an_immutable_global_among_the_mutable { (classes : Classes) → HasClasses classes (None ∷ []) (0 ∷ [])
-        → ¬ AreGlobalClasses classes }
+    ensures two_classes_of_one_type { (classes : Classes) → HasClasses classes (Some I32 ∷ None ∷ Some I32 ∷ []) (0 ∷ 1 ∷ 2
+        ∷ []) → AreGlobalClasses classes }
+    ensures a_mutable_global_in_a_class_of_numbers { (classes : Classes) → HasClasses classes (Some I32 ∷ []) (0 ∷ 0
+        ∷ []) → ¬ AreGlobalClasses classes }
+    ensures an_immutable_global_among_the_mutable { (classes : Classes) → HasClasses classes (None ∷ []) (0
+        ∷ []) → ¬ AreGlobalClasses classes }
     ensures a_class_of_another_type { (classes : Classes) → HasClasses classes (Some I64 ∷ []) (0 ∷ []) → ¬ AreGlobalClasses classes }
     ensures a_class_that_does_not_exist { (classes : Classes) → HasClasses classes (Some I32 ∷ []) (1 ∷ []) → ¬ AreGlobalClasses classes }
     ensures a_class_of_no_global { (classes : Classes) → HasClasses classes (Some I32 ∷ None ∷ []) (0 ∷ []) → ¬ AreGlobalClasses classes }
-    ensures more_globals_than_exist { (classes : Classes) → HasClasses classes (Some I32 ∷ None ∷ []) (0 ∷ 1 ∷ 0 ∷ 0 ∷ [])
-        → ¬ AreGlobalClasses classes }
+    ensures more_globals_than_exist { (classes : Classes) → HasClasses classes (Some I32 ∷ None ∷ []) (0 ∷ 1 ∷ 0 ∷ 0
+        ∷ []) → ¬ AreGlobalClasses classes }
 {}
 
 fn flags()
@@ -164,10 +164,10 @@ fn all_read()
         (context_with usual_features 3) I32 0 kept }
     ensures many { (kept : KeptOffers) (many : ManyItems) → kept.many ≡ Some many → AreAllRead (context_with usual_features 3) many.items
         → many.kept.items ≡ functions ∷ numbers ∷ [] → HasReadAll (context_with usual_features 3) I32 1 kept }
-    ensures an_entry_for_another_type { (kept : KeptOffers) (many : ManyItems) → kept.many ≡ Some many → many.kept.items
-        ≡ functions ∷ numbers ∷ [] → ¬ HasReadAll (context_with usual_features 3) I32 0 kept }
+    ensures an_entry_for_another_type { (kept : KeptOffers) (many : ManyItems) → kept.many ≡ Some many → many.kept.items ≡ functions
+        ∷ numbers ∷ [] → ¬ HasReadAll (context_with usual_features 3) I32 0 kept }
     ensures no_entry { (kept : KeptOffers) (many : ManyItems) → kept.many ≡ Some many → many.kept.items
         ≡ [] → ¬ HasReadAll (context_with usual_features 3) I32 0 kept }
-    ensures a_class_without_a_function { (kept : KeptOffers) (many : ManyItems) → kept.many ≡ Some many → many.items.funcs.of
-        ≡ 0 ∷ [] → ¬ HasReadAll (context_with usual_features 3) I32 1 kept }
+    ensures a_class_without_a_function { (kept : KeptOffers) (many : ManyItems) → kept.many ≡ Some many → many.items.funcs.of ≡ 0
+        ∷ [] → ¬ HasReadAll (context_with usual_features 3) I32 1 kept }
 {}

@@ -16,7 +16,7 @@ fn locals()
     ensures without_floats { locals_at (record default_config { allow_floats = false }) (context_of_types []) (1 ∷ 2 ∷ 0 ∷ [])
         ≡ (V128 ∷ [], []) }
     ensures reference { locals_at default_config (context_of_types []) (1 ∷ 5 ∷ 3 ∷ []) ≡ (anyref ∷ [], []) }
-    ensures of_the_last_type { locals_at default_config (context_of_types (final_type plain_func ∷ final_type plain_func ∷ []))
-        (1 ∷ 5 ∷ 1 ∷ 1 ∷ 0 ∷ []) ≡ (Ref (nullable (Concrete 1)) ∷ [], []) }
+    ensures of_the_last_type { locals_at default_config (context_of_types (final_type plain_func ∷ final_type plain_func ∷ [])) (1 ∷ 5 ∷ 1
+        ∷ 1 ∷ 0 ∷ []) ≡ (Ref (nullable (Concrete 1)) ∷ [], []) }
     ensures at_most { locals_at default_config (context_of_types []) (replicate 210 1) ≡ (replicate 100 I64, replicate 10 1) }
 {}

@@ -37,18 +37,18 @@ fn shared_subtypes()
         ∷ [] }
     ensures of_eq { subtypes_offered default_config of_each_kind (Abstract true heap.Eq) ≡ Abstract true heap.Eq ∷ Abstract true heap.Struct
         ∷ Abstract true heap.Array ∷ Abstract true heap.I31 ∷ Abstract true heap.None ∷ Concrete 4 ∷ Concrete 3 ∷ [] }
-    ensures of_struct { subtypes_offered default_config of_each_kind (Abstract true heap.Struct)
-        ≡ Abstract true heap.Struct ∷ Abstract true heap.Struct ∷ Abstract true heap.None ∷ Concrete 3 ∷ [] }
-    ensures of_array { subtypes_offered default_config of_each_kind (Abstract true heap.Array)
-        ≡ Abstract true heap.Array ∷ Abstract true heap.Array ∷ Abstract true heap.None ∷ Concrete 4 ∷ [] }
-    ensures of_i31 { subtypes_offered default_config of_each_kind (Abstract true heap.I31)
-        ≡ Abstract true heap.I31 ∷ Abstract true heap.None ∷ [] }
+    ensures of_struct { subtypes_offered default_config of_each_kind (Abstract true heap.Struct) ≡ Abstract true heap.Struct
+        ∷ Abstract true heap.Struct ∷ Abstract true heap.None ∷ Concrete 3 ∷ [] }
+    ensures of_array { subtypes_offered default_config of_each_kind (Abstract true heap.Array) ≡ Abstract true heap.Array
+        ∷ Abstract true heap.Array ∷ Abstract true heap.None ∷ Concrete 4 ∷ [] }
+    ensures of_i31 { subtypes_offered default_config of_each_kind (Abstract true heap.I31) ≡ Abstract true heap.I31
+        ∷ Abstract true heap.None ∷ [] }
     ensures of_none { subtypes_offered default_config of_each_kind (Abstract true heap.None) ≡ Abstract true heap.None ∷ [] }
-    ensures of_func { subtypes_offered default_config of_each_kind (Abstract true heap.Func)
-        ≡ Abstract true heap.Func ∷ Abstract true heap.NoFunc ∷ Concrete 5 ∷ [] }
+    ensures of_func { subtypes_offered default_config of_each_kind (Abstract true heap.Func) ≡ Abstract true heap.Func
+        ∷ Abstract true heap.NoFunc ∷ Concrete 5 ∷ [] }
     ensures of_nofunc { subtypes_offered default_config of_each_kind (Abstract true heap.NoFunc) ≡ Abstract true heap.NoFunc ∷ [] }
-    ensures of_extern { subtypes_offered default_config of_each_kind (Abstract true heap.Extern)
-        ≡ Abstract true heap.Extern ∷ Abstract true heap.NoExtern ∷ [] }
+    ensures of_extern { subtypes_offered default_config of_each_kind (Abstract true heap.Extern) ≡ Abstract true heap.Extern
+        ∷ Abstract true heap.NoExtern ∷ [] }
     ensures of_noextern { subtypes_offered default_config of_each_kind (Abstract true heap.NoExtern) ≡ Abstract true heap.NoExtern ∷ [] }
     ensures of_exn { subtypes_offered default_config of_each_kind (Abstract true heap.Exn) ≡ Abstract true heap.Exn ∷ [] }
     ensures of_noexn { subtypes_offered default_config of_each_kind (Abstract true heap.NoExn) ≡ Abstract true heap.NoExn ∷ [] }
@@ -95,13 +95,13 @@ fn shared_supertypes()
         ∷ [] }
     ensures of_struct { supertypes_offered default_config of_each_kind (Abstract true heap.Struct) ≡ Abstract true heap.Struct
         ∷ Abstract true heap.Any ∷ Abstract true heap.Eq ∷ [] }
-    ensures of_none { supertypes_offered default_config of_each_kind (Abstract true heap.None)
-        ≡ Abstract true heap.None ∷ Abstract true heap.Any ∷ Abstract true heap.Eq ∷ Abstract true heap.Struct ∷ Abstract true heap.Array
-        ∷ Abstract true heap.I31 ∷ Concrete 4 ∷ Concrete 3 ∷ [] }
-    ensures of_array { supertypes_offered default_config of_each_kind (Abstract true heap.Array)
-        ≡ Abstract true heap.Array ∷ Abstract true heap.Any ∷ Abstract true heap.Eq ∷ [] }
-    ensures of_i31 { supertypes_offered default_config of_each_kind (Abstract true heap.I31)
-        ≡ Abstract true heap.I31 ∷ Abstract true heap.Any ∷ Abstract true heap.Eq ∷ [] }
+    ensures of_none { supertypes_offered default_config of_each_kind (Abstract true heap.None) ≡ Abstract true heap.None
+        ∷ Abstract true heap.Any ∷ Abstract true heap.Eq ∷ Abstract true heap.Struct ∷ Abstract true heap.Array ∷ Abstract true heap.I31
+        ∷ Concrete 4 ∷ Concrete 3 ∷ [] }
+    ensures of_array { supertypes_offered default_config of_each_kind (Abstract true heap.Array) ≡ Abstract true heap.Array
+        ∷ Abstract true heap.Any ∷ Abstract true heap.Eq ∷ [] }
+    ensures of_i31 { supertypes_offered default_config of_each_kind (Abstract true heap.I31) ≡ Abstract true heap.I31
+        ∷ Abstract true heap.Any ∷ Abstract true heap.Eq ∷ [] }
     ensures of_func { supertypes_offered default_config of_each_kind (Abstract true heap.Func) ≡ Abstract true heap.Func ∷ [] }
     ensures of_nofunc { supertypes_offered default_config of_each_kind (Abstract true heap.NoFunc) ≡ Abstract true heap.NoFunc
         ∷ Abstract true heap.Func ∷ Concrete 5 ∷ [] }
@@ -109,8 +109,8 @@ fn shared_supertypes()
     ensures of_noextern { supertypes_offered default_config of_each_kind (Abstract true heap.NoExtern) ≡ Abstract true heap.NoExtern
         ∷ Abstract true heap.Extern ∷ [] }
     ensures of_exn { supertypes_offered default_config of_each_kind (Abstract true heap.Exn) ≡ Abstract true heap.Exn ∷ [] }
-    ensures of_noexn { supertypes_offered default_config of_each_kind (Abstract true heap.NoExn)
-        ≡ Abstract true heap.NoExn ∷ Abstract true heap.Exn ∷ [] }
+    ensures of_noexn { supertypes_offered default_config of_each_kind (Abstract true heap.NoExn) ≡ Abstract true heap.NoExn
+        ∷ Abstract true heap.Exn ∷ [] }
 {}
 
 #[tactic(auto, unfolding(smith_draw_types::specs::Offered::supertypes_offered, smith_draw_types::specs::Offered::ancestors))]

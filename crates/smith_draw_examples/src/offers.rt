@@ -25,8 +25,8 @@ fn subtypes()
     ensures of_another_sharedness { subtypes_offered default_config struct_and_below (Abstract true heap.Struct) ≡ Abstract true heap.Struct
         ∷ Abstract true heap.Struct ∷ Abstract true heap.None ∷ [] }
     ensures of_a_type_to_come { subtypes_offered default_config struct_and_below (Concrete 2) ≡ Concrete 2 ∷ [] }
-    ensures without_collection { subtypes_offered (record default_config { gc_enabled = false }) struct_and_below (Concrete 0)
-        ≡ Concrete 0 ∷ [] }
+    ensures without_collection { subtypes_offered (record default_config { gc_enabled = false }) struct_and_below (Concrete 0) ≡ Concrete 0
+        ∷ [] }
 {}
 
 #[tactic(auto, unfolding(smith_draw_types::specs::Offered::supertypes_offered, smith_draw_types::specs::Offered::ancestors))]

@@ -35,8 +35,8 @@ fn grounded()
 // A drawn bool decides whether a reference is non-nullable, if such references are enabled.
 #[tactic(auto, unfolding(smith_draw_types::specs::ValueTypes::granted_at, smith_draw_types::specs::Grounding::is_grounded, smith_draw_types::specs::Below::is_heap_below, smith_draw_types::specs::Offered::ancestors, smith_bytes::specs::Draws::bool_at))]
 fn granted()
-    ensures wanted { granted_at (record default_config { non_nullable_enabled = true }) (context_of_types struct_and_below) (Concrete 0)
-        (1 ∷ 7 ∷ []) ≡ (true, 7 ∷ []) }
+    ensures wanted { granted_at (record default_config { non_nullable_enabled = true }) (context_of_types struct_and_below) (Concrete 0) (1
+        ∷ 7 ∷ []) ≡ (true, 7 ∷ []) }
     ensures not_wanted { granted_at (record default_config { non_nullable_enabled = true }) (context_of_types struct_and_below) (Concrete 0)
         (0 ∷ 7 ∷ []) ≡ (false, 7 ∷ []) }
     ensures not_grounded { granted_at (record default_config { non_nullable_enabled = true }) (context_of_types struct_and_below)
@@ -46,8 +46,8 @@ fn granted()
 
 #[tactic(auto, unfolding(smith_draw_types::specs::ValueTypes::ref_type_at, smith_draw_types::specs::ValueTypes::granted_at, smith_draw_types::specs::ValueTypes::heap_type_at, smith_draw_types::specs::ValueTypes::type_index_at, smith_draw_types::specs::ValueTypes::abstract_heap_type_at, smith_draw_types::specs::ValueTypes::sharedness_at, smith_draw_types::specs::Choices::chosen_at, smith_draw_types::specs::Grounding::is_grounded, smith_draw_types::specs::Below::is_heap_below, smith_draw_types::specs::Offered::ancestors, smith_bytes::specs::Draws::bool_at, smith_bytes::specs::Draws::range_at, smith_bytes::specs::Draws::digit_count, smith_bytes::specs::Draws::ratio_at))]
 fn references()
-    ensures granted { ref_type_at (record default_config { non_nullable_enabled = true }) (context_of_types struct_and_below) false 2
-        (1 ∷ 1 ∷ 1 ∷ []) ≡ (not_null (Concrete 1), []) }
+    ensures granted { ref_type_at (record default_config { non_nullable_enabled = true }) (context_of_types struct_and_below) false 2 (1 ∷ 1
+        ∷ 1 ∷ []) ≡ (not_null (Concrete 1), []) }
     ensures to_an_abstract_type { ref_type_at (record default_config { non_nullable_enabled = true })
         (context_of_types struct_and_below) false 2 (0 ∷ 3 ∷ 1 ∷ []) ≡ (not_null (plain heap.Any), []) }
     ensures not_grounded { ref_type_at (record default_config { non_nullable_enabled = true }) (context_of_types struct_and_below) false 2
@@ -68,8 +68,8 @@ fn offered()
         (not_null (plain heap.Array)) ≡ plain heap.Array ∷ [] }
     ensures below_a_nullable_one { references_offered (record default_config { non_nullable_enabled = true }) (context_of_types [])
         (nullable (plain heap.Array)) ≡ plain heap.Array ∷ plain heap.Array ∷ plain heap.None ∷ [] }
-    ensures where_there_are_none { references_offered default_config (context_of_types []) (not_null (plain heap.Array))
-        ≡ plain heap.Array ∷ plain heap.Array ∷ plain heap.None ∷ [] }
+    ensures where_there_are_none { references_offered default_config (context_of_types []) (not_null (plain heap.Array)) ≡ plain heap.Array
+        ∷ plain heap.Array ∷ plain heap.None ∷ [] }
     ensures drawn { matching_ref_type_at (record default_config { non_nullable_enabled = true }) (context_of_types struct_and_below)
         (not_null (plain heap.Any)) (3 ∷ []) ≡ (not_null (Concrete 0), []) }
 {}

@@ -134,8 +134,8 @@ fn limits()
 
 fn candidates()
     ensures none { HasNoCandidates [] [] }
-    ensures shared_functions { HasNoCandidates (record foo_type { composite_type = record { inner = plain_function; shared = true } } ∷ [])
-        one_function.funcs }
+    ensures shared_functions { HasNoCandidates (record foo_type { composite_type = record { inner = plain_function; shared = true } }
+        ∷ []) one_function.funcs }
     ensures a_function { ¬ HasNoCandidates one_function.types one_function.funcs }
 {}
 

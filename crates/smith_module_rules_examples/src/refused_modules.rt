@@ -119,8 +119,8 @@ fn segments()
     ensures from_where_a_defined_number_says_without_gc { ¬ All (IsElementSegmentValid (segment_context (table_from_a_number false))
         (table_from_a_number false).tables) (table_from_a_number false).elems }
     ensures bytes_in_no_memory { ¬ All (IsDataValid (segment_context last_byte) []) last_byte.datas }
-    ensures bytes_without_bulk_memory { ¬ All (IsDataValid
-        (segment_context (record passive_bytes { config = record default_config { bulk_memory_enabled = false } })) [])
+    ensures bytes_without_bulk_memory { ¬ All
+        (IsDataValid (segment_context (record passive_bytes { config = record default_config { bulk_memory_enabled = false } })) [])
         passive_bytes.datas }
 {}
 

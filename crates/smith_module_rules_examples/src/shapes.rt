@@ -37,11 +37,8 @@ fn module_shapes()
 
 fn types()
     ensures kept { KeepsTypes environment with_environment }
-    ensures more_after { KeepsTypes environment (record with_environment {
-      types = final taking_a_number ∷ foo_type
-          ∷ [];
-      groups = group_of 0 1 ∷ group_of 1 2 ∷ [];
-    }) }
+    ensures more_after { KeepsTypes environment
+        (record with_environment { types = final taking_a_number ∷ foo_type ∷ []; groups = group_of 0 1 ∷ group_of 1 2 ∷ [] }) }
     ensures more_before { ¬ KeepsTypes environment
         (record with_environment { types = foo_type ∷ final taking_a_number ∷ []; groups = group_of 0 1 ∷ group_of 1 2 ∷ [] }) }
     ensures none { ¬ KeepsTypes environment (record with_environment { types = [] }) }
@@ -50,19 +47,19 @@ fn types()
 
 #[tactic(auto, unfolding(smith_module_rules::specs::ShapeImports::is_fitting))]
 fn available_imports()
-    ensures both { taken_from default_config (final taking_a_number ∷ []) (1 ∷ 1 ∷ []) 0 [] (ping ∷ shared_bytes ∷ [])
-        ≡ ping ∷ shared_bytes ∷ [] }
-    ensures the_second { taken_from default_config (final taking_a_number ∷ []) (0 ∷ 1 ∷ []) 0 [] (ping ∷ shared_bytes ∷ [])
-        ≡ shared_bytes ∷ [] }
-    ensures the_first_alone { taken_from (record default_config { max_imports = 1 }) (final taking_a_number ∷ []) (1 ∷ 1 ∷ []) 0 []
-        (ping ∷ shared_bytes ∷ []) ≡ ping ∷ [] }
+    ensures both { taken_from default_config (final taking_a_number ∷ []) (1 ∷ 1 ∷ []) 0 [] (ping ∷ shared_bytes ∷ []) ≡ ping ∷ shared_bytes
+        ∷ [] }
+    ensures the_second { taken_from default_config (final taking_a_number ∷ []) (0 ∷ 1 ∷ []) 0 [] (ping ∷ shared_bytes ∷ []) ≡ shared_bytes
+        ∷ [] }
+    ensures the_first_alone { taken_from (record default_config { max_imports = 1 }) (final taking_a_number ∷ []) (1 ∷ 1 ∷ []) 0 [] (ping
+        ∷ shared_bytes ∷ []) ≡ ping ∷ [] }
     ensures past_the_end { taken_from default_config (final taking_a_number ∷ []) (1 ∷ []) 0 [] (ping ∷ shared_bytes ∷ []) ≡ ping ∷ [] }
     ensures no_room_for_a_memory { taken_from (record default_config { max_memories = 0 }) (final taking_a_number ∷ []) (1 ∷ 1 ∷ []) 0 []
         (shared_bytes ∷ ping ∷ []) ≡ ping ∷ [] }
-    ensures too_large { taken_from (record default_config { max_type_size = 1 }) (final taking_a_number ∷ []) (1 ∷ 1 ∷ []) 0 []
-        (ping ∷ shared_bytes ∷ []) ≡ shared_bytes ∷ [] }
-    ensures tag_without_exceptions { taken_from (record default_config { exceptions_enabled = false }) (final taking_a_number ∷ [])
-        (1 ∷ []) 0 [] (record ping { entity_type = entity.Tag 0 } ∷ []) ≡ [] }
+    ensures too_large { taken_from (record default_config { max_type_size = 1 }) (final taking_a_number ∷ []) (1 ∷ 1 ∷ []) 0 [] (ping
+        ∷ shared_bytes ∷ []) ≡ shared_bytes ∷ [] }
+    ensures tag_without_exceptions { taken_from (record default_config { exceptions_enabled = false }) (final taking_a_number ∷ []) (1
+        ∷ []) 0 [] (record ping { entity_type = entity.Tag 0 } ∷ []) ≡ [] }
     ensures kept { KeepsAvailableImports (1 ∷ 1 ∷ []) environment with_environment }
     ensures the_first_kept { KeepsAvailableImports (3 ∷ 2 ∷ []) environment with_ping }
     ensures kept_in_one_group { KeepsAvailableImports (1 ∷ 1 ∷ []) environment in_one_group }
@@ -75,16 +72,16 @@ fn available_imports()
 #[tactic(auto, unfolding(smith_module_rules::specs::ShapeImports::is_fitting))]
 fn full_kinds()
     ensures none { taken_from default_config (final taking_a_number ∷ []) (1 ∷ 1 ∷ 1 ∷ 1 ∷ 1 ∷ []) 0 [] imported_kinds ≡ imported_kinds }
-    ensures tags { taken_from (record default_config { max_tags = 0 }) (final taking_a_number ∷ [])
-        (1 ∷ 1 ∷ 1 ∷ 1 ∷ 1 ∷ []) 0 [] imported_kinds ≡ drop 1 imported_kinds }
-    ensures functions { taken_from (record default_config { max_funcs = 0 }) (final taking_a_number ∷ [])
-        (1 ∷ 1 ∷ 1 ∷ 1 ∷ 1 ∷ []) 0 [] imported_kinds ≡ take 1 imported_kinds ++ drop 2 imported_kinds }
-    ensures tables { taken_from (record default_config { max_tables = 0 }) (final taking_a_number ∷ [])
-        (1 ∷ 1 ∷ 1 ∷ 1 ∷ 1 ∷ []) 0 [] imported_kinds ≡ take 2 imported_kinds ++ drop 3 imported_kinds }
-    ensures memories { taken_from (record default_config { max_memories = 0 }) (final taking_a_number ∷ [])
-        (1 ∷ 1 ∷ 1 ∷ 1 ∷ 1 ∷ []) 0 [] imported_kinds ≡ take 3 imported_kinds ++ drop 4 imported_kinds }
-    ensures globals { taken_from (record default_config { max_globals = 0 }) (final taking_a_number ∷ [])
-        (1 ∷ 1 ∷ 1 ∷ 1 ∷ 1 ∷ []) 0 [] imported_kinds ≡ take 4 imported_kinds }
+    ensures tags { taken_from (record default_config { max_tags = 0 }) (final taking_a_number ∷ []) (1 ∷ 1 ∷ 1 ∷ 1 ∷ 1
+        ∷ []) 0 [] imported_kinds ≡ drop 1 imported_kinds }
+    ensures functions { taken_from (record default_config { max_funcs = 0 }) (final taking_a_number ∷ []) (1 ∷ 1 ∷ 1 ∷ 1 ∷ 1
+        ∷ []) 0 [] imported_kinds ≡ take 1 imported_kinds ++ drop 2 imported_kinds }
+    ensures tables { taken_from (record default_config { max_tables = 0 }) (final taking_a_number ∷ []) (1 ∷ 1 ∷ 1 ∷ 1 ∷ 1
+        ∷ []) 0 [] imported_kinds ≡ take 2 imported_kinds ++ drop 3 imported_kinds }
+    ensures memories { taken_from (record default_config { max_memories = 0 }) (final taking_a_number ∷ []) (1 ∷ 1 ∷ 1 ∷ 1 ∷ 1
+        ∷ []) 0 [] imported_kinds ≡ take 3 imported_kinds ++ drop 4 imported_kinds }
+    ensures globals { taken_from (record default_config { max_globals = 0 }) (final taking_a_number ∷ []) (1 ∷ 1 ∷ 1 ∷ 1 ∷ 1
+        ∷ []) 0 [] imported_kinds ≡ take 4 imported_kinds }
 {}
 
 fn exports()

@@ -30,8 +30,8 @@ fn several()
     ensures same_bytes_again { ¬ (bodies_at two_functions (constant_bytes 5 ++ constant_bytes 7)
         ≡ (constant 5 ∷ constant 5 ∷ [], constant_bytes 7)) }
     ensures one_for_both { ¬ (bodies_at two_functions (constant_bytes 5 ++ constant_bytes 7) ≡ (constant 5 ∷ [], constant_bytes 7)) }
-    ensures budget_for_each { bodies_at (record plain { funcs = 0 ∷ 0 ∷ []; num_defined_funcs = 2; code = trapping ∷ trapping ∷ [] })
-        (1 ∷ 0 ∷ 0 ∷ 1 ∷ 0 ∷ 0 ∷ []) ≡ (body.Drawn (instr.Nop ∷ []) ∷ body.Drawn (instr.Nop ∷ []) ∷ [], []) }
+    ensures budget_for_each { bodies_at (record plain { funcs = 0 ∷ 0 ∷ []; num_defined_funcs = 2; code = trapping ∷ trapping ∷ [] }) (1 ∷ 0
+        ∷ 0 ∷ 1 ∷ 0 ∷ 0 ∷ []) ≡ (body.Drawn (instr.Nop ∷ []) ∷ body.Drawn (instr.Nop ∷ []) ∷ [], []) }
 {}
 
 fn raw_bytes()

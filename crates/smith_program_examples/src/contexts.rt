@@ -25,8 +25,8 @@ fn functions()
     ensures after_an_imported_one { bodies_at after_an_import (constant_bytes 5) ≡ (constant 5 ∷ [], []) }
     ensures of_the_imported_type { ¬ (bodies_at after_an_import (constant_bytes 5) ≡ (body.Drawn [] ∷ [], constant_bytes 5)) }
     ensures called_by_itself { bodies_at after_an_import (0 ∷ 8 ∷ []) ≡ (body.Drawn (instr.Call 1 ∷ []) ∷ [], []) }
-    ensures that_is_exported { bodies_at (record (one_of (giving (Ref funcref ∷ []))) { exports = (codes "f", kind.Func, 0) ∷ [] })
-        (0 ∷ 0 ∷ 3 ∷ []) ≡ (body.Drawn (instr.Reference (reference.Func 0) ∷ []) ∷ [], []) }
+    ensures that_is_exported { bodies_at (record (one_of (giving (Ref funcref ∷ []))) { exports = (codes "f", kind.Func, 0) ∷ [] }) (0 ∷ 0
+        ∷ 3 ∷ []) ≡ (body.Drawn (instr.Reference (reference.Func 0) ∷ []) ∷ [], []) }
     ensures that_nothing_names { bodies_at (one_of (giving (Ref funcref ∷ []))) (0 ∷ 0 ∷ 3 ∷ [])
         ≡ (body.Drawn (instr.Reference (reference.Null (Abstract false heap.Func)) ∷ []) ∷ [], []) }
 {}
@@ -43,20 +43,16 @@ fn references()
 {}
 
 fn locals()
-    ensures after_the_parameters { bodies_at (record (one_of (Func (func I64 I32))) {
-      code = record { locals = I32 ∷ []; instructions = Unreachable } ∷ [];
-    }) (0 ∷ 0 ∷ 0 ∷ []) ≡ (body.Drawn (instr.LocalGet 1 ∷ []) ∷ [], []) }
-    ensures without_the_parameters { ¬ (bodies_at (record (one_of (Func (func I64 I32))) {
-      code = record { locals = I32 ∷ []; instructions = Unreachable } ∷ [];
-    }) (0 ∷ 0 ∷ 0 ∷ []) ≡ (body.Drawn (instr.LocalGet 0 ∷ []) ∷ [], [])) }
+    ensures after_the_parameters { bodies_at
+        (record (one_of (Func (func I64 I32))) { code = record { locals = I32 ∷ []; instructions = Unreachable } ∷ [] }) (0 ∷ 0 ∷ 0 ∷ [])
+        ≡ (body.Drawn (instr.LocalGet 1 ∷ []) ∷ [], []) }
+    ensures without_the_parameters { ¬ (bodies_at
+        (record (one_of (Func (func I64 I32))) { code = record { locals = I32 ∷ []; instructions = Unreachable } ∷ [] }) (0 ∷ 0 ∷ 0 ∷ [])
+        ≡ (body.Drawn (instr.LocalGet 0 ∷ []) ∷ [], [])) }
     ensures parameter { bodies_at (one_of (Func (func I32 I32))) (0 ∷ 0 ∷ 0 ∷ []) ≡ (body.Drawn (instr.LocalGet 0 ∷ []) ∷ [], []) }
-    ensures unset { bodies_at (record (one_of (giving (some_func ∷ []))) {
-      code = record {
-        locals = some_func
-            ∷ [];
-        instructions = Unreachable;
-      } ∷ [];
-    }) (0 ∷ 0 ∷ 0 ∷ []) ≡ (body.Drawn (instr.Unreachable ∷ []) ∷ [], []) }
+    ensures unset { bodies_at (record (one_of
+        (giving (some_func ∷ []))) { code = record { locals = some_func ∷ []; instructions = Unreachable } ∷ [] }) (0 ∷ 0 ∷ 0 ∷ [])
+        ≡ (body.Drawn (instr.Unreachable ∷ []) ∷ [], []) }
 {}
 
 fn parts()

@@ -17,8 +17,8 @@ fn locals()
         ∷ instr.LocalGet 1 ∷ instr.Numeric (numeric.I64Binary int_binary.Xor) ∷ instr.GlobalSet 4 ∷ [] }
     ensures float { mix 3 1 F32 ≡ instr.GlobalGet 3 ∷ instr.I32Const (pos 5) ∷ instr.Numeric (numeric.I32Binary int_binary.Rotl)
         ∷ instr.LocalGet 1 ∷ instr.Numeric (numeric.Convert convert.I32ReinterpretF32) ∷ instr.I32Const (pos 2143289344) ∷ instr.LocalGet 1
-        ∷ instr.LocalGet 1 ∷ instr.Numeric (numeric.F32Compare float_compare.Eq) ∷ instr.Select ∷ instr.Numeric
-        (numeric.I32Binary int_binary.Xor) ∷ instr.GlobalSet 3 ∷ [] }
+        ∷ instr.LocalGet 1 ∷ instr.Numeric (numeric.F32Compare float_compare.Eq) ∷ instr.Select
+        ∷ instr.Numeric (numeric.I32Binary int_binary.Xor) ∷ instr.GlobalSet 3 ∷ [] }
     ensures vector { mix 3 1 V128 ≡ mix64 4 (half 1 0) ++ mix64 5 (half 1 1) }
     ensures reference { mix 3 1 some_func ≡ [] }
     ensures bits_of_a_nan { ¬ (mix 3 1 F64 ≡ mix64 4 (instr.LocalGet 1 ∷ instr.Numeric (numeric.Convert convert.I64ReinterpretF64) ∷ [])) }
@@ -39,7 +39,7 @@ fn bodies()
     ensures drawn { observed_body 3 (I32 ∷ []) (constant 7) ≡ body.Drawn (number 7 ∷ mix 3 0 I32) }
     ensures raw_bytes { observed_body 3 (I32 ∷ []) body.Raw ≡ body.Raw }
     ensures unchanged { ¬ (observed_body 3 (I32 ∷ []) (constant 7) ≡ constant 7) }
-    ensures of_a_function { AreObserved 3 (record narrow_function { code = with_local ∷ [] }) (constant 7 ∷ [])
-        (body.Drawn (number 7 ∷ mix 3 0 I32) ∷ []) }
+    ensures of_a_function { AreObserved 3 (record narrow_function { code = with_local ∷ [] }) (constant 7
+        ∷ []) (body.Drawn (number 7 ∷ mix 3 0 I32) ∷ []) }
     ensures without_its_local { ¬ AreObserved 3 (record narrow_function { code = with_local ∷ [] }) (constant 7 ∷ []) (constant 7 ∷ []) }
 {}

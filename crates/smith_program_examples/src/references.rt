@@ -48,6 +48,6 @@ fn modules()
     ensures of_a_segment { ¬ AreReferencesEnabled (record (empty_module without_gc) { elems = indexed_elements ∷ [] }) [] }
     ensures of_a_local { ¬ AreReferencesEnabled (record (empty_module without_gc) { code = with_indexed_local ∷ [] }) [] }
     ensures of_a_block { ¬ AreReferencesEnabled (record (empty_module without_gc) { code = trapping ∷ [] }) (block_of indexed ∷ []) }
-    ensures with_the_feature { AreReferencesEnabled (record (empty_module default_config) { code = trapping ∷ [] })
-        (block_of indexed ∷ []) }
+    ensures with_the_feature { AreReferencesEnabled (record (empty_module default_config) { code = trapping ∷ [] }) (block_of indexed
+        ∷ []) }
 {}

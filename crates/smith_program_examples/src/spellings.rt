@@ -44,8 +44,8 @@ fn reference_types()
 
 fn sections()
     ensures of_a_function_type { IsSectionIn (written 2) 1
-        (IsListIn (written 2) (IsRecGroupWrittenIn (written 2)) ((final_type plain_func ∷ []) ∷ []))
-        (0x01 ∷ 0x87 ∷ 0x00 ∷ 0x81 ∷ 0x00 ∷ 0x60 ∷ 0x80 ∷ 0x00 ∷ 0x80 ∷ 0x00 ∷ []) }
+        (IsListIn (written 2) (IsRecGroupWrittenIn (written 2)) ((final_type plain_func ∷ []) ∷ [])) (0x01 ∷ 0x87 ∷ 0x00 ∷ 0x81 ∷ 0x00
+        ∷ 0x60 ∷ 0x80 ∷ 0x00 ∷ 0x80 ∷ 0x00 ∷ []) }
     ensures of_a_short_size { ¬ IsSectionIn (written 2) 1 (λ content. Unit {0}) (0x01 ∷ 0x00 ∷ []) }
     ensures of_a_short_length { ¬ IsListIn (written 2) IsByte [] (0x00 ∷ []) }
 {}

@@ -87,15 +87,15 @@ fn values()
 fn nullability()
     ensures a_struct_that_is_not_null { IsMemberValType with_non_nullable (final (struct_of_bytes 1) ∷ []) (Ref (not_null (Concrete 0))) }
     ensures a_struct_below_any { IsMemberValType with_non_nullable (final (struct_of_bytes 1) ∷ []) (Ref (not_null (plain heap.Any))) }
-    ensures an_exact_struct { IsMemberValType (record with_non_nullable { custom_descriptors_enabled = true })
-        (final (struct_of_bytes 1) ∷ []) (Ref (not_null (Concrete 0))) }
+    ensures an_exact_struct { IsMemberValType (record with_non_nullable { custom_descriptors_enabled = true }) (final (struct_of_bytes 1)
+        ∷ []) (Ref (not_null (Concrete 0))) }
     ensures a_nullable_reference_beside_others { IsMemberValType with_non_nullable [] (Ref (nullable (plain heap.Extern))) }
-    ensures a_struct_where_references_are_nullable { ¬ IsMemberValType default_config (final (struct_of_bytes 1) ∷ [])
-        (Ref (not_null (Concrete 0))) }
+    ensures a_struct_where_references_are_nullable { ¬ IsMemberValType default_config (final (struct_of_bytes 1)
+        ∷ []) (Ref (not_null (Concrete 0))) }
     ensures no_struct_below_any { ¬ IsMemberValType with_non_nullable (final bytes_array ∷ []) (Ref (not_null (plain heap.Any))) }
     ensures an_array_that_is_not_null { ¬ IsMemberValType with_non_nullable (final bytes_array ∷ []) (Ref (not_null (Concrete 0))) }
-    ensures no_struct_below_a_function { ¬ IsMemberValType with_non_nullable (final (struct_of_bytes 1) ∷ [])
-        (Ref (not_null (plain heap.Func))) }
-    ensures a_struct_without_defaults { ¬ IsMemberValType with_non_nullable (final (struct_with (plain heap.Any)) ∷ [])
-        (Ref (not_null (Concrete 0))) }
+    ensures no_struct_below_a_function { ¬ IsMemberValType with_non_nullable (final (struct_of_bytes 1)
+        ∷ []) (Ref (not_null (plain heap.Func))) }
+    ensures a_struct_without_defaults { ¬ IsMemberValType with_non_nullable (final (struct_with (plain heap.Any))
+        ∷ []) (Ref (not_null (Concrete 0))) }
 {}

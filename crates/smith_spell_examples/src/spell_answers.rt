@@ -31,8 +31,8 @@ fn refused()
     ensures no_memory { AnswersSpelling default_config [] [] (Err Memory) }
     ensures no_memory_for_a_function_of_no_type { AnswersSpelling default_config one_function_type (1 ∷ []) (Err Memory) }
     ensures memory_for_an_empty_group { ¬ AnswersSpelling default_config ([] ∷ []) [] (Err Memory) }
-    ensures memory_for_too_many_functions { ¬ AnswersSpelling (record default_config { max_funcs = 0 }) one_function_type (0 ∷ [])
-        (Err Memory) }
+    ensures memory_for_too_many_functions { ¬ AnswersSpelling (record default_config { max_funcs = 0 }) one_function_type (0
+        ∷ []) (Err Memory) }
     ensures memory_beside_a_minimum { ¬ AnswersSpelling (record default_config { min_types = 1 }) [] [] (Err Memory) }
     ensures memory_beside_a_shape { ¬ AnswersSpelling (record default_config { exports = Some exported_table }) [] [] (Err Memory) }
     ensures for_another_cause { ¬ AnswersSpelling default_config [] [] (Err EmptyChoose) }

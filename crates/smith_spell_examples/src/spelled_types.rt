@@ -58,18 +58,18 @@ fn nullability()
 
 fn types()
     ensures an_array { SpellsCompositeType default_config 0 (record { inner = bytes_array; shared = false }) (0 ∷ 0 ∷ 0 ∷ []) }
-    ensures an_array_where_types_may_be_shared { SpellsCompositeType with_shared_types 0 (record { inner = bytes_array; shared = false })
-        (1 ∷ 0 ∷ 0 ∷ 0 ∷ []) }
-    ensures a_shared_array { ¬ SpellsCompositeType with_shared_types 0 (record { inner = bytes_array; shared = true })
-        (0 ∷ 0 ∷ 0 ∷ 0 ∷ []) }
+    ensures an_array_where_types_may_be_shared { SpellsCompositeType with_shared_types 0 (record { inner = bytes_array; shared = false }) (1
+        ∷ 0 ∷ 0 ∷ 0 ∷ []) }
+    ensures a_shared_array { ¬ SpellsCompositeType with_shared_types 0 (record { inner = bytes_array; shared = true }) (0 ∷ 0 ∷ 0 ∷ 0
+        ∷ []) }
     ensures a_list_as_an_array { ¬ SpellsCompositeType default_config 0 (record { inner = bytes_array; shared = false }) (1 ∷ 0 ∷ 0 ∷ []) }
-    ensures after_an_open_type { SpellsSubType default_config (a_type bytes_array false None ∷ []) 2 (final bytes_array)
-        (1 ∷ 1 ∷ 0 ∷ 0 ∷ 0 ∷ []) }
-    ensures below_an_open_type { ¬ SpellsSubType default_config (a_type bytes_array false None ∷ []) 2 (final bytes_array)
-        (0 ∷ 1 ∷ 0 ∷ 0 ∷ 0 ∷ []) }
+    ensures after_an_open_type { SpellsSubType default_config (a_type bytes_array false None ∷ []) 2 (final bytes_array) (1 ∷ 1 ∷ 0 ∷ 0 ∷ 0
+        ∷ []) }
+    ensures below_an_open_type { ¬ SpellsSubType default_config (a_type bytes_array false None ∷ []) 2 (final bytes_array) (0 ∷ 1 ∷ 0 ∷ 0
+        ∷ 0 ∷ []) }
     ensures after_a_final_type { SpellsSubType default_config (final bytes_array ∷ []) 2 (final bytes_array) (1 ∷ 0 ∷ 0 ∷ 0 ∷ []) }
-    ensures with_a_supertype { ¬ SpellsSubType default_config (a_type bytes_array false None ∷ []) 2 (a_type bytes_array true (Some 0))
-        (0 ∷ 0 ∷ 0 ∷ 1 ∷ []) }
+    ensures with_a_supertype { ¬ SpellsSubType default_config (a_type bytes_array false None ∷ []) 2 (a_type bytes_array true (Some 0)) (0
+        ∷ 0 ∷ 0 ∷ 1 ∷ []) }
     ensures shared { ¬ SpellsSubType with_shared_types [] 1
         (record (final bytes_array) { composite_type = record { inner = bytes_array; shared = true } }) (1 ∷ 0 ∷ 0 ∷ 0 ∷ 0 ∷ []) }
     ensures not_final_without_gc { ¬ SpellsSubType without_gc [] 1 (a_type plain_function false None) (0 ∷ 0 ∷ []) }
@@ -93,13 +93,13 @@ fn spaces()
     ensures groups_of_a_struct_without_another { ¬ GroupsFit with_non_nullable [] (alone (struct_with (plain heap.Any)) ∷ []) }
     ensures one_group_more { SpellsAdded default_config (space_of []) (space_of one_function_type) (1 ∷ 1 ∷ 1 ∷ 0 ∷ 0 ∷ []) }
     ensures no_group_more { ¬ SpellsAdded default_config (space_of []) (space_of []) (0 ∷ []) }
-    ensures one_group_that_refers_to_itself { ¬ SpellsAdded default_config (space_of []) (space_of (alone (struct_of 0) ∷ []))
-        (1 ∷ 1 ∷ 2 ∷ 1 ∷ 2 ∷ 5 ∷ 1 ∷ 1 ∷ []) }
+    ensures one_group_that_refers_to_itself { ¬ SpellsAdded default_config (space_of []) (space_of (alone (struct_of 0) ∷ [])) (1 ∷ 1 ∷ 2
+        ∷ 1 ∷ 2 ∷ 5 ∷ 1 ∷ 1 ∷ []) }
     ensures one_group_of_other_bytes { ¬ SpellsAdded default_config (space_of []) (space_of one_function_type) (2 ∷ 1 ∷ 1 ∷ 0 ∷ 0 ∷ []) }
     ensures a_space { SpellsSpace default_config (space_of one_function_type) (1 ∷ 1 ∷ 1 ∷ 1 ∷ 0 ∷ 0 ∷ 0 ∷ []) }
-    ensures a_space_that_refers_to_itself { ¬ SpellsSpace default_config (space_of (alone (struct_of 0) ∷ []))
-        (1 ∷ 1 ∷ 1 ∷ 2 ∷ 1 ∷ 2 ∷ 5 ∷ 1 ∷ 1 ∷ 0 ∷ []) }
+    ensures a_space_that_refers_to_itself { ¬ SpellsSpace default_config (space_of (alone (struct_of 0) ∷ [])) (1 ∷ 1 ∷ 1 ∷ 2 ∷ 1 ∷ 2 ∷ 5
+        ∷ 1 ∷ 1 ∷ 0 ∷ []) }
     ensures a_space_of_other_bytes { ¬ SpellsSpace default_config (space_of one_function_type) (0 ∷ []) }
-    ensures a_space_without_groups { ¬ SpellsSpace default_config (record { types = final plain_function ∷ []; groups = [] })
-        (1 ∷ 1 ∷ 1 ∷ 1 ∷ 0 ∷ 0 ∷ 0 ∷ []) }
+    ensures a_space_without_groups { ¬ SpellsSpace default_config (record { types = final plain_function ∷ []; groups = [] }) (1 ∷ 1 ∷ 1 ∷ 1
+        ∷ 0 ∷ 0 ∷ 0 ∷ []) }
 {}

@@ -18,8 +18,8 @@ ghost use Rattle.smith_config.specs.ExampleMembers.{plain_function};
 
 fn members()
     ensures a_function { SpellsMember default_config one_function_type (0 ∷ []) function_bytes }
-    ensures in_other_bytes { SpellsMember default_config one_function_type (0 ∷ [])
-        (3 ∷ 102 ∷ 255 ∷ 4 ∷ 2 ∷ 4 ∷ 8 ∷ 6 ∷ 9 ∷ 2 ∷ 5 ∷ 200 ∷ []) }
+    ensures in_other_bytes { SpellsMember default_config one_function_type (0 ∷ []) (3 ∷ 102 ∷ 255 ∷ 4 ∷ 2 ∷ 4 ∷ 8 ∷ 6 ∷ 9 ∷ 2 ∷ 5 ∷ 200
+        ∷ []) }
     ensures full_without_gc { SpellsMember one_of_each_without_gc (alone taking_a_number ∷ []) (0 ∷ []) full_bytes }
     ensures array_and_struct { SpellsMember default_config array_and_struct [] array_and_struct_bytes }
     ensures a_struct_of_a_reference_that_is_not_null { SpellsMember with_non_nullable struct_and_holder [] struct_and_holder_bytes }
@@ -48,10 +48,10 @@ fn parts_of_members()
     ensures no_tag_without_exceptions { SpellsNoTag (record default_config { exceptions_enabled = false }) (final plain_function ∷ []) [] }
     ensures no_tag_where_none_may_be { SpellsNoTag (record default_config { max_tags = 0 }) (final plain_function ∷ []) [] }
     ensures no_tag_of_a_type_with_results { SpellsNoTag default_config (final giving_two ∷ []) [] }
-    ensures second_function_type { SpellsFuncs default_config (final plain_function ∷ final bytes_array ∷ final taking_a_number ∷ [])
-        (2 ∷ []) (1 ∷ 1 ∷ 0 ∷ []) }
-    ensures first_function_type { ¬ SpellsFuncs default_config (final plain_function ∷ final bytes_array ∷ final taking_a_number ∷ [])
-        (2 ∷ []) (1 ∷ 0 ∷ 0 ∷ []) }
+    ensures second_function_type { SpellsFuncs default_config (final plain_function ∷ final bytes_array ∷ final taking_a_number ∷ []) (2
+        ∷ []) (1 ∷ 1 ∷ 0 ∷ []) }
+    ensures first_function_type { ¬ SpellsFuncs default_config (final plain_function ∷ final bytes_array ∷ final taking_a_number ∷ []) (2
+        ∷ []) (1 ∷ 0 ∷ 0 ∷ []) }
     ensures no_function_type { SpellsFuncs default_config (final bytes_array ∷ []) [] [] }
     ensures a_bool_without_function_type { ¬ SpellsFuncs default_config (final bytes_array ∷ []) [] (0 ∷ []) }
     ensures a_function_of_no_type { ¬ SpellsFuncs default_config (final bytes_array ∷ []) (0 ∷ []) [] }
@@ -63,16 +63,16 @@ fn parts_of_rests()
     ensures another_class { ¬ SpellsGlobal default_config (pos 7) (1 ∷ 1 ∷ 0 ∷ 7 ∷ 0 ∷ 0 ∷ 0 ∷ []) }
     ensures a_constant_number { ¬ SpellsGlobal default_config (pos 7) (0 ∷ 0 ∷ 0 ∷ 7 ∷ 0 ∷ 0 ∷ 0 ∷ []) }
     ensures a_sum { ¬ SpellsGlobal default_config (pos 7) (0 ∷ 1 ∷ 1 ∷ 7 ∷ 0 ∷ 0 ∷ 0 ∷ []) }
-    ensures where_there_are_no_sums { SpellsGlobal (record default_config { extended_const_enabled = false }) (pos 7)
-        (0 ∷ 1 ∷ 7 ∷ 0 ∷ 0 ∷ 0 ∷ []) }
+    ensures where_there_are_no_sums { SpellsGlobal (record default_config { extended_const_enabled = false }) (pos 7) (0 ∷ 1 ∷ 7 ∷ 0 ∷ 0 ∷ 0
+        ∷ []) }
     ensures where_types_may_be_shared { SpellsGlobal with_shared_types (pos 7) (0 ∷ 1 ∷ 1 ∷ 0 ∷ 7 ∷ 0 ∷ 0 ∷ 0 ∷ []) }
     ensures two_bytes { SpellsBytes (42 ∷ 0 ∷ []) (1 ∷ 42 ∷ 1 ∷ 0 ∷ 0 ∷ []) }
     ensures another_byte { ¬ SpellsBytes (42 ∷ []) (1 ∷ 41 ∷ 0 ∷ []) }
     ensures no_end_of_bytes { ¬ SpellsBytes [] [] }
     ensures no_start { SpellsNoStart default_config (final plain_function ∷ []) (0 ∷ []) (0 ∷ []) }
     ensures a_start { ¬ SpellsNoStart default_config (final plain_function ∷ []) (0 ∷ []) (1 ∷ []) }
-    ensures no_start_where_it_is_not_allowed { SpellsNoStart (record default_config { allow_start_export = false })
-        (final plain_function ∷ []) (0 ∷ []) [] }
+    ensures no_start_where_it_is_not_allowed { SpellsNoStart (record default_config { allow_start_export = false }) (final plain_function
+        ∷ []) (0 ∷ []) [] }
     ensures no_start_that_takes_a_number { SpellsNoStart default_config (final taking_a_number ∷ []) (0 ∷ []) [] }
     ensures no_start_that_gives_numbers { SpellsNoStart default_config (final giving_two ∷ []) (0 ∷ []) [] }
     ensures segments_without_bulk_memory { SpellsSegments (record default_config { bulk_memory_enabled = false }) [] [] }

@@ -48,8 +48,8 @@ fn exports()
 {}
 
 fn refused()
-    ensures no_choice { MayRefuseContents default_config (context_of_types []) (table (not_null (plain heap.Extern)) 1 None ∷ [])
-        EmptyChoose }
+    ensures no_choice { MayRefuseContents default_config (context_of_types []) (table (not_null (plain heap.Extern)) 1 None
+        ∷ []) EmptyChoose }
     ensures no_table { ¬ MayRefuseContents default_config (context_of_types []) [] EmptyChoose }
     ensures as_a_module { MayRefuseContents default_config (context_of_types []) [] Memory }
     ensures too_few_bytes { ¬ MayRefuseContents default_config (context_of_types []) [] NotEnoughData }

@@ -30,19 +30,17 @@ fn segments()
         (global_scope default_config (beside_globals []) []) [] [] ≡ Err (Unmet counts.DataSegments) }
     ensures asked_for { data_at (record default_config { min_data_segments = 1; max_data_segments = 1 })
         (global_scope default_config (beside_globals []) []) [] (0 ∷ 9 ∷ []) ≡ Ok (record { kind = Passive; init = [] } ∷ [], 9 ∷ []) }
-    ensures beside_a_memory { data_at default_config (global_scope default_config (beside_globals []) []) (memory 1 None ∷ [])
-        (1 ∷ 0 ∷ 1 ∷ 0 ∷ 9 ∷ []) ≡ Ok (record { kind = Passive; init = [] } ∷ [], 9 ∷ []) }
-    ensures at_a_constant { data_at default_config (global_scope default_config (beside_globals []) []) (memory 1 None ∷ [])
-        (1 ∷ 1 ∷ 42 ∷ 0 ∷ 0 ∷ 0 ∷ 0 ∷ 0 ∷ 240 ∷ 0 ∷ 9 ∷ []) ≡ Ok (active_data (pos 44493) (42 ∷ []) ∷ [], 9 ∷ []) }
-    ensures into_the_second { data_at default_config (global_scope default_config (beside_globals []) [])
-        (memory 1 None ∷ memory 1 None ∷ []) (1 ∷ 0 ∷ 0 ∷ 1 ∷ 0 ∷ 0 ∷ 0 ∷ 0 ∷ 0 ∷ 9 ∷ [])
-        ≡ Ok (record { kind = Active 1 (Const32 (pos 0)); init = [] } ∷ [], 9 ∷ []) }
-    ensures where_a_global_says { data_at default_config (global_scope default_config (beside_globals []) (number ∷ []))
-        (memory 1 None ∷ []) (1 ∷ 1 ∷ 42 ∷ 0 ∷ 0 ∷ 1 ∷ 0 ∷ 9 ∷ [])
-        ≡ Ok (record { kind = Active 0 (Global 0); init = 42 ∷ [] } ∷ [], 9 ∷ []) }
-    ensures lowered { data_at (record default_config { disallow_traps = true })
-        (global_scope default_config (beside_globals []) (number ∷ [])) (memory 1 None ∷ [])
-        (1 ∷ 1 ∷ 42 ∷ 0 ∷ 0 ∷ 255 ∷ 255 ∷ 255 ∷ 255 ∷ 0 ∷ 9 ∷ []) ≡ Ok (active_data (pos 65535) (42 ∷ []) ∷ [], 9 ∷ []) }
+    ensures beside_a_memory { data_at default_config (global_scope default_config (beside_globals []) []) (memory 1 None ∷ []) (1 ∷ 0 ∷ 1
+        ∷ 0 ∷ 9 ∷ []) ≡ Ok (record { kind = Passive; init = [] } ∷ [], 9 ∷ []) }
+    ensures at_a_constant { data_at default_config (global_scope default_config (beside_globals []) []) (memory 1 None ∷ []) (1 ∷ 1 ∷ 42 ∷ 0
+        ∷ 0 ∷ 0 ∷ 0 ∷ 0 ∷ 240 ∷ 0 ∷ 9 ∷ []) ≡ Ok (active_data (pos 44493) (42 ∷ []) ∷ [], 9 ∷ []) }
+    ensures into_the_second { data_at default_config (global_scope default_config (beside_globals []) []) (memory 1 None ∷ memory 1 None
+        ∷ []) (1 ∷ 0 ∷ 0 ∷ 1 ∷ 0 ∷ 0 ∷ 0 ∷ 0 ∷ 0 ∷ 9 ∷ []) ≡ Ok (record { kind = Active 1 (Const32 (pos 0)); init = [] } ∷ [], 9 ∷ []) }
+    ensures where_a_global_says { data_at default_config (global_scope default_config (beside_globals []) (number ∷ [])) (memory 1 None
+        ∷ []) (1 ∷ 1 ∷ 42 ∷ 0 ∷ 0 ∷ 1 ∷ 0 ∷ 9 ∷ []) ≡ Ok (record { kind = Active 0 (Global 0); init = 42 ∷ [] } ∷ [], 9 ∷ []) }
+    ensures lowered { data_at (record default_config { disallow_traps = true }) (global_scope default_config (beside_globals []) (number
+        ∷ [])) (memory 1 None ∷ []) (1 ∷ 1 ∷ 42 ∷ 0 ∷ 0 ∷ 255 ∷ 255 ∷ 255 ∷ 255 ∷ 0 ∷ 9 ∷ [])
+        ≡ Ok (active_data (pos 65535) (42 ∷ []) ∷ [], 9 ∷ []) }
     ensures cut { data_at (record default_config { disallow_traps = true }) (global_scope default_config (beside_globals []) [])
         (record (memory 1 None) { page_size_log2 = Some 0 } ∷ []) (1 ∷ 1 ∷ 42 ∷ 1 ∷ 43 ∷ 0 ∷ 0 ∷ 1 ∷ 0 ∷ 9 ∷ [])
         ≡ Ok (active_data (pos 0) (42 ∷ []) ∷ [], 9 ∷ []) }

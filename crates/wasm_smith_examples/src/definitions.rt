@@ -61,47 +61,46 @@ fn funcs()
 fn tables()
     ensures without_an_initialiser { tables_at two_of_each (beside_globals []) [] [] (1 ∷ 0 ∷ 0 ∷ 0 ∷ 0 ∷ 0 ∷ 0 ∷ 1 ∷ 0 ∷ 9 ∷ [])
         ≡ Ok ((table funcref 0 None ∷ [], None ∷ []), 9 ∷ []) }
-    ensures with_an_initialiser { tables_at (record two_of_each { min_tables = 1 }) (beside_globals []) [] []
-        (0 ∷ 0 ∷ 0 ∷ 0 ∷ 0 ∷ 0 ∷ 0 ∷ 0 ∷ 9 ∷ []) ≡ Ok ((table funcref 0 None ∷ [], Some no_function ∷ []), 9 ∷ []) }
-    ensures without_garbage_collection { tables_at (record two_of_each { min_tables = 1; gc_enabled = false }) (beside_globals []) [] []
-        (0 ∷ 0 ∷ 0 ∷ 0 ∷ 0 ∷ 0 ∷ 0 ∷ 9 ∷ []) ≡ Ok ((table funcref 0 None ∷ [], None ∷ []), 9 ∷ []) }
+    ensures with_an_initialiser { tables_at (record two_of_each { min_tables = 1 }) (beside_globals []) [] [] (0 ∷ 0 ∷ 0 ∷ 0 ∷ 0 ∷ 0 ∷ 0 ∷ 0
+        ∷ 9 ∷ []) ≡ Ok ((table funcref 0 None ∷ [], Some no_function ∷ []), 9 ∷ []) }
+    ensures without_garbage_collection { tables_at (record two_of_each { min_tables = 1; gc_enabled = false }) (beside_globals []) [] [] (0
+        ∷ 0 ∷ 0 ∷ 0 ∷ 0 ∷ 0 ∷ 0 ∷ 9 ∷ []) ≡ Ok ((table funcref 0 None ∷ [], None ∷ []), 9 ∷ []) }
     ensures reading_an_imported_global { tables_at (record two_of_each { min_tables = 1 })
         (beside_globals (global (Ref funcref) false ∷ [])) [] [] (0 ∷ 0 ∷ 0 ∷ 0 ∷ 0 ∷ 0 ∷ 0 ∷ 0 ∷ 0 ∷ 9 ∷ [])
         ≡ Ok ((table funcref 0 None ∷ [], Some (GlobalGet 0 ∷ []) ∷ []), 9 ∷ []) }
-    ensures after_an_imported_one { tables_at (record two_of_each { min_tables = 2 }) (beside_globals []) (table funcref 5 None ∷ []) []
-        (0 ∷ 0 ∷ 0 ∷ 0 ∷ 0 ∷ 0 ∷ 1 ∷ 0 ∷ 9 ∷ []) ≡ Ok ((table funcref 5 None ∷ table funcref 0 None ∷ [], None ∷ []), 9 ∷ []) }
-    ensures enough_imported { tables_at (record two_of_each { min_tables = 1 }) (beside_globals []) (table funcref 5 None ∷ []) []
-        (0 ∷ 9 ∷ []) ≡ Ok ((table funcref 5 None ∷ [], []), 9 ∷ []) }
+    ensures after_an_imported_one { tables_at (record two_of_each { min_tables = 2 }) (beside_globals []) (table funcref 5 None ∷ []) [] (0
+        ∷ 0 ∷ 0 ∷ 0 ∷ 0 ∷ 0 ∷ 1 ∷ 0 ∷ 9 ∷ []) ≡ Ok ((table funcref 5 None ∷ table funcref 0 None ∷ [], None ∷ []), 9 ∷ []) }
+    ensures enough_imported { tables_at (record two_of_each { min_tables = 1 }) (beside_globals []) (table funcref 5 None ∷ []) [] (0 ∷ 9
+        ∷ []) ≡ Ok ((table funcref 5 None ∷ [], []), 9 ∷ []) }
 {}
 
 #[tactic(auto, unfolding(smith_draw_definitions::specs::Definitions::items_defined_at, smith_bytes::specs::Growth::grow_at, smith_draw_definitions::specs::Definitions::memories_at, smith_draw_types::specs::Memories::memtype_at, smith_draw_types::specs::Memories::shared_memory_at, smith_draw_types::specs::Memories::memory64_at, smith_draw_types::specs::Memories::page_size_at, smith_draw_types::specs::Memories::drawn_pages, smith_draw_types::specs::Memories::likely_pages, smith_draw_types::specs::Limits::limits64_at, smith_draw_types::specs::Limits::gradually_at, smith_draw_types::specs::Limits::gradual, smith_draw_types::specs::Limits::sixth_power, smith_draw_types::specs::Limits::scaled, smith_bytes::specs::Draws::whole_at, smith_bytes::specs::Draws::bool_at, smith_bytes::specs::Draws::range_at, smith_bytes::specs::Draws::digit_count))]
 fn memories()
     ensures one_asked_for { memories_at (record two_of_each { min_memories = 1 }) [] (0 ∷ 0 ∷ 0 ∷ 0 ∷ 1 ∷ 0 ∷ 0 ∷ 3 ∷ 0 ∷ 9 ∷ [])
         ≡ (up_to_three ∷ [], 9 ∷ []) }
-    ensures after_an_imported_one { memories_at (record two_of_each { min_memories = 2 }) (memory 5 None ∷ [])
-        (0 ∷ 0 ∷ 0 ∷ 0 ∷ 1 ∷ 0 ∷ 0 ∷ 3 ∷ 0 ∷ 9 ∷ []) ≡ (memory 5 None ∷ up_to_three ∷ [], 9 ∷ []) }
+    ensures after_an_imported_one { memories_at (record two_of_each { min_memories = 2 }) (memory 5 None ∷ []) (0 ∷ 0 ∷ 0 ∷ 0 ∷ 1 ∷ 0 ∷ 0
+        ∷ 3 ∷ 0 ∷ 9 ∷ []) ≡ (memory 5 None ∷ up_to_three ∷ [], 9 ∷ []) }
     ensures enough_imported { memories_at (record two_of_each { min_memories = 1 }) (memory 5 None ∷ []) (0 ∷ 9 ∷ [])
         ≡ (memory 5 None ∷ [], 9 ∷ []) }
 {}
 
 #[tactic(auto, unfolding(smith_draw_definitions::specs::Definitions::items_tried_at, smith_draw_consts::specs::TriedLists::try_grow_at, smith_draw_definitions::specs::Definitions::globals_at, smith_draw_definitions::specs::Definitions::global_at, smith_draw_definitions::specs::Definitions::initialised_at, smith_draw_types::specs::GlobalTypes::global_type_at, smith_draw_types::specs::ValueTypes::val_type_at, smith_draw_types::specs::ValueTypes::ref_type_at, smith_draw_types::specs::ValueTypes::granted_at, smith_draw_types::specs::ValueTypes::heap_type_at, smith_draw_types::specs::ValueTypes::type_index_at, smith_draw_types::specs::ValueTypes::abstract_heap_type_at, smith_draw_types::specs::ValueTypes::sharedness_at, smith_draw_types::specs::Choices::chosen_at, smith_draw_consts::specs::ConstExprs::expression_alone_at, smith_draw_consts::specs::ConstExprs::expression_at, smith_draw_consts::specs::ConstNodes::node_at, smith_draw_consts::specs::Constants::constant_at, smith_draw_consts::specs::ConstOffers::offers, smith_draw_types::specs::Offered::ancestors, smith_draw_types::specs::Below::is_heap_below, smith_bytes::specs::Draws::choose_at, smith_bytes::specs::Draws::whole_at, smith_bytes::specs::Draws::bool_at, smith_bytes::specs::Draws::range_at, smith_bytes::specs::Draws::digit_count))]
 fn globals()
-    ensures reading_the_one_before { globals_at (record two_of_each { min_globals = 1 }) (beside_globals []) [] []
-        (0 ∷ 0 ∷ 7 ∷ 0 ∷ 0 ∷ 0 ∷ 1 ∷ 0 ∷ 1 ∷ 0 ∷ 9 ∷ [])
-        ≡ Ok ((number ∷ global I32 true ∷ [], (0, I32Const (pos 7) ∷ []) ∷ (1, GlobalGet 0 ∷ []) ∷ []), 9 ∷ []) }
+    ensures reading_the_one_before { globals_at (record two_of_each { min_globals = 1 }) (beside_globals []) [] [] (0 ∷ 0 ∷ 7 ∷ 0 ∷ 0 ∷ 0
+        ∷ 1 ∷ 0 ∷ 1 ∷ 0 ∷ 9 ∷ []) ≡ Ok ((number ∷ global I32 true ∷ [], (0, I32Const (pos 7) ∷ []) ∷ (1, GlobalGet 0 ∷ []) ∷ []), 9 ∷ []) }
     ensures without_garbage_collection { globals_at (record two_of_each { min_globals = 1; gc_enabled = false }) (beside_globals []) [] []
         (0 ∷ 0 ∷ 7 ∷ 0 ∷ 0 ∷ 0 ∷ 1 ∷ 0 ∷ 1 ∷ 8 ∷ 0 ∷ 0 ∷ 0 ∷ 9 ∷ [])
         ≡ Ok ((number ∷ global I32 true ∷ [], (0, I32Const (pos 7) ∷ []) ∷ (1, I32Const (pos 8) ∷ []) ∷ []), 9 ∷ []) }
     ensures reading_an_imported_one { globals_at (record two_of_each { min_globals = 2; gc_enabled = false }) (beside_globals (number ∷ []))
         (number ∷ []) [] (0 ∷ 1 ∷ 0 ∷ 1 ∷ 9 ∷ []) ≡ Ok ((number ∷ global I32 true ∷ [], (1, GlobalGet 0 ∷ []) ∷ []), 9 ∷ []) }
-    ensures reading_a_defined_one { globals_at (record two_of_each { min_globals = 2 }) (beside_globals []) (number ∷ [])
-        ((0, I32Const (pos 7) ∷ []) ∷ []) (0 ∷ 1 ∷ 0 ∷ 1 ∷ 9 ∷ [])
+    ensures reading_a_defined_one { globals_at (record two_of_each { min_globals = 2 }) (beside_globals []) (number
+        ∷ []) ((0, I32Const (pos 7) ∷ []) ∷ []) (0 ∷ 1 ∷ 0 ∷ 1 ∷ 9 ∷ [])
         ≡ Ok ((number ∷ global I32 true ∷ [], (0, I32Const (pos 7) ∷ []) ∷ (1, GlobalGet 0 ∷ []) ∷ []), 9 ∷ []) }
-    ensures a_defined_one_is_not_seen { globals_at (record two_of_each { min_globals = 2; gc_enabled = false }) (beside_globals [])
-        (number ∷ []) ((0, I32Const (pos 7) ∷ []) ∷ []) (0 ∷ 1 ∷ 8 ∷ 0 ∷ 0 ∷ 0 ∷ 1 ∷ 9 ∷ [])
+    ensures a_defined_one_is_not_seen { globals_at (record two_of_each { min_globals = 2; gc_enabled = false }) (beside_globals []) (number
+        ∷ []) ((0, I32Const (pos 7) ∷ []) ∷ []) (0 ∷ 1 ∷ 8 ∷ 0 ∷ 0 ∷ 0 ∷ 1 ∷ 9 ∷ [])
         ≡ Ok ((number ∷ global I32 true ∷ [], (0, I32Const (pos 7) ∷ []) ∷ (1, I32Const (pos 8) ∷ []) ∷ []), 9 ∷ []) }
-    ensures enough_imported { globals_at (record two_of_each { min_globals = 1 }) (beside_globals (number ∷ [])) (number ∷ []) []
-        (0 ∷ 9 ∷ []) ≡ Ok ((number ∷ [], []), 9 ∷ []) }
+    ensures enough_imported { globals_at (record two_of_each { min_globals = 1 }) (beside_globals (number ∷ [])) (number ∷ []) [] (0 ∷ 9
+        ∷ []) ≡ Ok ((number ∷ [], []), 9 ∷ []) }
 {}
 
 #[tactic(auto, unfolding(smith_draw_definitions::specs::Definitions::items_tried_at, smith_draw_consts::specs::TriedLists::try_grow_at, smith_draw_definitions::specs::Definitions::globals_at, smith_draw_definitions::specs::Definitions::global_at, smith_draw_definitions::specs::Definitions::initialised_at, smith_draw_types::specs::GlobalTypes::global_type_at, smith_draw_types::specs::ValueTypes::val_type_at, smith_draw_types::specs::ValueTypes::ref_type_at, smith_draw_types::specs::ValueTypes::granted_at, smith_draw_types::specs::ValueTypes::heap_type_at, smith_draw_types::specs::ValueTypes::type_index_at, smith_draw_types::specs::ValueTypes::abstract_heap_type_at, smith_draw_types::specs::ValueTypes::sharedness_at, smith_draw_types::specs::Choices::chosen_at, smith_draw_consts::specs::ConstExprs::expression_alone_at, smith_draw_consts::specs::ConstExprs::expression_at, smith_draw_consts::specs::ConstNodes::node_at, smith_draw_consts::specs::Constants::constant_at, smith_draw_consts::specs::ConstOffers::offers, smith_draw_types::specs::Offered::ancestors, smith_draw_types::specs::Below::is_heap_below, smith_draw_types::specs::Grounding::is_grounded, smith_bytes::specs::Draws::choose_at, smith_bytes::specs::Draws::whole_at, smith_bytes::specs::Draws::bool_at, smith_bytes::specs::Draws::range_at, smith_bytes::specs::Draws::digit_count))]

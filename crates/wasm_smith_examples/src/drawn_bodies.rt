@@ -26,8 +26,8 @@ fn bodies()
         ≡ (record { locals = I32 ∷ I64 ∷ []; instructions = Unreachable } ∷ trapping ∷ [], 7 ∷ []) }
     ensures raw { bodies_at (record default_config { allow_invalid_funcs = true }) (context_of_types []) 1 (0 ∷ 1 ∷ 7 ∷ 8 ∷ 2 ∷ [])
         ≡ (record { locals = []; instructions = Arbitrary (7 ∷ 8 ∷ []) } ∷ [], []) }
-    ensures raw_with_a_local { bodies_at (record default_config { allow_invalid_funcs = true }) (context_of_types []) 1
-        (1 ∷ 0 ∷ 0 ∷ 1 ∷ 9 ∷ 1 ∷ []) ≡ (record { locals = I32 ∷ []; instructions = Arbitrary (9 ∷ []) } ∷ [], []) }
+    ensures raw_with_a_local { bodies_at (record default_config { allow_invalid_funcs = true }) (context_of_types []) 1 (1 ∷ 0 ∷ 0 ∷ 1 ∷ 9
+        ∷ 1 ∷ []) ≡ (record { locals = I32 ∷ []; instructions = Arbitrary (9 ∷ []) } ∷ [], []) }
     ensures not_raw { bodies_at (record default_config { allow_invalid_funcs = true }) (context_of_types []) 1 (0 ∷ 0 ∷ 7 ∷ [])
         ≡ (trapping ∷ [], 7 ∷ []) }
 {}

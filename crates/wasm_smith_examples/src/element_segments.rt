@@ -27,8 +27,8 @@ fn offsets()
         ≡ ((Const32 (pos 0), None), 9 ∷ []) }
     ensures to_fit { constant_offset_at default_config (table funcref 5 None) (0 ∷ 0 ∷ 0 ∷ 0 ∷ 1 ∷ 9 ∷ [])
         ≡ ((Const32 (pos 0), Some 5), 9 ∷ []) }
-    ensures without_traps { constant_offset_at (record default_config { disallow_traps = true }) (table funcref 5 None)
-        (255 ∷ 255 ∷ 255 ∷ 255 ∷ 9 ∷ []) ≡ ((Const32 (pos 5), Some 0), 9 ∷ []) }
+    ensures without_traps { constant_offset_at (record default_config { disallow_traps = true }) (table funcref 5 None) (255 ∷ 255 ∷ 255
+        ∷ 255 ∷ 9 ∷ []) ≡ ((Const32 (pos 5), Some 0), 9 ∷ []) }
 {}
 
 #[tactic(auto, unfolding(smith_draw_contents::specs::ElementSegments::are_functions_at, smith_bytes::specs::Draws::bool_at))]
@@ -49,8 +49,8 @@ fn items()
 fn segments()
     ensures none { all_element_segments_at default_config (table_scope default_config (beside_globals [])) [] (0 ∷ 9 ∷ [])
         ≡ Ok ([], 9 ∷ []) }
-    ensures one { all_element_segments_at default_config (table_scope default_config (beside_globals [])) []
-        (1 ∷ 0 ∷ 0 ∷ 0 ∷ 0 ∷ 0 ∷ 9 ∷ []) ≡ Ok (passive_elements (Expressions []) ∷ [], 9 ∷ []) }
+    ensures one { all_element_segments_at default_config (table_scope default_config (beside_globals [])) [] (1 ∷ 0 ∷ 0 ∷ 0 ∷ 0 ∷ 0 ∷ 9
+        ∷ []) ≡ Ok (passive_elements (Expressions []) ∷ [], 9 ∷ []) }
     ensures of_no_function { all_element_segments_at (record default_config { min_elements = 60; max_element_segments = 1 })
         (table_scope default_config (beside_globals [])) [] (1 ∷ 0 ∷ 0 ∷ 1 ∷ 9 ∷ []) ≡ Ok (passive_elements (Functions []) ∷ [], 9 ∷ []) }
     ensures more_than_may_be { all_element_segments_at (record default_config { min_elements = 60; max_elements = 50 })
@@ -65,21 +65,10 @@ fn segments()
 // type, and no function may be an item.
 #[tactic(auto, unfolding(smith_draw_contents::specs::ElementSegments::all_element_segments_at, smith_draw_contents::specs::ElementSegments::element_segments_at, smith_draw_contents::specs::ElementSegments::element_segment_at, smith_draw_contents::specs::ElementSegments::element_kind_at, smith_draw_contents::specs::ElementSegments::table_offset_at, smith_draw_contents::specs::ElementSegments::is_global_wanted_at, smith_draw_contents::specs::ElementSegments::constant_offset_at, smith_draw_contents::specs::ElementSegments::hint_at, smith_draw_contents::specs::ElementSegments::item_type_at, smith_draw_contents::specs::ElementSegments::items_at, smith_draw_contents::specs::ElementSegments::functions_at, smith_draw_contents::specs::ElementSegments::element_kinds_at, smith_draw_contents::specs::ElementSegments::table_kinds_at, smith_draw_contents::specs::ElementSegments::is_offered_at, smith_draw_contents::specs::ElementSegments::are_functions_at, smith_draw_types::specs::Offsets::offset_at, smith_draw_types::specs::Limits::gradually_at, smith_draw_types::specs::Limits::gradual, smith_draw_types::specs::Limits::sixth_power, smith_draw_types::specs::Limits::scaled, smith_draw_types::specs::MatchingTypes::references_offered, smith_draw_types::specs::MatchingTypes::matching_ref_type_at, smith_draw_types::specs::MatchingTypes::matching_heap_type_at, smith_draw_types::specs::Offered::subtypes_offered, smith_draw_types::specs::Choices::chosen_at, smith_bytes::specs::Draws::whole_at, smith_bytes::specs::Draws::bool_at, smith_bytes::specs::Draws::range_at, smith_bytes::specs::Draws::digit_count))]
 fn copied()
-    ensures without_traps { all_element_segments_at (record default_config {
-      reference_types_enabled = false;
-      gc_enabled = false;
-      disallow_traps = true;
-      max_element_segments = 1;
-    }) (table_scope default_config (beside_globals [])) (table funcref 5 None ∷ [])
-        (1 ∷ 2 ∷ 255 ∷ 255 ∷ 255 ∷ 255 ∷ 9 ∷ [])
-        ≡ Ok (
-          record {
-            kind = element_kind.Active None (Const32 (pos 5));
-            ty = funcref;
-            items = Functions [];
-          } ∷ [],
-          9 ∷ [],
-        ) }
+    ensures without_traps { all_element_segments_at
+        (record default_config { reference_types_enabled = false; gc_enabled = false; disallow_traps = true; max_element_segments = 1 })
+        (table_scope default_config (beside_globals [])) (table funcref 5 None ∷ []) (1 ∷ 2 ∷ 255 ∷ 255 ∷ 255 ∷ 255 ∷ 9 ∷ [])
+        ≡ Ok (record { kind = element_kind.Active None (Const32 (pos 5)); ty = funcref; items = Functions [] } ∷ [], 9 ∷ []) }
 {}
 
 // No constant expression has the type of the elements.
@@ -113,10 +102,10 @@ fn lacking()
 
 fn enough()
     ensures as_many { HasItems (record default_config { min_elements = 1 }) [] [] (Functions (0 ∷ [])) }
-    ensures of_shared_functions { HasItems (record default_config { min_elements = 1 }) (shared_type plain_func ∷ []) (0 ∷ [])
-        (Functions []) }
-    ensures of_one_that_is_not { ¬ HasItems (record default_config { min_elements = 1 }) (final plain_function ∷ []) (0 ∷ [])
-        (Functions []) }
+    ensures of_shared_functions { HasItems (record default_config { min_elements = 1 }) (shared_type plain_func ∷ []) (0
+        ∷ []) (Functions []) }
+    ensures of_one_that_is_not { ¬ HasItems (record default_config { min_elements = 1 }) (final plain_function ∷ []) (0
+        ∷ []) (Functions []) }
     ensures of_expressions { ¬ HasItems (record default_config { min_elements = 1 }) [] [] (Expressions []) }
 {}
 

@@ -15,9 +15,9 @@ ghost use Rattle.smith_syntax.specs.declared.value_type.ValType.{ValType};
 ghost use Rattle.smith_module_rules_examples.specs.ExampleParts.{memory, number, import_named};
 
 fn drawn_exports()
-    ensures by_kind_and_index { free_exports_at default_config (final plain_function ∷ [])
-        (imported_spaces (import_named [] (entity.Func 0) ∷ import_named [] (entity.Func 0) ∷ import_named [] (entity.Global number) ∷ []))
-        0 (1 ∷ 0 ∷ 1 ∷ 1 ∷ 1 ∷ 0 ∷ 0 ∷ []) ≡ Ok (([], Func, 1) ∷ (codes "1", Global, 0) ∷ [], []) }
+    ensures by_kind_and_index { free_exports_at default_config (final plain_function ∷ []) (imported_spaces (import_named [] (entity.Func 0)
+        ∷ import_named [] (entity.Func 0) ∷ import_named [] (entity.Global number) ∷ [])) 0 (1 ∷ 0 ∷ 1 ∷ 1 ∷ 1 ∷ 0 ∷ 0 ∷ [])
+        ≡ Ok (([], Func, 1) ∷ (codes "1", Global, 0) ∷ [], []) }
     ensures of_a_text { free_exports_at (record default_config { max_exports = 1 }) []
         (imported_spaces (import_named [] (entity.Global number) ∷ [])) 0 (1 ∷ 98 ∷ 1 ∷ []) ≡ Ok ((codes "b", Global, 0) ∷ [], []) }
     ensures not_asked_for { free_exports_at (record default_config { min_exports = 1; max_exports = 1 }) []
@@ -44,37 +44,36 @@ fn ends()
 
 // Exports of everything.
 fn every_export()
-    ensures by_kind_and_index { exports_at (record default_config { export_everything = true }) (final plain_function ∷ [])
-        (imported_spaces (import_named [] (entity.Global number) ∷ import_named [] (entity.Func 0) ∷ [])) 0 (98 ∷ 98 ∷ 1 ∷ 1 ∷ [])
+    ensures by_kind_and_index { exports_at (record default_config { export_everything = true }) (final plain_function
+        ∷ []) (imported_spaces (import_named [] (entity.Global number) ∷ import_named [] (entity.Func 0) ∷ [])) 0 (98 ∷ 98 ∷ 1 ∷ 1 ∷ [])
         ≡ Ok ((codes "b", Func, 0) ∷ (codes "b1", Global, 0) ∷ [], []) }
-    ensures tags_last { exports_at (record default_config { export_everything = true }) (final plain_function ∷ [])
-        (imported_spaces (import_named [] (entity.Tag 0) ∷ import_named [] (entity.Memory (memory 1 None)) ∷ import_named [] (entity.Func 0)
-        ∷ import_named [] (entity.Func 0) ∷ [])) 0 []
+    ensures tags_last { exports_at (record default_config { export_everything = true }) (final plain_function
+        ∷ []) (imported_spaces (import_named [] (entity.Tag 0) ∷ import_named [] (entity.Memory (memory 1 None))
+        ∷ import_named [] (entity.Func 0) ∷ import_named [] (entity.Func 0) ∷ [])) 0 []
         ≡ Ok (([], Func, 0) ∷ (codes "1", Func, 1) ∷ (codes "2", Memory, 0) ∷ (codes "3", Tag, 0) ∷ [], []) }
     ensures more_than_may_be { exports_at (record default_config { export_everything = true; max_exports = 0 }) []
         (imported_spaces (import_named [] (entity.Global number) ∷ [])) 0 (9 ∷ []) ≡ Ok (([], Global, 0) ∷ [], []) }
-    ensures of_no_item { exports_at (record default_config { export_everything = true; min_exports = 1 }) [] (imported_spaces []) 0
-        (1 ∷ 9 ∷ []) ≡ Ok ([], 1 ∷ 9 ∷ []) }
-    ensures just_small_enough { exports_at (record default_config { export_everything = true; max_type_size = 6 })
-        (final plain_function ∷ []) (imported_spaces (import_named [] (entity.Global number) ∷ import_named [] (entity.Func 0) ∷ [])) 2 []
+    ensures of_no_item { exports_at (record default_config { export_everything = true; min_exports = 1 }) [] (imported_spaces []) 0 (1 ∷ 9
+        ∷ []) ≡ Ok ([], 1 ∷ 9 ∷ []) }
+    ensures just_small_enough { exports_at (record default_config { export_everything = true; max_type_size = 6 }) (final plain_function
+        ∷ []) (imported_spaces (import_named [] (entity.Global number) ∷ import_named [] (entity.Func 0) ∷ [])) 2 []
         ≡ Ok (([], Func, 0) ∷ (codes "1", Global, 0) ∷ [], []) }
-    ensures too_large { exports_at (record default_config { export_everything = true; max_type_size = 5 }) (final plain_function ∷ [])
-        (imported_spaces (import_named [] (entity.Global number) ∷ import_named [] (entity.Func 0) ∷ [])) 2 [] ≡ Err TypeSize }
-    ensures freely_where_that_is_off { exports_at default_config [] (imported_spaces (import_named [] (entity.Global number) ∷ [])) 0
-        (0 ∷ 9 ∷ []) ≡ Ok ([], 9 ∷ []) }
+    ensures too_large { exports_at (record default_config { export_everything = true; max_type_size = 5 }) (final plain_function
+        ∷ []) (imported_spaces (import_named [] (entity.Global number) ∷ import_named [] (entity.Func 0) ∷ [])) 2 [] ≡ Err TypeSize }
+    ensures freely_where_that_is_off { exports_at default_config [] (imported_spaces (import_named [] (entity.Global number) ∷ [])) 0 (0 ∷ 9
+        ∷ []) ≡ Ok ([], 9 ∷ []) }
 {}
 
 fn exported_items()
-    ensures by_size { candidates (final plain_function ∷ final taking_a_number ∷ [])
-        (imported_spaces (import_named [] (entity.Func 1) ∷ import_named [] (entity.Func 0) ∷ [])) 3 Func ≡ 1 ∷ [] }
-    ensures all { candidates (final plain_function ∷ final taking_a_number ∷ [])
-        (imported_spaces (import_named [] (entity.Func 1) ∷ import_named [] (entity.Func 0) ∷ [])) 4 Func ≡ 0 ∷ 1 ∷ [] }
-    ensures in_order { offered_kinds (final plain_function ∷ [])
-        (imported_spaces (import_named [] (entity.Global number) ∷ import_named [] (entity.Func 0) ∷ [])) 3 ≡ Func ∷ Global ∷ [] }
+    ensures by_size { candidates (final plain_function ∷ final taking_a_number ∷ []) (imported_spaces (import_named [] (entity.Func 1)
+        ∷ import_named [] (entity.Func 0) ∷ [])) 3 Func ≡ 1 ∷ [] }
+    ensures all { candidates (final plain_function ∷ final taking_a_number ∷ []) (imported_spaces (import_named [] (entity.Func 1)
+        ∷ import_named [] (entity.Func 0) ∷ [])) 4 Func ≡ 0 ∷ 1 ∷ [] }
+    ensures in_order { offered_kinds (final plain_function ∷ []) (imported_spaces (import_named [] (entity.Global number)
+        ∷ import_named [] (entity.Func 0) ∷ [])) 3 ≡ Func ∷ Global ∷ [] }
     ensures no_tag { offered_kinds (final plain_function ∷ []) (imported_spaces (import_named [] (entity.Tag 0) ∷ [])) 1000 ≡ [] }
-    ensures sizes { exported_size (final plain_function ∷ final taking_a_number ∷ [])
-        (imported_spaces (import_named [] (entity.Func 1) ∷ import_named [] (entity.Global number) ∷ []))
-        (([], Func, 0) ∷ (codes "1", Global, 0) ∷ []) ≡ 5 }
+    ensures sizes { exported_size (final plain_function ∷ final taking_a_number ∷ []) (imported_spaces (import_named [] (entity.Func 1)
+        ∷ import_named [] (entity.Global number) ∷ [])) (([], Func, 0) ∷ (codes "1", Global, 0) ∷ []) ≡ 5 }
 {}
 
 fn names()

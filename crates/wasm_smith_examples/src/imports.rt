@@ -19,13 +19,12 @@ ghost use Rattle.smith_draw_imports.specs.Importing.{with_filled, imports_at};
 ghost use Rattle.smith_module_rules_examples.specs.ExampleParts.{global, number, memory, import_named};
 
 fn drawn_imports()
-    ensures of_one_type { imports_at (record default_config { max_imports = 2 }) [] false
-        (1 ∷ 255 ∷ 255 ∷ 255 ∷ 255 ∷ 0 ∷ 0 ∷ 0 ∷ 1 ∷ 1 ∷ 98 ∷ 1 ∷ 0 ∷ 0 ∷ [])
-        ≡ Ok (Compact2 [] (Global number) ([] ∷ codes "b" ∷ []) ∷ [], []) }
-    ensures names_twice { imports_at (record default_config { max_imports = 2 }) [] false
-        (1 ∷ 255 ∷ 255 ∷ 255 ∷ 255 ∷ 0 ∷ 0 ∷ 0 ∷ 1 ∷ 1 ∷ 0 ∷ 0 ∷ 0 ∷ []) ≡ Ok (Compact2 [] (Global number) ([] ∷ [] ∷ []) ∷ [], []) }
-    ensures names_once { imports_at (record default_config { max_imports = 2 }) [] true
-        (1 ∷ 255 ∷ 255 ∷ 255 ∷ 255 ∷ 0 ∷ 0 ∷ 0 ∷ 1 ∷ 1 ∷ 0 ∷ 0 ∷ 0 ∷ []) ≡ Ok (Compact2 [] (Global number) ([] ∷ codes "1" ∷ []) ∷ [], []) }
+    ensures of_one_type { imports_at (record default_config { max_imports = 2 }) [] false (1 ∷ 255 ∷ 255 ∷ 255 ∷ 255 ∷ 0 ∷ 0 ∷ 0 ∷ 1 ∷ 1
+        ∷ 98 ∷ 1 ∷ 0 ∷ 0 ∷ []) ≡ Ok (Compact2 [] (Global number) ([] ∷ codes "b" ∷ []) ∷ [], []) }
+    ensures names_twice { imports_at (record default_config { max_imports = 2 }) [] false (1 ∷ 255 ∷ 255 ∷ 255 ∷ 255 ∷ 0 ∷ 0 ∷ 0 ∷ 1 ∷ 1 ∷ 0
+        ∷ 0 ∷ 0 ∷ []) ≡ Ok (Compact2 [] (Global number) ([] ∷ [] ∷ []) ∷ [], []) }
+    ensures names_once { imports_at (record default_config { max_imports = 2 }) [] true (1 ∷ 255 ∷ 255 ∷ 255 ∷ 255 ∷ 0 ∷ 0 ∷ 0 ∷ 1 ∷ 1 ∷ 0
+        ∷ 0 ∷ 0 ∷ []) ≡ Ok (Compact2 [] (Global number) ([] ∷ codes "1" ∷ []) ∷ [], []) }
     ensures empty_group { imports_at (record default_config { max_imports = 2 }) [] false (1 ∷ 86 ∷ 85 ∷ 85 ∷ 85 ∷ []) ≡ Ok ([], []) }
     ensures of_one_module { imports_at (record default_config { max_imports = 1 }) [] false (1 ∷ 86 ∷ 85 ∷ 85 ∷ 85 ∷ 1 ∷ 0 ∷ [])
         ≡ Ok (Compact1 [] (record { name = []; entity_type = Global number } ∷ []) ∷ [], []) }
@@ -42,12 +41,12 @@ fn drawn_imports()
 #[tactic(auto, unfolding(smith_draw_types::specs::TypeUses::is_tag_type))]
 fn offered_kinds()
     ensures without_types { enabled (kind_rows default_config [] (imported_spaces [])) ≡ kind.Global ∷ kind.Memory ∷ kind.Table ∷ [] }
-    ensures for_all { enabled (kind_rows default_config (final plain_function ∷ []) (imported_spaces []))
-        ≡ kind.Tag ∷ kind.Func ∷ kind.Global ∷ kind.Memory ∷ kind.Table ∷ [] }
-    ensures no_tag_with_results { enabled (kind_rows default_config (final giving_two ∷ []) (imported_spaces []))
-        ≡ kind.Func ∷ kind.Global ∷ kind.Memory ∷ kind.Table ∷ [] }
-    ensures no_tag_without_exceptions { enabled (kind_rows (record default_config { exceptions_enabled = false })
-        (final plain_function ∷ []) (imported_spaces [])) ≡ kind.Func ∷ kind.Global ∷ kind.Memory ∷ kind.Table ∷ [] }
+    ensures for_all { enabled (kind_rows default_config (final plain_function ∷ []) (imported_spaces [])) ≡ kind.Tag ∷ kind.Func
+        ∷ kind.Global ∷ kind.Memory ∷ kind.Table ∷ [] }
+    ensures no_tag_with_results { enabled (kind_rows default_config (final giving_two ∷ []) (imported_spaces [])) ≡ kind.Func ∷ kind.Global
+        ∷ kind.Memory ∷ kind.Table ∷ [] }
+    ensures no_tag_without_exceptions { enabled (kind_rows (record default_config { exceptions_enabled = false }) (final plain_function
+        ∷ []) (imported_spaces [])) ≡ kind.Func ∷ kind.Global ∷ kind.Memory ∷ kind.Table ∷ [] }
     ensures no_second_memory { enabled (kind_rows default_config [] (imported_spaces (import_named [] (Memory (memory 0 None)) ∷ [])))
         ≡ kind.Global ∷ kind.Table ∷ [] }
 {}
@@ -55,11 +54,11 @@ fn offered_kinds()
 // An imported function grounds the references of later imports.
 #[tactic(auto, unfolding(smith_draw_imports::specs::ImportedEntities::entity_at, smith_draw_imports::specs::ImportedEntities::kind_at, smith_draw_imports::specs::ImportedEntities::entity_of_kind_at, smith_draw_types::specs::TypeUses::is_tag_type, smith_draw_types::specs::GlobalTypes::global_type_at, smith_draw_types::specs::ValueTypes::val_type_at, smith_draw_types::specs::ValueTypes::ref_type_at, smith_draw_types::specs::ValueTypes::granted_at, smith_draw_types::specs::ValueTypes::heap_type_at, smith_draw_types::specs::ValueTypes::type_index_at, smith_draw_types::specs::ValueTypes::abstract_heap_type_at, smith_draw_types::specs::ValueTypes::sharedness_at, smith_draw_types::specs::Choices::chosen_at, smith_draw_types::specs::Grounding::is_grounded, smith_draw_types::specs::Below::is_heap_below, smith_draw_types::specs::Offered::ancestors, smith_bytes::specs::Draws::bool_at, smith_bytes::specs::Draws::range_at, smith_bytes::specs::Draws::digit_count))]
 fn entities()
-    ensures after_a_function { entity_at (record default_config { non_nullable_enabled = true }) (final plain_function ∷ [])
-        (imported_spaces (import_named [] (Func 0) ∷ [])) 0 (2 ∷ 5 ∷ 1 ∷ 1 ∷ 0 ∷ 9 ∷ [])
+    ensures after_a_function { entity_at (record default_config { non_nullable_enabled = true }) (final plain_function
+        ∷ []) (imported_spaces (import_named [] (Func 0) ∷ [])) 0 (2 ∷ 5 ∷ 1 ∷ 1 ∷ 0 ∷ 9 ∷ [])
         ≡ (Some (Global (global (Ref (not_null (Concrete 0))) false)), 9 ∷ []) }
-    ensures without_a_function { entity_at (record default_config { non_nullable_enabled = true }) (final plain_function ∷ [])
-        (imported_spaces []) 0 (2 ∷ 5 ∷ 1 ∷ 1 ∷ 0 ∷ 9 ∷ []) ≡ (Some (Global (global (Ref (nullable (Concrete 0))) false)), 9 ∷ []) }
+    ensures without_a_function { entity_at (record default_config { non_nullable_enabled = true }) (final plain_function
+        ∷ []) (imported_spaces []) 0 (2 ∷ 5 ∷ 1 ∷ 1 ∷ 0 ∷ 9 ∷ []) ≡ (Some (Global (global (Ref (nullable (Concrete 0))) false)), 9 ∷ []) }
 {}
 
 fn sizes_of_imports()

@@ -29,8 +29,8 @@ fn rests()
     ensures a_start { ¬ HasRest [] [] (record one_function { start = Some 0 }) }
     ensures elements { ¬ HasRest (pos 7 ∷ []) ((42 ∷ []) ∷ []) (record number_and_bytes { elems = passive_elements (Functions []) ∷ [] }) }
     ensures other_bytes { ¬ HasRest (pos 7 ∷ []) ((43 ∷ []) ∷ []) number_and_bytes }
-    ensures bytes_that_are_copied { ¬ HasRest (pos 7 ∷ []) ((42 ∷ []) ∷ [])
-        (record number_and_bytes { datas = active_data (pos 0) (42 ∷ []) ∷ [] }) }
+    ensures bytes_that_are_copied { ¬ HasRest (pos 7 ∷ []) ((42 ∷ [])
+        ∷ []) (record number_and_bytes { datas = active_data (pos 0) (42 ∷ []) ∷ [] }) }
 {}
 
 fn sources()

@@ -35,8 +35,8 @@ fn answers()
 
 fn exports()
     ensures alone { AnswersSinkExports 0 sunk shown (Ok tt) }
-    ensures after_the_same { with_sinks 0 ((codes "sink_i64", kind.Func, 0) ∷ []) ≡ (codes "sink_i64", kind.Func, 0) ∷
-        (codes "sink_i32", kind.Global, 0) ∷ (codes "sink_i64________", kind.Global, 1) ∷ (codes "sink_i64_2", kind.Global, 2) ∷ [] }
+    ensures after_the_same { with_sinks 0 ((codes "sink_i64", kind.Func, 0) ∷ []) ≡ (codes "sink_i64", kind.Func, 0)
+        ∷ (codes "sink_i32", kind.Global, 0) ∷ (codes "sink_i64________", kind.Global, 1) ∷ (codes "sink_i64_2", kind.Global, 2) ∷ [] }
     ensures want_of_memory { AnswersSinkExports 0 sunk sunk (Err Memory) }
     ensures no_export { ¬ AnswersSinkExports 0 sunk sunk (Ok tt) }
     ensures of_other_globals { ¬ AnswersSinkExports 1 sunk shown (Ok tt) }
