@@ -11,12 +11,10 @@ ghost use Rattle.smith_body_nodes.specs.Nodes.{node_of};
 fn fills()
     ensures narrow { bulk_at (function_of [] []) (0 ∷ 0 ∷ [])
         ≡ (Some (node_of (I32 ∷ I32 ∷ I32 ∷ []) (instr.Memory (memory.Fill 0)) 0), []) }
-    ensures wide { bulk_at (function_of [] []) (4 ∷ 3 ∷ [])
-        ≡ (Some (node_of (I64 ∷ I32 ∷ I64 ∷ []) (instr.Memory (memory.Fill 1)) 0), []) }
+    ensures wide { bulk_at (function_of [] []) (4 ∷ 3 ∷ []) ≡ (Some (node_of (I64 ∷ I32 ∷ I64 ∷ []) (instr.Memory (memory.Fill 1)) 0), []) }
     ensures value_above_the_number { ¬ (bulk_at (function_of [] []) (4 ∷ 3 ∷ [])
         ≡ (Some (node_of (I64 ∷ I64 ∷ I32 ∷ []) (instr.Memory (memory.Fill 1)) 0), [])) }
-    ensures without_a_memory { bulk_at (record (function_of [] []) { memories = [] }) (0 ∷ 1 ∷ [])
-        ≡ (None, 1 ∷ []) }
+    ensures without_a_memory { bulk_at (record (function_of [] []) { memories = [] }) (0 ∷ 1 ∷ []) ≡ (None, 1 ∷ []) }
 {}
 
 fn copies()
@@ -33,10 +31,8 @@ fn segments()
         ≡ (Some (node_of (I64 ∷ I32 ∷ I32 ∷ []) (instr.Memory (memory.Init 1 0)) 0), 8 ∷ []) }
     ensures one_of_three { bulk_at (record (function_of [] []) { datas = 3 }) (2 ∷ 0 ∷ 5 ∷ [])
         ≡ (Some (node_of (I32 ∷ I32 ∷ I32 ∷ []) (instr.Memory (memory.Init 0 2)) 0), []) }
-    ensures none { bulk_at (record (function_of [] []) { datas = 0 }) (2 ∷ 1 ∷ 8 ∷ [])
-        ≡ (None, 8 ∷ []) }
+    ensures none { bulk_at (record (function_of [] []) { datas = 0 }) (2 ∷ 1 ∷ 8 ∷ []) ≡ (None, 8 ∷ []) }
     ensures dropped { bulk_at (record (function_of [] []) { datas = 3 }) (3 ∷ 1 ∷ [])
         ≡ (Some (node_of [] (instr.Memory (memory.DataDrop 1)) 0), []) }
-    ensures none_to_drop { bulk_at (record (function_of [] []) { datas = 0 }) (3 ∷ 1 ∷ [])
-        ≡ (None, 1 ∷ []) }
+    ensures none_to_drop { bulk_at (record (function_of [] []) { datas = 0 }) (3 ∷ 1 ∷ []) ≡ (None, 1 ∷ []) }
 {}

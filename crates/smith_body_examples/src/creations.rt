@@ -19,10 +19,8 @@ fn structs()
         ≡ (Some (aggregate_of (some_func ∷ []) (aggregate.StructNew 1)), 9 ∷ []) }
     ensures default_values { creation_at (aggregates []) (some_of heap.Struct) (1 ∷ 9 ∷ [])
         ≡ (Some (aggregate_of [] (aggregate.StructNewDefault 0)), 9 ∷ []) }
-    ensures reference_without_a_default { creation_at (aggregates []) (some 1) (1 ∷ 9 ∷ [])
-        ≡ (None, 9 ∷ []) }
-    ensures array_is_no_struct { creation_at (aggregates []) (some 2) (0 ∷ 9 ∷ [])
-        ≡ (None, 9 ∷ []) }
+    ensures reference_without_a_default { creation_at (aggregates []) (some 1) (1 ∷ 9 ∷ []) ≡ (None, 9 ∷ []) }
+    ensures array_is_no_struct { creation_at (aggregates []) (some 2) (0 ∷ 9 ∷ []) ≡ (None, 9 ∷ []) }
 {}
 
 fn arrays()
@@ -32,32 +30,20 @@ fn arrays()
         ≡ (Some (aggregate_of (I32 ∷ I32 ∷ []) (aggregate.ArrayNew 3)), []) }
     ensures default_value { creation_at (aggregates []) (some_of heap.Eq) (3 ∷ 2 ∷ [])
         ≡ (Some (aggregate_of (I32 ∷ []) (aggregate.ArrayNewDefault 4)), []) }
-    ensures three_elements { creation_at (aggregates []) (any 4) (4 ∷ 3 ∷ []) ≡ (
-      Some (aggregate_of (Ref funcref ∷ Ref funcref ∷ Ref funcref ∷ [])
-          (aggregate.ArrayNewFixed 4 3)),
-      [],
-    ) }
-    ensures no_elements { creation_at (aggregates []) (some 2) (4 ∷ 8 ∷ [])
-        ≡ (Some (aggregate_of [] (aggregate.ArrayNewFixed 2 0)), []) }
+    ensures three_elements { creation_at (aggregates []) (any 4) (4 ∷ 3 ∷ [])
+        ≡ (Some (aggregate_of (Ref funcref ∷ Ref funcref ∷ Ref funcref ∷ []) (aggregate.ArrayNewFixed 4 3)), []) }
+    ensures no_elements { creation_at (aggregates []) (some 2) (4 ∷ 8 ∷ []) ≡ (Some (aggregate_of [] (aggregate.ArrayNewFixed 2 0)), []) }
 {}
 
 fn segments()
-    ensures numbers_from_a_data_segment { creation_at (aggregates []) (some_of heap.Array)
-        (5 ∷ 1 ∷ 9 ∷ [])
+    ensures numbers_from_a_data_segment { creation_at (aggregates []) (some_of heap.Array) (5 ∷ 1 ∷ 9 ∷ [])
         ≡ (Some (aggregate_of (I32 ∷ I32 ∷ []) (aggregate.ArrayNewData 3 0)), 9 ∷ []) }
-    ensures references_from_a_data_segment { creation_at (aggregates []) (some 4) (5 ∷ 9 ∷ [])
-        ≡ (None, 9 ∷ []) }
-    ensures references_from_an_element_segment { creation_at (aggregates [])
-        (some_of heap.Array) (6 ∷ 9 ∷ [])
+    ensures references_from_a_data_segment { creation_at (aggregates []) (some 4) (5 ∷ 9 ∷ []) ≡ (None, 9 ∷ []) }
+    ensures references_from_an_element_segment { creation_at (aggregates []) (some_of heap.Array) (6 ∷ 9 ∷ [])
         ≡ (Some (aggregate_of (I32 ∷ I32 ∷ []) (aggregate.ArrayNewElem 4 0)), 9 ∷ []) }
-    ensures numbers_from_an_element_segment { creation_at (aggregates []) (some 2) (6 ∷ 9 ∷ [])
-        ≡ (None, 9 ∷ []) }
-    ensures without_data_segments { creation_at (record (aggregates []) { datas = 0 })
-        (some 3) (5 ∷ 9 ∷ [])
-        ≡ (None, 9 ∷ []) }
-    ensures without_element_segments { creation_at (record (aggregates []) { elems = [] })
-        (some 4) (6 ∷ 9 ∷ [])
-        ≡ (None, 9 ∷ []) }
+    ensures numbers_from_an_element_segment { creation_at (aggregates []) (some 2) (6 ∷ 9 ∷ []) ≡ (None, 9 ∷ []) }
+    ensures without_data_segments { creation_at (record (aggregates []) { datas = 0 }) (some 3) (5 ∷ 9 ∷ []) ≡ (None, 9 ∷ []) }
+    ensures without_element_segments { creation_at (record (aggregates []) { elems = [] }) (some 4) (6 ∷ 9 ∷ []) ≡ (None, 9 ∷ []) }
 {}
 
 fn others()

@@ -23,8 +23,7 @@ fn reads()
     ensures reference { field_read_at (aggregates []) (Ref funcref) (0 ∷ 0 ∷ [])
         ≡ (Some (aggregate_of (any 4 ∷ I32 ∷ []) (aggregate.ArrayGet 4 extension.Unpacked)), []) }
     ensures no_field_of_the_type { field_read_at (aggregates []) F32 (1 ∷ 9 ∷ []) ≡ (None, 9 ∷ []) }
-    ensures without_garbage_collection { field_read_at unmanaged I32 (1 ∷ 1 ∷ [])
-        ≡ (None, 1 ∷ 1 ∷ []) }
+    ensures without_garbage_collection { field_read_at unmanaged I32 (1 ∷ 1 ∷ []) ≡ (None, 1 ∷ 1 ∷ []) }
 {}
 
 fn sets()
@@ -40,22 +39,13 @@ fn sets()
 {}
 
 fn copies()
-    ensures elements_of_the_same_type { field_write_at (aggregates []) (3 ∷ 0 ∷ 9 ∷ []) ≡ (
-      Some (aggregate_of (any 2 ∷ I32 ∷ any 2 ∷ I32 ∷ I32 ∷ []) (aggregate.ArrayCopy 2 2)),
-      9 ∷ [],
-    ) }
-    ensures elements_of_another_type { ¬ (field_write_at (aggregates []) (3 ∷ 0 ∷ 1 ∷ []) ≡ (
-      Some (aggregate_of (any 2 ∷ I32 ∷ any 3 ∷ I32 ∷ I32 ∷ []) (aggregate.ArrayCopy 2 3)),
-      [],
-    )) }
-    ensures bytes_of_a_data_segment { field_write_at (aggregates []) (4 ∷ 9 ∷ []) ≡ (
-      Some (aggregate_of (any 2 ∷ I32 ∷ I32 ∷ I32 ∷ []) (aggregate.ArrayInitData 2 0)),
-      9 ∷ [],
-    ) }
-    ensures references_of_an_element_segment { field_write_at (aggregates []) (5 ∷ 9 ∷ []) ≡ (
-      Some (aggregate_of (any 4 ∷ I32 ∷ I32 ∷ I32 ∷ []) (aggregate.ArrayInitElem 4 0)),
-      9 ∷ [],
-    ) }
-    ensures without_data_segments { field_write_at (record (aggregates []) { datas = 0 })
-        (4 ∷ 9 ∷ []) ≡ (None, 9 ∷ []) }
+    ensures elements_of_the_same_type { field_write_at (aggregates []) (3 ∷ 0 ∷ 9 ∷ [])
+        ≡ (Some (aggregate_of (any 2 ∷ I32 ∷ any 2 ∷ I32 ∷ I32 ∷ []) (aggregate.ArrayCopy 2 2)), 9 ∷ []) }
+    ensures elements_of_another_type { ¬ (field_write_at (aggregates []) (3 ∷ 0 ∷ 1 ∷ [])
+        ≡ (Some (aggregate_of (any 2 ∷ I32 ∷ any 3 ∷ I32 ∷ I32 ∷ []) (aggregate.ArrayCopy 2 3)), [])) }
+    ensures bytes_of_a_data_segment { field_write_at (aggregates []) (4 ∷ 9 ∷ [])
+        ≡ (Some (aggregate_of (any 2 ∷ I32 ∷ I32 ∷ I32 ∷ []) (aggregate.ArrayInitData 2 0)), 9 ∷ []) }
+    ensures references_of_an_element_segment { field_write_at (aggregates []) (5 ∷ 9 ∷ [])
+        ≡ (Some (aggregate_of (any 4 ∷ I32 ∷ I32 ∷ I32 ∷ []) (aggregate.ArrayInitElem 4 0)), 9 ∷ []) }
+    ensures without_data_segments { field_write_at (record (aggregates []) { datas = 0 }) (4 ∷ 9 ∷ []) ≡ (None, 9 ∷ []) }
 {}

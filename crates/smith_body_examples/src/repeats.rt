@@ -27,27 +27,16 @@ fn times()
 {}
 
 fn loops()
-    ensures counted { body_at default_config (function_of (I64 ∷ I32 ∷ []) []) 2
-        (1 ∷ 7 ∷ 1 ∷ 0 ∷ 1 ∷ 0 ∷ 4 ∷ [])
+    ensures counted { body_at default_config (function_of (I64 ∷ I32 ∷ []) []) 2 (1 ∷ 7 ∷ 1 ∷ 0 ∷ 1 ∷ 0 ∷ 4 ∷ [])
         ≡ (
-          number 5 ∷ instr.LocalSet 1 ∷ instr.Loop (block.Func 0) ∷ instr.LocalGet 1 ∷ number 1
-              ∷ instr.Numeric (numeric.I32Binary Sub) ∷ instr.LocalTee 1 ∷ instr.BrIf 0
-              ∷ instr.End ∷ [],
+          number 5 ∷ instr.LocalSet 1 ∷ instr.Loop (block.Func 0) ∷ instr.LocalGet 1 ∷ number 1 ∷ instr.Numeric (numeric.I32Binary Sub)
+              ∷ instr.LocalTee 1 ∷ instr.BrIf 0 ∷ instr.End ∷ [],
           [],
         ) }
-    ensures tested { body_at default_config (function_of (I64 ∷ []) []) 2
-        (1 ∷ 7 ∷ 1 ∷ 0 ∷ 1 ∷ narrow 5)
-        ≡ (
-          instr.Loop (block.Func 0) ∷ number 5 ∷ instr.BrIf 0 ∷ instr.End ∷ [],
-          [],
-        ) }
-    ensures of_a_value { body_at default_config (function_of [] (I32 ∷ [])) 2
-        (0 ∷ 11 ∷ 1 ∷ 1 ∷ narrow 5 ++ narrow 6)
-        ≡ (
-          instr.Loop (block.Value I32) ∷ number 5 ∷ instr.BrIf 0 ∷ number 6 ∷ instr.End ∷ [],
-          [],
-        ) }
-    ensures seldom_once { body_at default_config (function_of (I32 ∷ []) []) 2
-        (1 ∷ 7 ∷ 1 ∷ 0 ∷ 0 ∷ [])
+    ensures tested { body_at default_config (function_of (I64 ∷ []) []) 2 (1 ∷ 7 ∷ 1 ∷ 0 ∷ 1 ∷ narrow 5)
+        ≡ (instr.Loop (block.Func 0) ∷ number 5 ∷ instr.BrIf 0 ∷ instr.End ∷ [], []) }
+    ensures of_a_value { body_at default_config (function_of [] (I32 ∷ [])) 2 (0 ∷ 11 ∷ 1 ∷ 1 ∷ narrow 5 ++ narrow 6)
+        ≡ (instr.Loop (block.Value I32) ∷ number 5 ∷ instr.BrIf 0 ∷ number 6 ∷ instr.End ∷ [], []) }
+    ensures seldom_once { body_at default_config (function_of (I32 ∷ []) []) 2 (1 ∷ 7 ∷ 1 ∷ 0 ∷ 0 ∷ [])
         ≡ (instr.Loop (block.Func 0) ∷ instr.End ∷ [], []) }
 {}

@@ -18,12 +18,10 @@ fn indices()
 
 fn sizes()
     ensures no_type { widest [] ≡ 3 }
-    ensures of_a_function { func_size
-        (Func (record { params = I32 ∷ I32 ∷ []; results = I64 ∷ [] })) ≡ 3 }
+    ensures of_a_function { func_size (Func (record { params = I32 ∷ I32 ∷ []; results = I64 ∷ [] })) ≡ 3 }
     ensures of_a_struct { func_size (struct []) ≡ 0 }
-    ensures a_wide_function { widest (final_type plain_func
-        ∷ final_type (Func (record { params = replicate 4 I32; results = I64 ∷ [] })) ∷ [])
-        ≡ 5 }
+    ensures a_wide_function { widest (final_type plain_func ∷ final_type (Func (record { params = replicate 4 I32; results = I64 ∷ [] }))
+        ∷ []) ≡ 5 }
     ensures a_narrow_function { widest (final_type plain_func ∷ []) ≡ 3 }
     ensures instructions_for_one_unit { most [] ≡ 16 }
 {}
@@ -42,7 +40,5 @@ fn values_without_a_budget()
     ensures no_struct { longest_leaf trapless (final_type (taking (replicate 5 I32)) ∷ []) ≡ 3 }
     ensures of_two_fields { longest_leaf trapless (with_fields 2 ∷ []) ≡ 3 }
     ensures of_five_fields { longest_leaf trapless (with_fields 5 ∷ []) ≡ 6 }
-    ensures between_others { longest_leaf trapless
-        (with_fields 3 ∷ with_fields 5 ∷ with_fields 4 ∷ [])
-        ≡ 6 }
+    ensures between_others { longest_leaf trapless (with_fields 3 ∷ with_fields 5 ∷ with_fields 4 ∷ []) ≡ 6 }
 {}

@@ -14,14 +14,11 @@ fn orderly()
 {}
 
 fn stops()
-    ensures exception { HasNeededStops trapless
-        (record unnamed { results = some_of heap.Exn ∷ [] }) (instr.Unreachable ∷ []) }
-    ensures struct_of_default_values { ¬ HasNeededStops trapless
-        (record unnamed { results = some 0 ∷ [] }) (instr.Unreachable ∷ []) }
-    ensures i31 { ¬ HasNeededStops trapless
-        (record unnamed { results = some_of heap.I31 ∷ [] }) (instr.Unreachable ∷ []) }
-    ensures struct_where_traps_are_allowed { HasNeededStops default_config
-        (record unnamed { results = some 0 ∷ [] }) (instr.Unreachable ∷ []) }
+    ensures exception { HasNeededStops trapless (record unnamed { results = some_of heap.Exn ∷ [] }) (instr.Unreachable ∷ []) }
+    ensures struct_of_default_values { ¬ HasNeededStops trapless (record unnamed { results = some 0 ∷ [] }) (instr.Unreachable ∷ []) }
+    ensures i31 { ¬ HasNeededStops trapless (record unnamed { results = some_of heap.I31 ∷ [] }) (instr.Unreachable ∷ []) }
+    ensures struct_where_traps_are_allowed { HasNeededStops default_config (record unnamed { results = some 0 ∷ [] }) (instr.Unreachable
+        ∷ []) }
     ensures no_value { ¬ HasNeededStops trapless unnamed (instr.Unreachable ∷ []) }
 {
     orderly();

@@ -8,8 +8,7 @@ ghost use Rattle.smith_instr.specs.declared.table.TableInstr.TheVariants as tabl
 ghost use Rattle.smith_instr_examples.specs.ExampleBodies.{some_func};
 ghost use Rattle.smith_body_nodes.specs.Nodes.{node_of};
 ghost use Rattle.smith_body_tables.specs.TableChoices.{table_change_at, table_value_at};
-ghost use Rattle.smith_body_examples.specs.ExampleContexts.{external, externals, holding, tabled};
-ghost use Rattle.smith_body_examples.specs.ExampleContexts.{without_references};
+ghost use Rattle.smith_body_examples.specs.ExampleContexts.{external, externals, holding, tabled, without_references};
 
 fn gets()
     ensures second_of_two { table_value_at tabled (Ref funcref) (1 ∷ 9 ∷ [])
@@ -26,23 +25,18 @@ fn growth()
         ≡ (Some (node_of (Ref external ∷ I32 ∷ []) (instr.Table (table.Grow 1)) 0), []) }
     ensures number_before_references { ¬ (table_value_at tabled I32 (1 ∷ 1 ∷ [])
         ≡ (Some (node_of (I32 ∷ Ref external ∷ []) (instr.Table (table.Grow 1)) 0), [])) }
-    ensures size_by_a_wide_address { table_value_at tabled I64 (0 ∷ 7 ∷ [])
-        ≡ (Some (node_of [] (instr.Table (table.Size 2)) 0), 7 ∷ []) }
+    ensures size_by_a_wide_address { table_value_at tabled I64 (0 ∷ 7 ∷ []) ≡ (Some (node_of [] (instr.Table (table.Size 2)) 0), 7 ∷ []) }
     ensures no_address { table_value_at tabled F32 (0 ∷ 7 ∷ []) ≡ (None, 7 ∷ []) }
-    ensures without_reference_types { table_value_at (without_references tabled) I32 (1 ∷ 1 ∷ [])
-        ≡ (None, 1 ∷ []) }
+    ensures without_reference_types { table_value_at (without_references tabled) I32 (1 ∷ 1 ∷ []) ≡ (None, 1 ∷ []) }
 {}
 
 fn changes()
-    ensures set { table_change_at tabled (0 ∷ 2 ∷ [])
-        ≡ (Some (node_of (I64 ∷ Ref funcref ∷ []) (instr.Table (table.Set 2)) 0), []) }
+    ensures set { table_change_at tabled (0 ∷ 2 ∷ []) ≡ (Some (node_of (I64 ∷ Ref funcref ∷ []) (instr.Table (table.Set 2)) 0), []) }
     ensures fill { table_change_at tabled (1 ∷ 4 ∷ [])
         ≡ (Some (node_of (I32 ∷ Ref external ∷ I32 ∷ []) (instr.Table (table.Fill 1)) 0), []) }
-    ensures set_again { table_change_at tabled (5 ∷ 0 ∷ [])
-        ≡ (Some (node_of (I32 ∷ Ref funcref ∷ []) (instr.Table (table.Set 0)) 0), []) }
+    ensures set_again { table_change_at tabled (5 ∷ 0 ∷ []) ≡ (Some (node_of (I32 ∷ Ref funcref ∷ []) (instr.Table (table.Set 0)) 0), []) }
     ensures set_without_a_table { table_change_at (holding []) (0 ∷ 2 ∷ []) ≡ (None, 2 ∷ []) }
-    ensures set_without_reference_types { table_change_at (without_references tabled) (0 ∷ 2 ∷ [])
-        ≡ (None, 2 ∷ []) }
+    ensures set_without_reference_types { table_change_at (without_references tabled) (0 ∷ 2 ∷ []) ≡ (None, 2 ∷ []) }
 {}
 
 fn copies()
@@ -58,10 +52,7 @@ fn copies()
 fn segments()
     ensures of_the_same_references { table_change_at tabled (3 ∷ 1 ∷ 0 ∷ [])
         ≡ (Some (node_of (I32 ∷ I32 ∷ I32 ∷ []) (instr.Table (table.Init 1 1)) 0), 0 ∷ []) }
-    ensures of_other_references { table_change_at (holding (externals ∷ [])) (3 ∷ 0 ∷ [])
-        ≡ (None, 0 ∷ []) }
-    ensures dropped { table_change_at tabled (4 ∷ 1 ∷ [])
-        ≡ (Some (node_of [] (instr.Table (table.ElemDrop 1)) 0), []) }
-    ensures none_to_drop { table_change_at (record tabled { elems = [] }) (4 ∷ 1 ∷ [])
-        ≡ (None, 1 ∷ []) }
+    ensures of_other_references { table_change_at (holding (externals ∷ [])) (3 ∷ 0 ∷ []) ≡ (None, 0 ∷ []) }
+    ensures dropped { table_change_at tabled (4 ∷ 1 ∷ []) ≡ (Some (node_of [] (instr.Table (table.ElemDrop 1)) 0), []) }
+    ensures none_to_drop { table_change_at (record tabled { elems = [] }) (4 ∷ 1 ∷ []) ≡ (None, 1 ∷ []) }
 {}

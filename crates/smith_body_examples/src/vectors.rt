@@ -12,82 +12,45 @@ ghost use Rattle.smith_instr.specs.declared.vector.VectorLoad.TheVariants as loa
 ghost use Rattle.smith_instr.specs.declared.vector.VectorUnary.TheVariants as unary;
 ghost use Rattle.smith_instr_examples.specs.ExampleBodies.{aligned, function_of};
 ghost use Rattle.smith_body_nodes.specs.Nodes.{node_of};
-ghost use Rattle.smith_body_memory.specs.VectorChoices.{lanes_at, shuffled_at, store_lane_at};
-ghost use Rattle.smith_body_memory.specs.VectorChoices.{vector_at, vector_store_at};
+ghost use Rattle.smith_body_memory.specs.VectorChoices.{lanes_at, shuffled_at, store_lane_at, vector_at, vector_store_at};
 ghost use Rattle.smith_body_examples.specs.ExampleContexts.{without_vectors};
 
 fn lanes()
     ensures of_two_vectors { shuffled_at 3 (33 ∷ 31 ∷ 2 ∷ 9 ∷ []) ≡ (1 ∷ 31 ∷ 2 ∷ [], 9 ∷ []) }
     ensures last_first { ¬ (shuffled_at 3 (33 ∷ 31 ∷ 2 ∷ 9 ∷ []) ≡ (2 ∷ 31 ∷ 1 ∷ [], 9 ∷ [])) }
-    ensures of_sixteen { lanes_at (vector.ExtractLane extract.I8x16S 0) (18 ∷ 9 ∷ [])
-        ≡ (vector.ExtractLane extract.I8x16S 2, 9 ∷ []) }
-    ensures of_two { lanes_at (vector.ReplaceLane shape.F64x2 0) (3 ∷ 9 ∷ [])
-        ≡ (vector.ReplaceLane shape.F64x2 1, 9 ∷ []) }
+    ensures of_sixteen { lanes_at (vector.ExtractLane extract.I8x16S 0) (18 ∷ 9 ∷ []) ≡ (vector.ExtractLane extract.I8x16S 2, 9 ∷ []) }
+    ensures of_two { lanes_at (vector.ReplaceLane shape.F64x2 0) (3 ∷ 9 ∷ []) ≡ (vector.ReplaceLane shape.F64x2 1, 9 ∷ []) }
     ensures none { lanes_at vector.AnyTrue (3 ∷ 9 ∷ []) ≡ (vector.AnyTrue, 3 ∷ 9 ∷ []) }
 {}
 
 fn numbers()
-    ensures only_row { vector_at default_config (function_of [] []) I64 (1 ∷ 9 ∷ []) ≡ (
-      Some (node_of (V128 ∷ []) (instr.Vector (vector.ExtractLane extract.I64x2 1)) 0),
-      9 ∷ [],
-    ) }
+    ensures only_row { vector_at default_config (function_of [] []) I64 (1 ∷ 9 ∷ [])
+        ≡ (Some (node_of (V128 ∷ []) (instr.Vector (vector.ExtractLane extract.I64x2 1)) 0), 9 ∷ []) }
     ensures first_row { vector_at default_config (function_of [] []) I32 (14 ∷ 9 ∷ [])
         ≡ (Some (node_of (V128 ∷ []) (instr.Vector vector.AnyTrue) 0), 9 ∷ []) }
-    ensures reference { vector_at default_config (function_of [] []) (Ref funcref) (1 ∷ 9 ∷ [])
-        ≡ (None, 1 ∷ 9 ∷ []) }
-    ensures without_simd { vector_at default_config
-        (without_vectors (function_of [] [])) I64 (1 ∷ 9 ∷ [])
-        ≡ (None, 1 ∷ 9 ∷ []) }
+    ensures reference { vector_at default_config (function_of [] []) (Ref funcref) (1 ∷ 9 ∷ []) ≡ (None, 1 ∷ 9 ∷ []) }
+    ensures without_simd { vector_at default_config (without_vectors (function_of [] [])) I64 (1 ∷ 9 ∷ []) ≡ (None, 1 ∷ 9 ∷ []) }
 {}
 
 fn vectors()
     ensures first_row { vector_at default_config (function_of [] []) V128 (0 ∷ 0 ∷ 9 ∷ [])
         ≡ (Some (node_of (V128 ∷ []) (instr.Vector (vector.Unary unary.V128Not)) 0), 9 ∷ []) }
-    ensures load_of_a_vector { vector_at default_config (function_of [] []) V128
-        (5 ∷ 0 ∷ 0 ∷ 4 ∷ 0 ∷ 0 ∷ 8 ∷ [])
-        ≡ (
-          Some (node_of (I32 ∷ [])
-              (instr.VectorLoad load.V128 (record (aligned 0 4) { offset = 8 })) 0),
-          [],
-        ) }
-    ensures load_of_a_byte { vector_at default_config (function_of [] []) V128
-        (6 ∷ 7 ∷ 0 ∷ 0 ∷ 0 ∷ 8 ∷ 9 ∷ [])
-        ≡ (
-          Some (node_of (I32 ∷ [])
-              (instr.VectorLoad load.Splat8 (record (aligned 0 0) { offset = 8 })) 0),
-          9 ∷ [],
-        ) }
-    ensures load_into_a_lane { vector_at default_config
-        (function_of [] []) V128 (7 ∷ 3 ∷ 1 ∷ 3 ∷ 0 ∷ 0 ∷ 8 ∷ 1 ∷ [])
-        ≡ (
-          Some (node_of (I64 ∷ V128 ∷ [])
-              (instr.VectorLoadLane 3 (record (aligned 1 3) { offset = 8 }) 1) 0),
-          [],
-        ) }
-    ensures load_without_a_memory { vector_at default_config
-        (record (function_of [] []) { memories = [] }) V128 (5 ∷ 0 ∷ 9 ∷ [])
+    ensures load_of_a_vector { vector_at default_config (function_of [] []) V128 (5 ∷ 0 ∷ 0 ∷ 4 ∷ 0 ∷ 0 ∷ 8 ∷ [])
+        ≡ (Some (node_of (I32 ∷ []) (instr.VectorLoad load.V128 (record (aligned 0 4) { offset = 8 })) 0), []) }
+    ensures load_of_a_byte { vector_at default_config (function_of [] []) V128 (6 ∷ 7 ∷ 0 ∷ 0 ∷ 0 ∷ 8 ∷ 9 ∷ [])
+        ≡ (Some (node_of (I32 ∷ []) (instr.VectorLoad load.Splat8 (record (aligned 0 0) { offset = 8 })) 0), 9 ∷ []) }
+    ensures load_into_a_lane { vector_at default_config (function_of [] []) V128 (7 ∷ 3 ∷ 1 ∷ 3 ∷ 0 ∷ 0 ∷ 8 ∷ 1 ∷ [])
+        ≡ (Some (node_of (I64 ∷ V128 ∷ []) (instr.VectorLoadLane 3 (record (aligned 1 3) { offset = 8 }) 1) 0), []) }
+    ensures load_without_a_memory { vector_at default_config (record (function_of [] []) { memories = [] }) V128 (5 ∷ 0 ∷ 9 ∷ [])
         ≡ (None, 9 ∷ []) }
 {}
 
 fn stores()
-    ensures wide { vector_store_at default_config (function_of [] []) (1 ∷ 2 ∷ 0 ∷ 0 ∷ 8 ∷ []) ≡ (
-      Some (node_of (I64 ∷ V128 ∷ []) (instr.VectorStore (record (aligned 1 2) { offset = 8 })) 0),
-      [],
-    ) }
-    ensures lane_of_a_byte { store_lane_at default_config (function_of [] [])
-        (0 ∷ 0 ∷ 0 ∷ 0 ∷ 8 ∷ 15 ∷ [])
-        ≡ (
-          Some (node_of (I32 ∷ V128 ∷ [])
-              (instr.VectorStoreLane 0 (record (aligned 0 0) { offset = 8 }) 15) 0),
-          [],
-        ) }
-    ensures lane_before_the_access { ¬ (store_lane_at default_config (function_of [] [])
-        (0 ∷ 0 ∷ 0 ∷ 0 ∷ 8 ∷ 15 ∷ []) ≡ (
-          Some (node_of (I32 ∷ V128 ∷ [])
-              (instr.VectorStoreLane 0 (record (aligned 0 0) { offset = 2063 }) 0) 0),
-          [],
-        )) }
-    ensures without_simd { vector_store_at default_config
-        (without_vectors (function_of [] [])) (1 ∷ 2 ∷ [])
-        ≡ (None, 1 ∷ 2 ∷ []) }
+    ensures wide { vector_store_at default_config (function_of [] []) (1 ∷ 2 ∷ 0 ∷ 0 ∷ 8 ∷ [])
+        ≡ (Some (node_of (I64 ∷ V128 ∷ []) (instr.VectorStore (record (aligned 1 2) { offset = 8 })) 0), []) }
+    ensures lane_of_a_byte { store_lane_at default_config (function_of [] []) (0 ∷ 0 ∷ 0 ∷ 0 ∷ 8 ∷ 15 ∷ [])
+        ≡ (Some (node_of (I32 ∷ V128 ∷ []) (instr.VectorStoreLane 0 (record (aligned 0 0) { offset = 8 }) 15) 0), []) }
+    ensures lane_before_the_access { ¬ (store_lane_at default_config (function_of [] []) (0 ∷ 0 ∷ 0 ∷ 0 ∷ 8 ∷ 15 ∷ [])
+        ≡ (Some (node_of (I32 ∷ V128 ∷ []) (instr.VectorStoreLane 0 (record (aligned 0 0) { offset = 2063 }) 0) 0), [])) }
+    ensures without_simd { vector_store_at default_config (without_vectors (function_of [] [])) (1 ∷ 2 ∷ []) ≡ (None, 1 ∷ 2 ∷ []) }
 {}

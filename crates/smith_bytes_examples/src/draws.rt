@@ -1,17 +1,6 @@
-ghost use Rattle.std.specs.Prelude.{◌≡◌, ℕ, ◌+◌, ◌-◌, ◌^◌, [], ◌∷◌, ◌++◌, true, false, Some, None};
-ghost use Rattle.std.specs.Prelude.{replicate};
-ghost use Rattle.smith_bytes.specs.Draws.{
-  little_endian,
-  big_endian,
-  digit_count,
-  whole_at,
-  bool_at,
-  range_at,
-  ratio_at,
-  choose_at,
-  length_size,
-  len_at,
-};
+ghost use Rattle.std.specs.Prelude.{◌≡◌, ℕ, ◌+◌, ◌-◌, ◌^◌, [], ◌∷◌, ◌++◌, true, false, Some, None, replicate};
+ghost use Rattle.smith_bytes.specs.Draws.{little_endian, big_endian, digit_count, whole_at, bool_at, range_at, ratio_at, choose_at};
+ghost use Rattle.smith_bytes.specs.Draws.{length_size, len_at};
 
 fn numbers_of_bytes()
     ensures little { little_endian (1 ∷ 2 ∷ 3 ∷ []) ≡ 197121 }
@@ -102,8 +91,6 @@ fn lengths()
     ensures from_the_end { len_at (1 ∷ 1 ∷ 1 ∷ 2 ∷ []) ≡ (2, 1 ∷ 1 ∷ 1 ∷ []) }
     ensures wraps_round { len_at (7 ∷ 8 ∷ 5 ∷ []) ≡ (2, 7 ∷ 8 ∷ []) }
     ensures of_256_bytes { len_at (replicate 255 0 ++ (7 ∷ [])) ≡ (7, replicate 255 0) }
-    ensures of_257_bytes_the_last_is_not_read { len_at (replicate 255 0 ++ (7 ∷ 44 ∷ []))
-        ≡ (7, replicate 255 0) }
-    ensures of_258_bytes_both_are_read { len_at (replicate 256 0 ++ (1 ∷ 44 ∷ []))
-        ≡ (43, replicate 256 0) }
+    ensures of_257_bytes_the_last_is_not_read { len_at (replicate 255 0 ++ (7 ∷ 44 ∷ [])) ≡ (7, replicate 255 0) }
+    ensures of_258_bytes_both_are_read { len_at (replicate 256 0 ++ (1 ∷ 44 ∷ [])) ≡ (43, replicate 256 0) }
 {}

@@ -15,15 +15,11 @@ fn growing()
     ensures stopped { grow_at any_byte 0 3 [] (1 ∷ 40 ∷ 0 ∷ 9 ∷ []) ≡ (40 ∷ [], 9 ∷ []) }
     ensures stopped_at_once { grow_at any_byte 0 3 [] (0 ∷ 9 ∷ []) ≡ ([], 9 ∷ []) }
     ensures past_the_end { grow_at any_byte 0 3 [] [] ≡ ([], []) }
-    ensures full_is_not_asked { grow_at any_byte 0 1 [] (1 ∷ 40 ∷ 0 ∷ 9 ∷ [])
-        ≡ (40 ∷ [], 0 ∷ 9 ∷ []) }
+    ensures full_is_not_asked { grow_at any_byte 0 1 [] (1 ∷ 40 ∷ 0 ∷ 9 ∷ []) ≡ (40 ∷ [], 0 ∷ 9 ∷ []) }
     ensures none_may_be { grow_at any_byte 0 0 [] (1 ∷ 40 ∷ []) ≡ ([], 1 ∷ 40 ∷ []) }
-    ensures needed_without_asking { grow_at any_byte 2 2 [] (40 ∷ 41 ∷ 9 ∷ [])
-        ≡ (40 ∷ 41 ∷ [], 9 ∷ []) }
-    ensures needed_then_asked { grow_at any_byte 1 3 [] (40 ∷ 1 ∷ 41 ∷ 0 ∷ 9 ∷ [])
-        ≡ (40 ∷ 41 ∷ [], 9 ∷ []) }
+    ensures needed_without_asking { grow_at any_byte 2 2 [] (40 ∷ 41 ∷ 9 ∷ []) ≡ (40 ∷ 41 ∷ [], 9 ∷ []) }
+    ensures needed_then_asked { grow_at any_byte 1 3 [] (40 ∷ 1 ∷ 41 ∷ 0 ∷ 9 ∷ []) ≡ (40 ∷ 41 ∷ [], 9 ∷ []) }
     ensures needed_past_the_end { grow_at any_byte 2 3 [] [] ≡ (0 ∷ 0 ∷ [], []) }
     ensures what_stands_counts { grow_at any_byte 1 2 (7 ∷ []) (0 ∷ 9 ∷ []) ≡ (7 ∷ [], 9 ∷ []) }
-    ensures after_what_stands { grow_at any_byte 2 2 (7 ∷ []) (40 ∷ 0 ∷ 9 ∷ [])
-        ≡ (7 ∷ 40 ∷ [], 9 ∷ []) }
+    ensures after_what_stands { grow_at any_byte 2 2 (7 ∷ []) (40 ∷ 0 ∷ 9 ∷ []) ≡ (7 ∷ 40 ∷ [], 9 ∷ []) }
 {}

@@ -1,6 +1,5 @@
 ghost use Rattle.std.specs.Prelude.{◌≡◌, [], ◌∷◌, codes, IsTrue};
-ghost use Rattle.smith_bytes.specs.Kebab.{is_open, character, character_at, closed, kebab_at};
-ghost use Rattle.smith_bytes.specs.Kebab.{IsKebab};
+ghost use Rattle.smith_bytes.specs.Kebab.{is_open, character, character_at, closed, kebab_at, IsKebab};
 
 fn open_names()
     ensures empty { IsTrue (is_open []) }

@@ -1,6 +1,5 @@
 ghost use Rattle.std.specs.Prelude.{◌≡◌, [], ◌∷◌, true, false};
-ghost use Rattle.smith_bytes.specs.Spelling.{SpellsBool, SpellsNumber, SpellsRefusal};
-ghost use Rattle.smith_bytes.specs.Spelling.{SpellsNothing, SpellsAnyByte, Where, Joined, Each};
+ghost use Rattle.smith_bytes.specs.Spelling.{SpellsBool, SpellsNumber, SpellsRefusal, SpellsNothing, SpellsAnyByte, Where, Joined, Each};
 ghost use Rattle.smith_bytes.specs.Spelling.{Listed};
 ghost use Rattle.smith_bytes_examples.specs.ExampleBytes.{SpellsByte};
 

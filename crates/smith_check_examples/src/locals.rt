@@ -10,8 +10,7 @@ ghost use Rattle.smith_check_examples.specs.ExampleModules.{fourth_type, three_r
 fn runs()
     ensures numbers { IsRunRight usual_features 0 [] (local_run 2 I32) }
     ensures of_a_missing_type { ¬ IsRunRight usual_features 0 [] (local_run 1 fourth_type) }
-    ensures of_the_last_type { IsRunRight usual_features 4 (0 ∷ 1 ∷ 2 ∷ 3 ∷ [])
-        (local_run 1 fourth_type) }
+    ensures of_the_last_type { IsRunRight usual_features 4 (0 ∷ 1 ∷ 2 ∷ 3 ∷ []) (local_run 1 fourth_type) }
     ensures of_an_equal_type { IsRunRight usual_features 1 (0 ∷ 0 ∷ 0 ∷ 0 ∷ []) (local_run 1 fourth_type) }
     ensures of_nothing { IsRunRight usual_features 0 [] (local_run 0 fourth_type) }
 {}

@@ -5,19 +5,9 @@ ghost use Rattle.smith_syntax.specs.declared.entity_type.EntityType.TheVariants 
 ghost use Rattle.smith_syntax.specs.declared.entity_type.ExportKind.TheVariants as kind;
 ghost use Rattle.smith_types.specs.ExampleFeatures.{usual_features};
 ghost use Rattle.smith_check.specs.ValidPrograms.{IsValidProgram};
-ghost use Rattle.smith_check_examples.specs.ExampleSyntax.{
-  below_a_final_type,
-  bodiless,
-  copied_bytes,
-  copied_functions,
-  crossed_limits,
-  exports,
-  exports_twice,
-  imported_memory,
-  imports,
-  passive_bytes,
-  refers_to_a_later_group,
-};
+ghost use Rattle.smith_check_examples.specs.ExampleSyntax.{below_a_final_type, bodiless, copied_bytes, copied_functions, crossed_limits};
+ghost use Rattle.smith_check_examples.specs.ExampleSyntax.{exports, exports_twice, imported_memory, imports, passive_bytes};
+ghost use Rattle.smith_check_examples.specs.ExampleSyntax.{refers_to_a_later_group};
 
 fn types()
     ensures below_a_final_type { ¬ IsValidProgram usual_features below_a_final_type }

@@ -14,18 +14,17 @@ fn first_faults()
         (record (of_types (open_type (Some 0) empty_struct ∷ [])) { funcs = 5 ∷ [] }) BadType }
     ensures index_after_type { ¬ IsFirstShapeFault ModuleShape default_config
         (record (of_types (open_type (Some 0) empty_struct ∷ [])) { funcs = 5 ∷ [] }) Index }
-    ensures length_before_all { (tags : List ℕ) → length tags ≡ 2 ^ 29 + 1
-        → IsFirstShapeFault ModuleShape default_config
+    ensures length_before_all { (tags : List ℕ) → length tags ≡ 2 ^ 29 + 1 → IsFirstShapeFault ModuleShape default_config
         (record empty_shape { tags = tags }) TooLong }
 {}
 
 fn refusals()
-    ensures for_its_use { IsRefused ModuleShape default_config
-        (of_types (open_type (Some 0) empty_struct ∷ [])) (Shape ModuleShape BadType) }
-    ensures for_another_use { ¬ IsRefused ModuleShape default_config
-        (of_types (open_type (Some 0) empty_struct ∷ [])) (Shape Exports BadType) }
+    ensures for_its_use { IsRefused ModuleShape default_config (of_types (open_type (Some 0) empty_struct ∷ []))
+        (Shape ModuleShape BadType) }
+    ensures for_another_use { ¬ IsRefused ModuleShape default_config (of_types (open_type (Some 0) empty_struct ∷ []))
+        (Shape Exports BadType) }
     ensures for_want_of_memory { IsRefused ModuleShape default_config empty_shape Memory }
-    ensures too_long_before_memory { (tags : List ℕ) → length tags ≡ 2 ^ 29 + 1
-        → ¬ IsRefused ModuleShape default_config (record empty_shape { tags = tags }) Memory }
+    ensures too_long_before_memory { (tags : List ℕ) → length tags ≡ 2 ^ 29 + 1 → ¬ IsRefused ModuleShape default_config
+        (record empty_shape { tags = tags }) Memory }
     ensures as_no_shape_is { ¬ IsRefused ModuleShape default_config empty_shape EmptyChoose }
 {}

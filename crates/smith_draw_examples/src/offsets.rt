@@ -18,9 +18,7 @@ fn fitting()
     ensures at_the_start { offset_at 10000 1000000 0 [] ≡ (0, []) }
     ensures inside { offset_at 10001 1000000 1 (0 ∷ 0 ∷ 0 ∷ 240 ∷ []) ≡ (6789, []) }
     ensures the_last_inside { offset_at 10001 1000000 1 (234 ∷ 81 ∷ 184 ∷ 254 ∷ []) ≡ (9703, []) }
-    ensures the_first_anywhere { offset_at 10001 1000000 1 (235 ∷ 81 ∷ 184 ∷ 254 ∷ [])
-        ≡ (995000, []) }
-    ensures of_all_that_there_is { offset_at 10 1000000 10 (0 ∷ 0 ∷ 0 ∷ 128 ∷ 7 ∷ [])
-        ≡ (0, 7 ∷ []) }
+    ensures the_first_anywhere { offset_at 10001 1000000 1 (235 ∷ 81 ∷ 184 ∷ 254 ∷ []) ≡ (995000, []) }
+    ensures of_all_that_there_is { offset_at 10 1000000 10 (0 ∷ 0 ∷ 0 ∷ 128 ∷ 7 ∷ []) ≡ (0, 7 ∷ []) }
     ensures without_a_choice { offset_at 0 0 0 (9 ∷ []) ≡ (0, 9 ∷ []) }
 {}

@@ -1,15 +1,14 @@
 -- Instructions that have a type in the managed context, or none; instructions that are enabled, or
 -- not.
 use Rattle.std.specs.Prelude.{◌≡◌, ◌-◌, ◌^◌, Bool, List, []}
-use Rattle.smith_syntax.specs.Features.{Features, every_feature}
-use Rattle.smith_syntax.specs.Instructions.{every_kind, float_bits, kind_bits}
+use Rattle.smith_syntax.specs.Features.{Features}
+use Rattle.smith_syntax.specs.Instructions.{float_bits, kind_bits}
 use Rattle.smith_syntax.specs.declared.instruction_kind.InstructionKind.{InstructionKind}
 use Rattle.smith_syntax.specs.declared.instruction_kind.InstructionKinds.{InstructionKinds}
 use Rattle.smith_syntax.specs.declared.value_type.ValType.{ValType}
-use Rattle.smith_instr.specs.Enabled.{IsEnabled, has_features, is_allowed, is_kind_enabled}
+use Rattle.smith_instr.specs.Enabled.{has_features, is_allowed, is_kind_enabled}
 use Rattle.smith_instr.specs.InstrTypes.{HasInstrType}
 use Rattle.smith_instr.specs.declared.instr.Instr.{Instr}
-use Rattle.smith_instr_examples.specs.ExampleBodies.{kinds_of}
 use Rattle.smith_instr_examples.specs.ExampleManaged.{managed}
 
 -- the instruction has this type
@@ -33,24 +32,9 @@ LeavesNot instruction results = (operands : List ValType) → ¬ HasInstrType (m
 abbrev pub HasNoType : Instr → Type 0
 HasNoType instruction = (operands results : List ValType) → ¬ HasInstrType (managed [] []) [] instruction operands results
 
--- the instruction is enabled with these features, and is not; all kinds are allowed
-abbrev pub IsOn : Features → Instr → Type 0
-IsOn features instruction = IsEnabled features every_kind instruction
-
-abbrev pub IsOff : Features → Instr → Type 0
-IsOff features instruction = ¬ IsEnabled features every_kind instruction
-
 -- the instruction needs these features, whatever the others are
 abbrev pub IsOnWith : (Features → Bool) → Instr → Type 0
 IsOnWith are_on instruction = (features : Features) → has_features features instruction ≡ are_on features
-
--- the instruction is enabled if this is the only kind that is allowed; all features are on
-abbrev pub IsAmong : InstructionKind → Instr → Type 0
-IsAmong kind instruction = IsEnabled every_feature (kinds_of kind) instruction
-
--- the instruction is not enabled if only these kinds are allowed; all features are on
-abbrev pub IsBarred : InstructionKinds → Instr → Type 0
-IsBarred kinds instruction = ¬ IsEnabled every_feature kinds instruction
 
 -- the instruction is allowed if this kind is, whatever the others are
 abbrev pub IsOfKind : InstructionKind → Instr → Type 0

@@ -3,11 +3,9 @@ ghost use Rattle.smith_types.specs.Expressions.{reference_to};
 ghost use Rattle.smith_syntax.specs.Features.{every_feature};
 ghost use Rattle.smith_types.specs.Flags.{funcref};
 ghost use Rattle.smith_syntax.specs.declared.value_type.HeapType.TheVariants.{Concrete, Exact};
-ghost use Rattle.smith_syntax.specs.declared.value_type.ValType.TheVariants.{F32, I32, I64, Ref};
-ghost use Rattle.smith_syntax.specs.declared.value_type.ValType.TheVariants.{V128};
+ghost use Rattle.smith_syntax.specs.declared.value_type.ValType.TheVariants.{F32, I32, I64, Ref, V128};
 ghost use Rattle.smith_syntax.specs.declared.value_type.ValType.{ValType};
-ghost use Rattle.smith_instr.specs.Contexts.{IsBlockType, created_reference, nullable_to};
-ghost use Rattle.smith_instr.specs.Contexts.{reference_to_function};
+ghost use Rattle.smith_instr.specs.Contexts.{IsBlockType, created_reference, nullable_to, reference_to_function};
 ghost use Rattle.smith_instr.specs.InstrTypes.{HasInstrType, sets};
 ghost use Rattle.smith_instr.specs.declared.aggregate.AggregateInstr.TheVariants as aggregate;
 ghost use Rattle.smith_instr.specs.declared.aggregate.Extension.TheVariants as extension;
@@ -33,8 +31,7 @@ fn parametric()
     ensures select_to_another_type { ¬ HasType instr.Select (I32 ∷ I32 ∷ I32 ∷ []) (I64 ∷ []) }
     ensures select_of_references { TakesNot instr.Select (Ref funcref ∷ Ref funcref ∷ I32 ∷ []) }
     ensures select_to_none { LeavesNot instr.Select [] }
-    ensures select_typed_of_numbers { HasType (instr.SelectTyped (I64 ∷ [])) (I64 ∷ I64 ∷ I32 ∷ [])
-        (I64 ∷ []) }
+    ensures select_typed_of_numbers { HasType (instr.SelectTyped (I64 ∷ [])) (I64 ∷ I64 ∷ I32 ∷ []) (I64 ∷ []) }
     ensures select_typed_by_i64 { TakesNot (instr.SelectTyped (I64 ∷ [])) (I64 ∷ I64 ∷ I64 ∷ []) }
     ensures select_typed_to_another_type { LeavesNot (instr.SelectTyped (I64 ∷ [])) (I32 ∷ []) }
     ensures select_of_no_types { HasNoType (instr.SelectTyped []) }
@@ -66,17 +63,12 @@ fn polymorphic()
 
 fn locals()
     ensures get { HasInstrType (function_of (I64 ∷ []) []) [] (instr.LocalGet 0) [] (I64 ∷ []) }
-    ensures get_past_the_last { (results : List ValType) → ¬ HasInstrType
-        (function_of (I64 ∷ []) []) [] (instr.LocalGet 1) [] results }
-    ensures get_of_another_type { ¬ HasInstrType (function_of (I64 ∷ []) []) [] (instr.LocalGet 0)
-        [] (I32 ∷ []) }
-    ensures get_before_it_is_set { ¬ HasInstrType (function_of (some_func ∷ []) []) []
-        (instr.LocalGet 0) [] (some_func ∷ []) }
+    ensures get_past_the_last { (results : List ValType) → ¬ HasInstrType (function_of (I64 ∷ []) []) [] (instr.LocalGet 1) [] results }
+    ensures get_of_another_type { ¬ HasInstrType (function_of (I64 ∷ []) []) [] (instr.LocalGet 0) [] (I32 ∷ []) }
+    ensures get_before_it_is_set { ¬ HasInstrType (function_of (some_func ∷ []) []) [] (instr.LocalGet 0) [] (some_func ∷ []) }
     ensures set { HasInstrType (function_of (I64 ∷ []) []) [] (instr.LocalSet 0) (I64 ∷ []) [] }
-    ensures set_of_another_type { ¬ HasInstrType (function_of (I64 ∷ []) []) [] (instr.LocalSet 0)
-        (I32 ∷ []) [] }
-    ensures set_to_one { ¬ HasInstrType (function_of (I64 ∷ []) []) [] (instr.LocalSet 0)
-        (I64 ∷ []) (I64 ∷ []) }
+    ensures set_of_another_type { ¬ HasInstrType (function_of (I64 ∷ []) []) [] (instr.LocalSet 0) (I32 ∷ []) [] }
+    ensures set_to_one { ¬ HasInstrType (function_of (I64 ∷ []) []) [] (instr.LocalSet 0) (I64 ∷ []) (I64 ∷ []) }
     ensures set_by_set { (index : ℕ) → sets (instr.LocalSet index) ≡ index ∷ [] }
     ensures set_by_tee { (index : ℕ) → sets (instr.LocalTee index) ≡ index ∷ [] }
     ensures not_set_by_get { (index : ℕ) → sets (instr.LocalGet index) ≡ [] }
@@ -100,28 +92,21 @@ fn block_types()
     ensures no_type_with_a_parameter { ¬ IsBlockType (managed [] []) (block.Empty) (I32 ∷ []) [] }
     ensures value { IsBlockType (managed [] []) (block.Value I64) [] (I64 ∷ []) }
     ensures value_as_a_parameter { ¬ IsBlockType (managed [] []) (block.Value I64) (I64 ∷ []) [] }
-    ensures value_of_no_type { (params results : List ValType) → ¬ IsBlockType (managed [] [])
-        (block.Value (nullable_to (Concrete 8))) params results }
+    ensures value_of_no_type { (params results : List ValType) → ¬ IsBlockType (managed [] []) (block.Value (nullable_to (Concrete 8)))
+        params results }
     ensures function { IsBlockType (managed [] []) (block.Func 6) (I64 ∷ []) (I32 ∷ []) }
-    ensures function_with_another_result { ¬ IsBlockType (managed [] []) (block.Func 6) (I64 ∷ [])
-        (I64 ∷ []) }
-    ensures function_without_its_parameter { ¬ IsBlockType (managed [] []) (block.Func 6) []
-        (I32 ∷ []) }
-    ensures function_past_the_last_type { (params results : List ValType) → ¬ IsBlockType
-        (managed [] []) (block.Func 8) params results }
-    ensures of_a_struct { (params results : List ValType) → ¬ IsBlockType (managed [] [])
-        (block.Func 0) params results }
+    ensures function_with_another_result { ¬ IsBlockType (managed [] []) (block.Func 6) (I64 ∷ []) (I64 ∷ []) }
+    ensures function_without_its_parameter { ¬ IsBlockType (managed [] []) (block.Func 6) [] (I32 ∷ []) }
+    ensures function_past_the_last_type { (params results : List ValType) → ¬ IsBlockType (managed [] []) (block.Func 8) params results }
+    ensures of_a_struct { (params results : List ValType) → ¬ IsBlockType (managed [] []) (block.Func 0) params results }
 {}
 
 fn references()
     ensures created { created_reference (managed [] []) 0 ≡ reference_to (Concrete 0) }
-    ensures created_exactly { created_reference
-        (record (managed [] []) { features = every_feature }) 0 ≡ reference_to (Exact 0) }
-    ensures function { reference_to_function (record (managed [] []) { features = every_feature })
-        0 6 ≡ reference_to (Exact 6) }
-    ensures imported_function { reference_to_function
-        (record (record (managed [] []) { features = every_feature }) { imported_funcs = 1 }) 0
-        6 ≡ reference_to (Concrete 6) }
+    ensures created_exactly { created_reference (record (managed [] []) { features = every_feature }) 0 ≡ reference_to (Exact 0) }
+    ensures function { reference_to_function (record (managed [] []) { features = every_feature }) 0 6 ≡ reference_to (Exact 6) }
+    ensures imported_function { reference_to_function (record (record (managed [] []) { features = every_feature }) { imported_funcs = 1 })
+        0 6 ≡ reference_to (Concrete 6) }
     ensures null_of_none { TakesNot (instr.Reference (reference.Null (Concrete 0))) (I32 ∷ []) }
     ensures function_past_the_last { HasNoType (instr.Reference (reference.Func 2)) }
     ensures function_not_named { HasNoType (instr.Reference (reference.Func 0)) }
@@ -129,31 +114,20 @@ fn references()
     ensures is_null_of_none { TakesNot (instr.Reference reference.IsNull) [] }
     ensures as_non_null_of_a_number { TakesNot (instr.Reference reference.AsNonNull) (I32 ∷ []) }
     ensures as_non_null_to_none { LeavesNot (instr.Reference reference.AsNonNull) [] }
-    ensures as_non_null_of_no_type { TakesNot (instr.Reference reference.AsNonNull)
-        (nullable_to (Concrete 8) ∷ []) }
+    ensures as_non_null_of_no_type { TakesNot (instr.Reference reference.AsNonNull) (nullable_to (Concrete 8) ∷ []) }
 {}
 
 fn fields()
-    ensures get { HasType (instr.Aggregate (aggregate.StructGet 0 1 extension.Unpacked))
-        (Ref any_struct ∷ []) (I64 ∷ []) }
-    ensures get_unsigned { HasType (instr.Aggregate (aggregate.StructGet 0 0 extension.Unsigned))
-        (Ref any_struct ∷ []) (I32 ∷ []) }
-    ensures get_unsigned_of_one_that_is_not_packed { HasNoType
-        (instr.Aggregate (aggregate.StructGet 0 1 extension.Unsigned)) }
-    ensures get_of_another_type { LeavesNot
-        (instr.Aggregate (aggregate.StructGet 0 1 extension.Unpacked)) (I32 ∷ []) }
-    ensures get_of_a_packed_type { LeavesNot
-        (instr.Aggregate (aggregate.StructGet 0 0 extension.Signed)) (I64 ∷ []) }
-    ensures get_of_no_struct { TakesNot
-        (instr.Aggregate (aggregate.StructGet 0 1 extension.Unpacked)) [] }
-    ensures get_of_an_array { HasNoType
-        (instr.Aggregate (aggregate.StructGet 2 0 extension.Unpacked)) }
-    ensures get_past_the_last_type { HasNoType
-        (instr.Aggregate (aggregate.StructGet 8 0 extension.Unpacked)) }
-    ensures set_of_another_type { TakesNot (instr.Aggregate (aggregate.StructSet 0 1))
-        (Ref any_struct ∷ I32 ∷ []) }
-    ensures set_without_a_value { TakesNot (instr.Aggregate (aggregate.StructSet 0 1))
-        (Ref any_struct ∷ []) }
+    ensures get { HasType (instr.Aggregate (aggregate.StructGet 0 1 extension.Unpacked)) (Ref any_struct ∷ []) (I64 ∷ []) }
+    ensures get_unsigned { HasType (instr.Aggregate (aggregate.StructGet 0 0 extension.Unsigned)) (Ref any_struct ∷ []) (I32 ∷ []) }
+    ensures get_unsigned_of_one_that_is_not_packed { HasNoType (instr.Aggregate (aggregate.StructGet 0 1 extension.Unsigned)) }
+    ensures get_of_another_type { LeavesNot (instr.Aggregate (aggregate.StructGet 0 1 extension.Unpacked)) (I32 ∷ []) }
+    ensures get_of_a_packed_type { LeavesNot (instr.Aggregate (aggregate.StructGet 0 0 extension.Signed)) (I64 ∷ []) }
+    ensures get_of_no_struct { TakesNot (instr.Aggregate (aggregate.StructGet 0 1 extension.Unpacked)) [] }
+    ensures get_of_an_array { HasNoType (instr.Aggregate (aggregate.StructGet 2 0 extension.Unpacked)) }
+    ensures get_past_the_last_type { HasNoType (instr.Aggregate (aggregate.StructGet 8 0 extension.Unpacked)) }
+    ensures set_of_another_type { TakesNot (instr.Aggregate (aggregate.StructSet 0 1)) (Ref any_struct ∷ I32 ∷ []) }
+    ensures set_without_a_value { TakesNot (instr.Aggregate (aggregate.StructSet 0 1)) (Ref any_struct ∷ []) }
     ensures set_to_one { LeavesNot (instr.Aggregate (aggregate.StructSet 0 1)) (I64 ∷ []) }
     ensures set_of_an_array { HasNoType (instr.Aggregate (aggregate.StructSet 2 0)) }
     ensures set_past_the_last_type { HasNoType (instr.Aggregate (aggregate.StructSet 8 0)) }

@@ -1,9 +1,10 @@
-ghost use Rattle.std.specs.Prelude.{pos, IsTrue, List, ℕ};
+ghost use Rattle.std.specs.List.{AllByRecursion as Each};
+ghost use Rattle.std.specs.Prelude.{pos, IsTrue, List, [], ◌∷◌, ℕ};
 ghost use Rattle.smith_syntax.specs.Features.{every_feature};
 ghost use Rattle.smith_syntax.specs.declared.instruction_kind.InstructionKind.TheVariants as kind;
 ghost use Rattle.smith_syntax.specs.declared.value_type.HeapType.{HeapType};
 ghost use Rattle.smith_syntax.specs.declared.value_type.ValType.{ValType};
-ghost use Rattle.smith_instr.specs.Enabled.{IsEnabled, names_data};
+ghost use Rattle.smith_instr.specs.Enabled.{IsEnabled, is_allowed, names_data};
 ghost use Rattle.smith_instr.specs.declared.aggregate.AggregateInstr.TheVariants as aggregate;
 ghost use Rattle.smith_instr.specs.declared.atomic.AtomicAccess.{AtomicAccess};
 ghost use Rattle.smith_instr.specs.declared.control.BlockType.TheVariants as block;
@@ -40,268 +41,101 @@ ghost use Rattle.smith_instr.specs.declared.vector.VectorFloatUnary.{VectorFloat
 ghost use Rattle.smith_instr.specs.declared.vector.VectorInstr.TheVariants as vector;
 ghost use Rattle.smith_instr.specs.declared.vector.VectorLoad.{VectorLoad};
 ghost use Rattle.smith_instr.specs.declared.vector.VectorUnary.{VectorUnary};
-ghost use Rattle.smith_instr_examples.specs.ExampleTyping.{IsAmong, IsBarred, IsOfKind, all_but, without_floats};
+ghost use Rattle.smith_instr_examples.specs.ExampleTyping.{IsOfKind, all_but, without_floats};
+ghost use Rattle.smith_instr.specs.declared.instr.Instr.{Instr};
+ghost use Rattle.smith_instr.specs.declared.memory.Load.{Load};
+ghost use Rattle.smith_instr.specs.declared.memory.Store.{Store};
+ghost use Rattle.smith_instr.specs.declared.numeric.Conversion.{Conversion};
+ghost use Rattle.smith_instr.specs.declared.numeric.NumericInstr.{NumericInstr};
+ghost use Rattle.smith_instr.specs.declared.vector.VectorInstr.{VectorInstr};
+ghost use Rattle.smith_syntax.specs.declared.instruction_kind.InstructionKind.{InstructionKind};
+ghost use Rattle.smith_instr_examples.specs.ExampleBodies.{kinds_of};
 
-#[tactic(auto, unfolding(smith_instr::specs::Enabled::is_enabled))]
 fn parametric()
-    ensures drop { IsOfKind kind.Parametric instr.Drop }
-    ensures select { IsOfKind kind.Parametric instr.Select }
-    ensures select_typed { (values : List ValType) → IsOfKind kind.Parametric
-        (instr.SelectTyped values) }
+    ensures of_any_type { (values : List ValType) → Each (IsOfKind kind.Parametric) (instr.Drop ∷ instr.Select ∷ instr.SelectTyped values
+        ∷ []) }
+    ensures variables { (index : ℕ) → Each (IsOfKind kind.Variable) (instr.LocalGet index ∷ instr.LocalSet index ∷ instr.LocalTee index
+        ∷ instr.GlobalGet index ∷ instr.GlobalSet index ∷ []) }
 {}
 
-#[tactic(auto, unfolding(smith_instr::specs::Enabled::is_enabled))]
-fn variables()
-    ensures local_get { (index : ℕ) → IsOfKind kind.Variable (instr.LocalGet index) }
-    ensures local_set { (index : ℕ) → IsOfKind kind.Variable (instr.LocalSet index) }
-    ensures local_tee { (index : ℕ) → IsOfKind kind.Variable (instr.LocalTee index) }
-    ensures global_get { (index : ℕ) → IsOfKind kind.Variable (instr.GlobalGet index) }
-    ensures global_set { (index : ℕ) → IsOfKind kind.Variable (instr.GlobalSet index) }
-{}
-
-#[tactic(auto, unfolding(smith_instr::specs::Enabled::is_enabled))]
 fn integers()
-    ensures i32_const { IsOfKind kind.NumericInt (instr.I32Const (pos 0)) }
-    ensures i64_const { IsOfKind kind.NumericInt (instr.I64Const (pos 0)) }
-    ensures i32_unary { (op : IntUnary) → IsOfKind kind.NumericInt
-        (instr.Numeric (numeric.I32Unary op)) }
-    ensures i64_binary { (op : IntBinary) → IsOfKind kind.NumericInt
-        (instr.Numeric (numeric.I64Binary op)) }
-    ensures i32_compare { (op : IntCompare) → IsOfKind kind.NumericInt
-        (instr.Numeric (numeric.I32Compare op)) }
-    ensures extend { (op : SignExtension) → IsOfKind kind.NumericInt
-        (instr.Numeric (numeric.Extend op)) }
-    ensures wide { (op : WideArithmetic) → IsOfKind kind.NumericInt
-        (instr.Numeric (numeric.Wide op)) }
+    ensures constants { Each (IsOfKind kind.NumericInt) (instr.I32Const (pos 0) ∷ instr.I64Const (pos 0) ∷ []) }
+    ensures operators { (unary : IntUnary) (binary : IntBinary) (test : IntCompare) → Each
+        (λ (op : NumericInstr). IsOfKind kind.NumericInt (instr.Numeric op)) (numeric.I32Unary unary ∷ numeric.I64Binary binary
+        ∷ numeric.I32Compare test ∷ numeric.I64Eqz ∷ []) }
+    ensures others { (extended : SignExtension) (wide : WideArithmetic) → Each
+        (λ (op : NumericInstr). IsOfKind kind.NumericInt (instr.Numeric op)) (numeric.Extend extended ∷ numeric.Wide wide ∷ []) }
+    ensures conversions { Each (λ (op : Conversion). IsOfKind kind.NumericInt (instr.Numeric (numeric.Convert op))) (convert.I64ExtendI32U
+        ∷ convert.I64ExtendI32S ∷ []) }
 {}
 
-#[tactic(auto, unfolding(smith_instr::specs::Enabled::is_enabled))]
-fn other_integers()
-    ensures i64_eqz { IsOfKind kind.NumericInt (instr.Numeric numeric.I64Eqz) }
-    ensures i64_extend_i32_u { IsOfKind kind.NumericInt
-        (instr.Numeric (numeric.Convert convert.I64ExtendI32U)) }
-    ensures i64_extend_i32_s { IsOfKind kind.NumericInt
-        (instr.Numeric (numeric.Convert convert.I64ExtendI32S)) }
-{}
-
-#[tactic(auto, unfolding(smith_instr::specs::Enabled::is_enabled))]
 fn floats()
-    ensures f32_const { IsAmong kind.Numeric (instr.F32Const 0) }
-    ensures f32_const_barred { IsBarred without_floats (instr.F32Const 0) }
-    ensures f64_const { IsAmong kind.Numeric (instr.F64Const 0) }
-    ensures f64_const_barred { IsBarred without_floats (instr.F64Const 0) }
-    ensures f32_unary { (op : FloatUnary) → IsAmong kind.Numeric
-        (instr.Numeric (numeric.F32Unary op)) }
-    ensures f32_unary_barred { (op : FloatUnary) → IsBarred without_floats
-        (instr.Numeric (numeric.F32Unary op)) }
-    ensures f64_unary { (op : FloatUnary) → IsAmong kind.Numeric
-        (instr.Numeric (numeric.F64Unary op)) }
-    ensures f64_unary_barred { (op : FloatUnary) → IsBarred without_floats
-        (instr.Numeric (numeric.F64Unary op)) }
-    ensures f32_binary { (op : FloatBinary) → IsAmong kind.Numeric
-        (instr.Numeric (numeric.F32Binary op)) }
-    ensures f32_binary_barred { (op : FloatBinary) → IsBarred without_floats
-        (instr.Numeric (numeric.F32Binary op)) }
-    ensures f64_binary { (op : FloatBinary) → IsAmong kind.Numeric
-        (instr.Numeric (numeric.F64Binary op)) }
-    ensures f64_binary_barred { (op : FloatBinary) → IsBarred without_floats
-        (instr.Numeric (numeric.F64Binary op)) }
-    ensures f32_compare { (op : FloatCompare) → IsAmong kind.Numeric
-        (instr.Numeric (numeric.F32Compare op)) }
-    ensures f32_compare_barred { (op : FloatCompare) → IsBarred without_floats
-        (instr.Numeric (numeric.F32Compare op)) }
-    ensures f64_compare { (op : FloatCompare) → IsAmong kind.Numeric
-        (instr.Numeric (numeric.F64Compare op)) }
-    ensures f64_compare_barred { (op : FloatCompare) → IsBarred without_floats
-        (instr.Numeric (numeric.F64Compare op)) }
-    ensures saturate { (op : SaturatingConversion) → IsAmong kind.Numeric
-        (instr.Numeric (numeric.Saturate op)) }
-    ensures saturate_barred { (op : SaturatingConversion) → IsBarred without_floats
-        (instr.Numeric (numeric.Saturate op)) }
+    ensures constants { Each (IsOfKind kind.Numeric) (instr.F32Const 0 ∷ instr.F64Const 0 ∷ []) }
+    ensures operators { (unary : FloatUnary) (binary : FloatBinary) (test : FloatCompare) → Each
+        (λ (op : NumericInstr). IsOfKind kind.Numeric (instr.Numeric op)) (numeric.F32Unary unary ∷ numeric.F64Unary unary
+        ∷ numeric.F32Binary binary ∷ numeric.F64Binary binary ∷ numeric.F32Compare test ∷ numeric.F64Compare test ∷ []) }
+    ensures saturating { (op : SaturatingConversion) → IsOfKind kind.Numeric (instr.Numeric (numeric.Saturate op)) }
+    ensures conversions { Each (λ (op : Conversion). IsOfKind kind.Numeric (instr.Numeric (numeric.Convert op))) (convert.I32TruncF32S
+        ∷ convert.I32TruncF64U ∷ convert.I64TruncF64U ∷ convert.F32ConvertI32S ∷ convert.F64ConvertI64U ∷ convert.F32DemoteF64
+        ∷ convert.F64PromoteF32 ∷ convert.I32ReinterpretF32 ∷ convert.F64ReinterpretI64 ∷ []) }
 {}
 
-#[tactic(auto, unfolding(smith_instr::specs::Enabled::is_enabled))]
-fn conversions_of_floats()
-    ensures i32_trunc_f32_s { IsAmong kind.Numeric
-        (instr.Numeric (numeric.Convert convert.I32TruncF32S)) }
-    ensures i32_trunc_f32_s_barred { IsBarred without_floats
-        (instr.Numeric (numeric.Convert convert.I32TruncF32S)) }
-    ensures i32_trunc_f64_u { IsAmong kind.Numeric
-        (instr.Numeric (numeric.Convert convert.I32TruncF64U)) }
-    ensures i32_trunc_f64_u_barred { IsBarred without_floats
-        (instr.Numeric (numeric.Convert convert.I32TruncF64U)) }
-    ensures i64_trunc_f64_u { IsAmong kind.Numeric
-        (instr.Numeric (numeric.Convert convert.I64TruncF64U)) }
-    ensures i64_trunc_f64_u_barred { IsBarred without_floats
-        (instr.Numeric (numeric.Convert convert.I64TruncF64U)) }
-    ensures f32_convert_i32_s { IsAmong kind.Numeric
-        (instr.Numeric (numeric.Convert convert.F32ConvertI32S)) }
-    ensures f32_convert_i32_s_barred { IsBarred without_floats
-        (instr.Numeric (numeric.Convert convert.F32ConvertI32S)) }
-    ensures f64_convert_i64_u { IsAmong kind.Numeric
-        (instr.Numeric (numeric.Convert convert.F64ConvertI64U)) }
-    ensures f64_convert_i64_u_barred { IsBarred without_floats
-        (instr.Numeric (numeric.Convert convert.F64ConvertI64U)) }
-    ensures f32_demote_f64 { IsAmong kind.Numeric
-        (instr.Numeric (numeric.Convert convert.F32DemoteF64)) }
-    ensures f32_demote_f64_barred { IsBarred without_floats
-        (instr.Numeric (numeric.Convert convert.F32DemoteF64)) }
-    ensures f64_promote_f32 { IsAmong kind.Numeric
-        (instr.Numeric (numeric.Convert convert.F64PromoteF32)) }
-    ensures f64_promote_f32_barred { IsBarred without_floats
-        (instr.Numeric (numeric.Convert convert.F64PromoteF32)) }
-    ensures i32_reinterpret_f32 { IsAmong kind.Numeric
-        (instr.Numeric (numeric.Convert convert.I32ReinterpretF32)) }
-    ensures i32_reinterpret_f32_barred { IsBarred without_floats
-        (instr.Numeric (numeric.Convert convert.I32ReinterpretF32)) }
-    ensures f64_reinterpret_i64 { IsAmong kind.Numeric
-        (instr.Numeric (numeric.Convert convert.F64ReinterpretI64)) }
-    ensures f64_reinterpret_i64_barred { IsBarred without_floats
-        (instr.Numeric (numeric.Convert convert.F64ReinterpretI64)) }
-{}
-
-#[tactic(auto, unfolding(smith_instr::specs::Enabled::is_enabled))]
 fn vectors()
     ensures constant { IsOfKind kind.VectorInt (instr.V128Const (pos 0)) }
-    ensures unary { (op : VectorUnary) → IsOfKind kind.VectorInt (instr.Vector (vector.Unary op)) }
-    ensures binary { (op : VectorBinary) → IsOfKind kind.VectorInt
-        (instr.Vector (vector.Binary op)) }
-    ensures relaxed_binary { (op : RelaxedBinary) → IsOfKind kind.VectorInt
-        (instr.Vector (vector.RelaxedBinary op)) }
-    ensures relaxed_ternary { (op : RelaxedTernary) → IsOfKind kind.VectorInt
-        (instr.Vector (vector.RelaxedTernary op)) }
-    ensures splat { IsOfKind kind.VectorInt (instr.Vector (vector.Splat shape.I64x2)) }
-    ensures extract_lane { IsOfKind kind.VectorInt
-        (instr.Vector (vector.ExtractLane extract.I16x8U 0)) }
-    ensures replace_lane { IsOfKind kind.VectorInt
-        (instr.Vector (vector.ReplaceLane shape.I32x4 0)) }
-    ensures bitmask { (ty : IntShape) → IsOfKind kind.VectorInt (instr.Vector (vector.Bitmask ty)) }
+    ensures operators { (unary : VectorUnary) (binary : VectorBinary) (relaxed : RelaxedBinary) (ternary : RelaxedTernary) → Each
+        (λ (op : VectorInstr). IsOfKind kind.VectorInt (instr.Vector op)) (vector.Unary unary ∷ vector.Binary binary
+        ∷ vector.RelaxedBinary relaxed ∷ vector.RelaxedTernary ternary ∷ []) }
+    ensures lanes { (ty : IntShape) → Each (λ (op : VectorInstr). IsOfKind kind.VectorInt (instr.Vector op)) (vector.Splat shape.I64x2
+        ∷ vector.ExtractLane extract.I16x8U 0 ∷ vector.ReplaceLane shape.I32x4 0 ∷ vector.Bitmask ty ∷ []) }
 {}
 
-#[tactic(auto, unfolding(smith_instr::specs::Enabled::is_enabled))]
 fn vectors_of_floats()
-    ensures float_unary { (op : VectorFloatUnary) → IsAmong kind.Vector
-        (instr.Vector (vector.FloatUnary op)) }
-    ensures float_unary_barred { (op : VectorFloatUnary) → IsBarred without_floats
-        (instr.Vector (vector.FloatUnary op)) }
-    ensures float_binary { (op : VectorFloatBinary) → IsAmong kind.Vector
-        (instr.Vector (vector.FloatBinary op)) }
-    ensures float_binary_barred { (op : VectorFloatBinary) → IsBarred without_floats
-        (instr.Vector (vector.FloatBinary op)) }
-    ensures relaxed_float_unary { (op : RelaxedFloatUnary) → IsAmong kind.Vector
-        (instr.Vector (vector.RelaxedFloatUnary op)) }
-    ensures relaxed_float_unary_barred { (op : RelaxedFloatUnary) → IsBarred without_floats
-        (instr.Vector (vector.RelaxedFloatUnary op)) }
-    ensures relaxed_float_binary { (op : RelaxedFloatBinary) → IsAmong kind.Vector
-        (instr.Vector (vector.RelaxedFloatBinary op)) }
-    ensures relaxed_float_binary_barred { (op : RelaxedFloatBinary) → IsBarred without_floats
-        (instr.Vector (vector.RelaxedFloatBinary op)) }
-    ensures relaxed_float_ternary { (op : RelaxedFloatTernary) → IsAmong kind.Vector
-        (instr.Vector (vector.RelaxedFloatTernary op)) }
-    ensures relaxed_float_ternary_barred { (op : RelaxedFloatTernary) → IsBarred without_floats
-        (instr.Vector (vector.RelaxedFloatTernary op)) }
+    ensures operators { (unary : VectorFloatUnary) (binary : VectorFloatBinary) → Each
+        (λ (op : VectorInstr). IsOfKind kind.Vector (instr.Vector op)) (vector.FloatUnary unary ∷ vector.FloatBinary binary ∷ []) }
+    ensures relaxed { (unary : RelaxedFloatUnary) (binary : RelaxedFloatBinary) (ternary : RelaxedFloatTernary) → Each
+        (λ (op : VectorInstr). IsOfKind kind.Vector (instr.Vector op)) (vector.RelaxedFloatUnary unary ∷ vector.RelaxedFloatBinary binary
+        ∷ vector.RelaxedFloatTernary ternary ∷ []) }
+    ensures lanes { Each (λ (op : VectorInstr). IsOfKind kind.Vector (instr.Vector op)) (vector.Splat shape.F32x4
+        ∷ vector.ExtractLane extract.F32x4 0 ∷ vector.ReplaceLane shape.F32x4 0 ∷ vector.Splat shape.F64x2
+        ∷ vector.ExtractLane extract.F64x2 0 ∷ vector.ReplaceLane shape.F64x2 0 ∷ []) }
 {}
 
-#[tactic(auto, unfolding(smith_instr::specs::Enabled::is_enabled))]
-fn lanes_of_floats()
-    ensures f32x4_splat { IsAmong kind.Vector (instr.Vector (vector.Splat shape.F32x4)) }
-    ensures f32x4_splat_barred { IsBarred without_floats (instr.Vector (vector.Splat shape.F32x4)) }
-    ensures f32x4_extract_lane { IsAmong kind.Vector
-        (instr.Vector (vector.ExtractLane extract.F32x4 0)) }
-    ensures f32x4_extract_lane_barred { IsBarred without_floats
-        (instr.Vector (vector.ExtractLane extract.F32x4 0)) }
-    ensures f32x4_replace_lane { IsAmong kind.Vector
-        (instr.Vector (vector.ReplaceLane shape.F32x4 0)) }
-    ensures f32x4_replace_lane_barred { IsBarred without_floats
-        (instr.Vector (vector.ReplaceLane shape.F32x4 0)) }
-    ensures f64x2_splat { IsAmong kind.Vector (instr.Vector (vector.Splat shape.F64x2)) }
-    ensures f64x2_splat_barred { IsBarred without_floats (instr.Vector (vector.Splat shape.F64x2)) }
-    ensures f64x2_extract_lane { IsAmong kind.Vector
-        (instr.Vector (vector.ExtractLane extract.F64x2 0)) }
-    ensures f64x2_extract_lane_barred { IsBarred without_floats
-        (instr.Vector (vector.ExtractLane extract.F64x2 0)) }
-    ensures f64x2_replace_lane { IsAmong kind.Vector
-        (instr.Vector (vector.ReplaceLane shape.F64x2 0)) }
-    ensures f64x2_replace_lane_barred { IsBarred without_floats
-        (instr.Vector (vector.ReplaceLane shape.F64x2 0)) }
-{}
-
-#[tactic(auto, unfolding(smith_instr::specs::Enabled::is_enabled))]
 fn memories()
     ensures size { (index : ℕ) → IsOfKind kind.MemoryInt (instr.Memory (memory.Size index)) }
-    ensures i32_load { (at : MemArg) → IsOfKind kind.MemoryInt (instr.Load load.I32 at) }
-    ensures i64_load { (at : MemArg) → IsOfKind kind.MemoryInt (instr.Load load.I64 at) }
-    ensures i32_load8_s { (at : MemArg) → IsOfKind kind.MemoryInt (instr.Load load.I32From8S at) }
-    ensures i64_load32_u { (at : MemArg) → IsOfKind kind.MemoryInt (instr.Load load.I64From32U at) }
-    ensures i32_store { (at : MemArg) → IsOfKind kind.MemoryInt (instr.Store store.I32 at) }
-    ensures i64_store { (at : MemArg) → IsOfKind kind.MemoryInt (instr.Store store.I64 at) }
-    ensures i64_store8 { (at : MemArg) → IsOfKind kind.MemoryInt (instr.Store store.I64To8 at) }
-    ensures v128_load { (op : VectorLoad) (at : MemArg) → IsAmong kind.MemoryInt
-        (instr.VectorLoad op at) }
-    ensures v128_load_barred { (op : VectorLoad) (at : MemArg) → IsBarred (all_but kind.MemoryInt)
-        (instr.VectorLoad op at) }
-    ensures v128_store { (at : MemArg) → IsOfKind kind.MemoryInt (instr.VectorStore at) }
+    ensures loads { (at : MemArg) → Each (λ (op : Load). IsOfKind kind.MemoryInt (instr.Load op at)) (load.I32 ∷ load.I64 ∷ load.I32From8S
+        ∷ load.I64From32U ∷ []) }
+    ensures stores { (at : MemArg) → Each (λ (op : Store). IsOfKind kind.MemoryInt (instr.Store op at)) (store.I32 ∷ store.I64
+        ∷ store.I64To8 ∷ []) }
+    ensures vectors { (op : VectorLoad) (bytes lane : ℕ) (at : MemArg) → Each (IsOfKind kind.MemoryInt) (instr.VectorLoad op at
+        ∷ instr.VectorStore at ∷ instr.VectorLoadLane bytes at lane ∷ instr.VectorStoreLane bytes at lane ∷ []) }
+    ensures atomics { (op : AtomicAccess) (at : MemArg) → Each (IsOfKind kind.MemoryInt) (instr.Atomic op at ∷ instr.AtomicFence ∷ []) }
+    ensures of_floats { (at : MemArg) → Each (IsOfKind kind.Memory) (instr.Load load.F32 at ∷ instr.Load load.F64 at
+        ∷ instr.Store store.F32 at ∷ instr.Store store.F64 at ∷ []) }
 {}
 
-#[tactic(auto, unfolding(smith_instr::specs::Enabled::is_enabled))]
-fn lanes_and_atomics()
-    ensures load_lane { (bytes lane : ℕ) (at : MemArg) → IsAmong kind.MemoryInt
-        (instr.VectorLoadLane bytes at lane) }
-    ensures load_lane_barred { (bytes lane : ℕ) (at : MemArg) → IsBarred (all_but kind.MemoryInt)
-        (instr.VectorLoadLane bytes at lane) }
-    ensures store_lane { (bytes lane : ℕ) (at : MemArg) → IsAmong kind.MemoryInt
-        (instr.VectorStoreLane bytes at lane) }
-    ensures store_lane_barred { (bytes lane : ℕ) (at : MemArg) → IsBarred (all_but kind.MemoryInt)
-        (instr.VectorStoreLane bytes at lane) }
-    ensures atomic { (op : AtomicAccess) (at : MemArg) → IsAmong kind.MemoryInt
-        (instr.Atomic op at) }
-    ensures atomic_barred { (op : AtomicAccess) (at : MemArg) → IsBarred (all_but kind.MemoryInt)
-        (instr.Atomic op at) }
-    ensures fence { IsOfKind kind.MemoryInt instr.AtomicFence }
-{}
-
-#[tactic(auto, unfolding(smith_instr::specs::Enabled::is_enabled))]
-fn memories_of_floats()
-    ensures f32_load { (at : MemArg) → IsAmong kind.Memory (instr.Load load.F32 at) }
-    ensures f32_load_barred { (at : MemArg) → IsBarred without_floats (instr.Load load.F32 at) }
-    ensures f64_load { (at : MemArg) → IsAmong kind.Memory (instr.Load load.F64 at) }
-    ensures f64_load_barred { (at : MemArg) → IsBarred without_floats (instr.Load load.F64 at) }
-    ensures f32_store { (at : MemArg) → IsAmong kind.Memory (instr.Store store.F32 at) }
-    ensures f32_store_barred { (at : MemArg) → IsBarred without_floats (instr.Store store.F32 at) }
-    ensures f64_store { (at : MemArg) → IsAmong kind.Memory (instr.Store store.F64 at) }
-    ensures f64_store_barred { (at : MemArg) → IsBarred without_floats (instr.Store store.F64 at) }
+fn kinds_alone()
+    ensures itself { Each (λ (one : InstructionKind). IsTrue (is_allowed (kinds_of one) one)) (kind.Numeric ∷ kind.Vector ∷ kind.Memory
+        ∷ kind.MemoryInt ∷ []) }
+    ensures without_floats { Each (λ (one : InstructionKind). ¬ IsTrue (is_allowed without_floats one)) (kind.Numeric ∷ kind.Vector
+        ∷ kind.Memory ∷ []) }
+    ensures all_but_one { ¬ IsTrue (is_allowed (all_but kind.MemoryInt) kind.MemoryInt) }
 {}
 
 #[tactic(auto, unfolding(smith_instr::specs::Enabled::is_enabled))]
 fn others()
-    ensures reference { (ty : HeapType) → IsOfKind kind.Reference
-        (instr.Reference (reference.Null ty)) }
+    ensures reference { (ty : HeapType) → IsOfKind kind.Reference (instr.Reference (reference.Null ty)) }
     ensures table { (index : ℕ) → IsOfKind kind.Table (instr.Table (table.Size index)) }
     ensures aggregate { IsOfKind kind.Aggregate (instr.Aggregate aggregate.RefI31Shared) }
-    ensures call { (index : ℕ) → IsOfKind kind.Control (instr.Call index) }
-    ensures nop { IsOfKind kind.Control instr.Nop }
-    ensures block { IsOfKind kind.Control (instr.Block block.Empty) }
-    ensures br_on_cast { (cast : BranchCast) → IsOfKind kind.Control (instr.BrOnCast cast) }
-    ensures unreachable { IsEnabled every_feature (all_but kind.Control) instr.Unreachable }
-    ensures else_alone { IsEnabled every_feature (all_but kind.Control) instr.Else }
-    ensures end { IsEnabled every_feature (all_but kind.Control) instr.End }
+    ensures control { (index : ℕ) (cast : BranchCast) → Each (IsOfKind kind.Control) (instr.Call index ∷ instr.Nop ∷ instr.Block block.Empty
+        ∷ instr.BrOnCast cast ∷ []) }
+    ensures always { Each (IsEnabled every_feature (all_but kind.Control)) (instr.Unreachable ∷ instr.Else ∷ instr.End ∷ []) }
 {}
 
 fn data()
-    ensures memory_init { (index other : ℕ) → IsTrue
-        (names_data (instr.Memory (memory.Init index other))) }
-    ensures data_drop { (index : ℕ) → IsTrue (names_data (instr.Memory (memory.DataDrop index))) }
-    ensures array_new_data { (index other : ℕ) → IsTrue
-        (names_data (instr.Aggregate (aggregate.ArrayNewData index other))) }
-    ensures array_init_data { (index other : ℕ) → IsTrue
-        (names_data (instr.Aggregate (aggregate.ArrayInitData index other))) }
-    ensures memory_copy { (index other : ℕ) → ¬ IsTrue
-        (names_data (instr.Memory (memory.Copy index other))) }
-    ensures table_init { (index other : ℕ) → ¬ IsTrue
-        (names_data (instr.Table (table.Init index other))) }
-    ensures elem_drop { (index : ℕ) → ¬ IsTrue (names_data (instr.Table (table.ElemDrop index))) }
-    ensures array_new_elem { (index other : ℕ) → ¬ IsTrue
-        (names_data (instr.Aggregate (aggregate.ArrayNewElem index other))) }
-    ensures array_init_elem { (index other : ℕ) → ¬ IsTrue
-        (names_data (instr.Aggregate (aggregate.ArrayInitElem index other))) }
+    ensures named { (index other : ℕ) → Each (λ (one : Instr). IsTrue (names_data one)) (instr.Memory (memory.Init index other)
+        ∷ instr.Memory (memory.DataDrop index) ∷ instr.Aggregate (aggregate.ArrayNewData index other)
+        ∷ instr.Aggregate (aggregate.ArrayInitData index other) ∷ []) }
+    ensures not_named { (index other : ℕ) → Each (λ (one : Instr). ¬ IsTrue (names_data one)) (instr.Memory (memory.Copy index other)
+        ∷ instr.Table (table.Init index other) ∷ instr.Table (table.ElemDrop index) ∷ instr.Aggregate (aggregate.ArrayNewElem index other)
+        ∷ instr.Aggregate (aggregate.ArrayInitElem index other) ∷ []) }
 {}

@@ -22,40 +22,32 @@ fn ends()
 {}
 
 fn locals()
-    ensures with_a_default { IsBodyTyped (function_of (I32 ∷ []) (I32 ∷ []))
-        (instr.LocalGet 0 ∷ []) }
-    ensures read_after_it_is_set { IsBodyTyped (function_of (some_func ∷ []) [])
-        (instr.Unreachable ∷ instr.LocalSet 0 ∷ instr.LocalGet 0 ∷ instr.Drop ∷ []) }
-    ensures read_after_a_tee { IsBodyTyped (function_of (some_func ∷ []) [])
-        (instr.Unreachable ∷ instr.LocalTee 0 ∷ instr.Drop ∷ instr.LocalGet 0 ∷ instr.Drop ∷ []) }
-    ensures read_before_it_is_set { ¬ IsBodyTyped (function_of (some_func ∷ []) [])
-        (instr.LocalGet 0 ∷ instr.Drop ∷ []) }
+    ensures with_a_default { IsBodyTyped (function_of (I32 ∷ []) (I32 ∷ [])) (instr.LocalGet 0 ∷ []) }
+    ensures read_after_it_is_set { IsBodyTyped (function_of (some_func ∷ []) []) (instr.Unreachable ∷ instr.LocalSet 0 ∷ instr.LocalGet 0
+        ∷ instr.Drop ∷ []) }
+    ensures read_after_a_tee { IsBodyTyped (function_of (some_func ∷ []) []) (instr.Unreachable ∷ instr.LocalTee 0 ∷ instr.Drop
+        ∷ instr.LocalGet 0 ∷ instr.Drop ∷ []) }
+    ensures read_before_it_is_set { ¬ IsBodyTyped (function_of (some_func ∷ []) []) (instr.LocalGet 0 ∷ instr.Drop ∷ []) }
 {}
 
 fn weakening()
-    ensures to_a_type_above { AreTyped (function_of [] []) [] (stacked (some_func ∷ []) [])
+    ensures to_a_type_above { AreTyped (function_of [] []) [] (stacked (some_func ∷ []) []) (stacked (Ref funcref ∷ []) []) }
+    ensures by_an_empty_block { AreTyped (function_of [] []) (instr.Block (block.Func 4) ∷ instr.End ∷ []) (stacked (some_func ∷ []) [])
         (stacked (Ref funcref ∷ []) []) }
-    ensures by_an_empty_block { AreTyped (function_of [] [])
-        (instr.Block (block.Func 4) ∷ instr.End ∷ []) (stacked (some_func ∷ []) [])
-        (stacked (Ref funcref ∷ []) []) }
-    ensures by_an_if_without_else { AreTyped (function_of [] [])
-        (instr.If (block.Func 4) ∷ instr.End ∷ []) (stacked (some_func ∷ I32 ∷ []) [])
-        (stacked (Ref funcref ∷ []) []) }
-    ensures to_a_type_below { ¬ AreTyped (function_of [] []) [] (stacked (Ref funcref ∷ []) [])
-        (stacked (some_func ∷ []) []) }
+    ensures by_an_if_without_else { AreTyped (function_of [] []) (instr.If (block.Func 4) ∷ instr.End
+        ∷ []) (stacked (some_func ∷ I32 ∷ []) []) (stacked (Ref funcref ∷ []) []) }
+    ensures to_a_type_below { ¬ AreTyped (function_of [] []) [] (stacked (Ref funcref ∷ []) []) (stacked (some_func ∷ []) []) }
 {}
 
 fn branches()
-    ensures to_a_block { IsBodyTyped (function_of [] (I32 ∷ []))
-        (instr.Block (block.Value I32) ∷ number 1 ∷ instr.Br 0 ∷ instr.End ∷ []) }
+    ensures to_a_block { IsBodyTyped (function_of [] (I32 ∷ [])) (instr.Block (block.Value I32) ∷ number 1 ∷ instr.Br 0 ∷ instr.End ∷ []) }
     ensures without_a_value { ¬ IsBodyTyped (function_of [] (I32 ∷ [])) (instr.Br 0 ∷ []) }
-    ensures to_a_label_of_another_type { (context : BodyContext) (results : List ValType)
-        → ¬ HasInstrType (labelled context (I64 ∷ [])) [] (instr.Br 0) (I32 ∷ []) results }
+    ensures to_a_label_of_another_type { (context : BodyContext) (results : List ValType) → ¬ HasInstrType (labelled context (I64 ∷ [])) []
+        (instr.Br 0) (I32 ∷ []) results }
 {}
 
 fn ifs()
-    ensures without_else { IsBodyTyped (function_of [] [])
-        (number 1 ∷ instr.If block.Empty ∷ instr.End ∷ []) }
-    ensures without_else_for_a_result { ¬ IsBodyTyped (function_of [] (I32 ∷ []))
-        (number 1 ∷ instr.If (block.Value I32) ∷ number 2 ∷ instr.End ∷ []) }
+    ensures without_else { IsBodyTyped (function_of [] []) (number 1 ∷ instr.If block.Empty ∷ instr.End ∷ []) }
+    ensures without_else_for_a_result { ¬ IsBodyTyped (function_of [] (I32 ∷ [])) (number 1 ∷ instr.If (block.Value I32) ∷ number 2
+        ∷ instr.End ∷ []) }
 {}

@@ -1,194 +1,66 @@
-ghost use Rattle.std.specs.Prelude.{[], ◌∷◌};
+ghost use Rattle.std.specs.List.{AllByRecursion as Each};
+ghost use Rattle.std.specs.Prelude.{[], ◌∷◌, ◌≡◌, ◌≤◌, ◌<◌, ℕ};
 ghost use Rattle.smith_syntax.specs.declared.value_type.ValType.TheVariants.{I32, I64, V128};
 ghost use Rattle.smith_instr.specs.declared.instr.Instr.TheVariants as instr;
 ghost use Rattle.smith_instr.specs.declared.vector.VectorLoad.TheVariants as vload;
 ghost use Rattle.smith_instr.specs.declared.vector.VectorLoad.{VectorLoad};
 ghost use Rattle.smith_instr_examples.specs.ExampleBodies.{aligned};
-ghost use Rattle.smith_instr_examples.specs.ExampleTyping.{HasNoType, HasOnlyType, LeavesNot, TakesNot};
+ghost use Rattle.smith_instr_examples.specs.ExampleTyping.{HasNoType, HasOnlyType};
+ghost use Rattle.smith_instr.specs.MemoryTypes.{IsLane, vector_bytes};
 
 fn loads()
-    ensures v128_load { HasOnlyType (instr.VectorLoad vload.V128 (aligned 0 4)) (I32 ∷ [])
-        (V128 ∷ []) }
-    ensures v128_load8x8_s { HasOnlyType (instr.VectorLoad vload.I8x8S (aligned 0 3)) (I32 ∷ [])
-        (V128 ∷ []) }
-    ensures v128_load8x8_u { HasOnlyType (instr.VectorLoad vload.I8x8U (aligned 0 3)) (I32 ∷ [])
-        (V128 ∷ []) }
-    ensures v128_load16x4_s { HasOnlyType (instr.VectorLoad vload.I16x4S (aligned 0 3)) (I32 ∷ [])
-        (V128 ∷ []) }
-    ensures v128_load16x4_u { HasOnlyType (instr.VectorLoad vload.I16x4U (aligned 0 3)) (I32 ∷ [])
-        (V128 ∷ []) }
-    ensures v128_load32x2_s { HasOnlyType (instr.VectorLoad vload.I32x2S (aligned 0 3)) (I32 ∷ [])
-        (V128 ∷ []) }
-    ensures v128_load32x2_u { HasOnlyType (instr.VectorLoad vload.I32x2U (aligned 0 3)) (I32 ∷ [])
-        (V128 ∷ []) }
-    ensures v128_load8_splat { HasOnlyType (instr.VectorLoad vload.Splat8 (aligned 0 0)) (I32 ∷ [])
-        (V128 ∷ []) }
-    ensures v128_load16_splat { HasOnlyType (instr.VectorLoad vload.Splat16 (aligned 0 1))
-        (I32 ∷ []) (V128 ∷ []) }
-    ensures v128_load32_splat { HasOnlyType (instr.VectorLoad vload.Splat32 (aligned 0 2))
-        (I32 ∷ []) (V128 ∷ []) }
-    ensures v128_load64_splat { HasOnlyType (instr.VectorLoad vload.Splat64 (aligned 0 3))
-        (I32 ∷ []) (V128 ∷ []) }
-    ensures v128_load32_zero { HasOnlyType (instr.VectorLoad vload.Zero32 (aligned 0 2)) (I32 ∷ [])
-        (V128 ∷ []) }
-    ensures v128_load64_zero { HasOnlyType (instr.VectorLoad vload.Zero64 (aligned 0 3)) (I32 ∷ [])
-        (V128 ∷ []) }
-{}
-
-fn loads_of_a_wide_memory()
-    ensures v128_load { HasOnlyType (instr.VectorLoad vload.V128 (aligned 1 0)) (I64 ∷ [])
-        (V128 ∷ []) }
-    ensures v128_load8x8_s { HasOnlyType (instr.VectorLoad vload.I8x8S (aligned 1 0)) (I64 ∷ [])
-        (V128 ∷ []) }
-    ensures v128_load8x8_u { HasOnlyType (instr.VectorLoad vload.I8x8U (aligned 1 0)) (I64 ∷ [])
-        (V128 ∷ []) }
-    ensures v128_load16x4_s { HasOnlyType (instr.VectorLoad vload.I16x4S (aligned 1 0)) (I64 ∷ [])
-        (V128 ∷ []) }
-    ensures v128_load16x4_u { HasOnlyType (instr.VectorLoad vload.I16x4U (aligned 1 0)) (I64 ∷ [])
-        (V128 ∷ []) }
-    ensures v128_load32x2_s { HasOnlyType (instr.VectorLoad vload.I32x2S (aligned 1 0)) (I64 ∷ [])
-        (V128 ∷ []) }
-    ensures v128_load32x2_u { HasOnlyType (instr.VectorLoad vload.I32x2U (aligned 1 0)) (I64 ∷ [])
-        (V128 ∷ []) }
-    ensures v128_load8_splat { HasOnlyType (instr.VectorLoad vload.Splat8 (aligned 1 0)) (I64 ∷ [])
-        (V128 ∷ []) }
-    ensures v128_load16_splat { HasOnlyType (instr.VectorLoad vload.Splat16 (aligned 1 0))
+    ensures bytes_of_each { Each (λ (row : VectorLoad × ℕ). vector_bytes row.0 ≡ row.1) ((vload.V128, 4) ∷ (vload.I8x8S, 3)
+        ∷ (vload.I8x8U, 3) ∷ (vload.I16x4S, 3) ∷ (vload.I16x4U, 3) ∷ (vload.I32x2S, 3) ∷ (vload.I32x2U, 3) ∷ (vload.Splat8, 0)
+        ∷ (vload.Splat16, 1) ∷ (vload.Splat32, 2) ∷ (vload.Splat64, 3) ∷ (vload.Zero32, 2) ∷ (vload.Zero64, 3) ∷ []) }
+    ensures of_a_narrow_memory { (op : VectorLoad) (align : ℕ) → align ≤ vector_bytes op → HasOnlyType
+        (instr.VectorLoad op (aligned 0 align)) (I32 ∷ []) (V128 ∷ []) }
+    ensures of_a_wide_memory { (op : VectorLoad) (align : ℕ) → align ≤ vector_bytes op → HasOnlyType (instr.VectorLoad op (aligned 1 align))
         (I64 ∷ []) (V128 ∷ []) }
-    ensures v128_load32_splat { HasOnlyType (instr.VectorLoad vload.Splat32 (aligned 1 0))
-        (I64 ∷ []) (V128 ∷ []) }
-    ensures v128_load64_splat { HasOnlyType (instr.VectorLoad vload.Splat64 (aligned 1 0))
-        (I64 ∷ []) (V128 ∷ []) }
-    ensures v128_load32_zero { HasOnlyType (instr.VectorLoad vload.Zero32 (aligned 1 0)) (I64 ∷ [])
-        (V128 ∷ []) }
-    ensures v128_load64_zero { HasOnlyType (instr.VectorLoad vload.Zero64 (aligned 1 0)) (I64 ∷ [])
-        (V128 ∷ []) }
-{}
-
-fn loads_above_their_alignments()
-    ensures v128_load { HasNoType (instr.VectorLoad vload.V128 (aligned 0 5)) }
-    ensures v128_load8x8_s { HasNoType (instr.VectorLoad vload.I8x8S (aligned 0 4)) }
-    ensures v128_load8x8_u { HasNoType (instr.VectorLoad vload.I8x8U (aligned 0 4)) }
-    ensures v128_load16x4_s { HasNoType (instr.VectorLoad vload.I16x4S (aligned 0 4)) }
-    ensures v128_load16x4_u { HasNoType (instr.VectorLoad vload.I16x4U (aligned 0 4)) }
-    ensures v128_load32x2_s { HasNoType (instr.VectorLoad vload.I32x2S (aligned 0 4)) }
-    ensures v128_load32x2_u { HasNoType (instr.VectorLoad vload.I32x2U (aligned 0 4)) }
-    ensures v128_load8_splat { HasNoType (instr.VectorLoad vload.Splat8 (aligned 0 1)) }
-    ensures v128_load16_splat { HasNoType (instr.VectorLoad vload.Splat16 (aligned 0 2)) }
-    ensures v128_load32_splat { HasNoType (instr.VectorLoad vload.Splat32 (aligned 0 3)) }
-    ensures v128_load64_splat { HasNoType (instr.VectorLoad vload.Splat64 (aligned 0 4)) }
-    ensures v128_load32_zero { HasNoType (instr.VectorLoad vload.Zero32 (aligned 0 3)) }
-    ensures v128_load64_zero { HasNoType (instr.VectorLoad vload.Zero64 (aligned 0 4)) }
-{}
-
-fn loads_at_other_addresses()
-    ensures wide_address { (op : VectorLoad) → TakesNot (instr.VectorLoad op (aligned 0 0))
-        (I64 ∷ []) }
-    ensures narrow_address_of_a_wide_memory { (op : VectorLoad) → TakesNot
-        (instr.VectorLoad op (aligned 1 0)) (I32 ∷ []) }
-    ensures no_address { (op : VectorLoad) → TakesNot (instr.VectorLoad op (aligned 0 0)) [] }
-    ensures number_as_a_result { (op : VectorLoad) → LeavesNot (instr.VectorLoad op (aligned 0 0))
-        (I64 ∷ []) }
-    ensures no_result { (op : VectorLoad) → LeavesNot (instr.VectorLoad op (aligned 0 0)) [] }
-    ensures past_the_last_memory { (op : VectorLoad) → HasNoType
-        (instr.VectorLoad op (aligned 2 0)) }
-    ensures offset_too_high { (op : VectorLoad) → HasNoType
-        (instr.VectorLoad op (record (aligned 0 0) { offset = 4294967296 })) }
+    ensures above_its_alignment { (op : VectorLoad) (memory align : ℕ) → vector_bytes op < align → HasNoType
+        (instr.VectorLoad op (aligned memory align)) }
+    ensures past_the_last_memory { (op : VectorLoad) → HasNoType (instr.VectorLoad op (aligned 2 0)) }
+    ensures offset_too_high { (op : VectorLoad) → HasNoType (instr.VectorLoad op (record (aligned 0 0) { offset = 4294967296 })) }
 {}
 
 fn stores()
-    ensures v128_store { HasOnlyType (instr.VectorStore (aligned 0 4)) (I32 ∷ V128 ∷ []) [] }
-    ensures v128_store_of_a_wide_memory { HasOnlyType (instr.VectorStore (aligned 1 0))
-        (I64 ∷ V128 ∷ []) [] }
-    ensures above_its_alignment { HasNoType (instr.VectorStore (aligned 0 5)) }
-    ensures narrow_address_of_a_wide_memory { TakesNot (instr.VectorStore (aligned 1 4))
-        (I32 ∷ V128 ∷ []) }
-    ensures past_the_last_memory { HasNoType (instr.VectorStore (aligned 2 4)) }
+    ensures of_a_narrow_memory { (align : ℕ) → align ≤ 4 → HasOnlyType (instr.VectorStore (aligned 0 align)) (I32 ∷ V128 ∷ []) [] }
+    ensures of_a_wide_memory { (align : ℕ) → align ≤ 4 → HasOnlyType (instr.VectorStore (aligned 1 align)) (I64 ∷ V128 ∷ []) [] }
+    ensures above_its_alignment { (memory align : ℕ) → 4 < align → HasNoType (instr.VectorStore (aligned memory align)) }
+    ensures past_the_last_memory { (align : ℕ) → HasNoType (instr.VectorStore (aligned 2 align)) }
+{}
+
+fn lanes()
+    ensures last_of_1_byte { IsLane 0 15 }
+    ensures past_those_of_1_byte { ¬ IsLane 0 16 }
+    ensures last_of_2_bytes { IsLane 1 7 }
+    ensures past_those_of_2_bytes { ¬ IsLane 1 8 }
+    ensures last_of_4_bytes { IsLane 2 3 }
+    ensures past_those_of_4_bytes { ¬ IsLane 2 4 }
+    ensures last_of_8_bytes { IsLane 3 1 }
+    ensures past_those_of_8_bytes { ¬ IsLane 3 2 }
+    ensures whole_vector { (lane : ℕ) → ¬ IsLane 4 lane }
 {}
 
 fn lanes_loaded()
-    ensures v128_load8_lane_15 { HasOnlyType (instr.VectorLoadLane 0 (aligned 0 0) 15)
-        (I32 ∷ V128 ∷ []) (V128 ∷ []) }
-    ensures v128_load8_lane_0_of_a_wide_memory { HasOnlyType
-        (instr.VectorLoadLane 0 (aligned 1 0) 0) (I64 ∷ V128 ∷ []) (V128 ∷ []) }
-    ensures v128_load8_lane_16 { HasNoType (instr.VectorLoadLane 0 (aligned 0 0) 16) }
-    ensures v128_load8_lane_above_its_alignment { HasNoType
-        (instr.VectorLoadLane 0 (aligned 0 1) 0) }
-    ensures v128_load16_lane_7 { HasOnlyType (instr.VectorLoadLane 1 (aligned 0 1) 7)
-        (I32 ∷ V128 ∷ []) (V128 ∷ []) }
-    ensures v128_load16_lane_0_of_a_wide_memory { HasOnlyType
-        (instr.VectorLoadLane 1 (aligned 1 0) 0) (I64 ∷ V128 ∷ []) (V128 ∷ []) }
-    ensures v128_load16_lane_8 { HasNoType (instr.VectorLoadLane 1 (aligned 0 1) 8) }
-    ensures v128_load16_lane_above_its_alignment { HasNoType
-        (instr.VectorLoadLane 1 (aligned 0 2) 0) }
-    ensures v128_load32_lane_3 { HasOnlyType (instr.VectorLoadLane 2 (aligned 0 2) 3)
-        (I32 ∷ V128 ∷ []) (V128 ∷ []) }
-    ensures v128_load32_lane_0_of_a_wide_memory { HasOnlyType
-        (instr.VectorLoadLane 2 (aligned 1 0) 0) (I64 ∷ V128 ∷ []) (V128 ∷ []) }
-    ensures v128_load32_lane_4 { HasNoType (instr.VectorLoadLane 2 (aligned 0 2) 4) }
-    ensures v128_load32_lane_above_its_alignment { HasNoType
-        (instr.VectorLoadLane 2 (aligned 0 3) 0) }
-    ensures v128_load64_lane_1 { HasOnlyType (instr.VectorLoadLane 3 (aligned 0 3) 1)
-        (I32 ∷ V128 ∷ []) (V128 ∷ []) }
-    ensures v128_load64_lane_0_of_a_wide_memory { HasOnlyType
-        (instr.VectorLoadLane 3 (aligned 1 0) 0) (I64 ∷ V128 ∷ []) (V128 ∷ []) }
-    ensures v128_load64_lane_2 { HasNoType (instr.VectorLoadLane 3 (aligned 0 3) 2) }
-    ensures v128_load64_lane_above_its_alignment { HasNoType
-        (instr.VectorLoadLane 3 (aligned 0 4) 0) }
-{}
-
-fn lanes_loaded_otherwise()
-    ensures whole_vector { HasNoType (instr.VectorLoadLane 4 (aligned 0 0) 0) }
-    ensures wide_address { TakesNot (instr.VectorLoadLane 2 (aligned 0 0) 0) (I64 ∷ V128 ∷ []) }
-    ensures address_above_the_vector { TakesNot (instr.VectorLoadLane 2 (aligned 0 0) 0)
-        (V128 ∷ I32 ∷ []) }
-    ensures number_for_a_vector { TakesNot (instr.VectorLoadLane 2 (aligned 0 0) 0)
-        (I32 ∷ I32 ∷ []) }
-    ensures no_vector { TakesNot (instr.VectorLoadLane 2 (aligned 0 0) 0) (I32 ∷ []) }
-    ensures number_as_a_result { LeavesNot (instr.VectorLoadLane 2 (aligned 0 0) 0) (I32 ∷ []) }
-    ensures no_result { LeavesNot (instr.VectorLoadLane 2 (aligned 0 0) 0) [] }
-    ensures past_the_last_memory { HasNoType (instr.VectorLoadLane 2 (aligned 2 0) 0) }
+    ensures of_a_narrow_memory { (bytes lane align : ℕ) → IsLane bytes lane → align ≤ bytes → HasOnlyType
+        (instr.VectorLoadLane bytes (aligned 0 align) lane) (I32 ∷ V128 ∷ []) (V128 ∷ []) }
+    ensures of_a_wide_memory { (bytes lane align : ℕ) → IsLane bytes lane → align ≤ bytes → HasOnlyType
+        (instr.VectorLoadLane bytes (aligned 1 align) lane) (I64 ∷ V128 ∷ []) (V128 ∷ []) }
+    ensures above_its_alignment { (bytes lane memory align : ℕ) → bytes < align → HasNoType
+        (instr.VectorLoadLane bytes (aligned memory align) lane) }
+    ensures past_its_lanes { (bytes lane memory align : ℕ) → ¬ IsLane bytes lane → HasNoType
+        (instr.VectorLoadLane bytes (aligned memory align) lane) }
+    ensures past_the_last_memory { (bytes lane align : ℕ) → HasNoType (instr.VectorLoadLane bytes (aligned 2 align) lane) }
 {}
 
 fn lanes_stored()
-    ensures v128_store8_lane_15 { HasOnlyType (instr.VectorStoreLane 0 (aligned 0 0) 15)
-        (I32 ∷ V128 ∷ []) [] }
-    ensures v128_store8_lane_0_of_a_wide_memory { HasOnlyType
-        (instr.VectorStoreLane 0 (aligned 1 0) 0) (I64 ∷ V128 ∷ []) [] }
-    ensures v128_store8_lane_16 { HasNoType (instr.VectorStoreLane 0 (aligned 0 0) 16) }
-    ensures v128_store8_lane_above_its_alignment { HasNoType
-        (instr.VectorStoreLane 0 (aligned 0 1) 0) }
-    ensures v128_store16_lane_7 { HasOnlyType (instr.VectorStoreLane 1 (aligned 0 1) 7)
-        (I32 ∷ V128 ∷ []) [] }
-    ensures v128_store16_lane_0_of_a_wide_memory { HasOnlyType
-        (instr.VectorStoreLane 1 (aligned 1 0) 0) (I64 ∷ V128 ∷ []) [] }
-    ensures v128_store16_lane_8 { HasNoType (instr.VectorStoreLane 1 (aligned 0 1) 8) }
-    ensures v128_store16_lane_above_its_alignment { HasNoType
-        (instr.VectorStoreLane 1 (aligned 0 2) 0) }
-    ensures v128_store32_lane_3 { HasOnlyType (instr.VectorStoreLane 2 (aligned 0 2) 3)
-        (I32 ∷ V128 ∷ []) [] }
-    ensures v128_store32_lane_0_of_a_wide_memory { HasOnlyType
-        (instr.VectorStoreLane 2 (aligned 1 0) 0) (I64 ∷ V128 ∷ []) [] }
-    ensures v128_store32_lane_4 { HasNoType (instr.VectorStoreLane 2 (aligned 0 2) 4) }
-    ensures v128_store32_lane_above_its_alignment { HasNoType
-        (instr.VectorStoreLane 2 (aligned 0 3) 0) }
-    ensures v128_store64_lane_1 { HasOnlyType (instr.VectorStoreLane 3 (aligned 0 3) 1)
-        (I32 ∷ V128 ∷ []) [] }
-    ensures v128_store64_lane_0_of_a_wide_memory { HasOnlyType
-        (instr.VectorStoreLane 3 (aligned 1 0) 0) (I64 ∷ V128 ∷ []) [] }
-    ensures v128_store64_lane_2 { HasNoType (instr.VectorStoreLane 3 (aligned 0 3) 2) }
-    ensures v128_store64_lane_above_its_alignment { HasNoType
-        (instr.VectorStoreLane 3 (aligned 0 4) 0) }
-{}
-
-fn lanes_stored_otherwise()
-    ensures whole_vector { HasNoType (instr.VectorStoreLane 4 (aligned 0 0) 0) }
-    ensures wide_address { TakesNot (instr.VectorStoreLane 2 (aligned 0 0) 0) (I64 ∷ V128 ∷ []) }
-    ensures address_above_the_vector { TakesNot (instr.VectorStoreLane 2 (aligned 0 0) 0)
-        (V128 ∷ I32 ∷ []) }
-    ensures number_for_a_vector { TakesNot (instr.VectorStoreLane 2 (aligned 0 0) 0)
-        (I32 ∷ I32 ∷ []) }
-    ensures no_vector { TakesNot (instr.VectorStoreLane 2 (aligned 0 0) 0) (I32 ∷ []) }
-    ensures number_as_a_result { LeavesNot (instr.VectorStoreLane 2 (aligned 0 0) 0) (I32 ∷ []) }
-    ensures a_result { LeavesNot (instr.VectorStoreLane 2 (aligned 0 0) 0) (V128 ∷ []) }
-    ensures past_the_last_memory { HasNoType (instr.VectorStoreLane 2 (aligned 2 0) 0) }
+    ensures of_a_narrow_memory { (bytes lane align : ℕ) → IsLane bytes lane → align ≤ bytes → HasOnlyType
+        (instr.VectorStoreLane bytes (aligned 0 align) lane) (I32 ∷ V128 ∷ []) [] }
+    ensures of_a_wide_memory { (bytes lane align : ℕ) → IsLane bytes lane → align ≤ bytes → HasOnlyType
+        (instr.VectorStoreLane bytes (aligned 1 align) lane) (I64 ∷ V128 ∷ []) [] }
+    ensures above_its_alignment { (bytes lane memory align : ℕ) → bytes < align → HasNoType
+        (instr.VectorStoreLane bytes (aligned memory align) lane) }
+    ensures past_its_lanes { (bytes lane memory align : ℕ) → ¬ IsLane bytes lane → HasNoType
+        (instr.VectorStoreLane bytes (aligned memory align) lane) }
+    ensures past_the_last_memory { (bytes lane align : ℕ) → HasNoType (instr.VectorStoreLane bytes (aligned 2 align) lane) }
 {}

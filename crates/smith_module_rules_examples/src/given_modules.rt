@@ -1,30 +1,12 @@
 ghost use Rattle.std.specs.Prelude.{[], codes, true, false, pos};
-ghost use Rattle.smith_syntax.specs.declared.const_instr.ConstInstr.TheVariants.{I32Const};
-ghost use Rattle.smith_syntax.specs.declared.const_instr.ConstInstr.TheVariants.{GlobalGet};
+ghost use Rattle.smith_syntax.specs.declared.const_instr.ConstInstr.TheVariants.{I32Const, GlobalGet};
 ghost use Rattle.smith_module_rules.specs.Module.{IsValid};
-ghost use Rattle.smith_module_rules_examples.specs.ExampleModules.{two_exports, named_imports};
-ghost use Rattle.smith_module_rules_examples.specs.ExampleModules.{two_memories};
+ghost use Rattle.smith_module_rules_examples.specs.ExampleModules.{two_exports, named_imports, two_memories};
 ghost use Rattle.smith_module_rules_examples.specs.ExampleShapes.{with_environment, with_ping};
-ghost use Rattle.smith_module_rules_examples.specs.ExampleGiven.{
-  cloned,
-  array_and_struct_apart,
-  references_array,
-  nothing_allowed,
-  without_gc,
-  raw_body,
-  counting_once,
-  counting_fuel,
-  counting_after,
-  two_singles,
-  memories_one_by_one,
-  null_table,
-  full_memory,
-  forced_page,
-  last_byte,
-  sixty_elements,
-  exported_number,
-  three_numbers,
-};
+ghost use Rattle.smith_module_rules_examples.specs.ExampleGiven.{cloned, array_and_struct_apart, references_array, nothing_allowed};
+ghost use Rattle.smith_module_rules_examples.specs.ExampleGiven.{without_gc, raw_body, counting_once, counting_fuel, counting_after};
+ghost use Rattle.smith_module_rules_examples.specs.ExampleGiven.{two_singles, memories_one_by_one, null_table, full_memory, forced_page};
+ghost use Rattle.smith_module_rules_examples.specs.ExampleGiven.{last_byte, sixty_elements, exported_number, three_numbers};
 
 fn groups()
     ensures a_group_and_its_clone { IsValid cloned }

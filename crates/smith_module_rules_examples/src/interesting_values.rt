@@ -1,8 +1,7 @@
 ghost use Rattle.std.specs.Prelude.{◌<◌, ◌^◌, [], ◌∷◌, None};
 ghost use Rattle.smith_types.specs.Flags.{funcref};
 ghost use Rattle.smith_config.specs.Config.{default_config};
-ghost use Rattle.smith_module_rules.specs.InterestingValues.{IsNearPower, IsPattern, IsFloatEdge};
-ghost use Rattle.smith_module_rules.specs.InterestingValues.{IsInteresting64, IsInteresting32, AreAll};
+ghost use Rattle.smith_module_rules.specs.InterestingValues.{IsNearPower, IsPattern, IsFloatEdge, IsInteresting64, IsInteresting32, AreAll};
 ghost use Rattle.smith_module_rules.specs.InterestingValues.{HasInterestingValues};
 ghost use Rattle.smith_module_rules_examples.specs.ExampleParts.{memory, table};
 ghost use Rattle.smith_module_rules_examples.specs.ExampleModules.{empty_module};

@@ -2,26 +2,10 @@ ghost use Rattle.std.specs.Prelude.{true, pos};
 ghost use Rattle.smith_syntax.specs.declared.segments.Offset.TheVariants.{Const32};
 ghost use Rattle.smith_config.specs.Config.{default_config};
 ghost use Rattle.smith_module_rules.specs.Module.{IsValid};
-ghost use Rattle.smith_module_rules_examples.specs.ExampleModules.{
-  empty_module,
-  empty_group,
-  arrays,
-  three_arrays,
-  one_function,
-  one_table,
-  two_elements,
-  one_import,
-  two_imports,
-  one_memory,
-  three_memories,
-  one_data_segment,
-  one_tag,
-  one_number,
-  passive_bytes,
-  one_of_each,
-  filled_table,
-  table_from_a_number,
-};
+ghost use Rattle.smith_module_rules_examples.specs.ExampleModules.{empty_module, empty_group, arrays, three_arrays, one_function};
+ghost use Rattle.smith_module_rules_examples.specs.ExampleModules.{one_table, two_elements, one_import, two_imports, one_memory};
+ghost use Rattle.smith_module_rules_examples.specs.ExampleModules.{three_memories, one_data_segment, one_tag, one_number, passive_bytes};
+ghost use Rattle.smith_module_rules_examples.specs.ExampleModules.{one_of_each, filled_table, table_from_a_number};
 
 fn types_and_functions()
     ensures nothing { IsValid (empty_module default_config) }

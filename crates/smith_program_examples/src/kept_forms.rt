@@ -7,9 +7,8 @@ ghost use Rattle.smith_module_rules_examples.specs.ExampleParts.{trapping};
 ghost use Rattle.smith_instr_examples.specs.ExampleBodies.{number};
 ghost use Rattle.smith_program.specs.Bodies.{AreBodiesOf, IsOfBody};
 ghost use Rattle.smith_program.specs.declared.program.Body.TheVariants as body;
-ghost use Rattle.smith_program_examples.specs.ExamplePrograms.{after_an_import, constant};
-ghost use Rattle.smith_program_examples.specs.ExamplePrograms.{narrow_function, raw, raw_alone};
-ghost use Rattle.smith_program_examples.specs.ExamplePrograms.{raw_between, two_functions};
+ghost use Rattle.smith_program_examples.specs.ExamplePrograms.{after_an_import, constant, narrow_function, raw, raw_alone, raw_between};
+ghost use Rattle.smith_program_examples.specs.ExamplePrograms.{two_functions};
 
 fn one()
     ensures raw_bytes { IsOfBody (λ instructions. ⊥) raw body.Raw }
@@ -22,8 +21,7 @@ fn one()
 fn several()
     ensures none { AreBodiesOf (empty_module default_config) [] }
     ensures in_order { AreBodiesOf raw_between (constant 5 ∷ body.Raw ∷ constant 7 ∷ []) }
-    ensures in_another_order { ¬ AreBodiesOf raw_between
-        (body.Raw ∷ constant 5 ∷ constant 7 ∷ []) }
+    ensures in_another_order { ¬ AreBodiesOf raw_between (body.Raw ∷ constant 5 ∷ constant 7 ∷ []) }
     ensures one_too_few { ¬ AreBodiesOf raw_between (constant 5 ∷ body.Raw ∷ []) }
     ensures one_too_many { ¬ AreBodiesOf two_functions (constant 5 ∷ constant 7 ∷ constant 9 ∷ []) }
 {}

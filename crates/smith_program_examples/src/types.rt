@@ -6,8 +6,7 @@ ghost use Rattle.smith_module_rules_examples.specs.ExampleParts.{trapping};
 ghost use Rattle.smith_instr.specs.declared.instr.Instr.TheVariants as instr;
 ghost use Rattle.smith_instr_examples.specs.ExampleBodies.{number};
 ghost use Rattle.smith_program.specs.Bodies.{HasDefinedType, IsBodyAt};
-ghost use Rattle.smith_program_examples.specs.ExamplePrograms.{after_a_memory, after_an_import};
-ghost use Rattle.smith_program_examples.specs.ExamplePrograms.{gives_nothing, gives_number};
+ghost use Rattle.smith_program_examples.specs.ExamplePrograms.{after_a_memory, after_an_import, gives_nothing, gives_number};
 ghost use Rattle.smith_program_examples.specs.ExamplePrograms.{narrow_function, with_local};
 
 fn functions()

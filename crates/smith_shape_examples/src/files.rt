@@ -26,15 +26,11 @@ fn shapes()
 {}
 
 fn faults()
-    ensures cut_module { IsShapeFileFault magic
-        (fault.Binary (error.Malformed 4 reason.UnexpectedEnd)) }
-    ensures at_another_byte { ¬ IsShapeFileFault magic
-        (fault.Binary (error.Malformed 3 reason.UnexpectedEnd)) }
-    ensures of_a_module { ¬ IsShapeFileFault (after_preamble [])
-        (fault.Binary (error.Malformed 8 reason.UnexpectedEnd)) }
+    ensures cut_module { IsShapeFileFault magic (fault.Binary (error.Malformed 4 reason.UnexpectedEnd)) }
+    ensures at_another_byte { ¬ IsShapeFileFault magic (fault.Binary (error.Malformed 3 reason.UnexpectedEnd)) }
+    ensures of_a_module { ¬ IsShapeFileFault (after_preamble []) (fault.Binary (error.Malformed 8 reason.UnexpectedEnd)) }
     ensures in_a_text { IsShapeFileFault text (fault.Text (refused_at 8)) }
     ensures past_its_end { ¬ IsShapeFileFault text (fault.Text (refused_at 9)) }
-    ensures binary_in_a_text { ¬ IsShapeFileFault text
-        (fault.Binary (error.Malformed 0 reason.UnknownByte)) }
+    ensures binary_in_a_text { ¬ IsShapeFileFault text (fault.Binary (error.Malformed 0 reason.UnknownByte)) }
     ensures text_in_a_binary { ¬ IsShapeFileFault magic (fault.Text (refused_at 4)) }
 {}

@@ -1,5 +1,5 @@
 -- The names that these proofs cite, passed on from one place.
-pub use Rattle.std.proofs.Common.{[], All, ap, arith, Bool, false, inl, inr, IsTrue, length, List, lit<, None, pos, refl, replicate, rules}
+pub use Rattle.std.proofs.Common.{[], ap, arith, Bool, false, inl, inr, IsTrue, length, List, lit<, None, pos, refl, replicate, rules}
 pub use Rattle.std.proofs.Common.{Some, subst, suc, sym, true, zero, ℕ, ◌++◌, ◌<◌, ◌∙◌, ◌∷◌, ◌≡◌}
 pub use Rattle.std.proofs.lemmas.Grind.{common_steps}
 pub use Rattle.std.proofs.lemmas.List.{length-replicate}
@@ -11,15 +11,16 @@ pub use Rattle.smith_types.proofs.ConstStepLemmas.{after_one, alone, one_step}
 pub use Rattle.smith_types.proofs.GroundedLemmas.{abstract_grounded, grounded_at, grounded_is}
 pub use Rattle.smith_types.proofs.GrowthLemmas.{AreBelow-refl, IsBelow-trans, IsRefBelow-refl}
 pub use Rattle.smith_types.proofs.PathLemmas.{above_bottom, below_abstract, below_declared, below_kind, exact_above_bottom, exact_below}
-pub use Rattle.smith_types.proofs.WalkLemmas.{below_alone, below_from_by_cases, by_cases_from_below, concrete_not_below_exact}
+pub use Rattle.smith_types.proofs.WalkLemmas.{below_alone, below_from_by_cases, by_cases_from_below, concrete_not_below_exact, IsUnder}
+pub use Rattle.smith_types.proofs.WalkLemmas.{IsBottomAt}
 pub use Rattle.smith_types.specs.Entities.{IsFuncTypeIndex, IsGlobalValid, IsMemoryValid, IsTableValid, IsTagValid}
 pub use Rattle.smith_types.specs.ExampleContexts.{context_of, context_types, context_with}
 pub use Rattle.smith_types.specs.ExampleEntities.{constant_global, memory, one_of_each, table}
 pub use Rattle.smith_types.specs.ExampleFeatures.{usual_features, without_gc}
 pub use Rattle.smith_types.specs.ExampleTypes.{anyref, array, below_itself, constant, empty_struct, eqref, final_type, func, func_and_below}
-pub use Rattle.smith_types.specs.ExampleTypes.{giving, in_one_group, kinds_of_values, not_null, nullable, open_type, plain, plain_func}
+pub use Rattle.smith_types.specs.ExampleTypes.{giving, in_one_group, not_null, nullable, open_type, plain, plain_func}
 pub use Rattle.smith_types.specs.ExampleTypes.{range, referring, referring_type, refers_to, shared_type, struct, struct_and_below, taking}
-pub use Rattle.smith_types.specs.ExampleTypes.{tops, variable}
+pub use Rattle.smith_types.specs.ExampleTypes.{variable}
 pub use Rattle.smith_types.specs.Exports.{AreDistinct, IsEntityAt}
 pub use Rattle.smith_types.specs.Expressions.{Context, IsArrayAt, IsConstExpr, IsStructAt, seeing}
 pub use Rattle.smith_syntax.specs.Features.{every_feature, Features}

@@ -6,7 +6,8 @@ use Rattle.smith_types_examples.proofs.Common.{IsSupertypeValid, IsTypeValid, Is
 use Rattle.smith_types_examples.proofs.Common.{empty_struct, struct_and_below, below_itself, anyref, eqref, nullable, range, referring}
 use Rattle.smith_types_examples.proofs.Common.{referring_type, in_one_group, below_abstract, by_cases_from_below, below_alone, Bool}
 use Rattle.smith_types_examples.proofs.Common.{Abstract, below_declared, itself, TableType, GlobalType, ValType, Context, RefType, Offset}
-use Rattle.smith_types_examples.proofs.Common.{IsRefBelow, IsOffsetValid, IsActiveElementSegment, ◌<◌}
+use Rattle.smith_types_examples.proofs.Common.{IsRefBelow, IsOffsetValid, IsActiveElementSegment, ◌<◌, kind, shared, bottom, IsUnder}
+use Rattle.smith_types_examples.proofs.Common.{IsBottomAt}
 use Rattle.smith_syntax.specs.declared.value_type.AbstractHeapType.TheVariants as heap
 
 -- abstract types, by the table
@@ -27,6 +28,19 @@ lower_below = below_declared struct_and_below 1 0 (open_type (Some 0) empty_stru
 pub upper_not_below : ¬ IsBelow struct_and_below (Concrete 0) (Concrete 1)
 upper_not_below below = below_alone struct_and_below struct_orderly 0 1 (open_type None empty_struct) (lit< tt) refl
     (λ (same : 0 ≡ 1). omega (arith, same)) below
+
+-- a type that is known is not below an abstract type, and not above one
+pub not_under : (types : List SubType) (index : ℕ) (t : SubType) (s : Bool) (a : AbstractHeapType) → slice_get types index ≡ Some t
+    → ¬ ((shared t ≡ s) × IsTrue (is_abstract_below (kind t) a)) → ¬ IsUnder types index s a
+not_under types index t s a at apart (u, there, shares, under) =
+    let same = same_Some u t (sym there ∙ at) in
+    apart (subst (λ v. shared v ≡ s) same shares, subst (λ v. IsTrue (is_abstract_below (kind v) a)) same under)
+
+pub not_over : (types : List SubType) (index : ℕ) (t : SubType) (s : Bool) (a : AbstractHeapType) → slice_get types index ≡ Some t
+    → ¬ ((s ≡ shared t) × (a ≡ bottom t)) → ¬ IsBottomAt types s a index
+not_over types index t s a at apart (u, there, shares, bottoms) =
+    let same = same_Some u t (sym there ∙ at) in
+    apart (subst (λ v. s ≡ shared v) same shares, subst (λ v. a ≡ bottom v) same bottoms)
 
 pub eq_below_any : (types : List SubType) → IsValBelow types eqref anyref
 eq_below_any types = record { heap = below_abstract types false heap.Eq heap.Any refl; nullable = λ _. refl }

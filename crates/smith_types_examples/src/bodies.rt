@@ -14,20 +14,16 @@ fn instructions()
 {}
 
 fn bodies()
-    ensures a_hundred_locals { IsBodyValid usual_features 0 false
-        (record { locals = replicate 100 I32; instructions = Unreachable }) }
-    ensures one_local_more { ¬ IsBodyValid usual_features 0 false
-        (record { locals = replicate 101 I32; instructions = Unreachable }) }
+    ensures a_hundred_locals { IsBodyValid usual_features 0 false (record { locals = replicate 100 I32; instructions = Unreachable }) }
+    ensures one_local_more { ¬ IsBodyValid usual_features 0 false (record { locals = replicate 101 I32; instructions = Unreachable }) }
     ensures a_local_of_an_unknown_type { ¬ IsBodyValid usual_features 0 false
         (record { locals = Ref (nullable (Concrete 0)) ∷ []; instructions = Unreachable }) }
     ensures a_local_of_the_last_type { IsBodyValid usual_features 2 false
         (record { locals = Ref (nullable (Concrete 1)) ∷ []; instructions = Unreachable }) }
     ensures a_local_past_the_types { ¬ IsBodyValid usual_features 2 false
         (record { locals = Ref (nullable (Concrete 2)) ∷ []; instructions = Unreachable }) }
-    ensures raw_bytes { IsBodyValid usual_features 0 true
-        (record { locals = []; instructions = Arbitrary [] }) }
-    ensures raw_bytes_not_allowed { ¬ IsBodyValid usual_features 0 false
-        (record { locals = []; instructions = Arbitrary [] }) }
+    ensures raw_bytes { IsBodyValid usual_features 0 true (record { locals = []; instructions = Arbitrary [] }) }
+    ensures raw_bytes_not_allowed { ¬ IsBodyValid usual_features 0 false (record { locals = []; instructions = Arbitrary [] }) }
 {}
 
 fn fuel()

@@ -1,20 +1,9 @@
 // The name of each kind of instructions.
 
 ghost use Rattle.std.specs.Prelude.{◌≡◌, codes};
-ghost use Rattle.smith_syntax.specs.declared.instruction_kind.InstructionKind.TheVariants.{
-  NumericInt,
-  Numeric,
-  VectorInt,
-  Vector,
-  Reference,
-  Parametric,
-  Variable,
-  Table,
-  MemoryInt,
-  Memory,
-  Control,
-  Aggregate,
-};
+ghost use Rattle.smith_syntax.specs.declared.instruction_kind.InstructionKind.TheVariants.{NumericInt, Numeric, VectorInt, Vector};
+ghost use Rattle.smith_syntax.specs.declared.instruction_kind.InstructionKind.TheVariants.{Reference, Parametric, Variable, Table};
+ghost use Rattle.smith_syntax.specs.declared.instruction_kind.InstructionKind.TheVariants.{MemoryInt, Memory, Control, Aggregate};
 ghost use Rattle.smith_syntax.specs.Instructions.{IsNamed};
 
 fn kind_names()

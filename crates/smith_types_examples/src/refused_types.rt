@@ -4,32 +4,17 @@ ghost use Rattle.smith_syntax.specs.declared.value_type.HeapType.TheVariants.{Co
 ghost use Rattle.smith_types.specs.Types.{IsOrderly, AreCovered};
 ghost use Rattle.smith_types.specs.Matching.{AreBelow, IsCompositeMatch};
 ghost use Rattle.smith_types.specs.Flags.{IsHeapTypeEnabled};
-ghost use Rattle.smith_types.specs.ValidTypes.{IsHeapTypeValid, IsSupertypeValid, IsTypeValid};
-ghost use Rattle.smith_types.specs.ValidTypes.{IsGroupValid, AreTypesValid};
+ghost use Rattle.smith_types.specs.ValidTypes.{IsHeapTypeValid, IsSupertypeValid, IsTypeValid, IsGroupValid, AreTypesValid};
 ghost use Rattle.smith_types.specs.ExampleFeatures.{usual_features};
-ghost use Rattle.smith_types.specs.ExampleTypes.{
-  open_type,
-  final_type,
-  empty_struct,
-  struct_and_below,
-  below_itself,
-  below_final,
-  func_and_below,
-  referring,
-  in_one_group,
-  range,
-  anyref,
-  eqref,
-  func,
-};
+ghost use Rattle.smith_types.specs.ExampleTypes.{open_type, final_type, empty_struct, struct_and_below, below_itself, below_final};
+ghost use Rattle.smith_types.specs.ExampleTypes.{func_and_below, referring, in_one_group, range, anyref, eqref, func};
 
 fn final_supertype()
     ensures refused { ¬ AreTypesValid usual_features (in_one_group below_final) }
-    ensures as_a_supertype { ¬ IsSupertypeValid below_final (open_type (Some 0) empty_struct)
-        (final_type empty_struct) }
+    ensures as_a_supertype { ¬ IsSupertypeValid below_final (open_type (Some 0) empty_struct) (final_type empty_struct) }
     ensures is_final { ¬ (final_type empty_struct).is_final ≡ false }
-    ensures but_matched { IsCompositeMatch below_final
-        (open_type (Some 0) empty_struct).composite_type (final_type empty_struct).composite_type }
+    ensures but_matched { IsCompositeMatch below_final (open_type (Some 0) empty_struct).composite_type
+        (final_type empty_struct).composite_type }
     ensures but_valid_itself { IsTypeValid usual_features below_final 2 (final_type empty_struct) }
     ensures but_orderly { IsOrderly below_final }
     ensures but_covered { AreCovered below_final (range 0 2 ∷ []) }
@@ -37,24 +22,17 @@ fn final_supertype()
 {}
 
 fn narrowed_parameter()
-    ensures refused { ¬ AreTypesValid usual_features
-        (in_one_group (func_and_below (func anyref eqref) (func eqref eqref))) }
-    ensures parameters { ¬ AreBelow (func_and_below (func anyref eqref) (func eqref eqref))
-        (anyref ∷ []) (eqref ∷ []) }
-    ensures but_results { AreBelow (func_and_below (func anyref eqref) (func eqref eqref))
-        (eqref ∷ []) (eqref ∷ []) }
+    ensures refused { ¬ AreTypesValid usual_features (in_one_group (func_and_below (func anyref eqref) (func eqref eqref))) }
+    ensures parameters { ¬ AreBelow (func_and_below (func anyref eqref) (func eqref eqref)) (anyref ∷ []) (eqref ∷ []) }
+    ensures but_results { AreBelow (func_and_below (func anyref eqref) (func eqref eqref)) (eqref ∷ []) (eqref ∷ []) }
     ensures but_orderly { IsOrderly (func_and_below (func anyref eqref) (func eqref eqref)) }
-    ensures but_covered { AreCovered (func_and_below (func anyref eqref) (func eqref eqref))
-        (range 0 2 ∷ []) }
-    ensures kept { AreTypesValid usual_features
-        (in_one_group (func_and_below (func eqref eqref) (func eqref eqref))) }
-    ensures widened { AreTypesValid usual_features
-        (in_one_group (func_and_below (func eqref eqref) (func anyref eqref))) }
+    ensures but_covered { AreCovered (func_and_below (func anyref eqref) (func eqref eqref)) (range 0 2 ∷ []) }
+    ensures kept { AreTypesValid usual_features (in_one_group (func_and_below (func eqref eqref) (func eqref eqref))) }
+    ensures widened { AreTypesValid usual_features (in_one_group (func_and_below (func eqref eqref) (func anyref eqref))) }
 {}
 
 fn reference_past_its_group()
-    ensures refused { ¬ AreTypesValid usual_features
-        (record { types = referring; groups = range 0 1 ∷ range 1 2 ∷ [] }) }
+    ensures refused { ¬ AreTypesValid usual_features (record { types = referring; groups = range 0 1 ∷ range 1 2 ∷ [] }) }
     ensures past_the_end { ¬ IsHeapTypeValid usual_features 1 (Concrete 1) }
     ensures but_enabled { IsHeapTypeEnabled usual_features (Concrete 1) }
     ensures but_orderly { IsOrderly referring }

@@ -1,19 +1,15 @@
 ghost use Rattle.std.specs.Prelude.{◌≡◌, [], ◌∷◌, true, IsTrue, Some, None};
-ghost use Rattle.std.specs.List.{All};
+ghost use Rattle.std.specs.List.{AllByRecursion as Each};
 ghost use Rattle.smith_syntax.specs.declared.value_type.AbstractHeapType.{AbstractHeapType};
 ghost use Rattle.smith_syntax.specs.declared.value_type.AbstractHeapType.TheVariants as heap;
-ghost use Rattle.smith_syntax.specs.declared.value_type.HeapType.TheVariants.{Abstract, Concrete};
-ghost use Rattle.smith_syntax.specs.declared.value_type.HeapType.TheVariants.{Exact};
-ghost use Rattle.smith_syntax.specs.declared.value_type.ValType.TheVariants.{I32, I64, F32, F64};
-ghost use Rattle.smith_syntax.specs.declared.value_type.ValType.TheVariants.{V128, Ref};
+ghost use Rattle.smith_syntax.specs.declared.value_type.HeapType.TheVariants.{Abstract, Concrete, Exact};
+ghost use Rattle.smith_syntax.specs.declared.value_type.ValType.TheVariants.{I32, I64, F32, F64, V128, Ref};
 ghost use Rattle.smith_syntax.specs.declared.composite_type.StorageType.TheVariants.{I8};
 ghost use Rattle.smith_syntax.specs.Kinds.{kind, bottom, shared};
-ghost use Rattle.smith_types.specs.Subtyping.{IsBelow, IsRefBelow, IsValBelow, IsInRange};
-ghost use Rattle.smith_types.specs.Subtyping.{IsValInRange};
-ghost use Rattle.smith_types.specs.ExampleTypes.{open_type, final_type, shared_type, array};
-ghost use Rattle.smith_types.specs.ExampleTypes.{empty_struct, plain_func, struct_and_below, plain};
-ghost use Rattle.smith_types.specs.ExampleTypes.{nullable, not_null, anyref, eqref, variable, tops};
-ghost use Rattle.smith_types.specs.ExampleTypes.{kinds_of_values};
+ghost use Rattle.smith_types.specs.Subtyping.{IsBelow, IsRefBelow, IsValBelow, IsInRange, IsValInRange};
+ghost use Rattle.smith_types.specs.ExampleTypes.{open_type, final_type, shared_type, array, empty_struct, plain_func, struct_and_below};
+ghost use Rattle.smith_types.specs.ExampleTypes.{plain, nullable, not_null, anyref, eqref, variable, tops, kinds_of_values};
+ghost use Rattle.smith_types_examples.specs.ExampleTables.{IsStrictlyBelow};
 
 fn kinds()
     ensures of_a_struct { kind (final_type empty_struct) ≡ heap.Struct }
@@ -27,32 +23,9 @@ fn kinds()
 {}
 
 fn abstract_types()
-    ensures comparable { IsBelow [] (plain heap.Eq) (plain heap.Any) }
-    ensures comparable_not_above { ¬ IsBelow [] (plain heap.Any) (plain heap.Eq) }
-    ensures i31 { IsBelow [] (plain heap.I31) (plain heap.Eq) }
-    ensures i31_not_above { ¬ IsBelow [] (plain heap.Eq) (plain heap.I31) }
-    ensures structs { IsBelow [] (plain heap.Struct) (plain heap.Eq) }
-    ensures structs_not_above { ¬ IsBelow [] (plain heap.Eq) (plain heap.Struct) }
-    ensures arrays { IsBelow [] (plain heap.Array) (plain heap.Eq) }
-    ensures arrays_not_above { ¬ IsBelow [] (plain heap.Eq) (plain heap.Array) }
-    ensures nothing_of_i31 { IsBelow [] (plain heap.None) (plain heap.I31) }
-    ensures nothing_of_i31_not_above { ¬ IsBelow [] (plain heap.I31) (plain heap.None) }
-    ensures nothing_of_structs { IsBelow [] (plain heap.None) (plain heap.Struct) }
-    ensures nothing_of_structs_not_above { ¬ IsBelow [] (plain heap.Struct) (plain heap.None) }
-    ensures nothing_of_arrays { IsBelow [] (plain heap.None) (plain heap.Array) }
-    ensures nothing_of_arrays_not_above { ¬ IsBelow [] (plain heap.Array) (plain heap.None) }
-    ensures no_function { IsBelow [] (plain heap.NoFunc) (plain heap.Func) }
-    ensures no_function_not_above { ¬ IsBelow [] (plain heap.Func) (plain heap.NoFunc) }
-    ensures nothing_outside { IsBelow [] (plain heap.NoExtern) (plain heap.Extern) }
-    ensures nothing_outside_not_above { ¬ IsBelow [] (plain heap.Extern) (plain heap.NoExtern) }
-    ensures no_exception { IsBelow [] (plain heap.NoExn) (plain heap.Exn) }
-    ensures no_exception_not_above { ¬ IsBelow [] (plain heap.Exn) (plain heap.NoExn) }
-    ensures nothing_below_all { IsBelow [] (plain heap.None) (plain heap.Any) }
-    ensures structs_and_arrays_apart { ¬ IsBelow [] (plain heap.Struct) (plain heap.Array) }
-    ensures i31_and_structs_apart { ¬ IsBelow [] (plain heap.I31) (plain heap.Struct) }
-    ensures functions_apart { ¬ IsBelow [] (plain heap.Func) (plain heap.Any) }
-    ensures outside_apart { ¬ IsBelow [] (plain heap.Extern) (plain heap.Any) }
-    ensures exceptions_apart { ¬ IsBelow [] (plain heap.Exn) (plain heap.Any) }
+    ensures strictly { Each IsStrictlyBelow ((heap.Eq, heap.Any) ∷ (heap.I31, heap.Eq) ∷ (heap.Struct, heap.Eq) ∷ (heap.Array, heap.Eq)
+        ∷ (heap.None, heap.I31) ∷ (heap.None, heap.Struct) ∷ (heap.None, heap.Array) ∷ (heap.None, heap.Any) ∷ (heap.NoFunc, heap.Func)
+        ∷ (heap.NoExtern, heap.Extern) ∷ (heap.NoExn, heap.Exn) ∷ []) }
     ensures no_function_below_nothing { ¬ IsBelow [] (plain heap.NoFunc) (plain heap.None) }
     ensures shared_ones { IsBelow [] (Abstract true heap.I31) (Abstract true heap.Any) }
     ensures shared_below_plain { ¬ IsBelow [] (Abstract true heap.Eq) (plain heap.Any) }
@@ -60,39 +33,30 @@ fn abstract_types()
 {}
 
 fn abstract_types_apart()
-    ensures tops { All (λ (a : AbstractHeapType).
-        All (λ (b : AbstractHeapType). IsBelow [] (plain a) (plain b) → a ≡ b) tops) tops }
-    ensures kinds { All (λ (a : AbstractHeapType).
-        All (λ (b : AbstractHeapType). IsBelow [] (plain a) (plain b) → a ≡ b) kinds_of_values)
+    ensures tops { Each (λ (a : AbstractHeapType). Each (λ (b : AbstractHeapType). IsBelow [] (plain a) (plain b) → a ≡ b) tops) tops }
+    ensures kinds { Each (λ (a : AbstractHeapType). Each (λ (b : AbstractHeapType). IsBelow [] (plain a) (plain b) → a ≡ b) kinds_of_values)
         kinds_of_values }
 {}
 
 fn concrete_types()
     ensures declared { IsBelow struct_and_below (Concrete 1) (Concrete 0) }
-    ensures declared_twice { IsBelow (open_type None plain_func ∷ open_type (Some 0) plain_func
-        ∷ open_type (Some 1) plain_func ∷ [])
-        (Concrete 2) (Concrete 0) }
+    ensures declared_twice { IsBelow (open_type None plain_func ∷ open_type (Some 0) plain_func ∷ open_type (Some 1) plain_func
+        ∷ []) (Concrete 2) (Concrete 0) }
     ensures itself { IsBelow struct_and_below (Concrete 1) (Concrete 1) }
     ensures not_upwards { ¬ IsBelow struct_and_below (Concrete 0) (Concrete 1) }
-    ensures equal_types_apart { ¬ IsBelow (final_type plain_func ∷ final_type plain_func ∷ [])
-        (Concrete 1) (Concrete 0) }
+    ensures equal_types_apart { ¬ IsBelow (final_type plain_func ∷ final_type plain_func ∷ []) (Concrete 1) (Concrete 0) }
     ensures no_such_type { ¬ IsBelow [] (Concrete 0) (plain heap.Any) }
     ensures kind_and_above { IsBelow struct_and_below (Concrete 1) (plain heap.Any) }
     ensures not_of_another_kind { ¬ IsBelow struct_and_below (Concrete 1) (plain heap.Array) }
-    ensures function_and_kind { IsBelow (final_type plain_func ∷ []) (Concrete 0)
-        (plain heap.Func) }
-    ensures function_not_of_any { ¬ IsBelow (final_type plain_func ∷ []) (Concrete 0)
-        (plain heap.Any) }
-    ensures array_and_kind { IsBelow (final_type (array (variable I8)) ∷ []) (Concrete 0)
-        (plain heap.Array) }
+    ensures function_and_kind { IsBelow (final_type plain_func ∷ []) (Concrete 0) (plain heap.Func) }
+    ensures function_not_of_any { ¬ IsBelow (final_type plain_func ∷ []) (Concrete 0) (plain heap.Any) }
+    ensures array_and_kind { IsBelow (final_type (array (variable I8)) ∷ []) (Concrete 0) (plain heap.Array) }
     ensures not_shared { ¬ IsBelow struct_and_below (Concrete 1) (Abstract true heap.Struct) }
-    ensures shared_and_kind { IsBelow (shared_type plain_func ∷ []) (Concrete 0)
-        (Abstract true heap.Func) }
+    ensures shared_and_kind { IsBelow (shared_type plain_func ∷ []) (Concrete 0) (Abstract true heap.Func) }
     ensures bottom { IsBelow struct_and_below (plain heap.None) (Concrete 1) }
     ensures not_another_bottom { ¬ IsBelow struct_and_below (plain heap.NoFunc) (Concrete 0) }
     ensures no_kind_below_its_types { ¬ IsBelow struct_and_below (plain heap.Struct) (Concrete 0) }
-    ensures bottom_of_a_shared_one { IsBelow (shared_type plain_func ∷ [])
-        (Abstract true heap.NoFunc) (Concrete 0) }
+    ensures bottom_of_a_shared_one { IsBelow (shared_type plain_func ∷ []) (Abstract true heap.NoFunc) (Concrete 0) }
     ensures shared_bottom { ¬ IsBelow struct_and_below (Abstract true heap.None) (Concrete 0) }
 {}
 
@@ -110,14 +74,10 @@ fn exact_types()
 
 fn references()
     ensures null_added { IsRefBelow [] (not_null (plain heap.Eq)) (nullable (plain heap.Any)) }
-    ensures null_kept { IsRefBelow struct_and_below (nullable (Concrete 1))
-        (nullable (Concrete 0)) }
-    ensures neither_null { IsRefBelow struct_and_below (not_null (Concrete 1))
-        (not_null (Concrete 0)) }
-    ensures null_not_lost { ¬ IsRefBelow struct_and_below (nullable (Concrete 1))
-        (not_null (Concrete 0)) }
-    ensures heap_types_apart { ¬ IsRefBelow [] (not_null (plain heap.Any))
-        (nullable (plain heap.Eq)) }
+    ensures null_kept { IsRefBelow struct_and_below (nullable (Concrete 1)) (nullable (Concrete 0)) }
+    ensures neither_null { IsRefBelow struct_and_below (not_null (Concrete 1)) (not_null (Concrete 0)) }
+    ensures null_not_lost { ¬ IsRefBelow struct_and_below (nullable (Concrete 1)) (not_null (Concrete 0)) }
+    ensures heap_types_apart { ¬ IsRefBelow [] (not_null (plain heap.Any)) (nullable (plain heap.Eq)) }
 {}
 
 fn value_types()

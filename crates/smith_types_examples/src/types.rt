@@ -1,33 +1,20 @@
 ghost use Rattle.std.specs.Prelude.{◌≡◌, ◌+◌, ◌^◌, List, [], ◌∷◌, Some, None, length};
 ghost use Rattle.smith_syntax.specs.declared.composite_type.SubType.{SubType};
-ghost use Rattle.smith_types.specs.Types.{IsAlike, IsOrderly, AreConsecutive, AreCovered, end_from};
-ghost use Rattle.smith_types.specs.Types.{next_start, next_group};
-ghost use Rattle.smith_types.specs.GroupedTypes.{IsSound, MayFollow, HasDepth, AreDepths};
-ghost use Rattle.smith_types.specs.GroupedTypes.{AreExtensible, extensible_from};
-ghost use Rattle.smith_types.specs.ExampleTypes.{
-  open_type,
-  final_type,
-  shared_type,
-  empty_struct,
-  plain_func,
-  struct_and_below,
-  below_itself,
-  range,
-};
+ghost use Rattle.smith_types.specs.Types.{IsAlike, IsOrderly, AreConsecutive, AreCovered, end_from, next_start, next_group};
+ghost use Rattle.smith_types.specs.GroupedTypes.{IsSound, MayFollow, HasDepth, AreDepths, AreExtensible, extensible_from};
+ghost use Rattle.smith_types.specs.ExampleTypes.{open_type, final_type, shared_type, empty_struct, plain_func, struct_and_below};
+ghost use Rattle.smith_types.specs.ExampleTypes.{below_itself, range};
 
 fn orderly()
     ensures alike { IsAlike (open_type None empty_struct) (final_type empty_struct) }
     ensures kinds_apart { ¬ IsAlike (final_type plain_func) (final_type empty_struct) }
     ensures one_shared { ¬ IsAlike (shared_type plain_func) (final_type plain_func) }
     ensures supertype_before { IsOrderly struct_and_below }
-    ensures supertype_after { ¬ IsOrderly
-        (open_type (Some 1) empty_struct ∷ open_type None empty_struct ∷ []) }
+    ensures supertype_after { ¬ IsOrderly (open_type (Some 1) empty_struct ∷ open_type None empty_struct ∷ []) }
     ensures its_own_supertype { ¬ IsOrderly below_itself }
     ensures supertype_past_the_end { ¬ IsOrderly (open_type (Some 7) empty_struct ∷ []) }
-    ensures of_another_kind { ¬ IsOrderly
-        (open_type None plain_func ∷ open_type (Some 0) empty_struct ∷ []) }
-    ensures of_another_sharedness { ¬ IsOrderly
-        (shared_type empty_struct ∷ open_type (Some 0) empty_struct ∷ []) }
+    ensures of_another_kind { ¬ IsOrderly (open_type None plain_func ∷ open_type (Some 0) empty_struct ∷ []) }
+    ensures of_another_sharedness { ¬ IsOrderly (shared_type empty_struct ∷ open_type (Some 0) empty_struct ∷ []) }
 {}
 
 fn groups()
@@ -51,14 +38,11 @@ fn covered()
 {}
 
 fn sound()
-    ensures a_type_in_no_group { IsSound
-        (record { types = struct_and_below; groups = range 0 1 ∷ [] }) }
+    ensures a_type_in_no_group { IsSound (record { types = struct_and_below; groups = range 0 1 ∷ [] }) }
     ensures its_own_supertype { ¬ IsSound (record { types = below_itself; groups = [] }) }
     ensures a_gap { ¬ IsSound (record { types = struct_and_below; groups = range 1 2 ∷ [] }) }
-    ensures a_group_past_the_end { ¬ IsSound
-        (record { types = struct_and_below; groups = range 0 3 ∷ [] }) }
-    ensures as_many_as_indices { (types : List SubType) → length types ≡ 2 ^ 32
-        → ¬ IsSound (record { types = types; groups = [] }) }
+    ensures a_group_past_the_end { ¬ IsSound (record { types = struct_and_below; groups = range 0 3 ∷ [] }) }
+    ensures as_many_as_indices { (types : List SubType) → length types ≡ 2 ^ 32 → ¬ IsSound (record { types = types; groups = [] }) }
 {}
 
 fn following()
@@ -66,10 +50,8 @@ fn following()
     ensures below_another { MayFollow struct_and_below (open_type (Some 1) empty_struct) }
     ensures below_itself { ¬ MayFollow [] (open_type (Some 0) empty_struct) }
     ensures of_another_kind { ¬ MayFollow struct_and_below (open_type (Some 1) plain_func) }
-    ensures one_shared { ¬ MayFollow (shared_type empty_struct ∷ [])
-        (open_type (Some 0) empty_struct) }
-    ensures no_index_left { (types : List SubType) → length types + 1 ≡ 2 ^ 32
-        → ¬ MayFollow types (open_type None empty_struct) }
+    ensures one_shared { ¬ MayFollow (shared_type empty_struct ∷ []) (open_type (Some 0) empty_struct) }
+    ensures no_index_left { (types : List SubType) → length types + 1 ≡ 2 ^ 32 → ¬ MayFollow types (open_type None empty_struct) }
 {}
 
 fn depths()
@@ -86,8 +68,6 @@ fn depths()
 fn extensible()
     ensures a_type_on_its_own { AreExtensible (open_type None empty_struct ∷ []) (0 ∷ []) }
     ensures a_final_one { ¬ AreExtensible (final_type empty_struct ∷ []) (0 ∷ []) }
-    ensures after_a_final_one { extensible_from 2
-        (final_type empty_struct ∷ open_type None empty_struct ∷ []) (1 ∷ 1 ∷ []) ≡ 3 ∷ [] }
-    ensures not_too_deep { extensible_from 5
-        (open_type None empty_struct ∷ open_type None empty_struct ∷ []) (59 ∷ 60 ∷ []) ≡ 5 ∷ [] }
+    ensures after_a_final_one { extensible_from 2 (final_type empty_struct ∷ open_type None empty_struct ∷ []) (1 ∷ 1 ∷ []) ≡ 3 ∷ [] }
+    ensures not_too_deep { extensible_from 5 (open_type None empty_struct ∷ open_type None empty_struct ∷ []) (59 ∷ 60 ∷ []) ≡ 5 ∷ [] }
 {}

@@ -2,8 +2,7 @@
 // clauses are proved; nothing calls these functions.
 
 ghost use Rattle.std.specs.Prelude.{[], ◌∷◌, true, pos, None, Some};
-ghost use Rattle.smith_bytes.specs.declared.error.Error.TheVariants.{EmptyChoose, Memory};
-ghost use Rattle.smith_bytes.specs.declared.error.Error.TheVariants.{NotEnoughData};
+ghost use Rattle.smith_bytes.specs.declared.error.Error.TheVariants.{EmptyChoose, Memory, NotEnoughData};
 ghost use Rattle.smith_types.specs.ExampleTypes.{not_null, plain};
 ghost use Rattle.smith_types.specs.Flags.{funcref};
 ghost use Rattle.smith_syntax.specs.declared.value_type.AbstractHeapType.TheVariants as heap;
@@ -20,50 +19,40 @@ ghost use Rattle.smith_module_rules_examples.specs.ExampleParts.{table};
 ghost use Rattle.smith_module_rules_examples.specs.ExampleShapes.{for_exports, empty_shape};
 
 fn placed()
-    ensures past_the_minimum { IsPlaced default_config
-        (table_scope default_config (beside_globals [])) (table funcref 5 None)
+    ensures past_the_minimum { IsPlaced default_config (table_scope default_config (beside_globals [])) (table funcref 5 None)
         (Const32 (pos 6)) None }
-    ensures of_another_width { ¬ IsPlaced default_config
-        (table_scope default_config (beside_globals [])) (table funcref 5 None)
+    ensures of_another_width { ¬ IsPlaced default_config (table_scope default_config (beside_globals [])) (table funcref 5 None)
         (Const64 (pos 0)) None }
-    ensures up_to_the_minimum { IsPlaced (record default_config { disallow_traps = true })
-        (table_scope default_config (beside_globals [])) (table funcref 5 None)
-        (Const32 (pos 2)) (Some 3) }
-    ensures one_too_many { ¬ IsPlaced (record default_config { disallow_traps = true })
-        (table_scope default_config (beside_globals [])) (table funcref 5 None)
-        (Const32 (pos 2)) (Some 4) }
-    ensures without_a_limit { ¬ IsPlaced (record default_config { disallow_traps = true })
-        (table_scope default_config (beside_globals [])) (table funcref 5 None)
-        (Const32 (pos 2)) None }
+    ensures up_to_the_minimum { IsPlaced (record default_config { disallow_traps = true }) (table_scope default_config (beside_globals []))
+        (table funcref 5 None) (Const32 (pos 2)) (Some 3) }
+    ensures one_too_many { ¬ IsPlaced (record default_config { disallow_traps = true }) (table_scope default_config (beside_globals []))
+        (table funcref 5 None) (Const32 (pos 2)) (Some 4) }
+    ensures without_a_limit { ¬ IsPlaced (record default_config { disallow_traps = true }) (table_scope default_config (beside_globals []))
+        (table funcref 5 None) (Const32 (pos 2)) None }
 {}
 
 fn segments()
-    ensures none { AreSegmentsFit default_config [] no_imports no_imports
-        (record { elems = []; data_segments = [] }) }
-    ensures none_where_one_is_asked_for { ¬ AreSegmentsFit
-        (record default_config { min_data_segments = 1 }) [] no_imports no_imports
+    ensures none { AreSegmentsFit default_config [] no_imports no_imports (record { elems = []; data_segments = [] }) }
+    ensures none_where_one_is_asked_for { ¬ AreSegmentsFit (record default_config { min_data_segments = 1 }) [] no_imports no_imports
         (record { elems = []; data_segments = [] }) }
 {}
 
 fn exports()
-    ensures none { AreExportsMade default_config [] no_imports 3
+    ensures none { AreExportsMade default_config [] no_imports 3 (record { exports = []; type_size = 3 }) }
+    ensures of_a_shape { AreExportsMade (for_exports empty_shape (record default_config { min_exports = 1 })) [] no_imports 3
         (record { exports = []; type_size = 3 }) }
-    ensures of_a_shape { AreExportsMade
-        (for_exports empty_shape (record default_config { min_exports = 1 })) [] no_imports 3
-        (record { exports = []; type_size = 3 }) }
-    ensures that_add_what_is_not_counted { ¬ AreExportsMade (for_exports empty_shape default_config)
-        [] no_imports 3 (record { exports = []; type_size = 2 }) }
-    ensures past_the_type_size { ¬ AreExportsMade (for_exports empty_shape default_config) []
-        no_imports 1001 (record { exports = []; type_size = 1001 }) }
+    ensures that_add_what_is_not_counted { ¬ AreExportsMade (for_exports empty_shape default_config) [] no_imports 3
+        (record { exports = []; type_size = 2 }) }
+    ensures past_the_type_size { ¬ AreExportsMade (for_exports empty_shape default_config) [] no_imports 1001
+        (record { exports = []; type_size = 1001 }) }
 {}
 
 fn refused()
-    ensures no_choice { MayRefuseContents default_config (context_of_types [])
-        (table (not_null (plain heap.Extern)) 1 None ∷ []) EmptyChoose }
+    ensures no_choice { MayRefuseContents default_config (context_of_types []) (table (not_null (plain heap.Extern)) 1 None
+        ∷ []) EmptyChoose }
     ensures no_table { ¬ MayRefuseContents default_config (context_of_types []) [] EmptyChoose }
     ensures as_a_module { MayRefuseContents default_config (context_of_types []) [] Memory }
-    ensures too_few_bytes { ¬ MayRefuseContents default_config
-        (context_of_types []) [] NotEnoughData }
+    ensures too_few_bytes { ¬ MayRefuseContents default_config (context_of_types []) [] NotEnoughData }
 {}
 
 fn contents()
@@ -96,8 +85,6 @@ fn contents()
 
 fn drawn_over()
     ensures nothing { MayHoldContents default_config (space_of []) no_imports 0 }
-    ensures no_table_where_one_is_asked_for { ¬ MayHoldContents
-        (record default_config { min_tables = 1 }) (space_of []) no_imports 0 }
-    ensures imports_past_the_type_size { ¬ MayHoldContents default_config
-        (space_of []) no_imports 1001 }
+    ensures no_table_where_one_is_asked_for { ¬ MayHoldContents (record default_config { min_tables = 1 }) (space_of []) no_imports 0 }
+    ensures imports_past_the_type_size { ¬ MayHoldContents default_config (space_of []) no_imports 1001 }
 {}

@@ -9,23 +9,15 @@ ghost use Rattle.smith_draw_definitions.specs.Defined.{nothing_defined};
 ghost use Rattle.smith_module_rules.specs.Module.{module_spaces};
 ghost use Rattle.smith_module_rules_examples.specs.ExampleParts.{memory};
 ghost use Rattle.smith_module_rules_examples.specs.ExampleModules.{three_memories};
-ghost use Rattle.smith_module_rules_examples.specs.ExampleShapes.{for_module, for_imports};
-ghost use Rattle.smith_module_rules_examples.specs.ExampleShapes.{imported_memories, memories_in_and_out};
+ghost use Rattle.smith_module_rules_examples.specs.ExampleShapes.{for_module, for_imports, imported_memories, memories_in_and_out};
 ghost use Rattle.smith_module_rules_examples.specs.ExampleShapes.{environment};
 
 // A module shape adds its imports without the empty groups, and a memory for its export.
 #[tactic(auto, unfolding(wasm_smith::specs::FirstParts::first_parts_at, wasm_smith::specs::FirstParts::first_parts_by_module_at, smith_draw_definitions::specs::RequiredExports::required_from, smith_draw_definitions::specs::RequiredExports::entity_required_at, smith_draw_definitions::specs::RequiredExports::defined_with_at))]
 fn of_a_module_shape()
     ensures nothing { first_parts_at default_config (7 ∷ []) ≡ Ok (nothing_so_far, 7 ∷ []) }
-    ensures imports { first_parts_at
-        (for_module imported_memories (record default_config { max_memories = 3 })) (7 ∷ [])
-        ≡ Ok (
-          record nothing_so_far {
-            groups = three_memories.imports;
-            spaces = module_spaces three_memories;
-          },
-          7 ∷ [],
-        ) }
+    ensures imports { first_parts_at (for_module imported_memories (record default_config { max_memories = 3 })) (7 ∷ [])
+        ≡ Ok (record nothing_so_far { groups = three_memories.imports; spaces = module_spaces three_memories }, 7 ∷ []) }
     ensures an_export { first_parts_at
         (for_module memories_in_and_out (record default_config { max_memories = 2 })) (7 ∷ [])
         ≡ Ok (
@@ -39,8 +31,7 @@ fn of_a_module_shape()
           },
           7 ∷ [],
         ) }
-    ensures a_memory_too_many { first_parts_at
-        (for_module memories_in_and_out (record default_config { max_memories = 1 })) []
+    ensures a_memory_too_many { first_parts_at (for_module memories_in_and_out (record default_config { max_memories = 1 })) []
         ≡ Err (IncorrectFormat SeveralMemories) }
 {}
 

@@ -2,16 +2,10 @@ ghost use Rattle.std.specs.Prelude.{◌≡◌, [], ◌∷◌, pos, negsuc, true,
 ghost use Rattle.smith_bytes.specs.declared.error.Error.TheVariants.{IncorrectFormat, Memory};
 ghost use Rattle.smith_bytes.specs.declared.error.Why.TheVariants.{RawBody};
 ghost use Rattle.smith_syntax.specs.declared.value_type.ValType.TheVariants.{I32, I64};
-ghost use Rattle.smith_syntax.specs.declared.const_instr.ConstInstr.TheVariants.{
-  I32Const as NumberConst,
-};
-ghost use Rattle.smith_syntax.specs.declared.const_instr.ConstInstr.TheVariants.{
-  I64Const as WideConst,
-};
+ghost use Rattle.smith_syntax.specs.declared.const_instr.ConstInstr.TheVariants.{I32Const as NumberConst, I64Const as WideConst};
 ghost use Rattle.smith_syntax.specs.declared.entity_type.ExportKind.TheVariants as kind;
 ghost use Rattle.smith_module_rules_examples.specs.ExampleParts.{global};
-ghost use Rattle.smith_module_rules_examples.specs.ExampleGiven.{without_gc, raw_body};
-ghost use Rattle.smith_module_rules_examples.specs.ExampleGiven.{counting_once};
+ghost use Rattle.smith_module_rules_examples.specs.ExampleGiven.{without_gc, raw_body, counting_once};
 ghost use Rattle.wasm_smith.specs.Sinks.{AddsSinks, AnswersSinks};
 ghost use Rattle.wasm_smith.specs.SinkExports.{AnswersSinkExports, with_sinks};
 ghost use Rattle.wasm_smith_examples.specs.ExampleSinks.{sunk, shown};
@@ -34,20 +28,18 @@ fn answers()
     ensures an_index { AnswersSinks without_gc sunk (Ok 0) }
     ensures raw_bytes { AnswersSinks raw_body raw_body (Err (IncorrectFormat RawBody)) }
     ensures want_of_memory { AnswersSinks without_gc without_gc (Err Memory) }
-    ensures raw_bytes_that_are_not_there { ¬ AnswersSinks without_gc without_gc
-        (Err (IncorrectFormat RawBody)) }
+    ensures raw_bytes_that_are_not_there { ¬ AnswersSinks without_gc without_gc (Err (IncorrectFormat RawBody)) }
     ensures want_of_memory_beside_raw_bytes { ¬ AnswersSinks raw_body raw_body (Err Memory) }
     ensures refused_and_changed { ¬ AnswersSinks without_gc sunk (Err Memory) }
 {}
 
 fn exports()
     ensures alone { AnswersSinkExports 0 sunk shown (Ok tt) }
-    ensures after_the_same { with_sinks 0 ((codes "sink_i64", kind.Func, 0) ∷ [])
-        ≡ (codes "sink_i64", kind.Func, 0) ∷ (codes "sink_i32", kind.Global, 0)
-        ∷ (codes "sink_i64________", kind.Global, 1) ∷ (codes "sink_i64_2", kind.Global, 2) ∷ [] }
+    ensures after_the_same { with_sinks 0 ((codes "sink_i64", kind.Func, 0) ∷ []) ≡ (codes "sink_i64", kind.Func, 0)
+        ∷ (codes "sink_i32", kind.Global, 0) ∷ (codes "sink_i64________", kind.Global, 1) ∷ (codes "sink_i64_2", kind.Global, 2) ∷ [] }
     ensures want_of_memory { AnswersSinkExports 0 sunk sunk (Err Memory) }
     ensures no_export { ¬ AnswersSinkExports 0 sunk sunk (Ok tt) }
     ensures of_other_globals { ¬ AnswersSinkExports 1 sunk shown (Ok tt) }
-    ensures refused_and_changed { ¬ AnswersSinkExports 0 sunk
-        (record sunk { exports = (codes "sink_i32", kind.Global, 0) ∷ [] }) (Err Memory) }
+    ensures refused_and_changed { ¬ AnswersSinkExports 0 sunk (record sunk { exports = (codes "sink_i32", kind.Global, 0) ∷ [] })
+        (Err Memory) }
 {}

@@ -1,9 +1,8 @@
-use Rattle.smith_types_examples.proofs.Common.{arith, true, false, ◌≡◌, Some, None, sym, ap, ◌∙◌, refl, same_Some, Abstract, Concrete}
-use Rattle.smith_types_examples.proofs.Common.{Exact, bottom, shared, itself, open_type, empty_struct, struct_and_below, plain}
-use Rattle.smith_types_examples.proofs.Common.{IsBelow-trans, below_declared, below_kind, exact_below, exact_above_bottom}
-use Rattle.smith_types_examples.proofs.Common.{by_cases_from_below, below_from_by_cases}
+use Rattle.smith_types_examples.proofs.Common.{arith, true, false, ◌≡◌, Some, None, refl, Abstract, Concrete, Exact, bottom, itself}
+use Rattle.smith_types_examples.proofs.Common.{open_type, empty_struct, struct_and_below, plain, IsBelow-trans, below_declared, below_kind}
+use Rattle.smith_types_examples.proofs.Common.{exact_below, exact_above_bottom, by_cases_from_below, below_from_by_cases}
 use Rattle.smith_syntax.specs.declared.value_type.AbstractHeapType.TheVariants as heap
-use Rattle.smith_types_examples.proofs.TypeExamples.{struct_orderly, upper_not_below}
+use Rattle.smith_types_examples.proofs.TypeExamples.{struct_orderly, upper_not_below, not_over}
 use Rattle.smith_types_examples.proofs.subtyping.exact_types.Goals as goal
 
 pub returns : goal.returns
@@ -21,12 +20,8 @@ returns c = record {
       omega (arith, same);
   not_its_type = λ below. by_cases_from_below struct_and_below struct_orderly (Concrete 0) (Exact 0) below;
   bottom = exact_above_bottom struct_and_below false heap.None 0 (open_type None empty_struct) refl refl refl;
-  not_another_bottom = λ below.
-      let (t, at, shares, bottoms) = by_cases_from_below struct_and_below struct_orderly (plain heap.NoFunc) (Exact 0) below in
-      let never : heap.NoFunc ≡ heap.None = bottoms ∙ sym (ap bottom (same_Some (open_type None empty_struct) t at)) in
-      cc never;
-  shared_bottom = λ below.
-      let (t, at, shares, bottoms) = by_cases_from_below struct_and_below struct_orderly (Abstract true heap.None) (Exact 0) below in
-      let never : true ≡ false = shares ∙ sym (ap shared (same_Some (open_type None empty_struct) t at)) in
-      cc never;
+  not_another_bottom = λ below. not_over struct_and_below 0 (open_type None empty_struct) false heap.NoFunc refl (λ both. cc both.1)
+      (by_cases_from_below struct_and_below struct_orderly (plain heap.NoFunc) (Exact 0) below);
+  shared_bottom = λ below. not_over struct_and_below 0 (open_type None empty_struct) true heap.None refl (λ both. cc both.0)
+      (by_cases_from_below struct_and_below struct_orderly (Abstract true heap.None) (Exact 0) below);
 }
