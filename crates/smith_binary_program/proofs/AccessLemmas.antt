@@ -1,7 +1,7 @@
 -- Typed bodies access memories of their module, and state value types in forms that are enabled.
-use Rattle.std.proofs.Common.{◌≡◌, ℕ, ◌<◌, ◌⊎◌, inl, inr, Bool, List, [], ◌∷◌, ◌++◌, length, refl, arith}
+use Rattle.std.proofs.Common.{◌≡◌, ℕ, ◌<◌, ◌⊎◌, inl, inr, Bool, List, [], length, refl, arith}
 use Rattle.std.specs.Prelude.{All}
-use Rattle.std.proofs.lemmas.List.Elements.{All-append, All-cons, All-nil, All-same, All-weaker}
+use Rattle.std.proofs.lemmas.List.Elements.{All-nil, All-same, All-weaker}
 use Rattle.std.proofs.lemmas.Option.{slice_get_within}
 use Rattle.smith_syntax.specs.declared.code.Code.{Code}
 use Rattle.smith_syntax.specs.declared.entity_type.MemoryType.{MemoryType}
@@ -9,7 +9,6 @@ use Rattle.smith_syntax.specs.declared.value_type.ValType.{ValType}
 use Rattle.smith_instr.specs.Contexts.{BodyContext}
 use Rattle.smith_instr.specs.InstrTypes.{HasInstrType}
 use Rattle.smith_instr.specs.MemoryTypes.{HasAtomicType, IsAccess}
-use Rattle.smith_instr.specs.Sequences.{Stacked, AreTyped, nothing, step, block, loop, if_alone, if_else, try_table}
 use Rattle.smith_instr.specs.declared.atomic.AtomicAccess.{AtomicAccess}
 use Rattle.smith_instr.specs.declared.atomic.AtomicAccess.TheVariants as atomic
 use Rattle.smith_instr.specs.declared.instr.Instr.{Instr}
@@ -24,6 +23,7 @@ use Rattle.smith_binary_program.proofs.ReferenceFormLemmas.{block_enabled, globa
 use Rattle.smith_binary_program.proofs.ReferenceFormLemmas.{locals_enabled, tables_enabled, types_enabled}
 use Rattle.smith_binary_program.proofs.SegmentFormLemmas.{datas_enabled, elems_enabled}
 use Rattle.smith_binary_program.proofs.TypeFormLemmas.{groups_enabled}
+use Rattle.smith_binary_program.proofs.WalkLemmas.{IsKept, typed_keep}
 
 -- an instruction accesses the first memory, or one that is there
 abbrev IsHeld : List MemoryType → Instr → Type 0
@@ -64,46 +64,16 @@ keeps_none context x first none =
     let IsEnabled = IsValFormEnabled context.features in
     (inl first, All-same IsEnabled (values_in x) [] none (All-nil IsEnabled))
 
--- a block, then other instructions
-enclosed : (context : BodyContext) (first : Instr) (all body more : List Instr) → all ≡ first ∷ (body ++ instr.End ∷ more)
-    → Keeps context first → All (Keeps context) body → All (Keeps context) more → All (Keeps context) all
-enclosed context first all body more is starts inside after =
-    All-same (Keeps context) all (first ∷ (body ++ instr.End ∷ more)) is
-    (All-cons (Keeps context) first (body ++ instr.End ∷ more) starts
-    (All-append (Keeps context) body (instr.End ∷ more) inside
-    (All-cons (Keeps context) instr.End more (keeps_none context instr.End refl refl) after)))
-
-typed_keep : {context : BodyContext} {xs : List Instr} {before after : Stacked} → AreTyped context xs before after
-    → All (Keeps context) xs
-typed_keep {context} (nothing counts same) = All-nil (Keeps context)
-typed_keep {context} {before} (step {instruction = x} {more} s rest) =
-    let one : Keeps context x = (
-      instr_held context before.set x s.operands s.results s.typed,
-      instr_enabled context before.set x s.operands s.results s.typed,
-    ) in
-    All-cons (Keeps context) x more one (typed_keep rest)
-typed_keep {context} (block {ty} {all} {body} {more} {params} {results} is fits inner _ last) =
-    enclosed context (instr.Block ty) all body more is (inl refl, block_enabled context ty params results fits)
-    (typed_keep inner) (typed_keep last)
-typed_keep {context} (loop {ty} {all} {body} {more} {params} {results} is fits inner _ last) =
-    enclosed context (instr.Loop ty) all body more is (inl refl, block_enabled context ty params results fits)
-    (typed_keep inner) (typed_keep last)
-typed_keep {context} (if_alone {ty} {all} {body} {more} {params} {results} is fits inner _ _ last) =
-    enclosed context (instr.If ty) all body more is (inl refl, block_enabled context ty params results fits)
-    (typed_keep inner) (typed_keep last)
-typed_keep {context} (if_else {ty} {all} {body} {other} {more} {params} {results} is fits inner otherwise _ last) =
-    let second : All (Keeps context) (other ++ instr.End ∷ more) =
-    All-append (Keeps context) other (instr.End ∷ more) (typed_keep otherwise)
-    (All-cons (Keeps context) instr.End more (keeps_none context instr.End refl refl) (typed_keep last)) in
-    let after : All (Keeps context) (instr.Else ∷ (other ++ instr.End ∷ more)) =
-    All-cons (Keeps context) instr.Else (other ++ instr.End ∷ more) (keeps_none context instr.Else refl refl) second in
-    All-same (Keeps context) all (instr.If ty ∷ (body ++ instr.Else ∷ (other ++ instr.End ∷ more))) is
-    (All-cons (Keeps context) (instr.If ty) (body ++ instr.Else ∷ (other ++ instr.End ∷ more))
-    (inl refl, block_enabled context ty params results fits)
-    (All-append (Keeps context) body (instr.Else ∷ (other ++ instr.End ∷ more)) (typed_keep inner) after))
-typed_keep {context} (try_table {ty} {clauses} {all} {body} {more} {params} {results} is fits _ inner _ last) =
-    enclosed context (instr.TryTable ty clauses) all body more is (inl refl, block_enabled context ty params results fits)
-    (typed_keep inner) (typed_keep last)
+kept : IsKept Keeps
+kept = record {
+  steps = λ context set x operands results h.
+      (instr_held context set x operands results h, instr_enabled context set x operands results h);
+  blocks = λ context ty params results fits.
+      let is = block_enabled context ty params results fits in ((inl refl, is), (inl refl, is), (inl refl, is));
+  tries = λ context ty clauses params results fits. (inl refl, block_enabled context ty params results fits);
+  others = λ context. (keeps_none context instr.Else refl refl, keeps_none context instr.End refl refl);
+  within = λ context taken x is. is;
+}
 
 -- a memory that is there and isn't the first requires several memories
 access_enabled : (m : ModuleParts) → IsValid m → (x : Instr) → IsHeld m.memories x → IsAccessEnabled (module_features m) x
@@ -118,7 +88,7 @@ body_keeps : (m : ModuleParts) (P : Instr → Type 0) → ((x : Instr) → Keeps
     → IsOfBody (IsBodyAt m place code) code given → IsOfBody (All P) code given
 body_keeps m P follows place code of_body.Raw h = h
 body_keeps m P follows place code (of_body.Drawn instructions) h =
-    (h.0, All-weaker (KeepsOf m) P follows instructions (typed_keep h.1.typed.typed))
+    (h.0, All-weaker (KeepsOf m) P follows instructions (typed_keep kept h.1.typed.typed))
 
 bodies_keep : (m : ModuleParts) (bodies : List Body) (P : Instr → Type 0) → ((x : Instr) → KeepsOf m x → P x) → AreBodiesOf m bodies
     → AreBodiesBy (λ (place : ℕ) (code : Code). All P) m bodies

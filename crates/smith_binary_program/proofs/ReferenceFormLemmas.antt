@@ -113,7 +113,7 @@ instr_enabled context set (instr.TryTable ty clauses) operands results h = absur
 instr_enabled context set _ operands results h = All-nil (IsValFormEnabled context.features)
 
 -- a conjunction whose first part is off is off
-and_first : (a b : Bool) → IsTrue (a && b) → IsTrue a
+pub and_first : (a b : Bool) → IsTrue (a && b) → IsTrue a
 and_first true b is = refl
 and_first false b is = absurd (false≢true is)
 

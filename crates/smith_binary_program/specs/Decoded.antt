@@ -1,14 +1,19 @@
 -- Programs as modules of the decoder: the sections Structure, Modules, and Binary Format, Modules,
 -- of the WebAssembly Core Specification 3.0.
-use Rattle.std.specs.Prelude.{ℕ, List, [], map}
+use Rattle.std.specs.Prelude.{◌≡◌, ℕ, List, [], map, Result, Ok, Err}
 use Rattle.std.specs.List.{Contains, zip}
 use Rattle.smith_syntax.specs.declared.code.Code.{Code}
 use Rattle.smith_syntax.specs.declared.value_type.ValType.{ValType}
 use Rattle.smith_instr.specs.declared.instr.Instr.{Instr}
-use Rattle.smith_module_rules.specs.Module.{ModuleParts}
+use Rattle.smith_module_rules.specs.Module.{ModuleParts, module_features}
 use Rattle.smith_binary_module.specs.Contents.{contents_of}
 use Rattle.smith_decode.specs.Constants.{with_bodies}
-use Rattle.smith_decode.specs.Modules.{IsModuleBinary, Syntax}
+use Rattle.smith_decode.specs.declared.error.DecodeError.{DecodeError}
+use Rattle.smith_decode.specs.declared.error.DecodeError.TheVariants.{Memory}
+use Rattle.smith_decode.specs.declared.modules.Module.{Module}
+use Rattle.smith_decode.specs.ModuleReadings.{module_at}
+use Rattle.smith_decode.specs.Modules.{IsModuleBinary, Syntax, syntax_of}
+use Rattle.smith_decode.specs.Results.{Locates}
 use Rattle.smith_program.specs.Counted.{counted}
 use Rattle.smith_program.specs.Valid.{IsValidProgram}
 use Rattle.smith_program.specs.declared.program.Body.{Body}
@@ -34,3 +39,17 @@ abbrev pub EncodedProgramsAreDecoded : Type 0
 EncodedProgramsAreDecoded =
     (m : ModuleParts) (bodies : List Body) (bytes : List ℕ) → IsEncoded m bodies bytes → IsValidProgram m bodies
     → ¬ Contains bodies body.Raw → IsModuleBinary (decoded m bodies) bytes
+
+-- the decoder returned this module, or was refused memory
+abbrev pub ComesBack : Syntax → Result Module DecodeError → Type 0
+ComesBack m (Ok back) = syntax_of back ≡ m
+ComesBack m (Err error) = error ≡ Memory
+
+-- with the features of the program's configuration, the decoder returns the module of a valid
+-- program without raw bodies for its bytes, unless it is refused memory
+abbrev pub EncodedProgramsComeBack : Type 0
+EncodedProgramsComeBack =
+    (m : ModuleParts) (bodies : List Body) (bytes : List ℕ) → IsEncoded m bodies bytes → IsValidProgram m bodies
+    → ¬ Contains bodies body.Raw
+    → (answer : Result Module DecodeError) → Locates (module_features m) answer bytes (module_at bytes)
+    → ComesBack (decoded m bodies) answer

@@ -1,16 +1,26 @@
-ghost use Rattle.std.specs.Prelude.{◌≡◌, ◌^◌, ◌≤◌, List, [], ◌∷◌, ◌++◌, Some, length};
+ghost use Rattle.std.specs.Prelude.{◌≡◌, ◌^◌, ◌≤◌, List, [], ◌∷◌, ◌++◌, Some, Ok, Err, IfSome, length};
+ghost use Rattle.std.specs.List.{Contains};
 ghost use Rattle.smith_syntax.specs.declared.code.Instructions.TheVariants.{Unreachable};
 ghost use Rattle.smith_syntax.specs.declared.value_type.ValType.{ValType};
 ghost use Rattle.smith_syntax.specs.declared.value_type.ValType.TheVariants.{I32};
 ghost use Rattle.smith_binary_module.specs.ExampleModules.{one_function};
 ghost use Rattle.smith_instr.specs.declared.instr.Instr.TheVariants as instr;
+ghost use Rattle.smith_decode.specs.declared.error.DecodeError.TheVariants.{FeatureOff, Memory};
+ghost use Rattle.smith_decode.specs.declared.modules.Module.{Module};
+ghost use Rattle.smith_decode.specs.Modules.{syntax_of};
 ghost use Rattle.smith_program.specs.Counted.{check_of};
+ghost use Rattle.smith_program.specs.Valid.{IsValidProgram};
 ghost use Rattle.smith_program.specs.declared.program.Body.TheVariants as body;
-ghost use Rattle.smith_binary_program.specs.Decoded.{decoded};
+ghost use Rattle.smith_binary_program.specs.Decoded.{ComesBack, decoded};
 ghost use Rattle.smith_binary_program.specs.ExamplePrograms.{function, nop, preamble};
 ghost use Rattle.smith_binary_program.specs.Long.{IsLongProgram};
 ghost use Rattle.smith_binary_program.specs.Valid.{HasSection, HaveSameInstructions};
 ghost use Rattle.smith_binary_program.specs.Valid.{IsSameProgram, IsValidBinary};
+
+use crate::programs::encode;
+use smith_decode::{DecodeError, Module, decode};
+use smith_program::Program;
+use std::alloc::Global;
 
 // Programs and bytes that meet the definitions, and others that do not. The clauses are proved, and
 // nothing calls these functions.
@@ -55,6 +65,29 @@ fn decoded_programs()
         (nop ∷ [])).bodies ≡ ([], (instr.Nop ∷ [])) ∷ []) }
     ensures without_custom_sections { (decoded (function []) (nop ∷ [])).customs ≡ [] }
 {}
+
+fn decoded_answers()
+    ensures itself { (back : Module) → ComesBack (syntax_of back) (Ok back) }
+    ensures without_functions { (back : Module) → (syntax_of back).bodies ≡ []
+        → ¬ ComesBack (decoded (function []) (nop ∷ [])) (Ok back) }
+    ensures memory { ComesBack (decoded (function []) (nop ∷ [])) (Err Memory) }
+    ensures feature_off { ¬ ComesBack (decoded (function []) (nop ∷ [])) (Err (FeatureOff 8)) }
+{}
+
+// Writes a valid program, and reads it with the features of its configuration.
+fn read_back(alloc: Global, program: &Program) -> Option<Result<Module, DecodeError>>
+    requires valid { IsValidProgram program.now.«module» program.now.bodies }
+    requires drawn { ¬ Contains program.now.bodies body.Raw }
+    ensures { IfSome result (ComesBack (decoded program.now.«module» program.now.bodies)) }
+{
+    match encode(alloc, program) {
+        Ok(bytes) => {
+            let features = program.module().config().features();
+            Some(decode(alloc, bytes.as_slice(), features))
+        }
+        Err(_) => None,
+    }
+}
 
 fn sections()
     ensures count_of_data { HasSection 12 (preamble ++ 0x0C ∷ 0x01 ∷ 0x00 ∷ []) }

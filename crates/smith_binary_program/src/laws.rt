@@ -7,7 +7,7 @@ ghost use Rattle.smith_program.specs.Bodies.{AreBodiesOf};
 ghost use Rattle.smith_program.specs.Valid.{IsValidProgram};
 ghost use Rattle.smith_program.specs.declared.program.Body.{Body};
 ghost use Rattle.smith_program.specs.declared.program.Body.TheVariants.{Raw};
-ghost use Rattle.smith_binary_program.specs.Decoded.{EncodedProgramsAreDecoded};
+ghost use Rattle.smith_binary_program.specs.Decoded.{EncodedProgramsAreDecoded, EncodedProgramsComeBack};
 ghost use Rattle.smith_binary_program.specs.Forms.{AreFormsEnabled, HasLongReferences};
 ghost use Rattle.smith_binary_program.specs.Valid.{ProgramsAreUnambiguous};
 ghost use Rattle.smith_binary_program.specs.Valid.{EncodedProgramsAreValid};
@@ -45,4 +45,14 @@ pub fn encoded_programs_are_decoded()
     ensures decoded { EncodedProgramsAreDecoded }
     ensures raw { (m : ModuleParts) (bodies : List Body) → IsValidProgram m bodies
         → Contains bodies Raw → IsTrue m.config.allow_invalid_funcs }
+{}
+
+/// States that the bytes that [`encode`] writes for a valid program without raw bodies come back from
+/// [`smith_decode::decode`] as the module of the program, with the features of its configuration. For each
+/// answer that the call's clause `exact` permits for these bytes and features, it is this module, or the
+/// error is lack of memory: no form of the written module belongs to a disabled feature.
+///
+/// [`encode`]: crate::encode
+pub fn encoded_programs_come_back()
+    ensures { EncodedProgramsComeBack }
 {}
