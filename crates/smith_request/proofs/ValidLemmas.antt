@@ -1,5 +1,5 @@
 -- What is written is a valid program.
-use Rattle.std.proofs.Common.{◌≡◌, ℕ, ◌<◌, Bool, true, false, Option, Some, None, List, [], ◌∷◌, length, length-append, refl, ap, arith}
+use Rattle.std.proofs.Common.{◌≡◌, ℕ, ◌<◌, Bool, true, false, Option, Some, None, List, [], ◌∷◌, length, length-append, ap, arith}
 use Rattle.std.proofs.Common.{sym, subst}
 use Rattle.smith_config.specs.declared.config.Config.{Config}
 use Rattle.smith_module_rules.specs.Module.{ModuleParts}
@@ -8,7 +8,6 @@ use Rattle.wasm_smith.specs.SinkExports.{with_sink_exports}
 use Rattle.wasm_smith.specs.Termination.{AddsCounter, counter}
 use Rattle.smith_program.specs.Valid.{IsValidProgram}
 use Rattle.smith_program.specs.Parts.{ProgramParts}
-use Rattle.smith_program.specs.declared.program.Body.{Body}
 use Rattle.smith_program.proofs.CanonicalProgramLemmas.{canonical_program_valid}
 use Rattle.smith_program.proofs.ObservedProgramLemmas.{observed_program_valid, sinks_exported_program_valid}
 use Rattle.smith_program.proofs.ValidLemmas.{counted_valid, exported_program_valid}

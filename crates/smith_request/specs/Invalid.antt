@@ -1,5 +1,5 @@
 -- Invalid files for a request and an input, by the numbers of families; no number requests all families.
-use Rattle.std.specs.Prelude.{◌≡◌, ◌⊎◌, ℕ, List, [], Some, None}
+use Rattle.std.specs.Prelude.{◌≡◌, ◌⊎◌, ℕ, List, [], None}
 use Rattle.std.specs.List.{Contains}
 use Rattle.smith_bytes.specs.declared.error.Error.TheVariants.{Memory}
 use Rattle.smith_config.specs.declared.config.Config.{Config as Configuration}
