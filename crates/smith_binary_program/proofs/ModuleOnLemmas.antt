@@ -5,7 +5,8 @@ use Rattle.std.specs.Prelude.{All, IsTrue}
 use Rattle.std.specs.List.{zip}
 use Rattle.std.specs.declared.ops.Range.{Range}
 use Rattle.std.proofs.lemmas.List.{length-drop}
-use Rattle.std.proofs.lemmas.List.Elements.{All-cons, All-drop, All-from_recursion, All-head, All-map, All-nil, All-same, All-tail, All-weaker}
+use Rattle.std.proofs.lemmas.List.Elements.{All-cons, All-drop, All-from_recursion, All-head, All-map, All-nil, All-same, All-tail}
+use Rattle.std.proofs.lemmas.List.Elements.{All-weaker}
 use Rattle.std.proofs.lemmas.Option.{slice_get-get_or, slice_get_within}
 use Rattle.smith_syntax.specs.Features.{Features}
 use Rattle.smith_syntax.specs.declared.const_instr.ConstInstr.{ConstInstr}
