@@ -346,7 +346,7 @@ struct smith_fault {
  * features and no others, since a file may be valid under more.
  *
  * The module before the change is one that smith_binary writes for the same configuration and input, as is proved too, but without fuel,
- * sinks and custom sections, which the file never has: smith_binary returns it if the configuration has none of them.
+ * sinks, custom sections and canonical NaNs, which the file never has: smith_binary returns it if the configuration has none of them.
  *
  * If a file is made, the fault is written, and the status is SMITH_MADE if the file was too, or SMITH_SHORT if `out` is too short for it.
  * Otherwise nothing is written. The status is SMITH_NO_CHANGE for one input in 30 of the default configuration, whose modules are often
