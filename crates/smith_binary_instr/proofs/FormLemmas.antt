@@ -1,12 +1,12 @@
 -- What is written is in the grammar.
-use Rattle.std.proofs.Common.{◌≡◌, ℕ, ◌+◌, ◌<◌, ◌^◌, List, [], ◌∷◌}
+use Rattle.smith_binary_instr.proofs.Common.{joined_written, ◌<◌}
+use Rattle.std.proofs.Common.{[], List, ℕ, ◌+◌, ◌^◌, ◌∷◌, ◌≡◌}
 use Rattle.smith_binary.specs.Spelling.{Spelling, IsUnsignedIn}
 use Rattle.smith_binary.specs.Spelling.Spelling.{any, written}
 use Rattle.smith_binary.specs.Pieces.{Joined, Each, Output, Writes}
-use Rattle.smith_binary.proofs.WrittenLemmas.{joined_written}
 use Rattle.smith_binary_sections.specs.Instructions.{IsIndexIn}
 use Rattle.smith_binary_sections.proofs.ListLemmas.{locals_spelled}
-use Rattle.smith_syntax.specs.declared.value_type.ValType.{ValType}
+use Rattle.smith_types.specs.Syntax.value_type.ValType.{ValType}
 use Rattle.smith_instr.specs.declared.instr.Instr.{Instr}
 use Rattle.smith_instr.specs.declared.instr.Instr.TheVariants as instr
 use Rattle.smith_instr.specs.declared.memory.MemArg.{MemArg}

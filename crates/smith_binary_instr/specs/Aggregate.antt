@@ -2,10 +2,7 @@
 -- WebAssembly Core Specification 3.0. The shared i31 follows the shared-everything-threads
 -- proposal.
 use Rattle.std.specs.Prelude.{ℕ, ◌+◌, List}
-use Rattle.smith_binary.specs.Spelling.{Spelling}
-use Rattle.smith_binary.specs.Spelling.Spelling.{any}
-use Rattle.smith_binary.specs.Pieces.{Joined}
-use Rattle.smith_binary_sections.specs.Instructions.{IsIndexIn, IsPrefixedIn}
+use Rattle.smith_binary_instr.specs.Common.{any, IsIndexIn, IsPrefixedIn, Joined, Spelling}
 use Rattle.smith_instr.specs.declared.aggregate.AggregateInstr.{AggregateInstr}
 use Rattle.smith_instr.specs.declared.aggregate.AggregateInstr.TheVariants as aggregate
 use Rattle.smith_instr.specs.declared.aggregate.Extension.{Extension}

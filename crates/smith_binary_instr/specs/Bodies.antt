@@ -1,12 +1,10 @@
 -- Bodies of functions: the section Binary Format, Modules, Code Section, of the WebAssembly Core
 -- Specification 3.0.
 use Rattle.std.specs.Prelude.{ℕ, List}
-use Rattle.smith_binary.specs.Spelling.{Spelling}
-use Rattle.smith_binary.specs.Spelling.Spelling.{any}
-use Rattle.smith_binary.specs.Pieces.{Joined, IsSized, IsSizedIn}
-use Rattle.smith_syntax.specs.declared.value_type.ValType.{ValType}
+use Rattle.smith_binary_instr.specs.Common.{any, Instr, Joined, Spelling}
+use Rattle.smith_binary.specs.Pieces.{IsSized, IsSizedIn}
+use Rattle.smith_types.specs.Syntax.value_type.ValType.{ValType}
 use Rattle.smith_binary_sections.specs.Codes.{IsLocals, IsLocalsWrittenIn}
-use Rattle.smith_instr.specs.declared.instr.Instr.{Instr}
 use Rattle.smith_binary_instr.specs.Instructions.{IsExpr, IsExprWrittenIn}
 
 -- the content of a body: its locals, in runs, then its expression (Code Section)

@@ -1,11 +1,9 @@
 -- Immediates of control instructions: the section Binary Format, Instructions, Control
 -- Instructions, of the WebAssembly Core Specification 3.0.
 use Rattle.std.specs.Prelude.{ℕ, Bool, true, false, List, pos}
-use Rattle.smith_binary.specs.Spelling.{IsSignedIn, Spelling}
-use Rattle.smith_binary.specs.Spelling.Spelling.{any}
-use Rattle.smith_binary.specs.Pieces.{IsByte, Joined}
+use Rattle.smith_binary_instr.specs.Common.{any, IsByte, IsIndexIn, Joined, Spelling}
+use Rattle.smith_binary.specs.Spelling.{IsSignedIn}
 use Rattle.smith_binary_sections.specs.Types.{IsHeapTypeIn, IsValTypeIn}
-use Rattle.smith_binary_sections.specs.Instructions.{IsIndexIn}
 use Rattle.smith_instr.specs.declared.control.BranchCast.{BranchCast}
 use Rattle.smith_instr.specs.declared.control.BlockType.{BlockType}
 use Rattle.smith_instr.specs.declared.control.BlockType.TheVariants as block

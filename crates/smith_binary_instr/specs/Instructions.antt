@@ -3,13 +3,11 @@
 -- that a flat list is spelled instruction by instruction. `Nesting` defines the lists that form the
 -- blocks of the standard. Atomic instructions follow the threads proposal.
 use Rattle.std.specs.Prelude.{ℕ, List}
-use Rattle.smith_binary.specs.Spelling.{IsSignedIn, Spelling}
-use Rattle.smith_binary.specs.Spelling.Spelling.{any}
+use Rattle.smith_binary_instr.specs.Common.{any, Instr, IsByte, IsIndexIn, IsPrefixedIn, Joined, Spelling}
+use Rattle.smith_binary.specs.Spelling.{IsSignedIn}
 use Rattle.smith_binary.specs.Numbers.{IsLittleEndian, IsVector}
-use Rattle.smith_binary.specs.Pieces.{IsByte, Joined, Each, IsListIn}
+use Rattle.smith_binary.specs.Pieces.{Each, IsListIn}
 use Rattle.smith_binary_sections.specs.Types.{IsValTypeIn}
-use Rattle.smith_binary_sections.specs.Instructions.{IsIndexIn, IsPrefixedIn}
-use Rattle.smith_instr.specs.declared.instr.Instr.{Instr}
 use Rattle.smith_instr.specs.declared.instr.Instr.TheVariants as instr
 use Rattle.smith_binary_instr.specs.Numeric.{IsNumericIn}
 use Rattle.smith_binary_instr.specs.Aggregate.{IsAggregateIn}

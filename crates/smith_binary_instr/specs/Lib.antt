@@ -1,3 +1,4 @@
+pub mod Common
 pub mod Aggregate
 pub mod Atomic
 pub mod Bodies

@@ -1,8 +1,8 @@
 -- Instructions and bodies that the binary format cannot express.
 use Rattle.std.specs.Prelude.{◌^◌, ◌≤◌, ◌⊎◌, List, Any}
-use Rattle.smith_syntax.specs.declared.value_type.ValType.{ValType}
+use Rattle.smith_types.specs.Syntax.value_type.ValType.{ValType}
 use Rattle.smith_binary_sections.specs.Long.{IsLongContent, IsLongList, IsNeverLong}
-use Rattle.smith_instr.specs.declared.instr.Instr.{Instr}
+use Rattle.smith_binary_instr.specs.Common.{Instr}
 use Rattle.smith_instr.specs.declared.instr.Instr.TheVariants as instr
 use Rattle.smith_instr.specs.declared.memory.MemArg.{MemArg}
 use Rattle.smith_binary_instr.specs.Bodies.{IsFuncWritten}

@@ -1,11 +1,11 @@
 -- Memory instructions: the sections Binary Format, Instructions, Memory Instructions and Vector
 -- Instructions, of the WebAssembly Core Specification 3.0.
 use Rattle.std.specs.Prelude.{◌≡◌, ℕ, ◌+◌, ◌^◌, ◌<◌, List}
-use Rattle.smith_binary.specs.Spelling.{IsUnsignedIn, Spelling}
-use Rattle.smith_binary.specs.Spelling.Spelling.{any, written}
+use Rattle.smith_binary_instr.specs.Common.{any, IsByte, IsIndexIn, IsPrefixedIn, Joined, Spelling}
+use Rattle.smith_binary.specs.Spelling.{IsUnsignedIn}
+use Rattle.smith_binary.specs.Spelling.Spelling.{written}
 use Rattle.smith_binary.specs.Numbers.{IsUnsigned}
-use Rattle.smith_binary.specs.Pieces.{IsByte, Joined}
-use Rattle.smith_binary_sections.specs.Instructions.{IsIndex, IsIndexIn, IsPrefixedIn}
+use Rattle.smith_binary_sections.specs.Instructions.{IsIndex}
 use Rattle.smith_instr.specs.declared.memory.MemArg.{MemArg}
 use Rattle.smith_instr.specs.declared.memory.Load.{Load}
 use Rattle.smith_instr.specs.declared.memory.Load.TheVariants as load

@@ -2,7 +2,7 @@
 -- Format, Instructions, Control Instructions and Expressions, of the WebAssembly Core Specification
 -- 3.0.
 use Rattle.std.specs.Prelude.{◌≡◌, Bool, true, false, Option, Some, None, List, [], ◌∷◌}
-use Rattle.smith_instr.specs.declared.instr.Instr.{Instr}
+use Rattle.smith_binary_instr.specs.Common.{Instr}
 use Rattle.smith_instr.specs.declared.instr.Instr.TheVariants as instr
 
 -- The open blocks after an instruction, the innermost first, each with whether it may still have an

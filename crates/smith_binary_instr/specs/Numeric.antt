@@ -1,10 +1,7 @@
 -- Numeric instructions: the section Binary Format, Instructions, Numeric Instructions, of the
 -- WebAssembly Core Specification 3.0. Wide arithmetic follows its proposal.
 use Rattle.std.specs.Prelude.{ℕ, ◌+◌, List}
-use Rattle.smith_binary.specs.Spelling.{Spelling}
-use Rattle.smith_binary.specs.Spelling.Spelling.{any}
-use Rattle.smith_binary.specs.Pieces.{IsByte}
-use Rattle.smith_binary_sections.specs.Instructions.{IsPrefixedIn}
+use Rattle.smith_binary_instr.specs.Common.{any, IsByte, IsPrefixedIn, Spelling}
 use Rattle.smith_instr.specs.declared.numeric.IntUnary.{IntUnary}
 use Rattle.smith_instr.specs.declared.numeric.IntUnary.TheVariants as int_unary
 use Rattle.smith_instr.specs.declared.numeric.IntBinary.{IntBinary}

@@ -1,12 +1,9 @@
 -- Reference and table instructions: the sections Binary Format, Instructions, Reference
 -- Instructions and Table Instructions, of the WebAssembly Core Specification 3.0.
 use Rattle.std.specs.Prelude.{ℕ, ◌+◌, Bool, true, false, List}
-use Rattle.smith_binary.specs.Spelling.{Spelling}
-use Rattle.smith_binary.specs.Spelling.Spelling.{any}
-use Rattle.smith_binary.specs.Pieces.{IsByte, Joined}
-use Rattle.smith_syntax.specs.declared.value_type.RefType.{RefType}
+use Rattle.smith_binary_instr.specs.Common.{any, IsByte, IsIndexIn, IsPrefixedIn, Joined, Spelling}
+use Rattle.smith_types.specs.Syntax.value_type.RefType.{RefType}
 use Rattle.smith_binary_sections.specs.Types.{IsHeapTypeIn}
-use Rattle.smith_binary_sections.specs.Instructions.{IsIndexIn, IsPrefixedIn}
 use Rattle.smith_instr.specs.declared.reference.ReferenceInstr.{ReferenceInstr}
 use Rattle.smith_instr.specs.declared.reference.ReferenceInstr.TheVariants as reference
 use Rattle.smith_instr.specs.declared.table.TableInstr.{TableInstr}

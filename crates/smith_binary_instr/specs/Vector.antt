@@ -1,10 +1,8 @@
 -- Vector instructions: the section Binary Format, Instructions, Vector Instructions, of the
 -- WebAssembly Core Specification 3.0.
 use Rattle.std.specs.Prelude.{◌≡◌, ℕ, List, length}
-use Rattle.smith_binary.specs.Spelling.{Spelling}
-use Rattle.smith_binary.specs.Spelling.Spelling.{any}
-use Rattle.smith_binary.specs.Pieces.{Is, IsByte, Joined}
-use Rattle.smith_binary_sections.specs.Instructions.{IsPrefixedIn}
+use Rattle.smith_binary_instr.specs.Common.{any, IsByte, IsPrefixedIn, Joined, Spelling}
+use Rattle.smith_binary.specs.Pieces.{Is}
 use Rattle.smith_instr.specs.declared.vector.VectorInstr.{VectorInstr}
 use Rattle.smith_instr.specs.declared.vector.VectorInstr.TheVariants as vector
 use Rattle.smith_binary_instr.specs.VectorNumbers.{all_true_number, bitmask_number, extract_number, relaxed_binary_number}

@@ -1,11 +1,11 @@
 -- The bytes of checks are their instructions.
-use Rattle.std.proofs.Common.{◌≡◌, ℕ, suc, ◌<◌, ◌^◌, List, [], ◌∷◌, ◌++◌, refl, sym, subst, ◌∙◌, arith, append_assoc}
+use Rattle.smith_binary_law.proofs.Common.{[], arith, Joined, List, refl, subst, sym, ℕ, ◌++◌, ◌<◌, ◌^◌, ◌∙◌, ◌∷◌, ◌≡◌}
+use Rattle.std.proofs.Common.{append_assoc, suc}
 use Rattle.std.specs.List.{All}
-use Rattle.smith_binary.specs.Pieces.{Joined}
 use Rattle.smith_binary.proofs.NumberLemmas.{positive_last}
 use Rattle.smith_binary.proofs.ShortestLemmas.{shortest_spelled}
 use Rattle.smith_binary_sections.specs.Codes.{index_bytes, check_bytes, checks_bytes, body_bytes}
-use Rattle.smith_syntax.specs.declared.code.Instructions.TheVariants.{Unreachable}
+use Rattle.smith_types.specs.Syntax.code.Instructions.TheVariants.{Unreachable}
 use Rattle.smith_binary_law.specs.Checks.{IsGlobalGet, IsGlobalSet, IsTrapIf, IsOne, IsCheck, IsChecks, IsChecked}
 
 pub both : {A B : List ℕ → Type 0} (one other : List ℕ) → A one → B other → Joined A B (one ++ other)

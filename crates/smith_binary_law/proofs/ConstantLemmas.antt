@@ -1,13 +1,11 @@
 -- Constant expressions and what holds them, from the same with any instructions.
-use Rattle.std.proofs.Common.{◌≡◌, List, [], ◌∷◌, map, refl, ap}
-use Rattle.smith_syntax.specs.declared.const_instr.ConstInstr.{ConstInstr}
-use Rattle.smith_syntax.specs.declared.const_instr.ConstInstr.TheVariants as constant
-use Rattle.smith_syntax.specs.declared.entity_type.GlobalType.{GlobalType}
-use Rattle.smith_syntax.specs.declared.entity_type.TableType.{TableType}
+use Rattle.smith_binary_law.proofs.Common.{[], ap, Instr, List, map, refl, TableType, ◌∷◌, ◌≡◌}
+use Rattle.smith_types.specs.Syntax.const_instr.ConstInstr.{ConstInstr}
+use Rattle.smith_types.specs.Syntax.const_instr.ConstInstr.TheVariants as constant
+use Rattle.smith_types.specs.Syntax.entity_type.GlobalType.{GlobalType}
 use Rattle.smith_binary_sections.specs.Data.{Data as ConstData, DataMode as ConstDataMode}
 use Rattle.smith_binary_sections.specs.Elements.{Elem as ConstElem, Mode as ConstMode}
 use Rattle.smith_instr.specs.declared.aggregate.AggregateInstr.TheVariants as aggregate
-use Rattle.smith_instr.specs.declared.instr.Instr.{Instr}
 use Rattle.smith_instr.specs.declared.instr.Instr.TheVariants as instr
 use Rattle.smith_instr.specs.declared.numeric.IntBinary.TheVariants.{Add, Sub, Mul}
 use Rattle.smith_instr.specs.declared.numeric.NumericInstr.TheVariants.{I32Binary, I64Binary}

@@ -1,13 +1,11 @@
 -- Instructions, expressions and bodies have one meaning.
-use Rattle.std.proofs.Common.{◌≡◌, ℕ, ◌≤◌, List, [], ◌∷◌, ◌++◌, length, refl, sym, subst, ap, ◌∙◌, arith, length-append}
-use Rattle.smith_binary.specs.Pieces.{Each}
+use Rattle.smith_binary_law.proofs.Common.{[], ap, AreNested, arith, Each, Instr, IsInstr, length, length-append, List, refl, subst, sym}
+use Rattle.smith_binary_law.proofs.Common.{ValType, ℕ, ◌++◌, ◌∙◌, ◌∷◌, ◌≡◌}
+use Rattle.std.proofs.Common.{◌≤◌}
 use Rattle.smith_binary.specs.Unambiguous.{Same, IsUnambiguous, IsUnambiguousWhole}
 use Rattle.smith_binary.proofs.UnambiguousLemmas.{first_same, sized_is_unambiguous, unambiguous_whole}
-use Rattle.smith_syntax.specs.declared.value_type.ValType.{ValType}
-use Rattle.smith_instr.specs.declared.instr.Instr.{Instr}
 use Rattle.smith_binary_instr.specs.Bodies.{IsFunc, IsFuncBody}
-use Rattle.smith_binary_instr.specs.Instructions.{IsInstr, IsExpr}
-use Rattle.smith_binary_instr.specs.Nesting.{AreNested}
+use Rattle.smith_binary_instr.specs.Instructions.{IsExpr}
 use Rattle.smith_binary_read_instr.specs.InstrReadings.{instr_at}
 use Rattle.smith_binary_read_instr.proofs.InstrLemmas.{instr_decodes}
 use Rattle.smith_binary_read_instr.proofs.NestedLemmas.{expr_decodes}

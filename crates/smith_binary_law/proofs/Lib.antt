@@ -1,3 +1,4 @@
+pub mod Common
 pub mod CheckLemmas
 pub mod ConstantLemmas
 pub mod InstructionLemmas

@@ -1,15 +1,14 @@
 -- Modules have one meaning: their sections are read as those of a decoded module are, and the expressions of
 -- bodies as any bytes.
-use Rattle.std.proofs.Common.{◌≡◌, ℕ, Option, None, List, [], ◌∷◌, map, refl, sym, subst, ap, ◌∙◌, length, arith}
-use Rattle.smith_binary.specs.Pieces.{Joined, IsList}
+use Rattle.smith_binary_law.proofs.Common.{[], ap, arith, Instr, IsList, Joined, length, List, map, None, refl, subst, sym, TableType}
+use Rattle.smith_binary_law.proofs.Common.{ValType, ℕ, ◌∙◌, ◌∷◌, ◌≡◌}
+use Rattle.std.proofs.Common.{Option}
 use Rattle.smith_binary.proofs.UnambiguousLemmas.{same_front}
-use Rattle.smith_syntax.specs.declared.value_type.ValType.{ValType}
-use Rattle.smith_syntax.specs.declared.composite_type.SubType.{SubType}
-use Rattle.smith_syntax.specs.declared.entity_type.ExportKind.{ExportKind}
-use Rattle.smith_syntax.specs.declared.entity_type.GlobalType.{GlobalType}
-use Rattle.smith_syntax.specs.declared.entity_type.TableType.{TableType}
-use Rattle.smith_syntax.specs.declared.entity_type.MemoryType.{MemoryType}
-use Rattle.smith_syntax.specs.declared.imports.Import.{Import}
+use Rattle.smith_types.specs.Syntax.composite_type.SubType.{SubType}
+use Rattle.smith_types.specs.Syntax.entity_type.ExportKind.{ExportKind}
+use Rattle.smith_types.specs.Syntax.entity_type.GlobalType.{GlobalType}
+use Rattle.smith_types.specs.Syntax.entity_type.MemoryType.{MemoryType}
+use Rattle.smith_types.specs.Syntax.imports.Import.{Import}
 use Rattle.smith_binary_sections.specs.Codes.{IsBody}
 use Rattle.smith_binary_sections.specs.Data.{IsData as IsConstData}
 use Rattle.smith_binary_sections.specs.Definitions.{IsTable as IsConstTable, IsGlobal as IsConstGlobal}
@@ -20,7 +19,6 @@ use Rattle.smith_binary_sections.specs.Imports.{IsImports}
 use Rattle.smith_binary_sections.specs.Instructions.{IsIndex}
 use Rattle.smith_binary_sections.specs.Modules.{Contents, IsPreamble, IsModule}
 use Rattle.smith_binary_sections.specs.Types.{IsRecGroup}
-use Rattle.smith_instr.specs.declared.instr.Instr.{Instr}
 use Rattle.smith_binary_read.proofs.ReadLemmas.{whole_decodes}
 use Rattle.smith_binary_read.proofs.IntegerLemmas.{unsigned_decodes}
 use Rattle.smith_binary_read.proofs.ContentLemmas.{list_decodes, sized_decodes}

@@ -1,12 +1,12 @@
 -- Typed instructions are nested.
-use Rattle.std.proofs.Common.{◌≡◌, ℕ, Bool, true, false, Some, List, [], ◌∷◌, ◌++◌, refl, sym, subst, append_assoc, append-nil}
-use Rattle.smith_syntax.specs.declared.value_type.ValType.{ValType}
+use Rattle.smith_binary_law.proofs.Common.{[], AreNested, Bool, false, Instr, List, refl, Some, subst, sym, true, ValType, ℕ, ◌++◌, ◌∷◌}
+use Rattle.smith_binary_law.proofs.Common.{◌≡◌}
+use Rattle.std.proofs.Common.{append-nil, append_assoc}
 use Rattle.smith_instr.specs.Contexts.{BodyContext}
 use Rattle.smith_instr.specs.InstrTypes.{HasInstrType}
 use Rattle.smith_instr.specs.Sequences.{Stacked, IsBodyTyped, AreTyped, nothing, step, block, loop, if_alone, if_else, try_table}
-use Rattle.smith_instr.specs.declared.instr.Instr.{Instr}
 use Rattle.smith_instr.specs.declared.instr.Instr.TheVariants as instr
-use Rattle.smith_binary_instr.specs.Nesting.{blocks_after, AreNested}
+use Rattle.smith_binary_instr.specs.Nesting.{blocks_after}
 
 -- an instruction with a type of its own neither opens nor ends a block
 keeps_blocks : (context : BodyContext) (set : List ℕ) (x : Instr) (operands results : List ValType) (blocks : List Bool)

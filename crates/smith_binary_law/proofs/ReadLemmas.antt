@@ -1,11 +1,11 @@
 -- What is read is unambiguous.
-use Rattle.std.proofs.Common.{ℕ, ◌^◌, ◌<◌, List, length, Ok, refl, sym, ap, subst, ◌∙◌}
+use Rattle.smith_binary_law.proofs.Common.{ap, IsRun, Joined, length, List, refl, subst, sym, ValType, ℕ, ◌<◌, ◌^◌, ◌∙◌}
+use Rattle.std.proofs.Common.{Ok}
 use Rattle.std.specs.Prelude.{nat_lt, if◌then◌else◌}
 use Rattle.std.proofs.lemmas.Bool.{lt-ltb, ltb-true}
-use Rattle.smith_binary.specs.Pieces.{Is, Joined}
+use Rattle.smith_binary.specs.Pieces.{Is}
 use Rattle.smith_binary.specs.Unambiguous.{IsUnambiguous}
-use Rattle.smith_syntax.specs.declared.value_type.ValType.{ValType}
-use Rattle.smith_binary_sections.specs.Codes.{IsRun, locals_of, IsLocals}
+use Rattle.smith_binary_sections.specs.Codes.{IsLocals, locals_of}
 use Rattle.smith_binary_read.specs.declared.error.Reason.TheVariants.{ManyLocals}
 use Rattle.smith_binary_read.specs.Readings.{Reading, ◌>>=◌, fault_at, joined_at, mapped_at}
 use Rattle.smith_binary_read.specs.Numbers.{unsigned_at}

@@ -1,7 +1,7 @@
 -- Sections in order: those of a module without custom sections, and what is read of them.
-use Rattle.std.proofs.Common.{◌≡◌, ℕ, false, List, [], ◌∷◌, map, Option, Some, None, Result, refl, sym, ap, ◌∙◌, append-nil}
-use Rattle.smith_binary.specs.Numbers.{IsUnsigned}
-use Rattle.smith_binary.specs.Pieces.{Joined, IsSection}
+use Rattle.smith_binary_law.proofs.Common.{[], ap, false, IsUnsigned, Joined, List, map, None, refl, Some, sym, ℕ, ◌∙◌, ◌∷◌, ◌≡◌}
+use Rattle.std.proofs.Common.{append-nil, Option, Result}
+use Rattle.smith_binary.specs.Pieces.{IsSection}
 use Rattle.smith_binary.specs.Unambiguous.{IsUnambiguousWhole}
 use Rattle.smith_binary_sections.specs.Modules.{IsStartSection}
 use Rattle.smith_binary_sections.specs.Sections.{IsListSection, IsOptionalSection}

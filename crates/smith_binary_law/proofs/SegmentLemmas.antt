@@ -1,39 +1,37 @@
 -- Valid segments are valid in the abstract syntax.
-use Rattle.std.proofs.Common.{◌≡◌, ℕ, Bool, true, false, cond, Some, None, List, [], ◌∷◌, length, refl, sym, subst}
+use Rattle.smith_binary_law.proofs.Common.{[], Bool, Concrete, false, func_ref, funcref, I32, I32Const, IsRefBelow, itself, length, List}
+use Rattle.smith_binary_law.proofs.Common.{None, offset_of, refl, Some, subst, sym, TableType, true, ValType, ℕ, ◌∷◌, ◌≡◌}
+use Rattle.std.proofs.Common.{cond}
 use Rattle.std.specs.Prelude.{All, nat_le}
 use Rattle.std.proofs.lemmas.List.Elements.{All-map, All-weaker}
 use Rattle.smith_types.specs.Expressions.{Context, HasType, IsConstExpr, reference_to, function_reference}
-use Rattle.smith_syntax.specs.Features.{Features}
-use Rattle.smith_types.specs.Flags.{funcref}
+use Rattle.smith_types.specs.Syntax.Features.{Features}
 use Rattle.smith_types.specs.Segments.{address_type, IsOffsetValid, IsItem, AreItemsValid, IsActiveElementSegment, IsElementKindValid}
 use Rattle.smith_types.specs.Segments.{IsElementSegmentValid, IsDataKindValid, IsDataValid}
-use Rattle.smith_types.specs.Subtyping.{itself, IsInRange, IsRefBelow, IsValBelow}
+use Rattle.smith_types.specs.Subtyping.{IsInRange, IsValBelow}
 use Rattle.smith_types.specs.ValidTypes.{IsHeapTypeValid}
-use Rattle.smith_syntax.specs.declared.composite_type.SubType.{SubType}
-use Rattle.smith_syntax.specs.declared.const_instr.ConstInstr.{ConstInstr}
-use Rattle.smith_syntax.specs.declared.const_instr.ConstInstr.TheVariants.{I32Const, I64Const, GlobalGet, RefFunc}
-use Rattle.smith_syntax.specs.declared.entity_type.MemoryType.{MemoryType}
-use Rattle.smith_syntax.specs.declared.entity_type.TableType.{TableType}
-use Rattle.smith_syntax.specs.declared.segments.DataSegment.{DataSegment}
-use Rattle.smith_syntax.specs.declared.segments.DataSegmentKind.{DataSegmentKind}
-use Rattle.smith_syntax.specs.declared.segments.DataSegmentKind.TheVariants as data_kind
-use Rattle.smith_syntax.specs.declared.segments.Elements.{Elements}
-use Rattle.smith_syntax.specs.declared.segments.Elements.TheVariants.{Functions, Expressions}
-use Rattle.smith_syntax.specs.declared.segments.ElementKind.{ElementKind}
-use Rattle.smith_syntax.specs.declared.segments.ElementKind.TheVariants as kind
-use Rattle.smith_syntax.specs.declared.segments.ElementSegment.{ElementSegment}
-use Rattle.smith_syntax.specs.declared.segments.Offset.{Offset}
-use Rattle.smith_syntax.specs.declared.segments.Offset.TheVariants.{Const32, Const64, Global}
-use Rattle.smith_syntax.specs.declared.value_type.HeapType.{HeapType}
-use Rattle.smith_syntax.specs.declared.value_type.HeapType.TheVariants.{Abstract, Concrete, Exact}
-use Rattle.smith_syntax.specs.declared.value_type.RefType.{RefType}
-use Rattle.smith_syntax.specs.declared.value_type.ValType.{ValType}
-use Rattle.smith_syntax.specs.declared.value_type.ValType.TheVariants.{I32, I64, Ref}
+use Rattle.smith_types.specs.Syntax.composite_type.SubType.{SubType}
+use Rattle.smith_types.specs.Syntax.const_instr.ConstInstr.{ConstInstr}
+use Rattle.smith_types.specs.Syntax.const_instr.ConstInstr.TheVariants.{GlobalGet, I64Const, RefFunc}
+use Rattle.smith_types.specs.Syntax.entity_type.MemoryType.{MemoryType}
+use Rattle.smith_types.specs.Syntax.segments.DataSegment.{DataSegment}
+use Rattle.smith_types.specs.Syntax.segments.DataSegmentKind.{DataSegmentKind}
+use Rattle.smith_types.specs.Syntax.segments.DataSegmentKind.TheVariants as data_kind
+use Rattle.smith_types.specs.Syntax.segments.Elements.{Elements}
+use Rattle.smith_types.specs.Syntax.segments.Elements.TheVariants.{Functions, Expressions}
+use Rattle.smith_types.specs.Syntax.segments.ElementKind.{ElementKind}
+use Rattle.smith_types.specs.Syntax.segments.ElementKind.TheVariants as kind
+use Rattle.smith_types.specs.Syntax.segments.ElementSegment.{ElementSegment}
+use Rattle.smith_types.specs.Syntax.segments.Offset.{Offset}
+use Rattle.smith_types.specs.Syntax.segments.Offset.TheVariants.{Const32, Const64, Global}
+use Rattle.smith_types.specs.Syntax.value_type.HeapType.{HeapType}
+use Rattle.smith_types.specs.Syntax.value_type.HeapType.TheVariants.{Abstract, Exact}
+use Rattle.smith_types.specs.Syntax.value_type.RefType.{RefType}
+use Rattle.smith_types.specs.Syntax.value_type.ValType.TheVariants.{I64, Ref}
 use Rattle.smith_types.proofs.ConstStepLemmas.{one_step}
 use Rattle.smith_types.proofs.GrowthLemmas.{IsRefBelow-trans}
-use Rattle.smith_binary_sections.specs.Elements.{func_ref, elem_type, elem_items, elem_mode, elem_of}
+use Rattle.smith_binary_sections.specs.Elements.{elem_items, elem_mode, elem_of, elem_type}
 use Rattle.smith_binary_sections.specs.Data.{data_mode, data_of}
-use Rattle.smith_binary_sections.specs.Instructions.{offset_of}
 use Rattle.smith_binary_law.specs.Segments.{IsTyped, IsTaken, IsModeTyped, IsElemTyped, IsDataModeTyped, IsDataTyped, AreListedAsFuncref}
 
 in_range : (features : Features) (types : List SubType) (heap_type : HeapType) → IsHeapTypeValid features (length types) heap_type

@@ -1,23 +1,21 @@
 -- Bytes that spell the parts of examples, and the parts of instructions.
-use Rattle.std.proofs.Common.{◌≡◌, ℕ, ◌^◌, ◌<◌, Bool, true, false, Some, None, List, [], ◌∷◌, ◌++◌, pos, refl, sym, arith}
-use Rattle.smith_binary.specs.Numbers.{IsUnsigned}
+use Rattle.smith_binary_law.proofs.Common.{[], AreNested, arith, Bool, Each, false, I32Const, Instr, IsInstr, IsList, IsUnsigned, Joined}
+use Rattle.smith_binary_law.proofs.Common.{List, None, plain, pos, refl, Some, sym, true, unsigned_last, ℕ, ◌++◌, ◌<◌, ◌^◌, ◌∷◌, ◌≡◌}
 use Rattle.smith_binary.specs.Spelling.Spelling.{any}
-use Rattle.smith_binary.specs.Pieces.{Each, IsByte, IsList, Joined}
-use Rattle.smith_binary.proofs.NumberLemmas.{unsigned_last, positive_last}
+use Rattle.smith_binary.specs.Pieces.{IsByte}
+use Rattle.smith_binary.proofs.NumberLemmas.{positive_last}
 use Rattle.smith_binary.proofs.UnambiguousLemmas.{unsigned_is_unambiguous}
 use Rattle.smith_binary.proofs.WrittenLemmas.{each_byte}
-use Rattle.smith_types.specs.ExampleTypes.{plain}
-use Rattle.smith_syntax.specs.declared.const_instr.ConstInstr.TheVariants.{I32Const, RefNull}
-use Rattle.smith_syntax.specs.declared.value_type.AbstractHeapType.TheVariants as heap
+use Rattle.smith_types.specs.Syntax.const_instr.ConstInstr.TheVariants.{RefNull}
+use Rattle.smith_types.specs.Syntax.value_type.AbstractHeapType.TheVariants as heap
 use Rattle.smith_binary_sections.specs.Elements.{IsFuncs}
 use Rattle.smith_binary_sections.specs.Instructions.{IsExpression, IsIndex, IsInstr as IsConst, IsPrefixed, offset_of}
 use Rattle.smith_binary_law.proofs.CheckLemmas.{both}
-use Rattle.smith_instr.specs.declared.instr.Instr.{Instr}
 use Rattle.smith_instr.specs.declared.instr.Instr.TheVariants as instr
-use Rattle.smith_binary_instr.specs.Instructions.{IsInstr, IsInstrWritten}
+use Rattle.smith_binary_instr.specs.Instructions.{IsInstrWritten}
 use Rattle.smith_binary_instr.specs.Memory.{IsMemArg}
 use Rattle.smith_binary_instr.proofs.FormLemmas.{instr_is}
-use Rattle.smith_binary_instr.specs.Nesting.{blocks_after, AreNested}
+use Rattle.smith_binary_instr.specs.Nesting.{blocks_after}
 use Rattle.smith_binary_law.specs.ExampleInstructions.{load_word}
 use Rattle.smith_binary_law.specs.ExampleSegments.{no_function, start}
 

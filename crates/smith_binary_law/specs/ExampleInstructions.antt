@@ -1,8 +1,8 @@
 -- Instructions of the examples.
 use Rattle.std.specs.Prelude.{ℕ, true, false}
-use Rattle.smith_syntax.specs.declared.value_type.AbstractHeapType.TheVariants as heap
-use Rattle.smith_syntax.specs.declared.value_type.HeapType.TheVariants.{Abstract}
-use Rattle.smith_syntax.specs.declared.value_type.RefType.{RefType}
+use Rattle.smith_types.specs.Syntax.value_type.AbstractHeapType.TheVariants as heap
+use Rattle.smith_types.specs.Syntax.value_type.HeapType.TheVariants.{Abstract}
+use Rattle.smith_types.specs.Syntax.value_type.RefType.{RefType}
 use Rattle.smith_instr.specs.declared.control.BranchCast.{BranchCast}
 use Rattle.smith_instr.specs.declared.instr.Instr.{Instr}
 use Rattle.smith_instr.specs.declared.instr.Instr.TheVariants as instr

@@ -5,14 +5,14 @@ use Rattle.smith_types.specs.Expressions.{Context, AreStackSteps}
 use Rattle.smith_types.specs.Flags.{funcref}
 use Rattle.smith_types.specs.Segments.{address_type}
 use Rattle.smith_types.specs.Subtyping.{IsInRange, IsRefBelow, IsValBelow}
-use Rattle.smith_syntax.specs.declared.const_instr.ConstInstr.{ConstInstr}
-use Rattle.smith_syntax.specs.declared.entity_type.MemoryType.{MemoryType}
-use Rattle.smith_syntax.specs.declared.entity_type.TableType.{TableType}
-use Rattle.smith_syntax.specs.declared.segments.Elements.{Elements}
-use Rattle.smith_syntax.specs.declared.segments.Elements.TheVariants.{Functions, Expressions}
-use Rattle.smith_syntax.specs.declared.value_type.RefType.{RefType}
-use Rattle.smith_syntax.specs.declared.value_type.ValType.{ValType}
-use Rattle.smith_syntax.specs.declared.value_type.ValType.TheVariants.{Ref}
+use Rattle.smith_types.specs.Syntax.const_instr.ConstInstr.{ConstInstr}
+use Rattle.smith_types.specs.Syntax.entity_type.MemoryType.{MemoryType}
+use Rattle.smith_types.specs.Syntax.entity_type.TableType.{TableType}
+use Rattle.smith_types.specs.Syntax.segments.Elements.{Elements}
+use Rattle.smith_types.specs.Syntax.segments.Elements.TheVariants.{Functions, Expressions}
+use Rattle.smith_types.specs.Syntax.value_type.RefType.{RefType}
+use Rattle.smith_types.specs.Syntax.value_type.ValType.{ValType}
+use Rattle.smith_types.specs.Syntax.value_type.ValType.TheVariants.{Ref}
 use Rattle.smith_binary_sections.specs.Elements.{Elem, Mode, passive, declared, active}
 use Rattle.smith_binary_sections.specs.Data.{Data, DataMode}
 use Rattle.smith_binary_sections.specs.Data as data_segment

@@ -1,8 +1,8 @@
 -- The modules of examples have few bytes.
 use Rattle.std.proofs.Common.{inl, inr, [], ◌∷◌, arith}
 use Rattle.smith_types.specs.ExampleTypes.{final_type, plain_func}
-use Rattle.smith_syntax.specs.declared.code.Instructions.TheVariants.{Unreachable}
-use Rattle.smith_syntax.specs.declared.composite_type.SubType.{SubType}
+use Rattle.smith_types.specs.Syntax.code.Instructions.TheVariants.{Unreachable}
+use Rattle.smith_types.specs.Syntax.composite_type.SubType.{SubType}
 use Rattle.smith_binary_sections.specs.Types.{IsCompositeType, IsRecGroupWritten, IsValType}
 use Rattle.smith_binary_sections.specs.Instructions.{IsIndex}
 use Rattle.smith_binary_sections.specs.Entities.{IsMemoryType, IsTagType}

@@ -9,7 +9,7 @@ use Rattle.smith_binary.specs.Numbers.{IsUnsigned}
 use Rattle.smith_binary.specs.Pieces.{Joined, Each, IsList, IsSection}
 use Rattle.smith_module_rules.specs.Module.{ModuleParts}
 use Rattle.wasm_smith.specs.Bodies.{HasBodies}
-use Rattle.smith_syntax.specs.declared.imports.Imports.{Imports}
+use Rattle.smith_types.specs.Syntax.imports.Imports.{Imports}
 use Rattle.smith_types.specs.Imports.{flattened}
 use Rattle.smith_binary_sections.specs.Types.{IsRecGroup, IsRecGroupWritten, group_at}
 use Rattle.smith_binary_sections.specs.Instructions.{IsIndex}

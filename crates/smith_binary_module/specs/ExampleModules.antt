@@ -1,6 +1,6 @@
 -- Modules of examples.
 use Rattle.std.specs.Prelude.{false, None, [], ◌∷◌}
-use Rattle.smith_syntax.specs.declared.code.Code.{Code}
+use Rattle.smith_types.specs.Syntax.code.Code.{Code}
 use Rattle.smith_types.specs.ExampleTypes.{final_type, plain_func, range}
 use Rattle.smith_config.specs.Config.{default_config}
 use Rattle.smith_module_rules.specs.Module.{ModuleParts}

@@ -5,7 +5,7 @@ use Rattle.std.specs.List.{zip}
 use Rattle.smith_binary.specs.Spelling.{IsUnsignedIn, Spelling}
 use Rattle.smith_binary.specs.Spelling.Spelling.{any}
 use Rattle.smith_binary.specs.Pieces.{Joined, IsListIn}
-use Rattle.smith_syntax.specs.declared.code.Code.{Code}
+use Rattle.smith_types.specs.Syntax.code.Code.{Code}
 use Rattle.smith_module_rules.specs.Module.{ModuleParts}
 use Rattle.smith_binary_sections.specs.Types.{IsRecGroupWrittenIn}
 use Rattle.smith_binary_sections.specs.Instructions.{IsIndexIn}

@@ -1,22 +1,14 @@
 -- Typed bodies access memories of their module, and state value types in forms that are enabled.
-use Rattle.std.proofs.Common.{◌≡◌, ℕ, ◌<◌, ◌⊎◌, inl, inr, Bool, List, [], length, refl, arith}
-use Rattle.std.specs.Prelude.{All}
-use Rattle.std.proofs.lemmas.List.Elements.{All-nil, All-same, All-weaker}
-use Rattle.std.proofs.lemmas.Option.{slice_get_within}
-use Rattle.smith_syntax.specs.declared.code.Code.{Code}
-use Rattle.smith_syntax.specs.declared.entity_type.MemoryType.{MemoryType}
-use Rattle.smith_syntax.specs.declared.value_type.ValType.{ValType}
-use Rattle.smith_instr.specs.Contexts.{BodyContext}
-use Rattle.smith_instr.specs.InstrTypes.{HasInstrType}
+use Rattle.smith_binary_program.proofs.Common.{[], All, All-nil, All-same, All-weaker, AreBodiesOf, arith, Body, BodyContext, Bool, Code}
+use Rattle.smith_binary_program.proofs.Common.{HasInstrType, inl, inr, Instr, IsValid, length, List, MemoryType, module_features}
+use Rattle.smith_binary_program.proofs.Common.{ModuleParts, refl, slice_get_within, ValType, ℕ, ◌<◌, ◌≡◌}
+use Rattle.std.proofs.Common.{◌⊎◌}
 use Rattle.smith_instr.specs.MemoryTypes.{HasAtomicType, IsAccess}
 use Rattle.smith_instr.specs.declared.atomic.AtomicAccess.{AtomicAccess}
 use Rattle.smith_instr.specs.declared.atomic.AtomicAccess.TheVariants as atomic
-use Rattle.smith_instr.specs.declared.instr.Instr.{Instr}
 use Rattle.smith_instr.specs.declared.instr.Instr.TheVariants as instr
 use Rattle.smith_instr.specs.declared.memory.MemArg.{MemArg}
-use Rattle.smith_module_rules.specs.Module.{ModuleParts, IsValid, module_features}
-use Rattle.smith_program.specs.Bodies.{AreBodiesBy, AreBodiesOf, IsBodyAt, IsOfBody}
-use Rattle.smith_program.specs.declared.program.Body.{Body}
+use Rattle.smith_program.specs.Bodies.{AreBodiesBy, IsBodyAt, IsOfBody}
 use Rattle.smith_program.specs.declared.program.Body.TheVariants as of_body
 use Rattle.smith_binary_program.specs.Forms.{accessed, AreFormsEnabled, IsAccessEnabled, IsStatedEnabled, IsValFormEnabled, values_in}
 use Rattle.smith_binary_program.proofs.ReferenceFormLemmas.{block_enabled, globals_enabled, held_enabled, instr_enabled}

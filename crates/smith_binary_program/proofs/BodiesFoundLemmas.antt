@@ -1,20 +1,16 @@
 -- The body of a function of a valid program is read as one with the forms of enabled features alone.
-use Rattle.std.proofs.Common.{◌≡◌, ℕ, zero, suc, ◌<◌, ◌^◌, List, [], ◌∷◌, map, Some, length, refl, ap, ◌∙◌, arith}
-use Rattle.std.specs.Prelude.{All, IsTrue, option_map, slice_get}
-use Rattle.std.specs.List.{Contains, flat_map, zip}
-use Rattle.std.proofs.lemmas.List.Elements.{All-append, All-cons, All-from_recursion, All-head, All-map, All-nil, All-tail, All-weaker}
-use Rattle.std.proofs.lemmas.Option.{get_or_from_slice_get, slice_get-map, slice_get_within}
+use Rattle.smith_binary_program.proofs.Common.{[], All, All-cons, All-from_recursion, All-head, All-map, All-nil, All-tail, All-weaker, ap}
+use Rattle.smith_binary_program.proofs.Common.{arith, Body, BodyContext, check_of, checked_after, checks_of, Code, Contains, counted}
+use Rattle.smith_binary_program.proofs.Common.{Features, flat_map, get_or_from_slice_get, Instr, IsBodyValid, IsTrue, IsValidProgram}
+use Rattle.smith_binary_program.proofs.Common.{IsValTypeEnabled, IsValTypeValid, length, List, map, module_features, ModuleParts, refl}
+use Rattle.smith_binary_program.proofs.Common.{slice_get, slice_get_within, Some, suc, ValType, zero, zip, ℕ, ◌<◌, ◌∙◌, ◌∷◌, ◌≡◌}
+use Rattle.std.proofs.Common.{◌^◌}
+use Rattle.std.specs.Prelude.{option_map}
+use Rattle.std.proofs.lemmas.List.Elements.{All-append}
+use Rattle.std.proofs.lemmas.Option.{slice_get-map}
 use Rattle.smith_binary.specs.Spelling.Spelling.{any}
-use Rattle.smith_syntax.specs.Features.{Features}
-use Rattle.smith_syntax.specs.declared.code.Code.{Code}
-use Rattle.smith_syntax.specs.declared.value_type.ValType.{ValType}
-use Rattle.smith_types.specs.Bodies.{IsBodyValid}
-use Rattle.smith_types.specs.ValidTypes.{IsValTypeValid}
-use Rattle.smith_module_rules.specs.Module.{ModuleParts, module_features}
 use Rattle.smith_binary_sections.proofs.ListLemmas.{list_mapped}
-use Rattle.smith_instr.specs.Contexts.{BodyContext}
 use Rattle.smith_instr.specs.Enabled.{has_features}
-use Rattle.smith_instr.specs.declared.instr.Instr.{Instr}
 use Rattle.smith_instr.specs.declared.instr.Instr.TheVariants as instr
 use Rattle.smith_binary_instr.specs.Nesting.{AreNested}
 use Rattle.smith_binary_instr.proofs.FormLemmas.{expr_is}
@@ -22,11 +18,9 @@ use Rattle.smith_binary_law.proofs.NestingLemmas.{body_nested}
 use Rattle.smith_decode.specs.declared.bodies.LocalRun.{LocalRun}
 use Rattle.smith_decode.specs.BodyReadings.{IsLocalRun, IsRunBody, body_of, local_run, total}
 use Rattle.smith_decode.specs.Forms.{IsBodyEnabled, IsInstrEnabled}
-use Rattle.smith_decode.specs.TypeForms.{IsValTypeEnabled}
 use Rattle.smith_program.specs.Bodies.{function_context}
-use Rattle.smith_program.specs.Counted.{check_of, checked_after, checks_of, counted, counted_body}
-use Rattle.smith_program.specs.Valid.{HaveAll, IsValidProgram}
-use Rattle.smith_program.specs.declared.program.Body.{Body}
+use Rattle.smith_program.specs.Counted.{counted_body}
+use Rattle.smith_program.specs.Valid.{HaveAll}
 use Rattle.smith_program.specs.declared.program.Body.TheVariants as body
 use Rattle.smith_binary_program.specs.Bodies.{IsBodyOf}
 use Rattle.smith_binary_program.proofs.FindsLemmas.{Finds}

@@ -1,11 +1,8 @@
 -- Bodies in order.
-use Rattle.std.proofs.Common.{◌≡◌, ℕ, ◌<◌, List, length, get_or, sym, arith}
-use Rattle.std.specs.Prelude.{Any, min}
-use Rattle.std.specs.List.{zip}
+use Rattle.smith_binary_program.proofs.Common.{Any, arith, Body, Code, get_or, length, length-zip, List, sym, zip, ℕ, ◌<◌, ◌≡◌}
+use Rattle.std.specs.Prelude.{min}
 use Rattle.std.proofs.Math.Nat.{min-le_left, min-le_right}
-use Rattle.std.proofs.lemmas.Slice.Zip.{get_or-zip, length-zip}
-use Rattle.smith_syntax.specs.declared.code.Code.{Code}
-use Rattle.smith_program.specs.declared.program.Body.{Body}
+use Rattle.std.proofs.lemmas.Slice.Zip.{get_or-zip}
 
 -- a place of both lists
 pub inside : (codes : List Code) (bodies : List Body) (place : ℕ) → place < min (length codes) (length bodies)

@@ -1,7 +1,7 @@
 -- What is written for a valid program is decoded as its module, with the features of its configuration.
-use Rattle.std.proofs.Common.{◌≡◌, ℕ, List, ◌++◌, Ok, Err, refl, sym, ap, subst, ◌∙◌}
-use Rattle.std.specs.List.{Contains}
-use Rattle.smith_module_rules.specs.Module.{ModuleParts, module_features}
+use Rattle.smith_binary_program.proofs.Common.{ap, Body, Contains, IsValidProgram, List, module_features, ModuleParts, refl, subst, sym, ℕ}
+use Rattle.smith_binary_program.proofs.Common.{◌++◌, ◌∙◌, ◌≡◌}
+use Rattle.std.proofs.Common.{Err, Ok}
 use Rattle.smith_binary_law.proofs.SectionLemmas.{read_whole}
 use Rattle.smith_decode.specs.declared.error.DecodeError.TheVariants.{Memory, Malformed, FeatureOff}
 use Rattle.smith_decode.specs.declared.modules.Module.{Module}
@@ -11,8 +11,6 @@ use Rattle.smith_decode.specs.Modules.{syntax_of}
 use Rattle.smith_decode.proofs.ContentsLemmas.{module_back}
 use Rattle.smith_decode.proofs.FormLemmas.{off_disabled}
 use Rattle.smith_decode.proofs.ModuleLemmas.{AreParts, module_decodes, parts_decode, parts_of}
-use Rattle.smith_program.specs.Valid.{IsValidProgram}
-use Rattle.smith_program.specs.declared.program.Body.{Body}
 use Rattle.smith_program.specs.declared.program.Body.TheVariants as body
 use Rattle.smith_binary_program.specs.Decoded.{EncodedProgramsComeBack, decoded}
 use Rattle.smith_binary_program.specs.Programs.{IsEncoded}

@@ -1,20 +1,15 @@
 -- Valid constant expressions have the forms of enabled features alone.
-use Rattle.std.proofs.Common.{ℕ, Bool, true, false, ◌&&◌, List, [], ◌∷◌, length, refl}
-use Rattle.std.specs.Prelude.{All, IsTrue}
-use Rattle.std.proofs.lemmas.List.Elements.{All-cons, All-head, All-nil, All-tail}
-use Rattle.smith_syntax.specs.Features.{Features}
-use Rattle.smith_syntax.specs.declared.const_instr.ConstInstr.{ConstInstr}
-use Rattle.smith_syntax.specs.declared.const_instr.ConstInstr.TheVariants as constant
-use Rattle.smith_syntax.specs.declared.segments.Offset.{Offset}
-use Rattle.smith_syntax.specs.declared.segments.Offset.TheVariants.{Const32, Const64, Global}
-use Rattle.smith_syntax.specs.declared.value_type.ValType.{ValType}
-use Rattle.smith_types.specs.Expressions.{AreStackSteps, Context, HasType, IsConstExpr}
+use Rattle.smith_binary_program.proofs.Common.{[], All, All-cons, All-head, All-nil, All-tail, as_expr, Bool, ConstInstr, Context, false}
+use Rattle.smith_binary_program.proofs.Common.{Features, Instr, IsExprEnabled, IsTrue, length, List, refl, true, ValType, ℕ, ◌&&◌, ◌∷◌}
+use Rattle.smith_types.specs.Syntax.const_instr.ConstInstr.TheVariants as constant
+use Rattle.smith_types.specs.Syntax.segments.Offset.{Offset}
+use Rattle.smith_types.specs.Syntax.segments.Offset.TheVariants.{Const32, Const64, Global}
+use Rattle.smith_types.specs.Expressions.{AreStackSteps, HasType, IsConstExpr}
 use Rattle.smith_types.specs.Flags.{IsInstrEnabled as IsConstOn}
 use Rattle.smith_binary_sections.specs.Instructions.{offset_of}
 use Rattle.smith_instr.specs.Enabled.{has_features}
-use Rattle.smith_instr.specs.declared.instr.Instr.{Instr}
-use Rattle.smith_decode.specs.Constants.{as_expr, as_instr}
-use Rattle.smith_decode.specs.Forms.{AreNamedEnabled, AreStatedEnabled, IsConstantEnabled, IsExprEnabled, IsExtendedEnabled}
+use Rattle.smith_decode.specs.Constants.{as_instr}
+use Rattle.smith_decode.specs.Forms.{AreNamedEnabled, AreStatedEnabled, IsConstantEnabled, IsExtendedEnabled}
 use Rattle.smith_binary_program.proofs.TypesOnLemmas.{heap_on}
 
 enabled_by : (features : Features) (x : Instr) → IsTrue (has_features features x) → AreStatedEnabled features x

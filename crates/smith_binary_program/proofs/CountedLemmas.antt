@@ -1,23 +1,22 @@
 -- Instructions with the checks of counters, as they are written.
-use Rattle.std.proofs.Common.{◌≡◌, ℕ, ◌+◌, ◌<◌, ◌≤◌, List, [], ◌∷◌, ◌++◌, Result, Ok, Err, length, drop, get_or, refl, sym, subst, ap, ◌∙◌}
+use Rattle.smith_binary_program.proofs.Common.{[], All-from_recursion, Any, ap, BlockType, check_of, checked_after, checks_of, drop, Each}
+use Rattle.smith_binary_program.proofs.Common.{flat_map, get_or, Instr, IsInstrsWrittenIn, Joined, joined_written, Leads, length, List}
+use Rattle.smith_binary_program.proofs.Common.{refl, subst, sym, ℕ, ◌++◌, ◌+◌, ◌<◌, ◌∙◌, ◌∷◌, ◌≡◌, ◌≤◌}
+use Rattle.std.proofs.Common.{Err, Ok, Result}
 use Rattle.std.proofs.Common.{add-one, append_assoc, append-nil, drop-cons}
-use Rattle.std.specs.Prelude.{Any, IfErr}
-use Rattle.std.specs.List.{flat_map, AllByRecursion}
+use Rattle.std.specs.Prelude.{IfErr}
+use Rattle.std.specs.List.{AllByRecursion}
 use Rattle.std.proofs.Math.ListN.{drop_of_length-le}
 use Rattle.std.proofs.lemmas.List.{nil_from_length}
-use Rattle.std.proofs.lemmas.List.Elements.{All-from_recursion}
 use Rattle.smith_binary.specs.Spelling.{Spelling}
 use Rattle.smith_binary.specs.declared.error.EncodeError.{EncodeError}
 use Rattle.smith_binary.specs.declared.error.EncodeError.TheVariants.{Memory, TooLong}
 use Rattle.smith_binary.specs.Faults.{IsFault}
-use Rattle.smith_binary.specs.Pieces.{Joined, Each, Writes, Output}
-use Rattle.smith_binary.proofs.WrittenLemmas.{Leads, joined_written, nothing_written, written_as}
-use Rattle.smith_instr.specs.declared.control.BlockType.{BlockType}
-use Rattle.smith_instr.specs.declared.instr.Instr.{Instr}
+use Rattle.smith_binary.specs.Pieces.{Output, Writes}
+use Rattle.smith_binary.proofs.WrittenLemmas.{nothing_written, written_as}
 use Rattle.smith_instr.specs.declared.instr.Instr.TheVariants as instr
-use Rattle.smith_binary_instr.specs.Instructions.{IsInstrWrittenIn, IsInstrsWrittenIn}
+use Rattle.smith_binary_instr.specs.Instructions.{IsInstrWrittenIn}
 use Rattle.smith_binary_instr.specs.Long.{IsLongInstr}
-use Rattle.smith_program.specs.Counted.{check_of, checked_after, checks_of}
 
 -- items in order, then others
 pub each_joined : {A : Type 0} (Item : A → List ℕ → Type 0) (xs ys : List A) (piece : List ℕ) → Joined (Each Item xs) (Each Item ys) piece

@@ -1,15 +1,13 @@
 -- The data count section of a module, which each reading of its bytes finds.
-use Rattle.std.proofs.Common.{◌≡◌, ℕ, ◌+◌, zero, suc, List, [], ◌∷◌, ◌++◌, length, length-append, append-nil, sym, subst, ap, refl, ◌∙◌}
-use Rattle.std.proofs.Common.{arith}
-use Rattle.std.specs.List.{Contains}
-use Rattle.smith_binary.specs.Numbers.{IsUnsigned}
-use Rattle.smith_binary.specs.Pieces.{Each, Joined, IsSection}
+use Rattle.smith_binary_program.proofs.Common.{[], ap, arith, Contains, Contents, Each, IsOptionalSection, IsUnsigned, Joined, length}
+use Rattle.smith_binary_program.proofs.Common.{length-append, List, refl, subst, suc, sym, zero, ℕ, ◌++◌, ◌+◌, ◌∙◌, ◌∷◌, ◌≡◌}
+use Rattle.std.proofs.Common.{append-nil}
+use Rattle.smith_binary.specs.Pieces.{IsSection}
 use Rattle.smith_binary.specs.Unambiguous.{IsUnambiguousWhole, Same}
 use Rattle.smith_binary.proofs.UnambiguousLemmas.{byte_is_unambiguous, first_same, same_front, sized_is_unambiguous}
 use Rattle.smith_binary_law.proofs.SectionLemmas.{start_form}
 use Rattle.smith_binary_module.specs.Layout.{IsAnySection}
-use Rattle.smith_binary_sections.specs.Modules.{Contents, IsModule}
-use Rattle.smith_binary_sections.specs.Sections.{IsOptionalSection}
+use Rattle.smith_binary_sections.specs.Modules.{IsModule}
 use Rattle.smith_decode.specs.Constants.{IsPresent, StatesCount}
 use Rattle.smith_binary_program.specs.Valid.{HasSection}
 

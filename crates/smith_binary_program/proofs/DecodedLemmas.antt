@@ -1,31 +1,27 @@
 -- What is written for a program is its module, for the decoder.
-use Rattle.std.proofs.Common.{◌≡◌, ℕ, ◌<◌, zero, suc, ◌||◌, Bool, true, false, List, [], ◌∷◌, Some, length, get_or, sym, subst, ap, refl}
-use Rattle.std.proofs.Common.{◌∙◌, arith, map}
-use Rattle.std.specs.Prelude.{All, IsTrue}
-use Rattle.std.specs.List.{Contains, flat_map, list_any, zip}
+use Rattle.smith_binary_program.proofs.Common.{[], All, All-head, All-tail, ap, AreBodiesOf, arith, Body, Bool, check_of, checked_after}
+use Rattle.smith_binary_program.proofs.Common.{checks_of, Code, Contains, counted, false, flat_map, get_or, get_or_from_slice_get, Instr}
+use Rattle.smith_binary_program.proofs.Common.{IsBodyValid, IsTrue, IsValidProgram, length, List, map, module_features, ModuleParts, refl}
+use Rattle.smith_binary_program.proofs.Common.{slice_get-get_or, Some, subst, suc, sym, true, zero, zip, ℕ, ◌<◌, ◌∙◌, ◌∷◌, ◌≡◌}
+use Rattle.std.proofs.Common.{◌||◌}
+use Rattle.std.specs.List.{list_any}
 use Rattle.std.proofs.lemmas.Bool.{false≢true}
-use Rattle.std.proofs.lemmas.List.Elements.{All-head, All-tail}
 use Rattle.std.proofs.lemmas.List.Folds.{Any-from_list_any, list_any-append}
-use Rattle.std.proofs.lemmas.Option.{get_or_from_slice_get, slice_get-get_or}
-use Rattle.smith_syntax.specs.declared.code.Code.{Code}
-use Rattle.smith_syntax.specs.declared.code.Instructions.{Instructions}
-use Rattle.smith_syntax.specs.declared.code.Instructions.TheVariants.{Unreachable, Arbitrary}
-use Rattle.smith_types.specs.Bodies.{AreInstructionsValid, IsBodyValid}
+use Rattle.smith_types.specs.Syntax.code.Instructions.{Instructions}
+use Rattle.smith_types.specs.Syntax.code.Instructions.TheVariants.{Unreachable, Arbitrary}
+use Rattle.smith_types.specs.Bodies.{AreInstructionsValid}
 use Rattle.smith_instr.specs.Enabled.{names_data}
-use Rattle.smith_instr.specs.declared.instr.Instr.{Instr}
 use Rattle.smith_instr.specs.declared.instr.Instr.TheVariants as instr
 use Rattle.smith_module_rules.specs.Held.{IsRaw}
-use Rattle.smith_module_rules.specs.Module.{ModuleParts, module_features}
 use Rattle.smith_binary_instr.specs.Nesting.{AreNested}
 use Rattle.smith_binary_law.proofs.NestingLemmas.{body_nested}
 use Rattle.smith_binary_module.specs.Layout.{section_ids}
 use Rattle.smith_decode.specs.Constants.{StatesCount}
 use Rattle.smith_decode.specs.Modules.{AreBodiesOf as AreModuleBodies, body_names_data}
 use Rattle.smith_decode.proofs.EncoderLemmas.{encoder_form}
-use Rattle.smith_program.specs.Bodies.{AreBodiesOf, IsBodyAt, IsOfBody, function_context}
-use Rattle.smith_program.specs.Counted.{check_of, checked_after, checks_of, counted, counted_body}
-use Rattle.smith_program.specs.Valid.{IsValidProgram, NameData}
-use Rattle.smith_program.specs.declared.program.Body.{Body}
+use Rattle.smith_program.specs.Bodies.{function_context, IsBodyAt, IsOfBody}
+use Rattle.smith_program.specs.Counted.{counted_body}
+use Rattle.smith_program.specs.Valid.{NameData}
 use Rattle.smith_program.specs.declared.program.Body.TheVariants as body
 use Rattle.smith_program.proofs.DrawnBodiesLemmas.{code_there}
 use Rattle.smith_binary_program.specs.Decoded.{EncodedProgramsAreDecoded, function_of}

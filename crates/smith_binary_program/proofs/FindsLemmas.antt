@@ -1,10 +1,9 @@
 -- Bytes that spell some item with a property: lists, sections, and sections in order.
-use Rattle.std.proofs.Common.{◌≡◌, ℕ, suc, Bool, true, false, List, [], ◌∷◌, ◌++◌, length, refl, sym, ap, subst, ◌∙◌, append_assoc}
-use Rattle.std.specs.Prelude.{All}
-use Rattle.std.proofs.lemmas.List.Elements.{All-cons, All-head, All-nil, All-tail}
-use Rattle.smith_binary.specs.Numbers.{IsUnsigned}
-use Rattle.smith_binary.specs.Pieces.{Joined, Each, IsList}
-use Rattle.smith_binary_sections.specs.Sections.{IsOptionalSection, IsSectionIf}
+use Rattle.smith_binary_program.proofs.Common.{[], All, All-cons, All-head, All-nil, All-tail, ap, Bool, Each, false, IsOptionalSection}
+use Rattle.smith_binary_program.proofs.Common.{IsSectionIf, IsUnsigned, Joined, length, List, refl, subst, suc, sym, true, ℕ, ◌++◌, ◌∙◌}
+use Rattle.smith_binary_program.proofs.Common.{◌∷◌, ◌≡◌}
+use Rattle.std.proofs.Common.{append_assoc}
+use Rattle.smith_binary.specs.Pieces.{IsList}
 use Rattle.smith_binary_law.proofs.SectionLemmas.{last_form, then_form}
 use Rattle.smith_decode.proofs.CustomLemmas.{IsEnd, IsMore}
 

@@ -1,22 +1,15 @@
 -- Typed bodies have the forms of enabled features alone.
-use Rattle.std.proofs.Common.{◌≡◌, ℕ, ◌≤◌, ◌<◌, ◌^◌, Bool, true, false, List, [], ◌∷◌, length, refl, sym, ◌∙◌, arith}
-use Rattle.std.specs.Prelude.{All, IsTrue, slice_get, Some, if◌then◌else◌}
-use Rattle.std.proofs.lemmas.List.Elements.{All-cons, All-nil, All-same}
-use Rattle.std.proofs.lemmas.Option.{slice_get_within}
-use Rattle.smith_syntax.specs.Features.{Features}
-use Rattle.smith_syntax.specs.declared.entity_type.MemoryType.{MemoryType}
-use Rattle.smith_syntax.specs.declared.entity_type.TableType.{TableType}
-use Rattle.smith_syntax.specs.declared.value_type.ValType.{ValType}
-use Rattle.smith_types.specs.ValidTypes.{IsValTypeValid}
-use Rattle.smith_instr.specs.Contexts.{BodyContext, IsBlockType}
-use Rattle.smith_instr.specs.InstrTypes.{HasInstrType}
+use Rattle.smith_binary_program.proofs.Common.{[], All, All-cons, All-nil, All-same, arith, BlockType, BodyContext, Bool, false, Features}
+use Rattle.smith_binary_program.proofs.Common.{HasInstrType, Instr, IsBlockType, IsTrue, IsValTypeEnabled, IsValTypeValid, length, List}
+use Rattle.smith_binary_program.proofs.Common.{MemoryType, refl, slice_get, slice_get_within, sym, TableType, true, ValType, ℕ, ◌<◌, ◌∙◌}
+use Rattle.smith_binary_program.proofs.Common.{◌∷◌, ◌≡◌, ◌≤◌}
+use Rattle.std.proofs.Common.{◌^◌}
+use Rattle.std.specs.Prelude.{if◌then◌else◌, Some}
 use Rattle.smith_instr.specs.MemoryTypes.{HasAtomicType, HasMemoryType, IsAccess}
 use Rattle.smith_instr.specs.ReferenceTypes.{HasReferenceType, HasTableType}
 use Rattle.smith_instr.specs.declared.atomic.AtomicAccess.{AtomicAccess}
 use Rattle.smith_instr.specs.declared.atomic.AtomicAccess.TheVariants as atomic
-use Rattle.smith_instr.specs.declared.control.BlockType.{BlockType}
 use Rattle.smith_instr.specs.declared.control.BlockType.TheVariants as block_type
-use Rattle.smith_instr.specs.declared.instr.Instr.{Instr}
 use Rattle.smith_instr.specs.declared.instr.Instr.TheVariants as instr
 use Rattle.smith_instr.specs.declared.memory.MemArg.{MemArg}
 use Rattle.smith_instr.specs.declared.memory.MemoryInstr.{MemoryInstr}
@@ -27,7 +20,6 @@ use Rattle.smith_instr.specs.declared.table.TableInstr.{TableInstr}
 use Rattle.smith_instr.specs.declared.table.TableInstr.TheVariants as table
 use Rattle.smith_decode.specs.Forms.{AreMemoriesEnabled, AreNamedEnabled, AreReferencesEnabled, AreStatedEnabled, AreTablesEnabled}
 use Rattle.smith_decode.specs.Forms.{IsBlockTypeEnabled, IsMemArgEnabled, IsMemoryNameEnabled, IsTableNameEnabled}
-use Rattle.smith_decode.specs.TypeForms.{IsValTypeEnabled}
 use Rattle.smith_binary_program.proofs.TypesOnLemmas.{at_index, heap_on, ref_on, val_on}
 use Rattle.smith_binary_program.proofs.WalkLemmas.{IsKept}
 

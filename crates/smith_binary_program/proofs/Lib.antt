@@ -1,3 +1,4 @@
+pub mod Common
 pub mod CountedLemmas
 pub mod BodyLemmas
 pub mod ProgramLemmas

@@ -1,34 +1,22 @@
 -- The parts of a valid module have the forms of enabled features alone.
-use Rattle.std.proofs.Common.{ℕ, ◌≤◌, ◌<◌, Option, Some, None, List, [], ◌∷◌, ◌++◌, map, drop, get_or, length}
-use Rattle.std.proofs.Common.{sym, arith}
-use Rattle.std.specs.Prelude.{All, IsTrue}
-use Rattle.std.specs.List.{zip}
-use Rattle.std.specs.declared.ops.Range.{Range}
-use Rattle.std.proofs.lemmas.List.{length-drop}
-use Rattle.std.proofs.lemmas.List.Elements.{All-cons, All-drop, All-from_recursion, All-head, All-map, All-nil, All-same, All-tail}
-use Rattle.std.proofs.lemmas.List.Elements.{All-weaker}
-use Rattle.std.proofs.lemmas.Option.{slice_get-get_or, slice_get_within}
-use Rattle.smith_syntax.specs.Features.{Features}
-use Rattle.smith_syntax.specs.declared.const_instr.ConstInstr.{ConstInstr}
-use Rattle.smith_syntax.specs.declared.entity_type.EntityType.{EntityType}
-use Rattle.smith_syntax.specs.declared.entity_type.ExportKind.{ExportKind}
-use Rattle.smith_syntax.specs.declared.entity_type.ExportKind.TheVariants as kind
-use Rattle.smith_syntax.specs.declared.entity_type.GlobalType.{GlobalType}
-use Rattle.smith_syntax.specs.declared.entity_type.MemoryType.{MemoryType}
-use Rattle.smith_syntax.specs.declared.entity_type.TableType.{TableType}
-use Rattle.smith_syntax.specs.declared.value_type.ValType.TheVariants.{Ref}
-use Rattle.smith_types.specs.Entities.{IsGlobalValid, IsMemoryValid, IsTableValid}
+use Rattle.smith_binary_program.proofs.Common.{[], All, All-cons, All-from_recursion, All-head, All-map, All-nil, All-same, All-tail}
+use Rattle.smith_binary_program.proofs.Common.{All-weaker, arith, as_expr, ConstInstr, Context, drop, Features, get_or, GlobalType}
+use Rattle.smith_binary_program.proofs.Common.{group_at, IsExprEnabled, IsGlobalTypeEnabled, IsGlobalValid, IsGroupEnabled}
+use Rattle.smith_binary_program.proofs.Common.{IsImportGroupEnabled, IsMemoryTypeEnabled, IsTableValid, IsTrue, IsValid, length}
+use Rattle.smith_binary_program.proofs.Common.{length-drop, List, map, MemoryType, module_features, ModuleParts, None, Option, Range, Ref}
+use Rattle.smith_binary_program.proofs.Common.{slice_get-get_or, slice_get_within, Some, sym, TableType, zip, ℕ, ◌++◌, ◌<◌, ◌∷◌, ◌≤◌}
+use Rattle.std.proofs.lemmas.List.Elements.{All-drop}
+use Rattle.smith_types.specs.Syntax.entity_type.EntityType.{EntityType}
+use Rattle.smith_types.specs.Syntax.entity_type.ExportKind.{ExportKind}
+use Rattle.smith_types.specs.Syntax.entity_type.ExportKind.TheVariants as kind
+use Rattle.smith_types.specs.Entities.{IsMemoryValid}
 use Rattle.smith_types.specs.Exports.{IsEntityAt}
-use Rattle.smith_types.specs.Expressions.{Context}
 use Rattle.smith_types.specs.Imports.{Defines, flattened}
 use Rattle.smith_types.specs.Types.{end_from}
 use Rattle.smith_types.proofs.ValidityLemmas.{ends_within}
-use Rattle.smith_module_rules.specs.Module.{ModuleParts, IsTableInitialised, IsValid, global_context, module_features, module_imports}
+use Rattle.smith_module_rules.specs.Module.{global_context, IsTableInitialised, module_imports}
 use Rattle.smith_module_rules.specs.Module.{module_spaces, table_context}
-use Rattle.smith_binary_sections.specs.Types.{group_at}
-use Rattle.smith_decode.specs.Constants.{as_expr}
-use Rattle.smith_decode.specs.Forms.{IsExprEnabled, IsKindEnabled}
-use Rattle.smith_decode.specs.TypeForms.{IsGlobalTypeEnabled, IsGroupEnabled, IsImportGroupEnabled, IsMemoryTypeEnabled}
+use Rattle.smith_decode.specs.Forms.{IsKindEnabled}
 use Rattle.smith_decode.specs.TypeForms.{IsTableTypeEnabled}
 use Rattle.smith_binary_program.proofs.ConstantsOnLemmas.{expr_on}
 use Rattle.smith_binary_program.proofs.InstructionsOnLemmas.{AreSpacesOn}

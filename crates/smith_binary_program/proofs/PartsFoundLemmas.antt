@@ -1,17 +1,12 @@
 -- What is written for a valid program is read as the parts of a module with the forms of enabled features alone.
-use Rattle.std.proofs.Common.{ℕ, ◌-◌, Option, Some, None, List, [], length, refl, inl, inr}
-use Rattle.std.specs.Prelude.{All, IsTrue}
-use Rattle.std.specs.List.{Contains, zip}
-use Rattle.std.proofs.lemmas.List.Elements.{All-map}
-use Rattle.smith_binary.specs.Numbers.{IsUnsigned}
-use Rattle.smith_binary.specs.Pieces.{Joined, IsList}
-use Rattle.smith_syntax.specs.Features.{Features}
-use Rattle.smith_syntax.specs.declared.const_instr.ConstInstr.{ConstInstr}
-use Rattle.smith_syntax.specs.declared.entity_type.ExportKind.{ExportKind}
-use Rattle.smith_syntax.specs.declared.entity_type.GlobalType.{GlobalType}
-use Rattle.smith_syntax.specs.declared.entity_type.TableType.{TableType}
-use Rattle.smith_types.specs.Segments.{IsDataValid, IsElementSegmentValid}
-use Rattle.smith_module_rules.specs.Module.{ModuleParts, IsValid, module_features, segment_context}
+use Rattle.smith_binary_program.proofs.Common.{[], All, All-map, as_expr, Body, ConstInstr, Contains, contents_of, Features, GlobalType}
+use Rattle.smith_binary_program.proofs.Common.{inl, inr, is_filled, IsDataValid, IsElementSegmentValid, IsExprEnabled, IsGlobalTypeEnabled}
+use Rattle.smith_binary_program.proofs.Common.{IsGroupEnabled, IsImportGroupEnabled, IsMemoryTypeEnabled, IsTrue, IsUnsigned, IsValid}
+use Rattle.smith_binary_program.proofs.Common.{IsValidProgram, Joined, length, List, module_features, ModuleParts, None, Option, refl}
+use Rattle.smith_binary_program.proofs.Common.{segment_context, Some, TableType, zip, ℕ}
+use Rattle.std.proofs.Common.{◌-◌}
+use Rattle.smith_binary.specs.Pieces.{IsList}
+use Rattle.smith_types.specs.Syntax.entity_type.ExportKind.{ExportKind}
 use Rattle.smith_binary_sections.specs.Data.{IsDataWritten}
 use Rattle.smith_binary_sections.specs.Definitions.{IsGlobal, IsTableWritten, initialised_global, initialised_table}
 use Rattle.smith_binary_sections.specs.Elements.{IsElemWritten}
@@ -22,25 +17,21 @@ use Rattle.smith_binary_sections.specs.Instructions.{IsIndex}
 use Rattle.smith_binary_sections.specs.Types.{IsRecGroup, IsRecGroupWritten}
 use Rattle.smith_binary_sections.proofs.SpelledFormLemmas.{group_spelled, table_spelled}
 use Rattle.smith_binary_law.proofs.SectionLemmas.{start_form, stated_viewed}
-use Rattle.smith_binary_module.specs.Contents.{contents_of, defined}
-use Rattle.smith_binary_module.specs.Layout.{is_filled, writes_data_count, writes_imports, writes_types}
+use Rattle.smith_binary_module.specs.Contents.{defined}
+use Rattle.smith_binary_module.specs.Layout.{writes_data_count, writes_imports, writes_types}
 use Rattle.smith_binary_module.specs.Written.{IsBack, IsFront, IsMiddle}
 use Rattle.smith_binary_read.specs.TagReadings.{IsTagDefinition}
 use Rattle.smith_binary_read.specs.EntityReadings.{IsExportItem}
-use Rattle.smith_decode.specs.Constants.{as_expr}
 use Rattle.smith_decode.specs.BodyReadings.{IsRunBody}
 use Rattle.smith_decode.specs.DataReadings.{IsSegment}
 use Rattle.smith_decode.specs.DefinitionReadings.{IsGlobalDefinition, IsTableDefinition}
 use Rattle.smith_decode.specs.ElementReadings.{IsElementSegment}
 use Rattle.smith_decode.specs.Forms.{AreFormsEnabled, IsBodyEnabled, IsCountEnabled, IsDataEnabled, IsElementEnabled, IsExportEnabled}
-use Rattle.smith_decode.specs.Forms.{IsExprEnabled, IsGlobalEnabled, IsKindEnabled, IsTableEnabled, IsTagEnabled}
+use Rattle.smith_decode.specs.Forms.{IsGlobalEnabled, IsKindEnabled, IsTableEnabled, IsTagEnabled}
 use Rattle.smith_decode.specs.ModuleReadings.{Bodies, Counts, Functions, Globals, Memories, Parts, Starts, module_of}
 use Rattle.smith_decode.specs.Modules.{IsStated}
-use Rattle.smith_decode.specs.TypeForms.{IsGlobalTypeEnabled, IsGroupEnabled, IsImportGroupEnabled, IsMemoryTypeEnabled}
 use Rattle.smith_decode.proofs.ConstantLemmas.{global_as, table_as}
 use Rattle.smith_decode.proofs.ModuleLemmas.{AreMemories, AreParts, AreStarts}
-use Rattle.smith_program.specs.Valid.{IsValidProgram}
-use Rattle.smith_program.specs.declared.program.Body.{Body}
 use Rattle.smith_program.specs.declared.program.Body.TheVariants as body
 use Rattle.smith_binary_program.specs.Bodies.{AreBodiesOf, IsBodyOf}
 use Rattle.smith_binary_program.proofs.BodiesFoundLemmas.{IsFunctionOn, body_found, functions_on}

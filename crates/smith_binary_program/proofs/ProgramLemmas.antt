@@ -1,23 +1,15 @@
 -- Bodies as they are written are those of a module with bytes of expressions.
-use Rattle.std.proofs.Common.{◌≡◌, ℕ, suc, Bool, true, false, List, [], ◌∷◌, length, refl, sym, subst, ap, ◌∙◌, arith}
-use Rattle.std.specs.List.{zip}
-use Rattle.smith_binary.specs.Numbers.{IsUnsigned}
+use Rattle.smith_binary_program.proofs.Common.{[], ap, arith, Body, Bool, Code, Contents, contents_of, counted, Each, false, is_filled}
+use Rattle.smith_binary_program.proofs.Common.{IsModuleAround, IsOptionalSection, IsSectionIf, IsUnsigned, Joined, length, List}
+use Rattle.smith_binary_program.proofs.Common.{ModuleParts, refl, subst, suc, sym, true, zip, ℕ, ◌∙◌, ◌∷◌, ◌≡◌}
 use Rattle.smith_binary.specs.Spelling.Spelling.{any}
-use Rattle.smith_binary.specs.Pieces.{Joined, Each}
-use Rattle.smith_syntax.specs.declared.code.Code.{Code}
-use Rattle.smith_module_rules.specs.Module.{ModuleParts}
 use Rattle.smith_binary_sections.specs.Codes.{IsBody}
 use Rattle.smith_binary_sections.specs.Data.{IsData}
-use Rattle.smith_binary_sections.specs.Modules.{Contents, IsModuleAround}
-use Rattle.smith_binary_sections.specs.Sections.{IsOptionalSection, IsListSection, IsSectionIf}
+use Rattle.smith_binary_sections.specs.Sections.{IsListSection}
 use Rattle.smith_binary_sections.proofs.ListLemmas.{locals_spelled}
 use Rattle.wasm_smith.specs.Bodies.{HasBodies}
-use Rattle.smith_binary_module.specs.Contents.{contents_of}
-use Rattle.smith_binary_module.specs.Layout.{is_filled}
 use Rattle.smith_binary_module.proofs.LayoutLemmas.{functions_counted, not_filled}
 use Rattle.smith_binary_instr.proofs.FormLemmas.{expr_is}
-use Rattle.smith_program.specs.Counted.{counted}
-use Rattle.smith_program.specs.declared.program.Body.{Body}
 use Rattle.smith_program.specs.declared.program.Body.TheVariants as body
 use Rattle.smith_binary_program.specs.Bodies.{AreBodiesOf, IsBodyOf, IsExpressionOf, IsExpressionWritten}
 use Rattle.smith_binary_program.specs.Programs.{AreExpressionsOf, IsProgramBinary, with_expressions}

@@ -1,34 +1,21 @@
 -- Valid reference types are written in forms that are enabled.
-use Rattle.std.proofs.Common.{◌≡◌, ℕ, Bool, true, false, ◌&&◌, inl, inr, None, List, [], ◌∷◌, get_or, length, refl}
-use Rattle.std.specs.Prelude.{IsTrue, All}
+use Rattle.smith_binary_program.proofs.Common.{[], All, All-cons, All-nil, All-same, All-weaker, BlockType, BodyContext, Bool, Code}
+use Rattle.smith_binary_program.proofs.Common.{ElementSegment, false, Features, get_or, GlobalType, HasInstrType, inl, inr, Instr}
+use Rattle.smith_binary_program.proofs.Common.{IsBlockType, IsBodyValid, IsElementSegmentValid, IsGlobalValid, IsTableValid, IsTrue}
+use Rattle.smith_binary_program.proofs.Common.{IsValid, IsValTypeValid, length, List, module_features, ModuleParts, None, Ref, refl}
+use Rattle.smith_binary_program.proofs.Common.{RefType, segment_context, slice_get-get_or, SubType, TableType, true, ValType, ℕ, ◌&&◌, ◌∷◌}
+use Rattle.smith_binary_program.proofs.Common.{◌≡◌}
 use Rattle.std.proofs.lemmas.Bool.{false≢true}
-use Rattle.std.proofs.lemmas.List.Elements.{All-cons, All-nil, All-same, All-weaker}
-use Rattle.std.proofs.lemmas.Option.{slice_get-get_or}
-use Rattle.smith_syntax.specs.Features.{Features}
-use Rattle.smith_syntax.specs.declared.code.Code.{Code}
-use Rattle.smith_syntax.specs.declared.composite_type.SubType.{SubType}
-use Rattle.smith_syntax.specs.declared.entity_type.GlobalType.{GlobalType}
-use Rattle.smith_syntax.specs.declared.entity_type.TableType.{TableType}
-use Rattle.smith_syntax.specs.declared.segments.ElementSegment.{ElementSegment}
-use Rattle.smith_syntax.specs.declared.value_type.HeapType.{HeapType}
-use Rattle.smith_syntax.specs.declared.value_type.HeapType.TheVariants.{Abstract, Concrete, Exact}
-use Rattle.smith_syntax.specs.declared.value_type.RefType.{RefType}
-use Rattle.smith_syntax.specs.declared.value_type.ValType.{ValType}
-use Rattle.smith_syntax.specs.declared.value_type.ValType.TheVariants.{I32, I64, F32, F64, V128, Ref}
-use Rattle.smith_types.specs.Bodies.{IsBodyValid}
-use Rattle.smith_types.specs.Entities.{IsGlobalValid, IsTableValid}
-use Rattle.smith_types.specs.Segments.{IsElementSegmentValid}
-use Rattle.smith_types.specs.ValidTypes.{IsHeapTypeValid, IsRefTypeValid, IsValTypeValid, values_of}
+use Rattle.smith_types.specs.Syntax.value_type.HeapType.{HeapType}
+use Rattle.smith_types.specs.Syntax.value_type.HeapType.TheVariants.{Abstract, Concrete, Exact}
+use Rattle.smith_types.specs.Syntax.value_type.ValType.TheVariants.{F32, F64, I32, I64, V128}
+use Rattle.smith_types.specs.ValidTypes.{IsHeapTypeValid, IsRefTypeValid, values_of}
 use Rattle.smith_types.proofs.ValidityLemmas.{AreTypesValid-at}
 use Rattle.smith_config.specs.declared.config.Config.{Config}
 use Rattle.smith_config.specs.Features.{features_of}
-use Rattle.smith_module_rules.specs.Module.{ModuleParts, IsValid, module_features, module_types, segment_context, shown_config}
+use Rattle.smith_module_rules.specs.Module.{module_types, shown_config}
 use Rattle.smith_binary_sections.specs.Types.{short_ref}
-use Rattle.smith_instr.specs.Contexts.{BodyContext, IsBlockType}
-use Rattle.smith_instr.specs.InstrTypes.{HasInstrType}
-use Rattle.smith_instr.specs.declared.control.BlockType.{BlockType}
 use Rattle.smith_instr.specs.declared.control.BlockType.TheVariants as block_type
-use Rattle.smith_instr.specs.declared.instr.Instr.{Instr}
 use Rattle.smith_instr.specs.declared.instr.Instr.TheVariants as instr
 use Rattle.smith_binary_program.specs.Forms.{AreValFormsEnabled, HasLongReferences, IsRefFormEnabled, IsValFormEnabled}
 use Rattle.smith_binary_program.specs.Forms.{IsStatedEnabled, values_of_block}

@@ -1,15 +1,10 @@
 -- Bytes are at most one program.
-use Rattle.std.proofs.Common.{◌≡◌, ℕ, List, [], ◌∷◌, length, get_or, sym, subst, ap, refl, arith}
-use Rattle.std.specs.List.{AllZip, zip}
-use Rattle.smith_syntax.specs.declared.code.Code.{Code}
-use Rattle.smith_syntax.specs.declared.value_type.ValType.{ValType}
-use Rattle.smith_module_rules.specs.Module.{ModuleParts}
-use Rattle.smith_binary_sections.specs.Modules.{Contents}
+use Rattle.smith_binary_program.proofs.Common.{[], ap, arith, Body, Code, Contents, counted, get_or, length, List, ModuleParts, refl, subst}
+use Rattle.smith_binary_program.proofs.Common.{sym, ValType, zip, ℕ, ◌∷◌, ◌≡◌}
+use Rattle.std.specs.List.{AllZip}
 use Rattle.smith_binary_law.proofs.InstructionLemmas.{expr_is_unambiguous}
 use Rattle.smith_binary_law.proofs.ModuleLemmas.{module_same}
 use Rattle.smith_binary_instr.specs.Instructions.{IsExpr}
-use Rattle.smith_program.specs.Counted.{counted}
-use Rattle.smith_program.specs.declared.program.Body.{Body}
 use Rattle.smith_program.specs.declared.program.Body.TheVariants as body
 use Rattle.smith_binary_program.specs.Bodies.{IsExpressionOf}
 use Rattle.smith_binary_program.specs.Programs.{AreExpressionsOf, IsProgramBinary, program_contents, with_expressions}

@@ -1,24 +1,18 @@
 -- Valid segments are written in forms that are enabled.
-use Rattle.std.proofs.Common.{◌≡◌, ℕ, ◌<◌, Bool, true, false, ◌&&◌, eqb, Some, None, List, length, arith, refl, cond}
-use Rattle.std.specs.Prelude.{IsTrue, slice_get, All}
+use Rattle.smith_binary_program.proofs.Common.{All, All-weaker, arith, Bool, Context, ElementSegment, false, Features, IsDataValid}
+use Rattle.smith_binary_program.proofs.Common.{IsElementSegmentValid, IsTrue, IsValid, length, List, MemoryType, module_features}
+use Rattle.smith_binary_program.proofs.Common.{ModuleParts, None, refl, RefType, segment_context, slice_get, slice_get_within, Some}
+use Rattle.smith_binary_program.proofs.Common.{TableType, true, ℕ, ◌&&◌, ◌<◌, ◌≡◌}
+use Rattle.std.proofs.Common.{cond, eqb}
 use Rattle.std.proofs.lemmas.Bool.{eqb-false}
-use Rattle.std.proofs.lemmas.List.Elements.{All-weaker}
-use Rattle.std.proofs.lemmas.Option.{slice_get_within}
-use Rattle.smith_syntax.specs.Features.{Features}
-use Rattle.smith_syntax.specs.declared.entity_type.MemoryType.{MemoryType}
-use Rattle.smith_syntax.specs.declared.entity_type.TableType.{TableType}
-use Rattle.smith_syntax.specs.declared.segments.DataSegment.{DataSegment}
-use Rattle.smith_syntax.specs.declared.segments.DataSegmentKind.{DataSegmentKind}
-use Rattle.smith_syntax.specs.declared.segments.DataSegmentKind.TheVariants as data_kind
-use Rattle.smith_syntax.specs.declared.segments.ElementKind.{ElementKind}
-use Rattle.smith_syntax.specs.declared.segments.ElementKind.TheVariants as element_kind
-use Rattle.smith_syntax.specs.declared.segments.ElementSegment.{ElementSegment}
-use Rattle.smith_syntax.specs.declared.segments.Elements.{Elements}
-use Rattle.smith_syntax.specs.declared.segments.Elements.TheVariants.{Functions, Expressions}
-use Rattle.smith_syntax.specs.declared.value_type.RefType.{RefType}
-use Rattle.smith_types.specs.Expressions.{Context}
-use Rattle.smith_types.specs.Segments.{AreItemsValid, IsDataKindValid, IsDataValid, IsElementKindValid, IsElementSegmentValid}
-use Rattle.smith_module_rules.specs.Module.{ModuleParts, IsValid, module_features, segment_context}
+use Rattle.smith_types.specs.Syntax.segments.DataSegment.{DataSegment}
+use Rattle.smith_types.specs.Syntax.segments.DataSegmentKind.{DataSegmentKind}
+use Rattle.smith_types.specs.Syntax.segments.DataSegmentKind.TheVariants as data_kind
+use Rattle.smith_types.specs.Syntax.segments.ElementKind.{ElementKind}
+use Rattle.smith_types.specs.Syntax.segments.ElementKind.TheVariants as element_kind
+use Rattle.smith_types.specs.Syntax.segments.Elements.{Elements}
+use Rattle.smith_types.specs.Syntax.segments.Elements.TheVariants.{Functions, Expressions}
+use Rattle.smith_types.specs.Segments.{AreItemsValid, IsDataKindValid, IsElementKindValid}
 use Rattle.smith_binary_sections.specs.Elements.{elem_form, funcs_form, is_func_ref, items_form}
 use Rattle.smith_binary_sections.specs.Elements.Form.{first_funcs, table_funcs, first_items, table_items}
 use Rattle.smith_binary_sections.specs.Data.{data_form}

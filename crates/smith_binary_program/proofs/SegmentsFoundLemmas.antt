@@ -1,27 +1,19 @@
 -- A valid segment is read as one with the forms of enabled features alone.
-use Rattle.std.proofs.Common.{◌≡◌, ℕ, ◌≤◌, ◌<◌, Bool, true, false, cond, eqb, Some, None, List, ◌++◌, map, length, refl, sym, ap, subst}
-use Rattle.std.proofs.Common.{◌∙◌, arith}
-use Rattle.std.specs.Prelude.{All, IsTrue, unwrap_or}
-use Rattle.std.proofs.lemmas.List.Elements.{All-map, All-same, All-weaker}
-use Rattle.std.proofs.lemmas.Option.{slice_get_within}
-use Rattle.smith_binary.specs.Numbers.{IsUnsigned}
-use Rattle.smith_binary.specs.Pieces.{Joined}
-use Rattle.smith_syntax.specs.Features.{Features}
-use Rattle.smith_syntax.specs.declared.const_instr.ConstInstr.{ConstInstr}
-use Rattle.smith_syntax.specs.declared.entity_type.MemoryType.{MemoryType}
-use Rattle.smith_syntax.specs.declared.entity_type.TableType.{TableType}
-use Rattle.smith_syntax.specs.declared.segments.DataSegment.{DataSegment}
-use Rattle.smith_syntax.specs.declared.segments.DataSegmentKind.{DataSegmentKind}
-use Rattle.smith_syntax.specs.declared.segments.DataSegmentKind.TheVariants as data_kind
-use Rattle.smith_syntax.specs.declared.segments.ElementKind.{ElementKind}
-use Rattle.smith_syntax.specs.declared.segments.ElementKind.TheVariants as element_kind
-use Rattle.smith_syntax.specs.declared.segments.ElementSegment.{ElementSegment}
-use Rattle.smith_syntax.specs.declared.segments.Elements.{Elements}
-use Rattle.smith_syntax.specs.declared.segments.Elements.TheVariants.{Functions, Expressions}
-use Rattle.smith_syntax.specs.declared.value_type.RefType.{RefType}
-use Rattle.smith_syntax.specs.declared.value_type.ValType.TheVariants.{Ref}
-use Rattle.smith_types.specs.Expressions.{Context, IsConstExpr}
-use Rattle.smith_types.specs.Segments.{AreItemsValid, IsDataKindValid, IsDataValid, IsElementKindValid, IsElementSegmentValid}
+use Rattle.smith_binary_program.proofs.Common.{All, All-map, All-same, All-weaker, ap, arith, as_expr, Bool, ConstInstr, Context}
+use Rattle.smith_binary_program.proofs.Common.{ElementSegment, false, Features, Instr, IsDataValid, IsElementSegmentValid, IsExprEnabled}
+use Rattle.smith_binary_program.proofs.Common.{IsTrue, IsUnsigned, Joined, length, List, map, MemoryType, None, Ref, refl, RefType}
+use Rattle.smith_binary_program.proofs.Common.{slice_get_within, Some, subst, sym, TableType, true, ℕ, ◌++◌, ◌<◌, ◌∙◌, ◌≡◌, ◌≤◌}
+use Rattle.std.proofs.Common.{cond, eqb}
+use Rattle.std.specs.Prelude.{unwrap_or}
+use Rattle.smith_types.specs.Syntax.segments.DataSegment.{DataSegment}
+use Rattle.smith_types.specs.Syntax.segments.DataSegmentKind.{DataSegmentKind}
+use Rattle.smith_types.specs.Syntax.segments.DataSegmentKind.TheVariants as data_kind
+use Rattle.smith_types.specs.Syntax.segments.ElementKind.{ElementKind}
+use Rattle.smith_types.specs.Syntax.segments.ElementKind.TheVariants as element_kind
+use Rattle.smith_types.specs.Syntax.segments.Elements.{Elements}
+use Rattle.smith_types.specs.Syntax.segments.Elements.TheVariants.{Functions, Expressions}
+use Rattle.smith_types.specs.Expressions.{IsConstExpr}
+use Rattle.smith_types.specs.Segments.{AreItemsValid, IsDataKindValid, IsElementKindValid}
 use Rattle.smith_binary_sections.specs.Data.{IsDataWritten, data_mode, data_of}
 use Rattle.smith_binary_sections.specs.Elements.{IsElemWritten, elem_form, elem_items, elem_mode, elem_of, elem_type, form_number}
 use Rattle.smith_binary_sections.specs.Elements.{funcs_form}
@@ -29,7 +21,6 @@ use Rattle.smith_binary_sections.specs.Elements.Form.{first_funcs, table_funcs}
 use Rattle.smith_binary_sections.proofs.SpelledFormLemmas.{data_spelled, elem_spelled}
 use Rattle.smith_binary_read.proofs.IntegerLemmas.{unsigned_decodes}
 use Rattle.smith_binary_law.proofs.ReadLemmas.{read_once}
-use Rattle.smith_instr.specs.declared.instr.Instr.{Instr}
 use Rattle.smith_decode.specs.declared.data.DataMode.{DataMode}
 use Rattle.smith_decode.specs.declared.data.DataMode.TheVariants as decoded_data
 use Rattle.smith_decode.specs.declared.elements.ElementItems.{ElementItems}
@@ -37,13 +28,13 @@ use Rattle.smith_decode.specs.declared.elements.ElementItems.TheVariants as item
 use Rattle.smith_decode.specs.declared.elements.ElementMode.{ElementMode}
 use Rattle.smith_decode.specs.declared.elements.ElementMode.TheVariants as decoded_mode
 use Rattle.smith_decode.specs.declared.elements.ElementSegment.{ElementSegment as DecodedElement}
-use Rattle.smith_decode.specs.Constants.{as_data, as_data_mode, as_elem, as_expr, as_mode}
+use Rattle.smith_decode.specs.Constants.{as_data, as_data_mode, as_elem, as_mode}
 use Rattle.smith_decode.specs.Data as syntax_data
 use Rattle.smith_decode.specs.DataReadings as data_segments
 use Rattle.smith_decode.specs.ElementReadings.{IsElementSegment, items_view, mode_view}
 use Rattle.smith_decode.specs.Elements as syntax_elements
 use Rattle.smith_decode.specs.Forms.{AreItemsEnabled, IsDataEnabled, IsDataModeEnabled, IsElementEnabled, IsElementModeEnabled}
-use Rattle.smith_decode.specs.Forms.{IsExprEnabled, IsMemoryNameEnabled, IsTableNameEnabled}
+use Rattle.smith_decode.specs.Forms.{IsMemoryNameEnabled, IsTableNameEnabled}
 use Rattle.smith_decode.specs.TypeForms.{IsRefTypeEnabled}
 use Rattle.smith_decode.proofs.ConstantLemmas.{data_as, elem_as}
 use Rattle.smith_decode.proofs.ElementLemmas.{segment_viewed}

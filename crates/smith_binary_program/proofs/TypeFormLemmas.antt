@@ -1,20 +1,18 @@
 -- Valid types are written in forms that are enabled.
-use Rattle.std.proofs.Common.{◌≡◌, ℕ, ◌+◌, ◌≤◌, ◌<◌, Bool, true, false, Option, Some, None, List, [], ◌∷◌, take, drop, length}
-use Rattle.std.proofs.Common.{get_or, refl, sym, subst, ap, ◌∙◌, arith}
-use Rattle.std.specs.Prelude.{IsSome, IsTrue, slice_get, All}
-use Rattle.std.specs.declared.ops.Range.{Range}
+use Rattle.smith_binary_program.proofs.Common.{[], All, All-from_recursion, ap, arith, Bool, drop, false, Features, get_or, group_at}
+use Rattle.smith_binary_program.proofs.Common.{IsTrue, IsValid, length, length-drop, List, module_features, ModuleParts, None, Option}
+use Rattle.smith_binary_program.proofs.Common.{Range, refl, slice_get, slice_get-get_or, Some, subst, SubType, sym, true, ℕ, ◌+◌, ◌<◌, ◌∙◌}
+use Rattle.smith_binary_program.proofs.Common.{◌∷◌, ◌≡◌, ◌≤◌}
+use Rattle.std.proofs.Common.{take}
+use Rattle.std.specs.Prelude.{IsSome}
 use Rattle.std.specs.List.{AllByRecursion}
-use Rattle.std.proofs.lemmas.List.{drop-take, drop_more, length-drop}
-use Rattle.std.proofs.lemmas.List.Elements.{All-from_recursion, recursion_from_All}
-use Rattle.std.proofs.lemmas.Option.{slice_get-get_or}
-use Rattle.smith_syntax.specs.Features.{Features}
-use Rattle.smith_syntax.specs.declared.composite_type.SubType.{SubType}
+use Rattle.std.proofs.lemmas.List.{drop-take, drop_more}
+use Rattle.std.proofs.lemmas.List.Elements.{recursion_from_All}
 use Rattle.smith_types.specs.Flags.{IsSubTypeEnabled}
 use Rattle.smith_types.specs.Types.{end_from}
 use Rattle.smith_types.specs.ValidTypes.{IsGroupValid}
 use Rattle.smith_types.proofs.ValidityLemmas.{ends_within}
-use Rattle.smith_module_rules.specs.Module.{ModuleParts, IsValid, module_features}
-use Rattle.smith_binary_sections.specs.Types.{group_at, is_alone}
+use Rattle.smith_binary_sections.specs.Types.{is_alone}
 use Rattle.smith_binary_program.specs.Forms.{IsGroupFormEnabled}
 
 -- a type that isn't written alone is not final, or has a supertype

@@ -1,35 +1,30 @@
 -- Valid types and imports have the forms of enabled features alone.
-use Rattle.std.proofs.Common.{◌≡◌, ℕ, ◌+◌, ◌-◌, ◌≤◌, ◌<◌, ◌⊎◌, List, [], ◌∷◌, ◌++◌, map, get_or, take, length}
-use Rattle.std.proofs.Common.{sym, subst, ◌∙◌, arith}
-use Rattle.std.specs.Prelude.{IsSome, IsTrue, IfSome, Option, Some, None, All, slice_get}
-use Rattle.std.specs.declared.ops.Range.{Range}
-use Rattle.std.proofs.lemmas.List.{get_or-drop, get_or-take, length-drop, length-take-le}
-use Rattle.std.proofs.lemmas.List.Elements.{All-cons, All-get_or, All-head, All-nil, All-tail, All-weaker}
-use Rattle.std.proofs.lemmas.Option.{get_or_from_slice_get, slice_get-get_or, slice_get_within}
-use Rattle.smith_syntax.specs.Features.{Features}
-use Rattle.smith_syntax.specs.declared.composite_type.SubType.{SubType}
-use Rattle.smith_syntax.specs.declared.entity_type.EntityType.{EntityType}
-use Rattle.smith_syntax.specs.declared.entity_type.EntityType.TheVariants as entity
-use Rattle.smith_syntax.specs.declared.entity_type.GlobalType.{GlobalType}
-use Rattle.smith_syntax.specs.declared.entity_type.MemoryType.{MemoryType}
-use Rattle.smith_syntax.specs.declared.entity_type.TableType.{TableType}
-use Rattle.smith_syntax.specs.declared.imports.Import.{Import}
-use Rattle.smith_syntax.specs.declared.imports.ImportItem.{ImportItem}
-use Rattle.smith_syntax.specs.declared.imports.Imports.{Imports}
-use Rattle.smith_syntax.specs.declared.imports.Imports.TheVariants.{Single, Compact1, Compact2}
-use Rattle.smith_syntax.specs.declared.value_type.HeapType.{HeapType}
-use Rattle.smith_syntax.specs.declared.value_type.HeapType.TheVariants.{Abstract, Concrete, Exact}
-use Rattle.smith_syntax.specs.declared.value_type.RefType.{RefType}
-use Rattle.smith_syntax.specs.declared.value_type.ValType.{ValType}
-use Rattle.smith_syntax.specs.declared.value_type.ValType.TheVariants.{I32, I64, F32, F64, V128, Ref}
-use Rattle.smith_types.specs.Entities.{IsGlobalValid, IsMemoryValid, IsTableValid}
+use Rattle.smith_binary_program.proofs.Common.{[], All, All-cons, All-head, All-nil, All-tail, All-weaker, arith, Features, get_or}
+use Rattle.smith_binary_program.proofs.Common.{get_or_from_slice_get, GlobalType, group_at, IsGlobalTypeEnabled, IsGlobalValid}
+use Rattle.smith_binary_program.proofs.Common.{IsGroupEnabled, IsImportGroupEnabled, IsMemoryTypeEnabled, IsTableValid, IsTrue}
+use Rattle.smith_binary_program.proofs.Common.{IsValTypeEnabled, IsValTypeValid, length, length-drop, List, map, MemoryType, Range, Ref}
+use Rattle.smith_binary_program.proofs.Common.{RefType, slice_get, slice_get-get_or, slice_get_within, subst, SubType, sym, TableType}
+use Rattle.smith_binary_program.proofs.Common.{ValType, ℕ, ◌++◌, ◌+◌, ◌<◌, ◌∙◌, ◌∷◌, ◌≡◌, ◌≤◌}
+use Rattle.std.proofs.Common.{take, ◌-◌, ◌⊎◌}
+use Rattle.std.specs.Prelude.{IfSome, IsSome, None, Option, Some}
+use Rattle.std.proofs.lemmas.List.{get_or-drop, get_or-take, length-take-le}
+use Rattle.std.proofs.lemmas.List.Elements.{All-get_or}
+use Rattle.smith_types.specs.Syntax.entity_type.EntityType.{EntityType}
+use Rattle.smith_types.specs.Syntax.entity_type.EntityType.TheVariants as entity
+use Rattle.smith_types.specs.Syntax.imports.Import.{Import}
+use Rattle.smith_types.specs.Syntax.imports.ImportItem.{ImportItem}
+use Rattle.smith_types.specs.Syntax.imports.Imports.{Imports}
+use Rattle.smith_types.specs.Syntax.imports.Imports.TheVariants.{Single, Compact1, Compact2}
+use Rattle.smith_types.specs.Syntax.value_type.HeapType.{HeapType}
+use Rattle.smith_types.specs.Syntax.value_type.HeapType.TheVariants.{Abstract, Concrete, Exact}
+use Rattle.smith_types.specs.Syntax.value_type.ValType.TheVariants.{F32, F64, I32, I64, V128}
+use Rattle.smith_types.specs.Entities.{IsMemoryValid}
 use Rattle.smith_types.specs.Flags.{IsHeapTypeEnabled}
 use Rattle.smith_types.specs.Imports.{IsImportsValid, flattened, global_of, import_of, imported, imports_of, memory_of, table_of, tag_of}
-use Rattle.smith_types.specs.ValidTypes.{IsGroupValid, IsHeapTypeValid, IsRefTypeValid, IsTypeValid, IsValTypeValid, values_of}
-use Rattle.smith_binary_sections.specs.Types.{group_at}
-use Rattle.smith_decode.specs.TypeForms.{AreImportTypesEnabled, IsEntityTypeEnabled, IsGlobalTypeEnabled, IsGroupEnabled}
-use Rattle.smith_decode.specs.TypeForms.{IsImportGroupEnabled, IsMemoryTypeEnabled, IsRefTypeEnabled, IsTableTypeEnabled}
-use Rattle.smith_decode.specs.TypeForms.{IsTypeEnabled, IsValTypeEnabled}
+use Rattle.smith_types.specs.ValidTypes.{IsGroupValid, IsHeapTypeValid, IsRefTypeValid, IsTypeValid, values_of}
+use Rattle.smith_decode.specs.TypeForms.{AreImportTypesEnabled, IsEntityTypeEnabled}
+use Rattle.smith_decode.specs.TypeForms.{IsRefTypeEnabled, IsTableTypeEnabled}
+use Rattle.smith_decode.specs.TypeForms.{IsTypeEnabled}
 
 -- an item at an index
 pub at_index : {X : Type 0} (P : X → Type 0) (xs : List X) (index : ℕ) (x : X) → All P xs → slice_get xs index ≡ Some x → P x

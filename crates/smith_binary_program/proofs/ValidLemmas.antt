@@ -1,14 +1,12 @@
 -- The bytes of a valid program.
-use Rattle.std.proofs.Common.{◌≡◌, ℕ, zero, Bool, true, List, ◌++◌, length, sym, subst, refl, arith}
+use Rattle.smith_binary_program.proofs.Common.{arith, Body, Bool, Contains, is_filled, IsValidProgram, length, List, ModuleParts, refl}
+use Rattle.smith_binary_program.proofs.Common.{subst, sym, true, zero, ℕ, ◌++◌, ◌≡◌}
 use Rattle.std.specs.Prelude.{is_some}
-use Rattle.std.specs.List.{Contains}
 use Rattle.std.proofs.lemmas.Bool.{and_from, lt-ltb}
 use Rattle.std.proofs.lemmas.List.Elements.{Contains-append_left, Contains-append_right}
-use Rattle.smith_module_rules.specs.Module.{ModuleParts}
 use Rattle.smith_binary_module.specs.Contents.{defined}
-use Rattle.smith_binary_module.specs.Layout.{id_if, is_filled, section_ids, writes_data_count, writes_imports, writes_types}
-use Rattle.smith_program.specs.Valid.{CountsData, IsValidProgram}
-use Rattle.smith_program.specs.declared.program.Body.{Body}
+use Rattle.smith_binary_module.specs.Layout.{id_if, section_ids, writes_data_count, writes_imports, writes_types}
+use Rattle.smith_program.specs.Valid.{CountsData}
 use Rattle.smith_binary_program.specs.Programs.{IsEncoded}
 use Rattle.smith_binary_program.specs.Valid.{IsValidBinary}
 use Rattle.smith_binary_program.proofs.SameLemmas.{programs_same}

@@ -1,14 +1,10 @@
 -- What each instruction of a typed body has.
-use Rattle.std.proofs.Common.{◌≡◌, ℕ, List, ◌∷◌, ◌++◌}
-use Rattle.std.specs.Prelude.{All}
-use Rattle.std.proofs.lemmas.List.Elements.{All-append, All-cons, All-nil, All-same, All-weaker}
-use Rattle.smith_syntax.specs.declared.value_type.ValType.{ValType}
-use Rattle.smith_instr.specs.Contexts.{BodyContext, IsBlockType, labelled}
-use Rattle.smith_instr.specs.InstrTypes.{HasInstrType}
+use Rattle.smith_binary_program.proofs.Common.{All, All-cons, All-nil, All-same, All-weaker, BlockType, BodyContext, HasInstrType, Instr}
+use Rattle.smith_binary_program.proofs.Common.{IsBlockType, List, ValType, ℕ, ◌++◌, ◌∷◌, ◌≡◌}
+use Rattle.std.proofs.lemmas.List.Elements.{All-append}
+use Rattle.smith_instr.specs.Contexts.{labelled}
 use Rattle.smith_instr.specs.Sequences.{Stacked, AreTyped, nothing, step, block, loop, if_alone, if_else, try_table}
-use Rattle.smith_instr.specs.declared.control.BlockType.{BlockType}
 use Rattle.smith_instr.specs.declared.control.Catch.{Catch}
-use Rattle.smith_instr.specs.declared.instr.Instr.{Instr}
 use Rattle.smith_instr.specs.declared.instr.Instr.TheVariants as instr
 
 -- a property of a typed instruction, of the first one of a block, and of those that divide and end blocks

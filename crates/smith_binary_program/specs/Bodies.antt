@@ -1,15 +1,12 @@
 -- The bodies of a program in the code section: the section Binary Format, Code Section, of the
 -- WebAssembly Core Specification 3.0.
 use Rattle.std.specs.Prelude.{ℕ, List}
-use Rattle.std.specs.List.{zip}
+use Rattle.smith_binary_program.specs.Common.{Body, Code, counted, zip}
 use Rattle.smith_binary.specs.Spelling.{Spelling}
 use Rattle.smith_binary.specs.Spelling.Spelling.{any}
 use Rattle.smith_binary.specs.Pieces.{Is, Joined, IsListIn, IsSizedIn}
-use Rattle.smith_syntax.specs.declared.code.Code.{Code}
 use Rattle.smith_binary_sections.specs.Codes.{body_bytes, IsLocalsWrittenIn}
 use Rattle.smith_binary_instr.specs.Instructions.{IsExpr, IsExprWrittenIn}
-use Rattle.smith_program.specs.Counted.{counted}
-use Rattle.smith_program.specs.declared.program.Body.{Body}
 use Rattle.smith_program.specs.declared.program.Body.TheVariants as body
 
 -- the expression of a function: the drawn instructions with the fuel checks (Expressions), or the

@@ -1,12 +1,9 @@
 -- Programs as modules of the decoder: the sections Structure, Modules, and Binary Format, Modules,
 -- of the WebAssembly Core Specification 3.0.
 use Rattle.std.specs.Prelude.{◌≡◌, ℕ, List, [], map, Result, Ok, Err}
-use Rattle.std.specs.List.{Contains, zip}
-use Rattle.smith_syntax.specs.declared.code.Code.{Code}
-use Rattle.smith_syntax.specs.declared.value_type.ValType.{ValType}
-use Rattle.smith_instr.specs.declared.instr.Instr.{Instr}
-use Rattle.smith_module_rules.specs.Module.{ModuleParts, module_features}
-use Rattle.smith_binary_module.specs.Contents.{contents_of}
+use Rattle.smith_binary_program.specs.Common.{Body, Code, contents_of, counted, Instr, ModuleParts, ValType, zip}
+use Rattle.std.specs.List.{Contains}
+use Rattle.smith_module_rules.specs.Module.{module_features}
 use Rattle.smith_decode.specs.Constants.{with_bodies}
 use Rattle.smith_decode.specs.declared.error.DecodeError.{DecodeError}
 use Rattle.smith_decode.specs.declared.error.DecodeError.TheVariants.{Memory}
@@ -14,9 +11,7 @@ use Rattle.smith_decode.specs.declared.modules.Module.{Module}
 use Rattle.smith_decode.specs.ModuleReadings.{module_at}
 use Rattle.smith_decode.specs.Modules.{IsModuleBinary, Syntax, syntax_of}
 use Rattle.smith_decode.specs.Results.{Locates}
-use Rattle.smith_program.specs.Counted.{counted}
 use Rattle.smith_program.specs.Valid.{IsValidProgram}
-use Rattle.smith_program.specs.declared.program.Body.{Body}
 use Rattle.smith_program.specs.declared.program.Body.TheVariants as body
 use Rattle.smith_binary_program.specs.Programs.{IsEncoded}
 

@@ -1,11 +1,9 @@
 -- Programs of examples.
 use Rattle.std.specs.Prelude.{ℕ, List, [], ◌∷◌}
-use Rattle.smith_syntax.specs.declared.code.Instructions.TheVariants.{Unreachable}
-use Rattle.smith_syntax.specs.declared.value_type.ValType.{ValType}
-use Rattle.smith_module_rules.specs.Module.{ModuleParts}
+use Rattle.smith_types.specs.Syntax.code.Instructions.TheVariants.{Unreachable}
+use Rattle.smith_binary_program.specs.Common.{Body, ModuleParts, ValType}
 use Rattle.smith_binary_module.specs.ExampleModules.{one_function}
 use Rattle.smith_instr.specs.declared.instr.Instr.TheVariants as instr
-use Rattle.smith_program.specs.declared.program.Body.{Body}
 use Rattle.smith_program.specs.declared.program.Body.TheVariants as body
 
 -- a module with one function, which has these locals

@@ -2,22 +2,20 @@
 -- Specification 3.0. The requirements are rules of this project.
 use Rattle.std.specs.Prelude.{◌≡◌, ℕ, ◌⊎◌, false, IsTrue, None, List, [], ◌∷◌, All}
 use Rattle.std.specs.declared.ops.Range.{Range}
-use Rattle.smith_syntax.specs.Features.{Features}
-use Rattle.smith_syntax.specs.declared.code.Code.{Code}
-use Rattle.smith_syntax.specs.declared.composite_type.SubType.{SubType}
-use Rattle.smith_syntax.specs.declared.entity_type.GlobalType.{GlobalType}
-use Rattle.smith_syntax.specs.declared.entity_type.TableType.{TableType}
-use Rattle.smith_syntax.specs.declared.segments.DataSegment.{DataSegment}
-use Rattle.smith_syntax.specs.declared.segments.ElementSegment.{ElementSegment}
-use Rattle.smith_syntax.specs.declared.value_type.RefType.{RefType}
-use Rattle.smith_syntax.specs.declared.value_type.ValType.{ValType}
-use Rattle.smith_syntax.specs.declared.value_type.ValType.TheVariants.{Ref}
+use Rattle.smith_types.specs.Syntax.Features.{Features}
+use Rattle.smith_binary_program.specs.Common.{Body, Code, Instr, ModuleParts, ValType}
+use Rattle.smith_types.specs.Syntax.composite_type.SubType.{SubType}
+use Rattle.smith_types.specs.Syntax.entity_type.GlobalType.{GlobalType}
+use Rattle.smith_types.specs.Syntax.entity_type.TableType.{TableType}
+use Rattle.smith_types.specs.Syntax.segments.DataSegment.{DataSegment}
+use Rattle.smith_types.specs.Syntax.segments.ElementSegment.{ElementSegment}
+use Rattle.smith_types.specs.Syntax.value_type.RefType.{RefType}
+use Rattle.smith_types.specs.Syntax.value_type.ValType.TheVariants.{Ref}
 use Rattle.smith_types.specs.ValidTypes.{values_of}
 use Rattle.smith_instr.specs.declared.control.BlockType.{BlockType}
 use Rattle.smith_instr.specs.declared.control.BlockType.TheVariants as block
-use Rattle.smith_instr.specs.declared.instr.Instr.{Instr}
 use Rattle.smith_instr.specs.declared.instr.Instr.TheVariants as instr
-use Rattle.smith_module_rules.specs.Module.{ModuleParts, module_features}
+use Rattle.smith_module_rules.specs.Module.{module_features}
 use Rattle.smith_binary_sections.specs.Types.{group_at, is_alone, short_ref}
 use Rattle.smith_binary_sections.specs.Elements.{Form, elem_form}
 use Rattle.smith_binary_sections.specs.Elements.Form.{first_funcs, passive_funcs, table_funcs, declared_funcs}
@@ -25,7 +23,6 @@ use Rattle.smith_binary_sections.specs.Elements.Form.{first_items, passive_items
 use Rattle.smith_binary_sections.specs.Data.{DataForm, data_form}
 use Rattle.smith_binary_sections.specs.Data.DataForm.{first_memory, no_memory, named_memory}
 use Rattle.smith_program.specs.Bodies.{AreBodiesBy}
-use Rattle.smith_program.specs.declared.program.Body.{Body}
 
 -- the form of a subtype, and of a group of types, is enabled: finality, supertypes and groups of
 -- several types require garbage collection (Recursive Types)

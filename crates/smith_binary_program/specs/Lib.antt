@@ -1,3 +1,4 @@
+pub mod Common
 pub mod Bodies
 pub mod Decoded
 pub mod Forms

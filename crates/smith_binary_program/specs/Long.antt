@@ -1,17 +1,11 @@
 -- Programs that are too long for the binary format.
 use Rattle.std.specs.Prelude.{ℕ, ◌⊎◌, List, Any}
-use Rattle.std.specs.List.{zip}
-use Rattle.smith_syntax.specs.declared.code.Code.{Code}
-use Rattle.smith_syntax.specs.declared.value_type.ValType.{ValType}
-use Rattle.smith_module_rules.specs.Module.{ModuleParts}
+use Rattle.smith_binary_program.specs.Common.{Body, Code, counted, Instr, ModuleParts, ValType, zip}
 use Rattle.smith_binary_sections.specs.Codes.{body_of}
 use Rattle.smith_binary_sections.specs.Long.{IsLongBody, IsLongContent, IsLongList, IsNeverLong}
 use Rattle.smith_binary_module.specs.TooLong.{IsTooLong}
-use Rattle.smith_instr.specs.declared.instr.Instr.{Instr}
 use Rattle.smith_binary_instr.specs.Bodies.{IsFuncWritten}
 use Rattle.smith_binary_instr.specs.Long.{IsLongInstr}
-use Rattle.smith_program.specs.Counted.{counted}
-use Rattle.smith_program.specs.declared.program.Body.{Body}
 use Rattle.smith_program.specs.declared.program.Body.TheVariants as body
 use Rattle.smith_binary_program.specs.Bodies.{AreBodiesOf}
 

@@ -1,17 +1,13 @@
 -- Programs in the binary format: the section Binary Format, Modules, of the WebAssembly Core
 -- Specification 3.0.
 use Rattle.std.specs.Prelude.{ℕ, List, map}
-use Rattle.std.specs.List.{AllZip, zip}
+use Rattle.smith_binary_program.specs.Common.{Body, Code, contents_of, ModuleParts, ValType, zip}
+use Rattle.std.specs.List.{AllZip}
 use Rattle.smith_binary.specs.Spelling.{Spelling}
 use Rattle.smith_binary.specs.Spelling.Spelling.{written}
-use Rattle.smith_syntax.specs.declared.code.Code.{Code}
-use Rattle.smith_syntax.specs.declared.value_type.ValType.{ValType}
-use Rattle.smith_module_rules.specs.Module.{ModuleParts}
 use Rattle.smith_binary_sections.specs.Modules.{Contents, IsModule}
-use Rattle.smith_binary_module.specs.Contents.{contents_of}
 use Rattle.smith_binary_module.specs.Layout.{section_ids, HasSections}
 use Rattle.smith_binary_module.specs.Written.{IsWritten, IsWrittenIn}
-use Rattle.smith_program.specs.declared.program.Body.{Body}
 use Rattle.smith_binary_program.specs.Bodies.{AreBodiesOf, AreBodiesOfIn, IsExpressionOf}
 
 -- each function has these bytes as its expression

@@ -1,14 +1,10 @@
 -- Bytes that are a valid program, and programs with the same bytes: the sections Validation,
 -- Modules, and Binary Format, Modules, of the WebAssembly Core Specification 3.0.
 use Rattle.std.specs.Prelude.{◌≡◌, ℕ, List, []}
-use Rattle.std.specs.List.{AllZip, Contains, zip}
-use Rattle.smith_syntax.specs.declared.code.Code.{Code}
-use Rattle.smith_module_rules.specs.Module.{ModuleParts}
-use Rattle.smith_binary_module.specs.Contents.{contents_of}
+use Rattle.smith_binary_program.specs.Common.{Body, Code, contents_of, counted, ModuleParts, zip}
+use Rattle.std.specs.List.{AllZip, Contains}
 use Rattle.smith_binary_module.specs.Layout.{HasSections}
-use Rattle.smith_program.specs.Counted.{counted}
 use Rattle.smith_program.specs.Valid.{IsValidProgram, NameData}
-use Rattle.smith_program.specs.declared.program.Body.{Body}
 use Rattle.smith_program.specs.declared.program.Body.TheVariants as body
 use Rattle.smith_binary_program.specs.Programs.{IsEncoded, IsProgramBinary}
 

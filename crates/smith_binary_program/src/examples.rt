@@ -1,8 +1,8 @@
 ghost use Rattle.std.specs.Prelude.{◌≡◌, ◌^◌, ◌≤◌, List, [], ◌∷◌, ◌++◌, Some, Ok, Err, IfSome, length};
 ghost use Rattle.std.specs.List.{Contains};
-ghost use Rattle.smith_syntax.specs.declared.code.Instructions.TheVariants.{Unreachable};
-ghost use Rattle.smith_syntax.specs.declared.value_type.ValType.{ValType};
-ghost use Rattle.smith_syntax.specs.declared.value_type.ValType.TheVariants.{I32};
+ghost use Rattle.smith_types.specs.Syntax.code.Instructions.TheVariants.{Unreachable};
+ghost use Rattle.smith_types.specs.Syntax.value_type.ValType.{ValType};
+ghost use Rattle.smith_types.specs.Syntax.value_type.ValType.TheVariants.{I32};
 ghost use Rattle.smith_binary_module.specs.ExampleModules.{one_function};
 ghost use Rattle.smith_instr.specs.declared.instr.Instr.TheVariants as instr;
 ghost use Rattle.smith_decode.specs.declared.error.DecodeError.TheVariants.{FeatureOff, Memory};

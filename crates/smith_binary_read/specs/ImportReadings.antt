@@ -1,9 +1,9 @@
 -- Readings of imports.
 use Rattle.std.specs.Prelude.{ℕ, ◌==◌, ◌&&◌, if◌then◌else◌, List, length}
-use Rattle.smith_syntax.specs.declared.entity_type.EntityType.{EntityType}
-use Rattle.smith_syntax.specs.declared.imports.ImportItem.{ImportItem}
-use Rattle.smith_syntax.specs.declared.imports.Imports.{Imports}
-use Rattle.smith_syntax.specs.declared.imports.Imports.TheVariants.{Single, Compact1, Compact2}
+use Rattle.smith_types.specs.Syntax.entity_type.EntityType.{EntityType}
+use Rattle.smith_types.specs.Syntax.imports.ImportItem.{ImportItem}
+use Rattle.smith_types.specs.Syntax.imports.Imports.{Imports}
+use Rattle.smith_types.specs.Syntax.imports.Imports.TheVariants.{Single, Compact1, Compact2}
 use Rattle.smith_types.specs.Imports.{import_of}
 use Rattle.smith_binary_read.specs.Readings.{Reading, ◌>>=◌, byte_at, joined_at, mapped_at}
 use Rattle.smith_binary_read.specs.Contents.{list_at, name_at}

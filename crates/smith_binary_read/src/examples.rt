@@ -1,5 +1,5 @@
 ghost use Rattle.std.specs.Prelude.{◌≡◌, true, false, None, Ok, Err, [], ◌∷◌, negsuc};
-ghost use Rattle.smith_syntax.specs.declared.value_type.ValType.TheVariants.{I32, I64};
+ghost use Rattle.smith_types.specs.Syntax.value_type.ValType.TheVariants.{I32, I64};
 ghost use Rattle.smith_binary_read.specs.declared.error.Reason.TheVariants as reason;
 ghost use Rattle.smith_binary_read.specs.Numbers.{unsigned_at, signed_at, little_endian_at};
 ghost use Rattle.smith_binary_read.specs.Contents.{content_at, list_at};

@@ -1,32 +1,23 @@
 -- Aggregate instructions, and those on references and casts, that are read: the readings are sound and complete.
-use Rattle.std.proofs.Common.{◌≡◌, ℕ, ◌<◌, ◌≤◌, Bool, true, false, eqb, List, ◌∷◌, ◌++◌, None, Ok, refl, ap, subst}
-use Rattle.std.proofs.Common.{arith}
-use Rattle.std.proofs.lemmas.Bool.{ne_eqb, ltb-true, ltb-false}
-use Rattle.smith_binary.specs.Numbers.{IsUnsigned}
-use Rattle.smith_binary.specs.Pieces.{Joined}
-use Rattle.smith_binary_sections.specs.Instructions.{IsPrefixed}
-use Rattle.smith_binary_read.specs.Numbers.{unsigned_at, two_at}
+use Rattle.smith_binary_read_instr.proofs.Common.{ap, arith, Bool, branch, eqb, false, Front, front_as, heap_decodes, Instr, IsInstr}
+use Rattle.smith_binary_read_instr.proofs.Common.{IsPrefixed, IsUnsigned, item_holds, Joined, List, ltb-false, ltb-true, ne_eqb, None, Ok}
+use Rattle.smith_binary_read_instr.proofs.Common.{prefix_alone, refl, step, subst, test_passed, true, unsigned_at, unsigned_decodes, ℕ}
+use Rattle.smith_binary_read_instr.proofs.Common.{◌++◌, ◌<◌, ◌∷◌, ◌≡◌, ◌≤◌}
+use Rattle.smith_binary_read.specs.Numbers.{two_at}
 use Rattle.smith_binary_read.specs.Choices.{item_of}
-use Rattle.smith_binary_read.specs.Decodes.{Front}
 use Rattle.smith_binary_read.specs.TypeReadings.{heap_type_at}
-use Rattle.smith_binary_read.proofs.ReadLemmas.{step, branch, test_passed, front_as}
-use Rattle.smith_binary_read.proofs.IntegerLemmas.{unsigned_decodes}
-use Rattle.smith_binary_read.proofs.ChoiceLemmas.{or_branch, item_holds}
-use Rattle.smith_binary_read.proofs.PrefixLemmas.{prefix_alone}
-use Rattle.smith_binary_read.proofs.TypeLemmas.{heap_decodes}
-use Rattle.smith_syntax.specs.declared.value_type.HeapType.{HeapType}
+use Rattle.smith_binary_read.proofs.ChoiceLemmas.{or_branch}
+use Rattle.smith_types.specs.Syntax.value_type.HeapType.{HeapType}
 use Rattle.smith_instr.specs.declared.aggregate.AggregateInstr.{AggregateInstr}
 use Rattle.smith_instr.specs.declared.aggregate.AggregateInstr.TheVariants as aggregate
 use Rattle.smith_instr.specs.declared.aggregate.Extension.{Extension}
 use Rattle.smith_instr.specs.declared.aggregate.Extension.TheVariants as extension
 use Rattle.smith_instr.specs.declared.control.BranchCast.{BranchCast}
-use Rattle.smith_instr.specs.declared.instr.Instr.{Instr}
 use Rattle.smith_instr.specs.declared.instr.Instr.TheVariants as instr
 use Rattle.smith_instr.specs.declared.reference.ReferenceInstr.{ReferenceInstr}
 use Rattle.smith_instr.specs.declared.reference.ReferenceInstr.TheVariants as reference
 use Rattle.smith_binary_instr.specs.Aggregate.{IsAggregate, IsOn, IsOnTwo, get_number}
 use Rattle.smith_binary_instr.specs.Control.{IsBranchCast}
-use Rattle.smith_binary_instr.specs.Instructions.{IsInstr}
 use Rattle.smith_binary_instr.specs.References.{IsReference, cast_number}
 use Rattle.smith_binary_read_instr.specs.AggregateReadings.{struct_at, new_array_at, array_at, elements_at, cast_instr_at, conversion_rows}
 use Rattle.smith_binary_read_instr.specs.AggregateReadings.{indexed_at, aggregate_at}

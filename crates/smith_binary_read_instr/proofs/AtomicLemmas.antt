@@ -1,15 +1,8 @@
 -- Atomic instructions that are read: the readings are sound and complete.
-use Rattle.std.proofs.Common.{◌≡◌, ℕ, ◌+◌, ◌<◌, ◌≤◌, Bool, true, eqb, List, ◌∷◌, ◌++◌, Option, Some, None, Ok, refl}
-use Rattle.std.proofs.Common.{sym, ap, subst, ◌∙◌, arith}
-use Rattle.std.proofs.lemmas.Bool.{eqb-true, ne_eqb, le-ltb}
-use Rattle.smith_binary.specs.Pieces.{IsByte, Joined}
-use Rattle.smith_binary_sections.specs.Instructions.{IsPrefixed}
-use Rattle.smith_binary_read.specs.Readings.{Reading, mapped_at}
-use Rattle.smith_binary_read.specs.Decodes.{Front}
-use Rattle.smith_binary_read.proofs.ReadLemmas.{step, branch, test_passed, front_as, front_same, first_read}
-use Rattle.smith_binary_read.proofs.IntegerLemmas.{unsigned_decodes}
-use Rattle.smith_binary_read.proofs.ChoiceLemmas.{tag_front, tagged_read}
-use Rattle.smith_binary_read.proofs.PrefixLemmas.{prefix_apart}
+use Rattle.smith_binary_read_instr.proofs.Common.{ap, arith, Bool, branch, eqb, eqb-true, first_read, Front, front_as, front_same, Instr}
+use Rattle.smith_binary_read_instr.proofs.Common.{IsByte, IsInstr, IsMemArg, IsPrefixed, Joined, le-ltb, List, mapped_at, MemArg, ne_eqb}
+use Rattle.smith_binary_read_instr.proofs.Common.{None, Ok, Option, prefix_apart, Reading, refl, Some, step, subst, sym, tag_front}
+use Rattle.smith_binary_read_instr.proofs.Common.{tagged_read, test_passed, true, unsigned_decodes, ℕ, ◌++◌, ◌+◌, ◌<◌, ◌∙◌, ◌∷◌, ◌≡◌, ◌≤◌}
 use Rattle.smith_instr.specs.declared.aggregate.AggregateInstr.TheVariants as aggregate
 use Rattle.smith_instr.specs.declared.atomic.AtomicAccess.{AtomicAccess}
 use Rattle.smith_instr.specs.declared.atomic.AtomicAccess.TheVariants as atomic
@@ -17,12 +10,8 @@ use Rattle.smith_instr.specs.declared.atomic.AtomicUpdate.{AtomicUpdate}
 use Rattle.smith_instr.specs.declared.atomic.AtomicUpdate.TheVariants as update
 use Rattle.smith_instr.specs.declared.atomic.AtomicWidth.{AtomicWidth}
 use Rattle.smith_instr.specs.declared.atomic.AtomicWidth.TheVariants as width
-use Rattle.smith_instr.specs.declared.instr.Instr.{Instr}
 use Rattle.smith_instr.specs.declared.instr.Instr.TheVariants as instr
-use Rattle.smith_instr.specs.declared.memory.MemArg.{MemArg}
 use Rattle.smith_binary_instr.specs.Atomic.{atomic_number, update_number, width_number}
-use Rattle.smith_binary_instr.specs.Instructions.{IsInstr}
-use Rattle.smith_binary_instr.specs.Memory.{IsMemArg}
 use Rattle.smith_binary_read_instr.specs.AtomicReadings.{width_of, update_of, access_of, atomic_of, atomic_or, fence_at, atomic_at}
 use Rattle.smith_binary_read_instr.specs.InstrReadings.{prefixed_at, instr_at}
 use Rattle.smith_binary_read_instr.specs.MemoryReadings.{mem_arg_at}

@@ -1,17 +1,12 @@
 -- Control, parametric, variable and reference instructions that are read: the readings are sound and complete.
-use Rattle.std.proofs.Common.{◌≡◌, ℕ, List, ◌∷◌, Ok, refl}
-use Rattle.smith_binary_read.specs.Decodes.{Front}
-use Rattle.smith_binary_read.proofs.ReadLemmas.{step, branch, test_passed, front_same}
-use Rattle.smith_binary_read.proofs.IntegerLemmas.{unsigned_decodes}
+use Rattle.smith_binary_read_instr.proofs.Common.{branch, Front, front_same, heap_decodes, Instr, IsInstr, List, Ok, refl, step, tag_front}
+use Rattle.smith_binary_read_instr.proofs.Common.{tagged_sound, test_passed, unsigned_decodes, val_decodes, ℕ, ◌∷◌, ◌≡◌}
 use Rattle.smith_binary_read.proofs.ContentLemmas.{list_decodes}
-use Rattle.smith_binary_read.proofs.ChoiceLemmas.{tag_front, tagged_sound, or_branch}
+use Rattle.smith_binary_read.proofs.ChoiceLemmas.{or_branch}
 use Rattle.smith_binary_read.proofs.PrefixLemmas.{tag_joined}
-use Rattle.smith_binary_read.proofs.TypeLemmas.{heap_decodes, val_decodes}
-use Rattle.smith_instr.specs.declared.instr.Instr.{Instr}
 use Rattle.smith_instr.specs.declared.instr.Instr.TheVariants as instr
 use Rattle.smith_instr.specs.declared.reference.ReferenceInstr.TheVariants as reference
 use Rattle.smith_instr.specs.declared.table.TableInstr.TheVariants as table
-use Rattle.smith_binary_instr.specs.Instructions.{IsInstr}
 use Rattle.smith_binary_read_instr.specs.ControlReadings.{control_rows, block_at, branch_at, call_at, parametric_at, variable_at}
 use Rattle.smith_binary_read_instr.specs.ReferenceReadings.{reference_rows, reference_at}
 use Rattle.smith_binary_read_instr.proofs.ImmediateLemmas.{two_decode, block_type_decodes, catch_decodes}

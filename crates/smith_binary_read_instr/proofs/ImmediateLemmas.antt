@@ -1,21 +1,20 @@
 -- Immediates that are read: the readings are sound and complete.
-use Rattle.std.proofs.Common.{◌≡◌, ℕ, ◌≤◌, Bool, true, false, ltb, leb, ◌||◌, List, ◌∷◌, ◌++◌}
-use Rattle.std.proofs.Common.{Ok, refl, ap, subst, ◌∙◌, arith}
-use Rattle.std.proofs.lemmas.Bool.{ne_eqb, le-ltb, lt-leb, false≢true}
-use Rattle.smith_binary.specs.Numbers.{IsUnsigned}
-use Rattle.smith_binary.specs.Pieces.{IsByte, Joined}
-use Rattle.smith_syntax.specs.declared.value_type.HeapType.{HeapType}
-use Rattle.smith_syntax.specs.declared.value_type.ValType.{ValType}
-use Rattle.smith_syntax.specs.declared.value_type.ValType.TheVariants.{I32, I64, F32, F64, V128, Ref}
+use Rattle.smith_binary_read_instr.proofs.Common.{ap, arith, Bool, branch, Decodes, false, false≢true, Front, front_same, heap_decodes}
+use Rattle.smith_binary_read_instr.proofs.Common.{IsByte, IsUnsigned, Joined, le-ltb, List, ne_eqb, Ok, refl, step, subst, tag_front}
+use Rattle.smith_binary_read_instr.proofs.Common.{tagged_read, tagged_sound, test_passed, true, unsigned_decodes, val_decodes, ℕ, ◌++◌, ◌∙◌}
+use Rattle.smith_binary_read_instr.proofs.Common.{◌∷◌, ◌≡◌, ◌≤◌}
+use Rattle.std.proofs.Common.{leb, ltb, ◌||◌}
+use Rattle.std.proofs.lemmas.Bool.{lt-leb}
+use Rattle.smith_types.specs.Syntax.value_type.HeapType.{HeapType}
+use Rattle.smith_types.specs.Syntax.value_type.ValType.{ValType}
+use Rattle.smith_types.specs.Syntax.value_type.ValType.TheVariants.{I32, I64, F32, F64, V128, Ref}
 use Rattle.smith_binary_sections.specs.Types.{IsHeapType, IsValType}
-use Rattle.smith_binary_read.specs.Decodes.{Front, Decodes}
 use Rattle.smith_binary_read.specs.Choices.{coded_at}
 use Rattle.smith_binary_read.specs.Numbers.{two_at}
-use Rattle.smith_binary_read.proofs.ReadLemmas.{step, branch, test_passed, front_same, joined_decodes}
-use Rattle.smith_binary_read.proofs.IntegerLemmas.{unsigned_decodes}
-use Rattle.smith_binary_read.proofs.ChoiceLemmas.{Begins, byte_begins, begins_as, tagged_read, mapped_sound, tag_front}
-use Rattle.smith_binary_read.proofs.ChoiceLemmas.{tagged_sound, coded_decodes, type_index_decodes, positive_begins}
-use Rattle.smith_binary_read.proofs.TypeLemmas.{heap_decodes, val_decodes, ref_begins, head_is}
+use Rattle.smith_binary_read.proofs.ReadLemmas.{joined_decodes}
+use Rattle.smith_binary_read.proofs.ChoiceLemmas.{Begins, begins_as, byte_begins, mapped_sound}
+use Rattle.smith_binary_read.proofs.ChoiceLemmas.{coded_decodes, positive_begins, type_index_decodes}
+use Rattle.smith_binary_read.proofs.TypeLemmas.{head_is, ref_begins}
 use Rattle.smith_binary_instr.specs.Control.{IsBlockType, IsBranchCast, IsCatch, cast_byte}
 use Rattle.smith_instr.specs.declared.control.BlockType.{BlockType}
 use Rattle.smith_instr.specs.declared.control.BlockType.TheVariants as block

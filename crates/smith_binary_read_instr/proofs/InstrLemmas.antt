@@ -1,17 +1,11 @@
 -- Instructions that are read: the reading is sound and complete.
-use Rattle.std.proofs.Common.{◌≡◌, ℕ, ◌<◌, ◌≤◌, List, ◌++◌, Ok, refl, ap}
-use Rattle.std.proofs.lemmas.Bool.{ltb-true, ltb-false}
+use Rattle.smith_binary_read_instr.proofs.Common.{ap, branch, Decodes, Front, Instr, IsInstr, List, ltb-false, ltb-true, Ok, refl, step}
+use Rattle.smith_binary_read_instr.proofs.Common.{tag_front, test_passed, unsigned_decodes, val_decodes, ℕ, ◌++◌, ◌<◌, ◌≡◌, ◌≤◌}
 use Rattle.smith_binary_read.specs.Readings.{byte_at}
-use Rattle.smith_binary_read.specs.Decodes.{Front, Decodes}
-use Rattle.smith_binary_read.proofs.ReadLemmas.{step, branch, test_passed}
-use Rattle.smith_binary_read.proofs.IntegerLemmas.{unsigned_decodes, signed_decodes, little_endian_decodes}
+use Rattle.smith_binary_read.proofs.IntegerLemmas.{little_endian_decodes, signed_decodes}
 use Rattle.smith_binary_read.proofs.ContentLemmas.{list_decodes}
-use Rattle.smith_binary_read.proofs.ChoiceLemmas.{tag_front}
 use Rattle.smith_binary_read.proofs.PrefixLemmas.{tag_joined}
-use Rattle.smith_binary_read.proofs.TypeLemmas.{val_decodes}
-use Rattle.smith_instr.specs.declared.instr.Instr.{Instr}
 use Rattle.smith_instr.specs.declared.instr.Instr.TheVariants as instr
-use Rattle.smith_binary_instr.specs.Instructions.{IsInstr}
 use Rattle.smith_binary_read_instr.specs.ControlReadings.{block_at, branch_at, call_at, parametric_at, variable_at}
 use Rattle.smith_binary_read_instr.specs.InstrReadings.{low_instr_at, high_instr_at, prefixed_at, instr_at}
 use Rattle.smith_binary_read_instr.specs.NumericReadings.{const_at}

@@ -1,3 +1,4 @@
+pub mod Common
 pub mod NestingLoopLemmas
 pub mod ImmediateLemmas
 pub mod MemArgLemmas

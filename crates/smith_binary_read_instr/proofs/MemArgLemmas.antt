@@ -1,14 +1,9 @@
 -- Places of accesses that are read: the readings are sound and complete.
-use Rattle.std.proofs.Common.{◌≡◌, ℕ, ◌+◌, ◌-◌, ◌^◌, ◌<◌, ◌≤◌, List, ◌++◌, Ok, refl, sym, ap}
-use Rattle.std.proofs.Common.{subst, arith}
-use Rattle.std.proofs.lemmas.Bool.{lt-ltb, le-ltb, ltb-true, ltb-false}
-use Rattle.smith_binary.specs.Numbers.{IsUnsigned}
-use Rattle.smith_binary.specs.Pieces.{Joined}
-use Rattle.smith_binary_read.specs.Decodes.{Front, Decodes}
-use Rattle.smith_binary_read.proofs.ReadLemmas.{step, branch, test_passed, front_as, front_same, front_joined, first_read}
-use Rattle.smith_binary_read.proofs.IntegerLemmas.{unsigned_decodes}
-use Rattle.smith_binary_instr.specs.Memory.{IsMemArg}
-use Rattle.smith_instr.specs.declared.memory.MemArg.{MemArg}
+use Rattle.smith_binary_read_instr.proofs.Common.{ap, arith, branch, Decodes, first_read, Front, front_as, front_joined, front_same}
+use Rattle.smith_binary_read_instr.proofs.Common.{IsMemArg, IsUnsigned, Joined, le-ltb, List, ltb-false, ltb-true, MemArg, Ok, refl, step}
+use Rattle.smith_binary_read_instr.proofs.Common.{subst, sym, test_passed, unsigned_decodes, ℕ, ◌++◌, ◌+◌, ◌-◌, ◌<◌, ◌≡◌, ◌≤◌}
+use Rattle.std.proofs.Common.{◌^◌}
+use Rattle.std.proofs.lemmas.Bool.{lt-ltb}
 use Rattle.smith_binary_read_instr.specs.MemoryReadings.{mem_arg, mem_arg_at}
 
 named : (flags index offset : ℕ) (piece : List ℕ) → 64 ≤ flags → flags < 128

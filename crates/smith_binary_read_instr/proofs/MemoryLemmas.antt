@@ -1,20 +1,11 @@
 -- Memory and table instructions that are read: the readings are sound and complete.
-use Rattle.std.proofs.Common.{◌≡◌, ℕ, ◌<◌, ◌≤◌, Bool, true, false, eqb, List, ◌∷◌, ◌++◌, Option, Some, None, Ok, refl, sym}
-use Rattle.std.proofs.Common.{ap, subst, ◌∙◌, arith}
-use Rattle.std.proofs.lemmas.Bool.{ltb-true, ltb-false, false≢true}
-use Rattle.smith_binary.specs.Numbers.{IsUnsigned}
-use Rattle.smith_binary.specs.Pieces.{IsByte, Joined}
-use Rattle.smith_binary_read.specs.Readings.{Reading, mapped_at}
-use Rattle.smith_binary_read.specs.Decodes.{Front}
-use Rattle.smith_binary_read.proofs.ReadLemmas.{step, branch, test_passed, item_is, front_as}
-use Rattle.smith_binary_read.proofs.IntegerLemmas.{unsigned_decodes}
-use Rattle.smith_binary_read.proofs.ChoiceLemmas.{tagged_sound, item_holds}
-use Rattle.smith_binary_read.proofs.PrefixLemmas.{prefix_alone}
-use Rattle.smith_instr.specs.declared.instr.Instr.{Instr}
+use Rattle.smith_binary_read_instr.proofs.Common.{ap, arith, Bool, branch, eqb, false, false≢true, Front, front_as, Instr, IsByte, IsInstr}
+use Rattle.smith_binary_read_instr.proofs.Common.{IsMemArg, IsUnsigned, item_holds, item_is, Joined, List, ltb-false, ltb-true, mapped_at}
+use Rattle.smith_binary_read_instr.proofs.Common.{MemArg, None, Ok, Option, prefix_alone, Reading, refl, Some, step, subst, sym}
+use Rattle.smith_binary_read_instr.proofs.Common.{tagged_sound, test_passed, true, unsigned_decodes, ℕ, ◌++◌, ◌<◌, ◌∙◌, ◌∷◌, ◌≡◌, ◌≤◌}
 use Rattle.smith_instr.specs.declared.instr.Instr.TheVariants as instr
 use Rattle.smith_instr.specs.declared.memory.Load.{Load}
 use Rattle.smith_instr.specs.declared.memory.Load.TheVariants as load
-use Rattle.smith_instr.specs.declared.memory.MemArg.{MemArg}
 use Rattle.smith_instr.specs.declared.memory.MemoryInstr.{MemoryInstr}
 use Rattle.smith_instr.specs.declared.memory.MemoryInstr.TheVariants as memory
 use Rattle.smith_instr.specs.declared.memory.Store.{Store}
@@ -22,8 +13,7 @@ use Rattle.smith_instr.specs.declared.memory.Store.TheVariants as store
 use Rattle.smith_instr.specs.declared.numeric.NumericInstr.{NumericInstr}
 use Rattle.smith_instr.specs.declared.table.TableInstr.{TableInstr}
 use Rattle.smith_instr.specs.declared.table.TableInstr.TheVariants as table
-use Rattle.smith_binary_instr.specs.Instructions.{IsInstr}
-use Rattle.smith_binary_instr.specs.Memory.{IsMemArg, IsMemory, load_opcode, store_opcode}
+use Rattle.smith_binary_instr.specs.Memory.{IsMemory, load_opcode, store_opcode}
 use Rattle.smith_binary_instr.specs.Numeric.{IsNumeric}
 use Rattle.smith_binary_instr.specs.References.{IsTable}
 use Rattle.smith_binary_read_instr.specs.ControlReadings.{variable_at}

@@ -1,15 +1,15 @@
 -- Expressions with nested blocks that are read: the reading is sound and complete.
-use Rattle.std.proofs.Common.{◌≡◌, ℕ, zero, suc, ◌<◌, ◌≤◌, Bool, true, false, List, [], ◌∷◌, ◌++◌, length, drop, Option, Some, None}
-use Rattle.std.proofs.Common.{Ok, refl, sym, ap, subst, ◌∙◌, append_assoc, arith}
+use Rattle.smith_binary_read_instr.proofs.Common.{[], ap, arith, Bool, branch, Decodes, false, Front, front_as, front_joined, front_same}
+use Rattle.smith_binary_read_instr.proofs.Common.{Instr, IsInstr, item_is, Joined, List, None, Ok, Option, refl, Some, step, subst, suc}
+use Rattle.smith_binary_read_instr.proofs.Common.{sym, true, zero, ℕ, ◌++◌, ◌<◌, ◌∙◌, ◌∷◌, ◌≡◌, ◌≤◌}
+use Rattle.std.proofs.Common.{drop, length}
+use Rattle.std.proofs.Common.{append_assoc}
 use Rattle.std.proofs.lemmas.List.{length-append}
-use Rattle.smith_binary.specs.Pieces.{Joined, Each}
+use Rattle.smith_binary.specs.Pieces.{Each}
 use Rattle.smith_binary_read.specs.Readings.{starts_with}
-use Rattle.smith_binary_read.specs.Decodes.{Front, Decodes}
-use Rattle.smith_binary_read.proofs.ReadLemmas.{step, branch, item_is, front_as, front_same, front_joined}
 use Rattle.smith_binary_read.proofs.ChoiceLemmas.{starts_is}
-use Rattle.smith_instr.specs.declared.instr.Instr.{Instr}
 use Rattle.smith_instr.specs.declared.instr.Instr.TheVariants as instr
-use Rattle.smith_binary_instr.specs.Instructions.{IsInstr, IsExpr}
+use Rattle.smith_binary_instr.specs.Instructions.{IsExpr}
 use Rattle.smith_binary_instr.specs.Nesting.{blocks_after, AreNested}
 use Rattle.smith_binary_read_instr.specs.ControlReadings.{block_at}
 use Rattle.smith_binary_read_instr.specs.ExpressionReadings.{opened_at, is_over, nested_instr_at, nested_at, expr_at}

@@ -1,14 +1,15 @@
 -- Nested instructions read one after the other, as a loop does.
-use Rattle.std.proofs.Common.{◌≡◌, ℕ, suc, ◌-◌, ◌+◌, ◌≤◌, ◌<◌, Bool, true, false, List, [], ◌∷◌, ◌++◌, drop, Ok, Err, refl, sym, ap, ◌∙◌}
-use Rattle.std.proofs.Common.{append-nil, length, arith}
-use Rattle.std.specs.Prelude.{reverse, option_to_list, Option, Some, None, MatchOption}
+use Rattle.smith_binary_read_instr.proofs.Common.{[], ap, arith, Bool, false, Instr, List, Ok, Reading, refl, reverse, suc, sym, true}
+use Rattle.smith_binary_read_instr.proofs.Common.{with_front, ℕ, ◌++◌, ◌+◌, ◌-◌, ◌<◌, ◌∙◌, ◌∷◌, ◌≡◌, ◌≤◌}
+use Rattle.std.proofs.Common.{drop, Err}
+use Rattle.std.proofs.Common.{append-nil, length}
+use Rattle.std.specs.Prelude.{MatchOption, None, Option, option_to_list, Some}
 use Rattle.std.proofs.lemmas.List.{length-reverse, reverse-append, nil_from_length}
-use Rattle.smith_instr.specs.declared.instr.Instr.{Instr}
 use Rattle.smith_binary_read.specs.declared.error.Reason.TheVariants.{UnexpectedEnd}
 use Rattle.smith_binary_read.specs.declared.error.ReadError.{ReadError}
 use Rattle.smith_binary_read.specs.declared.error.ReadError.TheVariants as error
-use Rattle.smith_binary_read.specs.Readings.{Reading, Fails, fault_at}
-use Rattle.smith_binary_read.proofs.LoopLemmas.{with_front, regroup}
+use Rattle.smith_binary_read.specs.Readings.{Fails, fault_at}
+use Rattle.smith_binary_read.proofs.LoopLemmas.{regroup}
 use Rattle.smith_binary_read_instr.specs.ExpressionReadings.{is_over, nested_instr_at, nested_at}
 
 -- the innermost block is the last of the list

@@ -1,14 +1,10 @@
 -- Numeric instructions that are read: the readings are sound and complete.
-use Rattle.std.proofs.Common.{◌≡◌, ℕ, ◌<◌, ◌≤◌, Bool, true, false, eqb, List, [], ◌∷◌, ◌++◌, Ok, refl, sym}
-use Rattle.std.proofs.Common.{ap, subst, ◌∙◌, arith}
-use Rattle.std.proofs.lemmas.Bool.{eqb-true, false≢true, lt-ltb, le-ltb}
-use Rattle.smith_binary.specs.Pieces.{IsByte}
-use Rattle.smith_binary_read.specs.Numbers.{unsigned_at}
-use Rattle.smith_binary_read.specs.Decodes.{Front}
-use Rattle.smith_binary_read.proofs.ReadLemmas.{step, branch, front_as, front_same, byte_sound}
+use Rattle.smith_binary_read_instr.proofs.Common.{[], ap, arith, Bool, branch, eqb, eqb-true, false, false≢true, Front, front_as}
+use Rattle.smith_binary_read_instr.proofs.Common.{front_same, Instr, IsByte, IsInstr, le-ltb, List, Ok, refl, step, subst, sym}
+use Rattle.smith_binary_read_instr.proofs.Common.{tagged_sound, true, unsigned_at, ℕ, ◌++◌, ◌<◌, ◌∙◌, ◌∷◌, ◌≡◌, ◌≤◌}
+use Rattle.std.proofs.lemmas.Bool.{lt-ltb}
+use Rattle.smith_binary_read.proofs.ReadLemmas.{byte_sound}
 use Rattle.smith_binary_read.proofs.IntegerLemmas.{signed_decodes, little_endian_decodes}
-use Rattle.smith_binary_read.proofs.ChoiceLemmas.{tagged_sound}
-use Rattle.smith_instr.specs.declared.instr.Instr.{Instr}
 use Rattle.smith_instr.specs.declared.instr.Instr.TheVariants as instr
 use Rattle.smith_instr.specs.declared.numeric.Conversion.{Conversion}
 use Rattle.smith_instr.specs.declared.numeric.Conversion.TheVariants as convert
@@ -32,7 +28,6 @@ use Rattle.smith_instr.specs.declared.numeric.SignExtension.{SignExtension}
 use Rattle.smith_instr.specs.declared.numeric.SignExtension.TheVariants as extend
 use Rattle.smith_instr.specs.declared.numeric.WideArithmetic.{WideArithmetic}
 use Rattle.smith_instr.specs.declared.numeric.WideArithmetic.TheVariants as wide
-use Rattle.smith_binary_instr.specs.Instructions.{IsInstr}
 use Rattle.smith_binary_instr.specs.Numeric.{IsNumeric, int_unary_opcode, int_binary_opcode, int_compare_opcode, float_unary_opcode}
 use Rattle.smith_binary_instr.specs.Numeric.{float_binary_opcode, float_compare_opcode, conversion_opcode}
 use Rattle.smith_binary_instr.specs.Numeric.{extension_opcode, saturating_number, wide_number}

@@ -1,21 +1,16 @@
 -- Readings of rows of instructions: tests of each number in a range, bytes in a range, and what is after a prefix and a number.
-use Rattle.std.proofs.Common.{◌≡◌, ℕ, zero, suc, ◌+◌, ◌<◌, ◌≤◌, Bool, true, false, eqb, ltb, ◌&&◌, List, [], ◌∷◌, ◌++◌, Some}
-use Rattle.std.proofs.Common.{Ok, refl, sym, ap, subst, ◌∙◌, append_assoc, append-nil, arith}
+use Rattle.smith_binary_read_instr.proofs.Common.{[], ap, arith, Bool, Decodes, eqb, eqb-true, false, first_read, Front, front_as}
+use Rattle.smith_binary_read_instr.proofs.Common.{front_joined, front_same, Instr, IsByte, IsInstr, IsPrefixed, IsUnsigned, item_holds}
+use Rattle.smith_binary_read_instr.proofs.Common.{Joined, List, ltb-false, ltb-true, mapped_at, Ok, prefix_alone, prefix_apart, Reading}
+use Rattle.smith_binary_read_instr.proofs.Common.{refl, Some, step, subst, suc, sym, tagged_read, true, unsigned_at, unsigned_decodes, zero}
+use Rattle.smith_binary_read_instr.proofs.Common.{ℕ, ◌++◌, ◌+◌, ◌<◌, ◌∙◌, ◌∷◌, ◌≡◌, ◌≤◌}
+use Rattle.std.proofs.Common.{ltb, ◌&&◌}
+use Rattle.std.proofs.Common.{append-nil, append_assoc}
 use Rattle.std.specs.List.{AllByRecursion}
-use Rattle.std.proofs.lemmas.Bool.{and_parts, ltb-true, ltb-false, eqb-true, eqb-false, eq-eqb}
-use Rattle.smith_binary.specs.Numbers.{IsUnsigned}
-use Rattle.smith_binary.specs.Pieces.{IsByte, Joined}
-use Rattle.smith_binary_sections.specs.Instructions.{IsPrefixed}
-use Rattle.smith_binary_read.specs.Readings.{Reading, byte_at, joined_at, mapped_at}
-use Rattle.smith_binary_read.specs.Numbers.{unsigned_at}
+use Rattle.std.proofs.lemmas.Bool.{and_parts, eq-eqb, eqb-false}
+use Rattle.smith_binary_read.specs.Readings.{byte_at, joined_at}
 use Rattle.smith_binary_read.specs.Choices.{item_of}
-use Rattle.smith_binary_read.specs.Decodes.{Front, Decodes}
-use Rattle.smith_binary_read.proofs.ReadLemmas.{step, item_and_rest, front_as, front_same, front_joined, first_read, byte_sound}
-use Rattle.smith_binary_read.proofs.IntegerLemmas.{unsigned_decodes}
-use Rattle.smith_binary_read.proofs.ChoiceLemmas.{tagged_read, item_holds}
-use Rattle.smith_binary_read.proofs.PrefixLemmas.{prefix_alone, prefix_apart}
-use Rattle.smith_instr.specs.declared.instr.Instr.{Instr}
-use Rattle.smith_binary_instr.specs.Instructions.{IsInstr}
+use Rattle.smith_binary_read.proofs.ReadLemmas.{byte_sound, item_and_rest}
 use Rattle.smith_binary_read_instr.specs.InstrReadings.{instr_at}
 
 -- whether each number from `first` on passes a test

@@ -1,22 +1,18 @@
 -- Vector instructions that are read: the readings are sound and complete.
-use Rattle.std.proofs.Common.{◌≡◌, ℕ, zero, suc, ◌+◌, ◌-◌, ◌<◌, ◌≤◌, Bool, true, false, eqb, List, ◌∷◌, ◌++◌, Option, Some, None}
-use Rattle.std.proofs.Common.{Ok, refl, sym, ap, subst, ◌∙◌, arith}
+use Rattle.smith_binary_read_instr.proofs.Common.{ap, arith, Bool, branch, Decodes, eqb, eqb-true, false, false≢true, first_read, Front}
+use Rattle.smith_binary_read_instr.proofs.Common.{front_as, Instr, IsByte, IsInstr, IsMemArg, IsPrefixed, IsUnsigned, item_is, Joined}
+use Rattle.smith_binary_read_instr.proofs.Common.{le-ltb, List, ltb-false, ltb-true, MemArg, None, Ok, Option, prefix_alone, prefix_apart}
+use Rattle.smith_binary_read_instr.proofs.Common.{Reading, refl, Some, step, subst, suc, sym, tagged_read, test_passed, true, unsigned_at}
+use Rattle.smith_binary_read_instr.proofs.Common.{unsigned_decodes, zero, ℕ, ◌++◌, ◌+◌, ◌-◌, ◌<◌, ◌∙◌, ◌∷◌, ◌≡◌, ◌≤◌}
 use Rattle.std.specs.Prelude.{ℤ}
-use Rattle.std.proofs.lemmas.Bool.{eqb-true, false≢true, ltb-true, ltb-false, le-ltb}
-use Rattle.smith_binary.specs.Numbers.{IsUnsigned, IsVector}
-use Rattle.smith_binary.specs.Pieces.{IsByte, Joined}
-use Rattle.smith_binary_sections.specs.Instructions.{IsPrefixed}
-use Rattle.smith_binary_read.specs.Readings.{Reading, bytes_at}
-use Rattle.smith_binary_read.specs.Numbers.{unsigned_at, lane_at}
-use Rattle.smith_binary_read.specs.Decodes.{Front, Decodes}
-use Rattle.smith_binary_read.proofs.ReadLemmas.{step, branch, test_passed, fault_avoided, item_is, front_as, first_read}
+use Rattle.smith_binary.specs.Numbers.{IsVector}
+use Rattle.smith_binary_read.specs.Readings.{bytes_at}
+use Rattle.smith_binary_read.specs.Numbers.{lane_at}
+use Rattle.smith_binary_read.proofs.ReadLemmas.{fault_avoided}
 use Rattle.smith_binary_read.proofs.ReadLemmas.{bytes_sound, bytes_complete}
-use Rattle.smith_binary_read.proofs.IntegerLemmas.{unsigned_decodes, vector_decodes, lane_decodes}
-use Rattle.smith_binary_read.proofs.ChoiceLemmas.{tagged_read, item_none}
-use Rattle.smith_binary_read.proofs.PrefixLemmas.{prefix_alone, prefix_apart}
-use Rattle.smith_instr.specs.declared.instr.Instr.{Instr}
+use Rattle.smith_binary_read.proofs.IntegerLemmas.{lane_decodes, vector_decodes}
+use Rattle.smith_binary_read.proofs.ChoiceLemmas.{item_none}
 use Rattle.smith_instr.specs.declared.instr.Instr.TheVariants as instr
-use Rattle.smith_instr.specs.declared.memory.MemArg.{MemArg}
 use Rattle.smith_instr.specs.declared.vector.IntShape.{IntShape}
 use Rattle.smith_instr.specs.declared.vector.IntShape.TheVariants as shape
 use Rattle.smith_instr.specs.declared.vector.LaneExtract.{LaneExtract}
@@ -47,8 +43,7 @@ use Rattle.smith_instr.specs.declared.vector.VectorShift.{VectorShift}
 use Rattle.smith_instr.specs.declared.vector.VectorShift.TheVariants as shift
 use Rattle.smith_instr.specs.declared.vector.VectorUnary.{VectorUnary}
 use Rattle.smith_instr.specs.declared.vector.VectorUnary.TheVariants as unary
-use Rattle.smith_binary_instr.specs.Instructions.{IsInstr}
-use Rattle.smith_binary_instr.specs.Memory.{IsLaneAccess, IsMemArg, vector_load_number}
+use Rattle.smith_binary_instr.specs.Memory.{IsLaneAccess, vector_load_number}
 use Rattle.smith_binary_instr.specs.Vector.{IsLanes, IsVectorInstr}
 use Rattle.smith_binary_instr.specs.VectorNumbers.{vector_unary_number, vector_float_unary_number, vector_binary_number}
 use Rattle.smith_binary_instr.specs.VectorNumbers.{vector_float_binary_number, all_true_number, bitmask_number, shift_number, splat_number}

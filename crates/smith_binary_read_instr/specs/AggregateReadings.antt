@@ -1,15 +1,11 @@
 -- Readings of aggregate instructions, of tests and casts, and of branches on casts: the section
 -- Binary Format, Instructions, of the WebAssembly Core Specification 3.0.
 use Rattle.std.specs.Prelude.{ℕ, true, false, nat_lt, ◌==◌, if◌then◌else◌, List, [], ◌∷◌}
-use Rattle.smith_binary_read.specs.declared.error.Reason.TheVariants.{UnknownByte}
-use Rattle.smith_binary_read.specs.Readings.{Reading, ◌>>=◌, fault_at, mapped_at}
-use Rattle.smith_binary_read.specs.Numbers.{unsigned_at, two_at}
-use Rattle.smith_binary_read.specs.Choices.{item_of, or_at}
-use Rattle.smith_binary_read.specs.TypeReadings.{heap_type_at}
+use Rattle.smith_binary_read_instr.specs.Common.{fault_at, heap_type_at, Instr, item_of, mapped_at, or_at, Reading, two_at, UnknownByte}
+use Rattle.smith_binary_read_instr.specs.Common.{unsigned_at, ◌>>=◌}
 use Rattle.smith_instr.specs.declared.aggregate.AggregateInstr.{AggregateInstr}
 use Rattle.smith_instr.specs.declared.aggregate.AggregateInstr.TheVariants as aggregate
 use Rattle.smith_instr.specs.declared.aggregate.Extension.TheVariants as extension
-use Rattle.smith_instr.specs.declared.instr.Instr.{Instr}
 use Rattle.smith_instr.specs.declared.instr.Instr.TheVariants as instr
 use Rattle.smith_instr.specs.declared.reference.ReferenceInstr.{ReferenceInstr}
 use Rattle.smith_instr.specs.declared.reference.ReferenceInstr.TheVariants as reference

@@ -1,16 +1,13 @@
 -- Readings of atomic instructions: the threads proposal, section Binary Format, Atomic Memory
 -- Instructions. The shared i31 follows the shared-everything-threads proposal.
 use Rattle.std.specs.Prelude.{ℕ, ◌-◌, nat_lt, ◌==◌, if◌then◌else◌, List, [], ◌∷◌, Option, Some, None, Ok}
-use Rattle.smith_binary_read.specs.declared.error.Reason.TheVariants.{UnknownByte}
-use Rattle.smith_binary_read.specs.Readings.{Reading, ◌>>=◌, fault_at, byte_at, mapped_at}
-use Rattle.smith_binary_read.specs.Numbers.{unsigned_at}
+use Rattle.smith_binary_read_instr.specs.Common.{byte_at, fault_at, Instr, mapped_at, Reading, UnknownByte, unsigned_at, ◌>>=◌}
 use Rattle.smith_instr.specs.declared.aggregate.AggregateInstr.TheVariants as aggregate
 use Rattle.smith_instr.specs.declared.atomic.AtomicAccess.{AtomicAccess}
 use Rattle.smith_instr.specs.declared.atomic.AtomicAccess.TheVariants as atomic
 use Rattle.smith_instr.specs.declared.atomic.AtomicUpdate.TheVariants as update
 use Rattle.smith_instr.specs.declared.atomic.AtomicWidth.{AtomicWidth}
 use Rattle.smith_instr.specs.declared.atomic.AtomicWidth.TheVariants as width
-use Rattle.smith_instr.specs.declared.instr.Instr.{Instr}
 use Rattle.smith_instr.specs.declared.instr.Instr.TheVariants as instr
 use Rattle.smith_binary_read_instr.specs.NumericReadings.{item_or}
 use Rattle.smith_binary_read_instr.specs.MemoryReadings.{mem_arg_at}

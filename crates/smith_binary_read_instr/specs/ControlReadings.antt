@@ -2,20 +2,18 @@
 -- Instructions, Control Instructions, Parametric Instructions, Variable Instructions and Table
 -- Instructions, of the WebAssembly Core Specification 3.0.
 use Rattle.std.specs.Prelude.{ℕ, Bool, true, false, nat_lt, nat_le, ◌||◌, ◌==◌, if◌then◌else◌, List, [], ◌∷◌, Ok}
-use Rattle.smith_syntax.specs.declared.value_type.HeapType.{HeapType}
-use Rattle.smith_binary_read.specs.declared.error.Reason.TheVariants.{UnknownByte}
-use Rattle.smith_binary_read.specs.Readings.{Reading, ◌>>=◌, fault_at, byte_at, joined_at, mapped_at}
-use Rattle.smith_binary_read.specs.Numbers.{unsigned_at, two_at}
+use Rattle.smith_types.specs.Syntax.value_type.HeapType.{HeapType}
+use Rattle.smith_binary_read_instr.specs.Common.{byte_at, fault_at, heap_type_at, Instr, item_of, joined_at, mapped_at, or_at, Reading}
+use Rattle.smith_binary_read_instr.specs.Common.{two_at, UnknownByte, unsigned_at, ◌>>=◌}
 use Rattle.smith_binary_read.specs.Contents.{list_at}
-use Rattle.smith_binary_read.specs.Choices.{item_of, or_at, coded_at, type_index_at}
-use Rattle.smith_binary_read.specs.TypeReadings.{heap_type_at, val_type_at}
+use Rattle.smith_binary_read.specs.Choices.{coded_at, type_index_at}
+use Rattle.smith_binary_read.specs.TypeReadings.{val_type_at}
 use Rattle.smith_instr.specs.declared.control.BlockType.{BlockType}
 use Rattle.smith_instr.specs.declared.control.BlockType.TheVariants as block
 use Rattle.smith_instr.specs.declared.control.BranchCast.{BranchCast}
 use Rattle.smith_instr.specs.declared.control.Catch.{Catch}
 use Rattle.smith_instr.specs.declared.control.Catch.TheVariants as catch
 use Rattle.smith_instr.specs.declared.table.TableInstr.TheVariants as table
-use Rattle.smith_instr.specs.declared.instr.Instr.{Instr}
 use Rattle.smith_instr.specs.declared.instr.Instr.TheVariants as instr
 
 -- reads a block type

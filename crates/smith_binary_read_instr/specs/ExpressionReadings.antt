@@ -3,9 +3,9 @@
 use Rattle.std.specs.Prelude.{ℕ, zero, suc, Bool, false, if◌then◌else◌, List, [], ◌∷◌, length, drop, Option, Some, None}
 use Rattle.std.specs.Prelude.{Result, Ok}
 use Rattle.smith_binary_read.specs.declared.error.Fault.{Fault}
-use Rattle.smith_binary_read.specs.declared.error.Reason.TheVariants.{UnknownByte, UnexpectedEnd}
-use Rattle.smith_binary_read.specs.Readings.{Reading, ◌>>=◌, fault_at, starts_with}
-use Rattle.smith_instr.specs.declared.instr.Instr.{Instr}
+use Rattle.smith_binary_read_instr.specs.Common.{fault_at, Instr, Reading, UnknownByte, ◌>>=◌}
+use Rattle.smith_binary_read.specs.declared.error.Reason.TheVariants.{UnexpectedEnd}
+use Rattle.smith_binary_read.specs.Readings.{starts_with}
 use Rattle.smith_binary_instr.specs.Nesting.{blocks_after}
 use Rattle.smith_binary_read_instr.specs.InstrReadings.{instr_at}
 

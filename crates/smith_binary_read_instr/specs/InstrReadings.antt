@@ -1,9 +1,7 @@
 -- Readings of instructions: the section Binary Format, Instructions, of the WebAssembly Core
 -- Specification 3.0.
 use Rattle.std.specs.Prelude.{ℕ, nat_lt, ◌==◌, if◌then◌else◌, List}
-use Rattle.smith_binary_read.specs.declared.error.Reason.TheVariants.{UnknownByte}
-use Rattle.smith_binary_read.specs.Readings.{Reading, ◌>>=◌, fault_at, byte_at}
-use Rattle.smith_instr.specs.declared.instr.Instr.{Instr}
+use Rattle.smith_binary_read_instr.specs.Common.{byte_at, fault_at, Instr, Reading, UnknownByte, ◌>>=◌}
 use Rattle.smith_binary_read_instr.specs.NumericReadings.{const_at, numeric_at}
 use Rattle.smith_binary_read_instr.specs.ControlReadings.{block_at, branch_at, call_at, parametric_at, variable_at}
 use Rattle.smith_binary_read_instr.specs.ReferenceReadings.{reference_at}

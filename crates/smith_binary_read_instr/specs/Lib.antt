@@ -1,3 +1,4 @@
+pub mod Common
 pub mod NumericReadings
 pub mod ControlReadings
 pub mod ReferenceReadings

@@ -1,10 +1,8 @@
 -- Readings of numeric instructions: the section Binary Format, Instructions, Numeric Instructions,
 -- of the WebAssembly Core Specification 3.0. Wide arithmetic follows its proposal.
 use Rattle.std.specs.Prelude.{ℕ, ◌-◌, List, [], ◌∷◌, Option, nat_lt, ◌==◌, if◌then◌else◌}
-use Rattle.smith_binary_read.specs.Readings.{Reading, ◌>>=◌, byte_at, mapped_at}
+use Rattle.smith_binary_read_instr.specs.Common.{byte_at, Instr, item_of, mapped_at, Reading, ◌>>=◌}
 use Rattle.smith_binary_read.specs.Numbers.{signed_at, little_endian_at}
-use Rattle.smith_binary_read.specs.Choices.{item_of}
-use Rattle.smith_instr.specs.declared.instr.Instr.{Instr}
 use Rattle.smith_instr.specs.declared.instr.Instr.TheVariants as instr
 use Rattle.smith_instr.specs.declared.numeric.IntUnary.{IntUnary}
 use Rattle.smith_instr.specs.declared.numeric.IntUnary.TheVariants as int_unary

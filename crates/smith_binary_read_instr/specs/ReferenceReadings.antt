@@ -1,12 +1,8 @@
 -- Readings of reference instructions: the section Binary Format, Instructions, Reference
 -- Instructions and Control Instructions, of the WebAssembly Core Specification 3.0.
 use Rattle.std.specs.Prelude.{ℕ, ◌==◌, if◌then◌else◌, List, [], ◌∷◌}
-use Rattle.smith_binary_read.specs.declared.error.Reason.TheVariants.{UnknownByte}
-use Rattle.smith_binary_read.specs.Readings.{Reading, ◌>>=◌, fault_at, byte_at, mapped_at}
-use Rattle.smith_binary_read.specs.Numbers.{unsigned_at}
-use Rattle.smith_binary_read.specs.Choices.{item_of, or_at}
-use Rattle.smith_binary_read.specs.TypeReadings.{heap_type_at}
-use Rattle.smith_instr.specs.declared.instr.Instr.{Instr}
+use Rattle.smith_binary_read_instr.specs.Common.{byte_at, fault_at, heap_type_at, Instr, item_of, mapped_at, or_at, Reading, UnknownByte}
+use Rattle.smith_binary_read_instr.specs.Common.{unsigned_at, ◌>>=◌}
 use Rattle.smith_instr.specs.declared.instr.Instr.TheVariants as instr
 use Rattle.smith_instr.specs.declared.reference.ReferenceInstr.TheVariants as reference
 

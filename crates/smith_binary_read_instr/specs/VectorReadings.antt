@@ -1,10 +1,9 @@
 -- Readings of vector instructions: the section Binary Format, Instructions, Vector Instructions, of
 -- the WebAssembly Core Specification 3.0.
 use Rattle.std.specs.Prelude.{ℕ, ◌-◌, nat_lt, ◌==◌, if◌then◌else◌, List, [], ◌∷◌, Option, Some, None, Ok}
-use Rattle.smith_binary_read.specs.declared.error.Reason.TheVariants.{UnknownByte}
-use Rattle.smith_binary_read.specs.Readings.{Reading, ◌>>=◌, fault_at, bytes_at, joined_at, mapped_at}
-use Rattle.smith_binary_read.specs.Numbers.{unsigned_at, vector_at, lane_at}
-use Rattle.smith_instr.specs.declared.instr.Instr.{Instr}
+use Rattle.smith_binary_read_instr.specs.Common.{fault_at, Instr, joined_at, mapped_at, Reading, UnknownByte, unsigned_at, ◌>>=◌}
+use Rattle.smith_binary_read.specs.Readings.{bytes_at}
+use Rattle.smith_binary_read.specs.Numbers.{lane_at, vector_at}
 use Rattle.smith_instr.specs.declared.instr.Instr.TheVariants as instr
 use Rattle.smith_instr.specs.declared.vector.LaneExtract.TheVariants as extract
 use Rattle.smith_instr.specs.declared.vector.LaneShape.TheVariants as shape

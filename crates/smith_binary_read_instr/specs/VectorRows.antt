@@ -1,7 +1,7 @@
 -- The vector instructions without immediates, by their numbers: the section Binary Format,
 -- Instructions, Vector Instructions, of the WebAssembly Core Specification 3.0.
 use Rattle.std.specs.Prelude.{ℕ, List, [], ◌∷◌, Option, nat_lt, if◌then◌else◌}
-use Rattle.smith_binary_read.specs.Choices.{item_of}
+use Rattle.smith_binary_read_instr.specs.Common.{item_of}
 use Rattle.smith_instr.specs.declared.vector.VectorInstr.{VectorInstr}
 use Rattle.smith_instr.specs.declared.vector.VectorInstr.TheVariants as vector
 use Rattle.smith_instr.specs.declared.vector.VectorUnary.TheVariants as unary

@@ -1,9 +1,9 @@
 -- The checks of counters of fuel.
-use Rattle.std.proofs.Common.{◌≡◌, ℕ, ◌<◌, ◌^◌, List, [], ◌∷◌, ◌++◌, length, refl, sym, ap, subst, ◌∙◌, arith, append_assoc, append-nil}
+use Rattle.smith_binary_sections.proofs.Common.{[], ap, arith, Is, is_joined, Leads, length, List, Output, refl, Spelling, subst, sym}
+use Rattle.smith_binary_sections.proofs.Common.{Writes, written_as, ℕ, ◌^◌, ◌∙◌, ◌∷◌, ◌≡◌}
+use Rattle.std.proofs.Common.{append-nil, append_assoc, ◌++◌, ◌<◌}
 use Rattle.std.proofs.lemmas.List.{nil_from_length}
-use Rattle.smith_binary.specs.Spelling.{Spelling}
-use Rattle.smith_binary.specs.Pieces.{Is, Output, Writes}
-use Rattle.smith_binary.proofs.WrittenLemmas.{Leads, is_joined, nothing_written, written_as}
+use Rattle.smith_binary.proofs.WrittenLemmas.{nothing_written}
 use Rattle.smith_binary_sections.specs.Codes.{check_bytes, checks_bytes}
 
 -- the last counter's check comes first

@@ -1,12 +1,10 @@
 -- Faults for other reasons.
-use Rattle.std.proofs.Common.{ℕ, ◌≤◌, ◌^◌, List, [], length, Result, Ok, Err}
+use Rattle.smith_binary_sections.proofs.Common.{[], any, length, List, Output, Spelling, Writes, ℕ, ◌^◌}
+use Rattle.std.proofs.Common.{Err, Ok, Result, ◌≤◌}
 use Rattle.std.specs.Prelude.{◌≡◌, IfErr}
 use Rattle.smith_binary.specs.declared.error.EncodeError.{EncodeError}
 use Rattle.smith_binary.specs.declared.error.EncodeError.TheVariants.{Memory, TooLong}
 use Rattle.smith_binary.specs.Faults.{IsFault}
-use Rattle.smith_binary.specs.Spelling.{Spelling}
-use Rattle.smith_binary.specs.Spelling.Spelling.{any}
-use Rattle.smith_binary.specs.Pieces.{Output, Writes}
 use Rattle.smith_binary.proofs.WrittenLemmas.{content_whole}
 use Rattle.smith_binary_sections.specs.Long.{IsLongContent}
 

@@ -1,17 +1,16 @@
 -- Segments in the forms in which they are written.
-use Rattle.std.proofs.Common.{◌≡◌, ℕ, Bool, true, false, Option, Some, None, cond, ◌&&◌, eqb, List, [], ◌∷◌, length, refl, sym, subst, ap}
+use Rattle.smith_binary_sections.proofs.Common.{[], ap, Bool, ConstInstr, IsUnsignedIn, Joined, joined_written, length, List, Output, refl}
+use Rattle.smith_binary_sections.proofs.Common.{subst, sym, true, Writes, written_as, ℕ, ◌∷◌, ◌≡◌}
+use Rattle.std.proofs.Common.{cond, eqb, false, None, Option, Some, ◌&&◌}
 use Rattle.std.proofs.lemmas.Bool.{eqb-true, ne_eqb}
-use Rattle.smith_binary.specs.Spelling.{IsUnsignedIn}
 use Rattle.smith_binary.specs.Spelling.Spelling.{written}
-use Rattle.smith_binary.specs.Pieces.{IsByte, Joined, Writes, IsListIn, Output}
-use Rattle.smith_binary.proofs.WrittenLemmas.{joined_written, written_as}
-use Rattle.smith_syntax.specs.declared.const_instr.ConstInstr.{ConstInstr}
-use Rattle.smith_syntax.specs.declared.value_type.AbstractHeapType.{AbstractHeapType}
-use Rattle.smith_syntax.specs.declared.value_type.AbstractHeapType.TheVariants as abstract
-use Rattle.smith_syntax.specs.declared.value_type.HeapType.{HeapType}
-use Rattle.smith_syntax.specs.declared.value_type.HeapType.TheVariants.{Abstract, Concrete, Exact}
-use Rattle.smith_syntax.specs.declared.value_type.RefType.{RefType}
-use Rattle.smith_syntax.specs.declared.composite_type.SubType.{SubType}
+use Rattle.smith_binary.specs.Pieces.{IsByte, IsListIn}
+use Rattle.smith_types.specs.Syntax.value_type.AbstractHeapType.{AbstractHeapType}
+use Rattle.smith_types.specs.Syntax.value_type.AbstractHeapType.TheVariants as abstract
+use Rattle.smith_types.specs.Syntax.value_type.HeapType.{HeapType}
+use Rattle.smith_types.specs.Syntax.value_type.HeapType.TheVariants.{Abstract, Concrete, Exact}
+use Rattle.smith_types.specs.Syntax.value_type.RefType.{RefType}
+use Rattle.smith_types.specs.Syntax.composite_type.SubType.{SubType}
 use Rattle.smith_binary_sections.specs.Types.{abstract_byte, null_byte, short_ref, IsAbstractAlone, IsHeapTypeIn, IsRefType, IsRefTypeAs}
 use Rattle.smith_binary_sections.specs.Types.{IsRefTypeIn, IsRecGroupWrittenIn, IsSubTypeWrittenIn}
 use Rattle.smith_binary_sections.specs.Instructions.{IsExpressionIn, IsIndexIn}

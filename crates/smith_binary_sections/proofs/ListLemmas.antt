@@ -1,14 +1,13 @@
 -- Lists that are written item by item.
-use Rattle.std.proofs.Common.{◌≡◌, ℕ, ◌⊎◌, inl, inr, List, [], ◌∷◌, length, refl, sym, subst, ap}
+use Rattle.smith_binary_sections.proofs.Common.{[], any, ap, Each, inr, IsList, IsUnsignedIn, joined_written, Leads, length, List, Output}
+use Rattle.smith_binary_sections.proofs.Common.{refl, Spelling, subst, sym, Writes, written_as, zip, ℕ, ◌∷◌, ◌≡◌}
+use Rattle.std.proofs.Common.{inl, ◌⊎◌}
 use Rattle.std.specs.Prelude.{map}
-use Rattle.std.specs.List.{zip}
 use Rattle.std.proofs.lemmas.List.{length-map}
-use Rattle.smith_binary.specs.Spelling.{Spelling, IsUnsignedIn}
-use Rattle.smith_binary.specs.Spelling.Spelling.{any}
-use Rattle.smith_binary.specs.Pieces.{Each, IsList, IsListIn, Output, Writes}
+use Rattle.smith_binary.specs.Pieces.{IsListIn}
 use Rattle.smith_binary.proofs.NumberLemmas.{unsigned_below}
-use Rattle.smith_binary.proofs.WrittenLemmas.{Leads, joined_written, nothing_written, written_as}
-use Rattle.smith_syntax.specs.declared.value_type.ValType.{ValType}
+use Rattle.smith_binary.proofs.WrittenLemmas.{nothing_written}
+use Rattle.smith_types.specs.Syntax.value_type.ValType.{ValType}
 use Rattle.smith_binary_sections.specs.Codes.{IsRun, locals_of, IsLocals, IsLocalsWritten, IsBody, IsBodyWritten}
 
 -- one more pair

@@ -1,8 +1,7 @@
 -- Sections that are written or left out.
-use Rattle.std.proofs.Common.{◌≡◌, ℕ, Bool, true, List, [], sym, subst}
-use Rattle.smith_binary.specs.Spelling.{Spelling}
-use Rattle.smith_binary.specs.Spelling.Spelling.{any, written}
-use Rattle.smith_binary.specs.Pieces.{Is, IsSectionIn, Output, Writes}
+use Rattle.smith_binary_sections.proofs.Common.{[], any, Bool, Is, List, Output, Spelling, subst, sym, true, Writes, ℕ, ◌≡◌}
+use Rattle.smith_binary.specs.Spelling.Spelling.{written}
+use Rattle.smith_binary.specs.Pieces.{IsSectionIn}
 use Rattle.smith_binary.proofs.WrittenLemmas.{content_whole}
 use Rattle.smith_binary_sections.specs.Sections.{IsSectionIfIn}
 

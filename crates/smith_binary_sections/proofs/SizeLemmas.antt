@@ -1,9 +1,10 @@
 -- The most bytes that spellings have.
-use Rattle.std.proofs.Common.{◌≡◌, ℕ, ◌+◌, ◌-◌, ◌*◌, ◌^◌, ◌<◌, ◌≤◌, inl, inr, List, [], ◌∷◌, ◌++◌, length, sym, subst, ap, arith}
+use Rattle.smith_binary_sections.proofs.Common.{[], ap, arith, Each, inr, Is, IsList, Joined, length, List, subst, sym, ℕ, ◌^◌, ◌∷◌, ◌≡◌}
+use Rattle.std.proofs.Common.{inl, ◌*◌, ◌++◌, ◌+◌, ◌-◌, ◌<◌, ◌≤◌}
 use Rattle.std.proofs.Common.{length-append}
 use Rattle.std.proofs.lemmas.List.Elements.{All-from_recursion}
 use Rattle.smith_binary.specs.Numbers.{IsUnsigned}
-use Rattle.smith_binary.specs.Pieces.{Is, Joined, Each, IsList, IsSized}
+use Rattle.smith_binary.specs.Pieces.{IsSized}
 use Rattle.smith_binary_sections.specs.Long.{IsLongContent, IsLongList, IsLongSection}
 
 -- a spelling has this number of bytes or fewer

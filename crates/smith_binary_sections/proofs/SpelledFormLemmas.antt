@@ -1,11 +1,11 @@
 -- A type, a table or a segment that is written in one form is spelled by the grammar.
-use Rattle.std.proofs.Common.{◌≡◌, ℕ, Bool, true, false, Option, Some, None, List, [], ◌∷◌, refl}
-use Rattle.smith_binary.specs.Pieces.{IsByte, IsList, Joined}
-use Rattle.smith_syntax.specs.declared.composite_type.SubType.{SubType}
-use Rattle.smith_syntax.specs.declared.const_instr.ConstInstr.{ConstInstr}
-use Rattle.smith_syntax.specs.declared.entity_type.TableType.{TableType}
-use Rattle.smith_syntax.specs.declared.segments.DataSegment.{DataSegment}
-use Rattle.smith_syntax.specs.declared.segments.ElementSegment.{ElementSegment}
+use Rattle.smith_binary_sections.proofs.Common.{[], Bool, ConstInstr, IsList, Joined, List, refl, true, ℕ, ◌∷◌, ◌≡◌}
+use Rattle.std.proofs.Common.{false, None, Option, Some}
+use Rattle.smith_binary.specs.Pieces.{IsByte}
+use Rattle.smith_types.specs.Syntax.composite_type.SubType.{SubType}
+use Rattle.smith_types.specs.Syntax.entity_type.TableType.{TableType}
+use Rattle.smith_types.specs.Syntax.segments.DataSegment.{DataSegment}
+use Rattle.smith_types.specs.Syntax.segments.ElementSegment.{ElementSegment}
 use Rattle.smith_binary_sections.specs.Data.{IsData, IsDataWritten, data_form, data_of}
 use Rattle.smith_binary_sections.specs.Definitions.{IsTable, IsTableAs, IsTableWritten, initialised_table}
 use Rattle.smith_binary_sections.specs.Elements.{IsElem, IsElemWritten, elem_form, elem_of}

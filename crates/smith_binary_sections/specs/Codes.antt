@@ -2,14 +2,12 @@
 -- 3.0.
 use Rattle.std.specs.Prelude.{◌≡◌, ℕ, ◌^◌, ◌<◌, List, [], ◌∷◌, ◌++◌, length, replicate}
 use Rattle.std.specs.List.{flat_map}
-use Rattle.smith_binary.specs.Spelling.{IsUnsignedIn, Spelling}
-use Rattle.smith_binary.specs.Spelling.Spelling.{any}
+use Rattle.smith_binary_sections.specs.Common.{any, Is, IsList, IsListIn, IsUnsignedIn, Joined, Spelling, ValType}
 use Rattle.smith_binary.specs.Numbers.{shortest_bytes}
-use Rattle.smith_binary.specs.Pieces.{Is, Joined, IsList, IsSized, IsListIn, IsSizedIn}
-use Rattle.smith_syntax.specs.declared.value_type.ValType.{ValType}
-use Rattle.smith_syntax.specs.declared.code.Code.{Code}
-use Rattle.smith_syntax.specs.declared.code.Instructions.{Instructions}
-use Rattle.smith_syntax.specs.declared.code.Instructions.TheVariants.{Unreachable, Arbitrary}
+use Rattle.smith_binary.specs.Pieces.{IsSized, IsSizedIn}
+use Rattle.smith_types.specs.Syntax.code.Code.{Code}
+use Rattle.smith_types.specs.Syntax.code.Instructions.{Instructions}
+use Rattle.smith_types.specs.Syntax.code.Instructions.TheVariants.{Unreachable, Arbitrary}
 use Rattle.smith_binary_sections.specs.Types.{IsValTypeIn}
 
 -- a run of locals: their number, then their type (Code Section)

@@ -1,13 +1,10 @@
 -- Data segments: the section Binary Format, Modules, Data Section, of the WebAssembly Core
 -- Specification 3.0.
 use Rattle.std.specs.Prelude.{◌≡◌, ◌==◌, ℕ, List, if◌then◌else◌}
-use Rattle.smith_binary.specs.Spelling.{IsUnsignedIn, Spelling}
-use Rattle.smith_binary.specs.Spelling.Spelling.{any}
-use Rattle.smith_binary.specs.Pieces.{IsByte, Joined, IsListIn}
-use Rattle.smith_syntax.specs.declared.const_instr.ConstInstr.{ConstInstr}
-use Rattle.smith_syntax.specs.declared.segments.DataSegment.{DataSegment}
-use Rattle.smith_syntax.specs.declared.segments.DataSegmentKind.{DataSegmentKind}
-use Rattle.smith_syntax.specs.declared.segments.DataSegmentKind.TheVariants.{Passive, Active}
+use Rattle.smith_binary_sections.specs.Common.{any, ConstInstr, IsByte, IsListIn, IsUnsignedIn, Joined, Spelling}
+use Rattle.smith_types.specs.Syntax.segments.DataSegment.{DataSegment}
+use Rattle.smith_types.specs.Syntax.segments.DataSegmentKind.{DataSegmentKind}
+use Rattle.smith_types.specs.Syntax.segments.DataSegmentKind.TheVariants.{Passive, Active}
 use Rattle.smith_binary_sections.specs.Instructions.{offset_of, IsExpressionIn, IsIndexIn}
 
 -- the mode of a data segment (Structure, Data Segments)

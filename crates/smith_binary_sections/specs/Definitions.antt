@@ -1,14 +1,8 @@
 -- Definitions of tables, globals and tags: the section Binary Format, Modules, Table Section,
 -- Global Section and Tag Section, of the WebAssembly Core Specification 3.0.
 use Rattle.std.specs.Prelude.{◌≡◌, ℕ, Option, Some, None, List, [], ◌∷◌, unwrap_or}
-use Rattle.smith_binary.specs.Spelling.{Spelling}
-use Rattle.smith_binary.specs.Spelling.Spelling.{any}
-use Rattle.smith_binary.specs.Pieces.{Is, Joined}
-use Rattle.smith_syntax.specs.declared.value_type.RefType.{RefType}
-use Rattle.smith_syntax.specs.declared.const_instr.ConstInstr.{ConstInstr}
-use Rattle.smith_syntax.specs.declared.const_instr.ConstInstr.TheVariants.{RefNull}
-use Rattle.smith_syntax.specs.declared.entity_type.GlobalType.{GlobalType}
-use Rattle.smith_syntax.specs.declared.entity_type.TableType.{TableType}
+use Rattle.smith_binary_sections.specs.Common.{any, ConstInstr, GlobalType, Is, Joined, RefType, Spelling, TableType}
+use Rattle.smith_types.specs.Syntax.const_instr.ConstInstr.TheVariants.{RefNull}
 use Rattle.smith_binary_sections.specs.Instructions.{IsExpressionIn}
 use Rattle.smith_binary_sections.specs.Entities.{IsTableType, IsGlobalTypeIn, IsTableTypeIn}
 

@@ -1,20 +1,16 @@
 -- Element segments: the section Binary Format, Modules, Element Section, of the WebAssembly Core
 -- Specification 3.0.
 use Rattle.std.specs.Prelude.{◌≡◌, ◌==◌, ℕ, Bool, true, false, not, ◌&&◌, List, [], ◌∷◌, map, unwrap_or, if◌then◌else◌}
-use Rattle.smith_binary.specs.Spelling.{IsUnsignedIn, Spelling}
-use Rattle.smith_binary.specs.Spelling.Spelling.{any}
-use Rattle.smith_binary.specs.Pieces.{IsByte, Joined, IsListIn}
-use Rattle.smith_syntax.specs.declared.value_type.AbstractHeapType.TheVariants as abstract
-use Rattle.smith_syntax.specs.declared.value_type.HeapType.{HeapType}
-use Rattle.smith_syntax.specs.declared.value_type.HeapType.TheVariants.{Abstract}
-use Rattle.smith_syntax.specs.declared.value_type.RefType.{RefType}
-use Rattle.smith_syntax.specs.declared.const_instr.ConstInstr.{ConstInstr}
-use Rattle.smith_syntax.specs.declared.const_instr.ConstInstr.TheVariants.{RefFunc}
-use Rattle.smith_syntax.specs.declared.segments.ElementSegment.{ElementSegment}
-use Rattle.smith_syntax.specs.declared.segments.ElementKind.{ElementKind}
-use Rattle.smith_syntax.specs.declared.segments.ElementKind.TheVariants.{Passive, Declared, Active}
-use Rattle.smith_syntax.specs.declared.segments.Elements.{Elements}
-use Rattle.smith_syntax.specs.declared.segments.Elements.TheVariants.{Functions, Expressions}
+use Rattle.smith_binary_sections.specs.Common.{any, ConstInstr, IsByte, IsListIn, IsUnsignedIn, Joined, RefType, Spelling}
+use Rattle.smith_types.specs.Syntax.value_type.AbstractHeapType.TheVariants as abstract
+use Rattle.smith_types.specs.Syntax.value_type.HeapType.{HeapType}
+use Rattle.smith_types.specs.Syntax.value_type.HeapType.TheVariants.{Abstract}
+use Rattle.smith_types.specs.Syntax.const_instr.ConstInstr.TheVariants.{RefFunc}
+use Rattle.smith_types.specs.Syntax.segments.ElementSegment.{ElementSegment}
+use Rattle.smith_types.specs.Syntax.segments.ElementKind.{ElementKind}
+use Rattle.smith_types.specs.Syntax.segments.ElementKind.TheVariants.{Passive, Declared, Active}
+use Rattle.smith_types.specs.Syntax.segments.Elements.{Elements}
+use Rattle.smith_types.specs.Syntax.segments.Elements.TheVariants.{Functions, Expressions}
 use Rattle.smith_binary_sections.specs.Types.{IsRefTypeIn}
 use Rattle.smith_binary_sections.specs.Instructions.{offset_of, IsExpressionIn, IsIndexIn}
 

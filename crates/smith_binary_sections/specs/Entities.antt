@@ -2,14 +2,10 @@
 -- Shared entities follow the threads and shared-everything-threads proposals, page sizes the custom
 -- page sizes proposal.
 use Rattle.std.specs.Prelude.{ℕ, ◌+◌, Bool, true, false, Option, Some, None, List, []}
-use Rattle.smith_binary.specs.Spelling.{IsUnsignedIn, Spelling}
-use Rattle.smith_binary.specs.Spelling.Spelling.{any}
-use Rattle.smith_binary.specs.Pieces.{Is, IsByte, Joined}
-use Rattle.smith_syntax.specs.declared.entity_type.GlobalType.{GlobalType}
-use Rattle.smith_syntax.specs.declared.entity_type.TableType.{TableType}
-use Rattle.smith_syntax.specs.declared.entity_type.MemoryType.{MemoryType}
-use Rattle.smith_syntax.specs.declared.entity_type.EntityType.{EntityType}
-use Rattle.smith_syntax.specs.declared.entity_type.EntityType.TheVariants as entity
+use Rattle.smith_binary_sections.specs.Common.{any, GlobalType, Is, IsByte, IsUnsignedIn, Joined, Spelling, TableType}
+use Rattle.smith_types.specs.Syntax.entity_type.MemoryType.{MemoryType}
+use Rattle.smith_types.specs.Syntax.entity_type.EntityType.{EntityType}
+use Rattle.smith_types.specs.Syntax.entity_type.EntityType.TheVariants as entity
 use Rattle.smith_binary_sections.specs.Types.{IsRefTypeIn, IsValTypeIn}
 use Rattle.smith_binary_sections.specs.Instructions.{IsIndexIn}
 

@@ -1,11 +1,9 @@
 -- Exports: the section Binary Format, Modules, Export Section, of the WebAssembly Core
 -- Specification 3.0.
 use Rattle.std.specs.Prelude.{ℕ, List}
-use Rattle.smith_binary.specs.Spelling.{IsUnsignedIn, Spelling}
-use Rattle.smith_binary.specs.Spelling.Spelling.{any}
-use Rattle.smith_binary.specs.Pieces.{IsByte, Joined, IsNameIn}
-use Rattle.smith_syntax.specs.declared.entity_type.ExportKind.{ExportKind}
-use Rattle.smith_syntax.specs.declared.entity_type.ExportKind.TheVariants.{Func, Table, Memory, Global, Tag}
+use Rattle.smith_binary_sections.specs.Common.{any, ExportKind, IsByte, IsUnsignedIn, Joined, Spelling}
+use Rattle.smith_binary.specs.Pieces.{IsNameIn}
+use Rattle.smith_types.specs.Syntax.entity_type.ExportKind.TheVariants.{Func, Table, Memory, Global, Tag}
 
 -- the byte of an export's kind (Export Section)
 abbrev pub kind_byte : ExportKind → ℕ

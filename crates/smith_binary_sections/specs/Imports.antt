@@ -1,13 +1,11 @@
 -- Imports: the section Binary Format, Modules, Import Section, of the WebAssembly Core
 -- Specification 3.0. Groups follow the compact imports proposal.
 use Rattle.std.specs.Prelude.{◌≡◌, ℕ, List, []}
-use Rattle.smith_binary.specs.Spelling.{Spelling}
-use Rattle.smith_binary.specs.Spelling.Spelling.{any}
-use Rattle.smith_binary.specs.Pieces.{IsByte, Joined, IsList, IsListIn, IsNameIn}
-use Rattle.smith_syntax.specs.declared.imports.Import.{Import}
-use Rattle.smith_syntax.specs.declared.imports.ImportItem.{ImportItem}
-use Rattle.smith_syntax.specs.declared.imports.Imports.{Imports}
-use Rattle.smith_syntax.specs.declared.imports.Imports.TheVariants.{Single, Compact1, Compact2}
+use Rattle.smith_binary_sections.specs.Common.{any, Import, IsByte, IsList, IsListIn, Joined, Spelling}
+use Rattle.smith_binary.specs.Pieces.{IsNameIn}
+use Rattle.smith_types.specs.Syntax.imports.ImportItem.{ImportItem}
+use Rattle.smith_types.specs.Syntax.imports.Imports.{Imports}
+use Rattle.smith_types.specs.Syntax.imports.Imports.TheVariants.{Single, Compact1, Compact2}
 use Rattle.smith_types.specs.Imports.{flattened}
 use Rattle.smith_binary_sections.specs.Entities.{IsExternTypeIn}
 

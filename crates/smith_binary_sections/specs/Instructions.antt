@@ -1,14 +1,13 @@
 -- Constant instructions: the section Binary Format, Instructions, of the WebAssembly Core
 -- Specification 3.0. The shared i31 follows the shared-everything-threads proposal.
 use Rattle.std.specs.Prelude.{ℕ, List, [], ◌∷◌}
-use Rattle.smith_binary.specs.Spelling.{IsSignedIn, IsUnsignedIn, Spelling}
-use Rattle.smith_binary.specs.Spelling.Spelling.{any}
+use Rattle.smith_binary_sections.specs.Common.{any, ConstInstr, IsByte, IsUnsignedIn, Joined, Spelling}
+use Rattle.smith_binary.specs.Spelling.{IsSignedIn}
 use Rattle.smith_binary.specs.Numbers.{IsLittleEndian, IsVector}
-use Rattle.smith_binary.specs.Pieces.{IsByte, Joined, Each}
-use Rattle.smith_syntax.specs.declared.const_instr.ConstInstr.{ConstInstr}
-use Rattle.smith_syntax.specs.declared.const_instr.ConstInstr.TheVariants as instr
-use Rattle.smith_syntax.specs.declared.segments.Offset.{Offset}
-use Rattle.smith_syntax.specs.declared.segments.Offset.TheVariants as offset
+use Rattle.smith_binary.specs.Pieces.{Each}
+use Rattle.smith_types.specs.Syntax.const_instr.ConstInstr.TheVariants as instr
+use Rattle.smith_types.specs.Syntax.segments.Offset.{Offset}
+use Rattle.smith_types.specs.Syntax.segments.Offset.TheVariants as offset
 use Rattle.smith_binary_sections.specs.Types.{IsHeapTypeIn}
 
 -- an index (Binary Format, Modules, Indices)

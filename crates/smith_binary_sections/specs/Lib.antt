@@ -1,3 +1,4 @@
+pub mod Common
 pub mod Types
 pub mod Instructions
 pub mod Entities

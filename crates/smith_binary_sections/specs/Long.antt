@@ -1,18 +1,14 @@
 -- Values that are too long for the format: a list of 2^32 items or more, or a content of 2^32 bytes
 -- or more.
 use Rattle.std.specs.Prelude.{ℕ, ◌^◌, ◌≤◌, List, length, Any, ◌⊎◌}
-use Rattle.smith_binary.specs.Pieces.{Is, Joined, IsList}
-use Rattle.smith_syntax.specs.declared.value_type.ValType.{ValType}
-use Rattle.smith_syntax.specs.declared.composite_type.CompositeInnerType.{CompositeInnerType}
-use Rattle.smith_syntax.specs.declared.composite_type.CompositeInnerType.TheVariants as inner
-use Rattle.smith_syntax.specs.declared.composite_type.FuncType.{FuncType}
-use Rattle.smith_syntax.specs.declared.composite_type.CompositeType.{CompositeType}
-use Rattle.smith_syntax.specs.declared.composite_type.SubType.{SubType}
-use Rattle.smith_syntax.specs.declared.entity_type.ExportKind.{ExportKind}
-use Rattle.smith_syntax.specs.declared.imports.Import.{Import}
-use Rattle.smith_syntax.specs.declared.imports.ImportItem.{ImportItem}
-use Rattle.smith_syntax.specs.declared.imports.Imports.{Imports}
-use Rattle.smith_syntax.specs.declared.imports.Imports.TheVariants.{Single, Compact1, Compact2}
+use Rattle.smith_binary_sections.specs.Common.{ExportKind, Import, Is, IsList, Joined, SubType, ValType}
+use Rattle.smith_types.specs.Syntax.composite_type.CompositeInnerType.{CompositeInnerType}
+use Rattle.smith_types.specs.Syntax.composite_type.CompositeInnerType.TheVariants as inner
+use Rattle.smith_types.specs.Syntax.composite_type.FuncType.{FuncType}
+use Rattle.smith_types.specs.Syntax.composite_type.CompositeType.{CompositeType}
+use Rattle.smith_types.specs.Syntax.imports.ImportItem.{ImportItem}
+use Rattle.smith_types.specs.Syntax.imports.Imports.{Imports}
+use Rattle.smith_types.specs.Syntax.imports.Imports.TheVariants.{Single, Compact1, Compact2}
 use Rattle.smith_binary_sections.specs.Elements.{Elem}
 use Rattle.smith_binary_sections.specs.Codes.{IsLocalsWritten}
 use Rattle.smith_binary_sections.specs.Data.{Data}

@@ -1,18 +1,11 @@
 -- Modules: the section Binary Format, Modules, of the WebAssembly Core Specification 3.0. Modules
 -- have no custom sections here.
 use Rattle.std.specs.Prelude.{◌≡◌, ℕ, Option, Some, None, List, [], ◌∷◌, length}
-use Rattle.smith_binary.specs.Spelling.{Spelling}
-use Rattle.smith_binary.specs.Spelling.Spelling.{any}
+use Rattle.smith_binary_sections.specs.Common.{any, ConstInstr, ExportKind, GlobalType, Import, Is, Joined, Spelling, SubType, TableType}
+use Rattle.smith_binary_sections.specs.Common.{ValType}
 use Rattle.smith_binary.specs.Numbers.{IsUnsigned}
-use Rattle.smith_binary.specs.Pieces.{Is, Joined, IsSectionIn}
-use Rattle.smith_syntax.specs.declared.value_type.ValType.{ValType}
-use Rattle.smith_syntax.specs.declared.composite_type.SubType.{SubType}
-use Rattle.smith_syntax.specs.declared.entity_type.ExportKind.{ExportKind}
-use Rattle.smith_syntax.specs.declared.entity_type.GlobalType.{GlobalType}
-use Rattle.smith_syntax.specs.declared.entity_type.TableType.{TableType}
-use Rattle.smith_syntax.specs.declared.entity_type.MemoryType.{MemoryType}
-use Rattle.smith_syntax.specs.declared.imports.Import.{Import}
-use Rattle.smith_syntax.specs.declared.const_instr.ConstInstr.{ConstInstr}
+use Rattle.smith_binary.specs.Pieces.{IsSectionIn}
+use Rattle.smith_types.specs.Syntax.entity_type.MemoryType.{MemoryType}
 use Rattle.smith_binary_sections.specs.Types.{IsRecGroup}
 use Rattle.smith_binary_sections.specs.Instructions.{IsIndex, IsIndexIn}
 use Rattle.smith_binary_sections.specs.Entities.{IsMemoryType, IsTagType}

@@ -1,9 +1,8 @@
 -- Sections: the section Binary Format, Modules, Sections, of the WebAssembly Core Specification
 -- 3.0.
 use Rattle.std.specs.Prelude.{◌≡◌, ℕ, Bool, true, false, List, []}
-use Rattle.smith_binary.specs.Spelling.{Spelling}
-use Rattle.smith_binary.specs.Spelling.Spelling.{any}
-use Rattle.smith_binary.specs.Pieces.{Is, IsList, IsSection, IsSectionIn}
+use Rattle.smith_binary_sections.specs.Common.{any, Is, IsList, Spelling}
+use Rattle.smith_binary.specs.Pieces.{IsSection, IsSectionIn}
 
 -- a section, which may be absent if `SaysNothing` holds (Sections)
 pub data IsOptionalSection (id : ℕ) (SaysNothing : Type 0) (Content : List ℕ → Type 0) (piece : List ℕ) : Type 0 where

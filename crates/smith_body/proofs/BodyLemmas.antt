@@ -1,9 +1,8 @@
 -- The body for a budget of 0.
-use Rattle.std.proofs.Common.{[], ◌∷◌, refl}
-use Rattle.smith_instr.specs.Contexts.{BodyContext, AreValid}
-use Rattle.smith_instr.specs.Sequences.{IsBodyTyped, step}
+use Rattle.smith_body.proofs.Common.{[], AreValid, below_themselves, BodyContext, refl, step, ◌∷◌}
+use Rattle.smith_instr.specs.Sequences.{IsBodyTyped}
 use Rattle.smith_instr.specs.declared.instr.Instr.TheVariants as instr
-use Rattle.smith_instr.proofs.SequenceLemmas.{below_themselves, finished}
+use Rattle.smith_instr.proofs.SequenceLemmas.{finished}
 use Rattle.smith_body.proofs.DrawnLemmas.{one}
 
 pub stop_typed : (context : BodyContext) → AreValid context context.results → IsBodyTyped context (instr.Unreachable ∷ [])

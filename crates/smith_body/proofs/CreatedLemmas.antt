@@ -1,41 +1,33 @@
 -- Structs that are created from values of one instruction each.
-use Rattle.std.proofs.Common.{◌≡◌, ℕ, zero, suc, ◌+◌, ◌≤◌, Bool, true, false, List, [], ◌∷◌, ◌++◌, Option, Some, None, length, refl, sym}
-use Rattle.std.proofs.Common.{subst, ap, ◌∙◌, append_assoc, arith, length-append}
-use Rattle.std.specs.Prelude.{All, IfSome, is_some, option_map, option_to_list, slice_get, unwrap_or, if◌then◌else◌}
-use Rattle.std.proofs.lemmas.Bool.{false≢true}
-use Rattle.std.proofs.lemmas.List.{append-nil, length-map}
-use Rattle.std.proofs.lemmas.List.Elements.{All-nil, All-append}
+use Rattle.smith_body.proofs.Common.{[], All, All-nil, ap, append-nil, append_assoc, AreValid, arith, bare, BodyContext, Bool, both, Config}
+use Rattle.smith_body.proofs.Common.{context_of, Draft, false, false≢true, I32, if◌then◌else◌, Instr, is_permitted, IsAllowedIn, IsOrderly}
+use Rattle.smith_body.proofs.Common.{IsValid, length, length-append, List, longest_leaf, None, one_valid, Option, option_to_list, refl}
+use Rattle.smith_body.proofs.Common.{Scope, slice_get, Some, stacked, subst, SubType, suc, sym, true, unwrap_or, ValType, where_stands}
+use Rattle.smith_body.proofs.Common.{zero, ℕ, ◌++◌, ◌+◌, ◌∙◌, ◌∷◌, ◌≡◌, ◌≤◌}
+use Rattle.std.specs.Prelude.{IfSome, is_some, option_map}
+use Rattle.std.proofs.lemmas.List.{length-map}
+use Rattle.std.proofs.lemmas.List.Elements.{All-append}
 use Rattle.std.proofs.lemmas.Option.{same_Some}
-use Rattle.smith_config.specs.declared.config.Config.{Config}
 use Rattle.smith_types.specs.Expressions.{IsStructAt, field_values, unpacked}
-use Rattle.smith_types.specs.Types.{IsOrderly}
-use Rattle.smith_syntax.specs.declared.composite_type.CompositeInnerType.{CompositeInnerType}
-use Rattle.smith_syntax.specs.declared.composite_type.FieldType.{FieldType}
-use Rattle.smith_syntax.specs.declared.composite_type.StructType.{StructType}
-use Rattle.smith_syntax.specs.declared.composite_type.SubType.{SubType}
-use Rattle.smith_syntax.specs.declared.value_type.ValType.{ValType}
-use Rattle.smith_syntax.specs.declared.value_type.ValType.TheVariants.{I32}
+use Rattle.smith_types.specs.Syntax.composite_type.CompositeInnerType.{CompositeInnerType}
+use Rattle.smith_types.specs.Syntax.composite_type.FieldType.{FieldType}
+use Rattle.smith_types.specs.Syntax.composite_type.StructType.{StructType}
 use Rattle.smith_draw_types.specs.HeldFields.{fields_of}
-use Rattle.smith_instr.specs.Contexts.{BodyContext, IsValid, AreValid, created_reference}
-use Rattle.smith_instr.specs.Sequences.{stacked}
+use Rattle.smith_instr.specs.Contexts.{created_reference}
 use Rattle.smith_instr.specs.declared.aggregate.AggregateInstr.TheVariants as aggregate
-use Rattle.smith_instr.specs.declared.instr.Instr.{Instr}
 use Rattle.smith_instr.specs.declared.instr.Instr.TheVariants as instr
 use Rattle.smith_body.specs.DraftSteps.{IsDrawn}
 use Rattle.smith_body_leaves.specs.DrawnLeaves.{IsBrief, IsMadeBy}
 use Rattle.smith_body_leaves.specs.Leaves.{IsLeaf, created_at, created_from, created_type, fields_at, fields_in, first_leaf, first_single}
-use Rattle.smith_body_leaves.specs.Leaves.{have_singles, instructions_of, is_created, is_created_in, leaf_within, longest_leaf, may_create}
+use Rattle.smith_body_leaves.specs.Leaves.{have_singles, instructions_of, is_created, is_created_in, leaf_within, may_create}
 use Rattle.smith_body_leaves.specs.Leaves.{named_type, singles, spare_leaf, widest_struct}
 use Rattle.smith_body.specs.Stops.{HaveNeededStops}
 use Rattle.smith_body_leaves.specs.declared.leaf.Leaf.{Leaf}
 use Rattle.smith_body_nodes.specs.IndexedTypes.{is_created_below, struct_in}
 use Rattle.smith_body_nodes.proofs.IndexedTypeLemmas.{struct_fields, struct_there}
-use Rattle.smith_body_nodes.specs.Scopes.{IsAllowedIn, IsScope, bare, context_of, is_permitted, where_stands}
-use Rattle.smith_body_nodes.specs.declared.scope.Draft.{Draft}
-use Rattle.smith_body_nodes.specs.declared.scope.Scope.{Scope}
+use Rattle.smith_body_nodes.specs.Scopes.{IsScope}
 use Rattle.smith_body_nodes.proofs.AllowedLemmas.{permitted_allowed}
-use Rattle.smith_body_nodes.proofs.NodeLemmas.{one_valid}
-use Rattle.smith_body_nodes.proofs.OfferLemmas.{both, tested}
+use Rattle.smith_body_nodes.proofs.OfferLemmas.{tested}
 use Rattle.smith_body.proofs.DrawnLemmas.{alone, joined_valid, one_allowed, stop_drawn, value_drawn}
 use Rattle.smith_body_leaves.proofs.LawLemmas.{IsFound, IsLeafFound, none_other, single_found, within_found}
 use Rattle.smith_body_leaves.proofs.LeafChoiceLemmas.{brief_few, created_few, pair_few, some_leaf}

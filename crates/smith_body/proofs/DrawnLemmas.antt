@@ -1,39 +1,26 @@
 -- Drawn instructions, one part after another.
-use Rattle.std.proofs.Common.{◌≡◌, ℕ, zero, suc, ◌+◌, ◌-◌, ◌*◌, ◌<◌, ◌≤◌, List, [], ◌∷◌, ◌++◌, length, replicate, take, get_or, refl, sym}
-use Rattle.std.proofs.Common.{subst, ap, ◌∙◌, append_assoc, arith, length-append}
-use Rattle.std.specs.Prelude.{option_to_list, IsTrue, Option, All}
+use Rattle.smith_body.proofs.Common.{[], All, All-nil, ap, append-nil, append_assoc, AreBelow, AreLabels, AreValid, arith, bare}
+use Rattle.smith_body.proofs.Common.{below_themselves, block_cost, BlockType, BodyContext, Config, context_of, Draft, false≢true, get_or}
+use Rattle.smith_body.proofs.Common.{HasInstrType, Head, I32, Instr, IsAllowedIn, IsNode, IsNoStop, IsValBelow-refl, IsValid, label_of}
+use Rattle.smith_body.proofs.Common.{length, length-append, List, longest_leaf, most, Node, one_valid, opened, Opening, option_to_list}
+use Rattle.smith_body.proofs.Common.{refl, replicate, Scope, sets, stacked, step, subst, suc, sym, take, ValType, where_stands, widest}
+use Rattle.smith_body.proofs.Common.{zero, ℕ, ◌*◌, ◌++◌, ◌+◌, ◌-◌, ◌<◌, ◌∙◌, ◌∷◌, ◌≡◌, ◌≤◌}
+use Rattle.std.specs.Prelude.{IsTrue, Option}
 use Rattle.std.proofs.Math.Seq.{take-append_seam}
-use Rattle.std.proofs.lemmas.Bool.{false≢true}
-use Rattle.std.proofs.lemmas.List.{append-nil, take_more, length-replicate}
-use Rattle.std.proofs.lemmas.List.Elements.{All-nil, All-push, All-append, All-take}
-use Rattle.smith_config.specs.declared.config.Config.{Config}
-use Rattle.smith_types.proofs.GrowthLemmas.{IsValBelow-refl}
-use Rattle.smith_syntax.specs.declared.value_type.ValType.{ValType}
-use Rattle.smith_syntax.specs.declared.value_type.ValType.TheVariants.{I32}
-use Rattle.smith_instr.specs.Contexts.{BodyContext, labelled, IsValid, AreValid, AreBelow, IsBlockType}
+use Rattle.std.proofs.lemmas.List.{length-replicate, take_more}
+use Rattle.std.proofs.lemmas.List.Elements.{All-append, All-push, All-take}
+use Rattle.smith_instr.specs.Contexts.{IsBlockType, labelled}
 use Rattle.smith_instr.specs.Enabled.{is_enabled}
-use Rattle.smith_instr.specs.InstrTypes.{sets, HasInstrType, IsCatch}
-use Rattle.smith_instr.specs.Sequences.{stacked, CountsAs, IsFramed, IsStep, step, block, loop, if_alone, if_else, try_table}
-use Rattle.smith_instr.specs.declared.control.BlockType.{BlockType}
+use Rattle.smith_instr.specs.InstrTypes.{IsCatch}
+use Rattle.smith_instr.specs.Sequences.{block, CountsAs, if_alone, if_else, IsFramed, IsStep, loop, try_table}
 use Rattle.smith_instr.specs.declared.control.Catch.{Catch}
-use Rattle.smith_instr.specs.declared.instr.Instr.{Instr}
 use Rattle.smith_instr.specs.declared.instr.Instr.TheVariants as instr
-use Rattle.smith_instr.proofs.SequenceLemmas.{below_themselves}
-use Rattle.smith_body_nodes.specs.Scopes.{context_of, bare, where_stands, widest, most, AreLabels, IsAllowedIn}
-use Rattle.smith_body_nodes.specs.Traps.{IsNoStop}
-use Rattle.smith_body_nodes.specs.Nodes.{block_cost, IsNode, HasHeadType, MayOpen, head_sets, head_instruction, opened, label_of, taken_by}
+use Rattle.smith_body_nodes.specs.Nodes.{HasHeadType, head_instruction, head_sets, MayOpen, taken_by}
 use Rattle.smith_body.specs.DraftSteps.{IsDrawn, IsWritten, IsOpened, IsEnded}
 use Rattle.smith_body_leaves.specs.Laws.{HasNoOther}
-use Rattle.smith_body_leaves.specs.Leaves.{longest_leaf}
 use Rattle.smith_body.specs.Stops.{AreStopsNeeded, HasNeededStops, HaveNeededStops, IsNeeded}
-use Rattle.smith_body_nodes.specs.declared.node.Head.{Head}
 use Rattle.smith_body_nodes.specs.declared.node.Head.TheVariants as heads
-use Rattle.smith_body_nodes.specs.declared.node.Node.{Node}
-use Rattle.smith_body_nodes.specs.declared.node.Opening.{Opening}
 use Rattle.smith_body_nodes.specs.declared.node.Opening.TheVariants as opening
-use Rattle.smith_body_nodes.specs.declared.scope.Scope.{Scope}
-use Rattle.smith_body_nodes.specs.declared.scope.Draft.{Draft}
-use Rattle.smith_body_nodes.proofs.NodeLemmas.{one_valid}
 use Rattle.smith_body_leaves.proofs.LeafChoiceLemmas.{some_leaf}
 use Rattle.smith_body_leaves.proofs.LeafLemmas.{stop_allowed}
 use Rattle.smith_body.proofs.StopLemmas.{at_end, in_turn}

@@ -1,15 +1,14 @@
 -- The drawn instructions are those that the bytes produce, one part after another.
-use Rattle.std.proofs.Common.{◌≡◌, ℕ, zero, suc, ◌+◌, ◌-◌, ◌%◌, ◌<◌, ◌≤◌, Bool, true, false, List, [], ◌∷◌, ◌++◌, Option, Some, None}
-use Rattle.std.proofs.Common.{length, get_or, replicate, take, drop, drop-cons, refl, sym, ap, ◌∙◌, arith}
-use Rattle.std.specs.Prelude.{option_to_list, nat_le, ◌==◌}
+use Rattle.smith_body.proofs.Common.{[], ap, arith, BlockType, BodyContext, Bool, Config, context_of, Draft, drop, drop-cons, false, get_or}
+use Rattle.smith_body.proofs.Common.{Head, Instr, label_of, length, List, Node, None, not_zero, opened, Opening, Option, option_to_list}
+use Rattle.smith_body.proofs.Common.{refl, replicate, Scope, Some, suc, sym, take, true, ValType, zero, ℕ, ◌++◌, ◌+◌, ◌-◌, ◌<◌, ◌∙◌, ◌∷◌}
+use Rattle.smith_body.proofs.Common.{◌≡◌, ◌≤◌}
+use Rattle.std.proofs.Common.{◌%◌}
+use Rattle.std.specs.Prelude.{nat_le, ◌==◌}
 use Rattle.std.proofs.lemmas.Bool.{ne_eqb}
 use Rattle.smith_bytes.specs.Draws.{range_at}
-use Rattle.smith_config.specs.declared.config.Config.{Config}
-use Rattle.smith_syntax.specs.declared.value_type.ValType.{ValType}
-use Rattle.smith_instr.specs.Contexts.{BodyContext, labelled}
-use Rattle.smith_instr.specs.declared.control.BlockType.{BlockType}
+use Rattle.smith_instr.specs.Contexts.{labelled}
 use Rattle.smith_instr.specs.declared.control.Catch.{Catch}
-use Rattle.smith_instr.specs.declared.instr.Instr.{Instr}
 use Rattle.smith_instr.specs.declared.instr.Instr.TheVariants as instr
 use Rattle.smith_body.specs.Bodies.{Drawing, State, begun, body_at, drawing_at, dropped, enclosed_at, ended, ended_by, ending_at, head_at}
 use Rattle.smith_body.specs.Bodies.{in_block, inside_at, interval, leaf_in, node_at, opened_at, operands_at, repeated_at, results_at}
@@ -20,16 +19,9 @@ use Rattle.smith_body.specs.Left.{spare_of}
 use Rattle.smith_body.specs.Repeats.{repeat_at}
 use Rattle.smith_body.specs.declared.repeats.Repeat.{Repeat}
 use Rattle.smith_body_leaves.specs.DrawnLeaves.{leaf_at}
-use Rattle.smith_body_nodes.specs.Nodes.{is_node_allowed, label_of, opened}
-use Rattle.smith_body_nodes.specs.Scopes.{context_of}
-use Rattle.smith_body_nodes.specs.declared.node.Head.{Head}
+use Rattle.smith_body_nodes.specs.Nodes.{is_node_allowed}
 use Rattle.smith_body_nodes.specs.declared.node.Head.TheVariants as heads
-use Rattle.smith_body_nodes.specs.declared.node.Node.{Node}
-use Rattle.smith_body_nodes.specs.declared.node.Opening.{Opening}
 use Rattle.smith_body_nodes.specs.declared.node.Sides.{Sides}
-use Rattle.smith_body_nodes.specs.declared.scope.Draft.{Draft}
-use Rattle.smith_body_nodes.specs.declared.scope.Scope.{Scope}
-use Rattle.smith_body_nodes.proofs.ChosenLemmas.{not_zero}
 use Rattle.smith_body.proofs.DrawnLemmas.{height_left}
 
 -- a state of these labels, instructions, locals, budget and bytes

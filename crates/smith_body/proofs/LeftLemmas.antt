@@ -1,34 +1,24 @@
 -- A node with the results that nothing takes.
-use Rattle.std.proofs.Common.{◌≡◌, inl, inr, ℕ, zero, suc, ◌+◌, ◌-◌, ◌<◌, ◌≤◌, ◌⊎◌, List, [], ◌∷◌, ◌++◌, Option, Some}
-use Rattle.std.proofs.Common.{None, length, replicate}
-use Rattle.std.proofs.Common.{get_or, drop, refl, sym, subst, ap, ◌∙◌, append_assoc, arith, length-append}
-use Rattle.std.specs.Prelude.{option_to_list, slice_get, unwrap_or}
+use Rattle.smith_body.proofs.Common.{[], All-nil, ap, append-nil, append_assoc, AreBelow, AreLabels, AreValid, arith, bare}
+use Rattle.smith_body.proofs.Common.{below_themselves, block_cost, BodyContext, Config, context_of, Draft, drop, get_or, HasInstrType, Head}
+use Rattle.smith_body.proofs.Common.{Instr, IsAllowedIn, IsNode, IsNoStop, IsValid, length, length-append, List, most, Node, None, Option}
+use Rattle.smith_body.proofs.Common.{option_to_list, refl, replicate, Scope, slice_get, Some, subst, SubType, suc, sym, unwrap_or, ValType}
+use Rattle.smith_body.proofs.Common.{where_stands, widest, zero, ℕ, ◌++◌, ◌+◌, ◌-◌, ◌<◌, ◌∙◌, ◌∷◌, ◌≡◌, ◌≤◌}
+use Rattle.std.proofs.Common.{inl, inr, ◌⊎◌}
 use Rattle.std.specs.List.{AllZip}
-use Rattle.std.proofs.lemmas.List.{append-nil, drop_all, length-drop}
-use Rattle.std.proofs.lemmas.List.Elements.{All-drop, All-nil}
+use Rattle.std.proofs.lemmas.List.{drop_all, length-drop}
+use Rattle.std.proofs.lemmas.List.Elements.{All-drop}
 use Rattle.std.proofs.lemmas.Option.{get_or_from_slice_get, slice_get_within}
-use Rattle.smith_config.specs.declared.config.Config.{Config}
 use Rattle.smith_types.specs.Entities.{IsFuncAt}
 use Rattle.smith_types.specs.Subtyping.{IsValBelow}
-use Rattle.smith_syntax.specs.declared.composite_type.FuncType.{FuncType}
-use Rattle.smith_syntax.specs.declared.composite_type.SubType.{SubType}
-use Rattle.smith_syntax.specs.declared.value_type.ValType.{ValType}
-use Rattle.smith_instr.specs.Contexts.{AreBelow, AreValid, BodyContext, IsValid}
-use Rattle.smith_instr.specs.InstrTypes.{HasInstrType}
-use Rattle.smith_instr.specs.declared.instr.Instr.{Instr}
+use Rattle.smith_types.specs.Syntax.composite_type.FuncType.{FuncType}
 use Rattle.smith_instr.specs.declared.instr.Instr.TheVariants as instr
-use Rattle.smith_instr.proofs.SequenceLemmas.{below_themselves}
-use Rattle.smith_body_nodes.specs.Nodes.{HasHeadType, IsHeadValid, IsNode, block_cost, head_instruction, head_sets}
+use Rattle.smith_body_nodes.specs.Nodes.{HasHeadType, head_instruction, head_sets, IsHeadValid}
 use Rattle.smith_body_nodes.proofs.NodeLemmas.{zip_length}
 use Rattle.smith_body_nodes.proofs.OfferLemmas.{func_there}
 use Rattle.smith_body_nodes.specs.Offered.{func_in, function_in}
-use Rattle.smith_body_nodes.specs.Scopes.{AreLabels, IsAllowedIn, IsScope, bare, context_of, most, where_stands, widest}
-use Rattle.smith_body_nodes.specs.Traps.{IsNoStop}
-use Rattle.smith_body_nodes.specs.declared.node.Head.{Head}
+use Rattle.smith_body_nodes.specs.Scopes.{IsScope}
 use Rattle.smith_body_nodes.specs.declared.node.Head.TheVariants as heads
-use Rattle.smith_body_nodes.specs.declared.node.Node.{Node}
-use Rattle.smith_body_nodes.specs.declared.scope.Draft.{Draft}
-use Rattle.smith_body_nodes.specs.declared.scope.Scope.{Scope}
 use Rattle.smith_body.specs.DraftSteps.{IsDrawn}
 use Rattle.smith_body.specs.Left.{left_by, left_by_head, results_of, spare_of}
 use Rattle.smith_body.proofs.DrawnLemmas.{drawn_above, drawn_then, dropped_drawn, joined_valid, paid_for}

@@ -1,3 +1,4 @@
+pub mod Common
 pub mod StopLemmas
 pub mod DrawnLemmas
 pub mod MadeLemmas

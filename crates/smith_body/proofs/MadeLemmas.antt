@@ -1,24 +1,17 @@
 -- The values that are found have their types.
-use Rattle.std.proofs.Common.{◌≡◌, ℕ, zero, suc, ◌<◌, ◌≤◌, Bool, true, false, List, [], ◌∷◌, ◌++◌, Option, Some, None, length, get_or, refl}
-use Rattle.std.proofs.Common.{sym, subst, arith}
-use Rattle.std.specs.Prelude.{IfSome, option_and_then, option_map, option_to_list, pos, slice_get, if◌then◌else◌}
-use Rattle.std.proofs.lemmas.List.{append-nil}
+use Rattle.smith_body.proofs.Common.{[], append-nil, AreValid, arith, BodyContext, Bool, both, choose_at, Config, F32, F64, false, get_or}
+use Rattle.smith_body.proofs.Common.{I32, I64, if◌then◌else◌, Instr, is_permitted, IsOrderly, IsValid, length, List, None, one_valid}
+use Rattle.smith_body.proofs.Common.{Option, option_to_list, Ref, refl, slice_get, Some, stacked, subst, SubType, suc, sym, true, V128}
+use Rattle.smith_body.proofs.Common.{ValType, zero, ℕ, ◌++◌, ◌<◌, ◌∷◌, ◌≡◌, ◌≤◌}
+use Rattle.std.specs.Prelude.{IfSome, option_and_then, option_map, pos}
 use Rattle.std.proofs.lemmas.Option.{get_or_from_slice_get}
-use Rattle.smith_bytes.specs.Draws.{choose_at}
-use Rattle.smith_config.specs.declared.config.Config.{Config}
 use Rattle.smith_types.specs.Expressions.{IsStructAt, field_values, unpacked}
-use Rattle.smith_types.specs.Types.{IsOrderly}
-use Rattle.smith_syntax.specs.declared.composite_type.FieldType.{FieldType}
-use Rattle.smith_syntax.specs.declared.composite_type.StructType.{StructType}
-use Rattle.smith_syntax.specs.declared.composite_type.SubType.{SubType}
-use Rattle.smith_syntax.specs.declared.value_type.HeapType.{HeapType}
-use Rattle.smith_syntax.specs.declared.value_type.ValType.{ValType}
-use Rattle.smith_syntax.specs.declared.value_type.ValType.TheVariants.{I32, I64, F32, F64, V128, Ref}
+use Rattle.smith_types.specs.Syntax.composite_type.FieldType.{FieldType}
+use Rattle.smith_types.specs.Syntax.composite_type.StructType.{StructType}
+use Rattle.smith_types.specs.Syntax.value_type.HeapType.{HeapType}
 use Rattle.smith_draw_types.specs.Below.{is_val_below}
-use Rattle.smith_instr.specs.Contexts.{BodyContext, AreValid, IsValid, created_reference}
-use Rattle.smith_instr.specs.Sequences.{stacked}
+use Rattle.smith_instr.specs.Contexts.{created_reference}
 use Rattle.smith_instr.specs.declared.aggregate.AggregateInstr.TheVariants as aggregate
-use Rattle.smith_instr.specs.declared.instr.Instr.{Instr}
 use Rattle.smith_instr.specs.declared.instr.Instr.TheVariants as instr
 use Rattle.smith_instr.specs.declared.reference.ReferenceInstr.TheVariants as reference
 use Rattle.smith_body_leaves.specs.Leaves.{IsLeaf, IsTaking, constant_instr_at, conversion_to, created_over, creation_of, creation_over}
@@ -32,10 +25,9 @@ use Rattle.smith_body_leaves.specs.FirstCreated.{first_created_array, first_crea
 use Rattle.smith_body_nodes.specs.IndexedTypes.{is_created_below, is_created_struct, struct_in}
 use Rattle.smith_body_nodes.proofs.IndexedTypeLemmas.{struct_there}
 use Rattle.smith_body_nodes.specs.Offered.{IsReferenceTo, is_global_below, is_readable, is_reference, offered}
-use Rattle.smith_body_nodes.specs.Scopes.{indexed, is_permitted}
+use Rattle.smith_body_nodes.specs.Scopes.{indexed}
 use Rattle.smith_body_nodes.specs.declared.offer.Reach.TheVariants as reach
-use Rattle.smith_body_nodes.proofs.NodeLemmas.{one_valid}
-use Rattle.smith_body_nodes.proofs.OfferLemmas.{both, tested}
+use Rattle.smith_body_nodes.proofs.OfferLemmas.{tested}
 use Rattle.smith_body.proofs.DrawnLemmas.{alone}
 use Rattle.smith_body_leaves.proofs.ConversionLemmas.{IsUnaryOf, conversion_is}
 use Rattle.smith_body_leaves.proofs.LawLemmas.{IsFound, first_item, found, mapped_some, single_found}

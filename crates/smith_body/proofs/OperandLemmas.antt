@@ -1,21 +1,13 @@
 -- Operands for which there are limits: constants, and values whose upper bits are cleared.
-use Rattle.std.proofs.Common.{◌≡◌, ℕ, suc, ◌+◌, ◌-◌, ◌<◌, Bool, true, false, List, [], ◌∷◌, ◌++◌, Option, None, length}
-use Rattle.std.proofs.Common.{get_or, drop, drop-cons, refl, ap, ◌∙◌, arith}
+use Rattle.smith_body.proofs.Common.{[], ap, append-nil, arith, bare, Bool, Config, Draft, drop, drop-cons, false, get_or, Head, I32, I64}
+use Rattle.smith_body.proofs.Common.{Instr, is_permitted, IsAllowedIn, IsValBelow-refl, length, List, None, not_zero, one_valid, Option}
+use Rattle.smith_body.proofs.Common.{refl, Scope, suc, true, ValType, where_stands, ℕ, ◌++◌, ◌+◌, ◌-◌, ◌<◌, ◌∙◌, ◌∷◌, ◌≡◌}
 use Rattle.std.specs.Prelude.{◌==◌}
-use Rattle.std.proofs.lemmas.List.{append-nil, length-drop}
-use Rattle.smith_config.specs.declared.config.Config.{Config}
-use Rattle.smith_types.proofs.GrowthLemmas.{IsValBelow-refl}
-use Rattle.smith_syntax.specs.declared.value_type.ValType.{ValType}
-use Rattle.smith_syntax.specs.declared.value_type.ValType.TheVariants.{I32, I64}
+use Rattle.std.proofs.lemmas.List.{length-drop}
 use Rattle.smith_draw_types.specs.Choices.{chosen_at}
 use Rattle.smith_instr.specs.Contexts.{address}
-use Rattle.smith_instr.specs.declared.instr.Instr.{Instr}
-use Rattle.smith_body_nodes.proofs.ChosenLemmas.{chosen_by, not_zero}
-use Rattle.smith_body_nodes.proofs.NodeLemmas.{address_valid, one_valid}
-use Rattle.smith_body_nodes.specs.Scopes.{bare, where_stands, is_permitted, IsAllowedIn}
-use Rattle.smith_body_nodes.specs.declared.node.Head.{Head}
-use Rattle.smith_body_nodes.specs.declared.scope.Draft.{Draft}
-use Rattle.smith_body_nodes.specs.declared.scope.Scope.{Scope}
+use Rattle.smith_body_nodes.proofs.ChosenLemmas.{chosen_by}
+use Rattle.smith_body_nodes.proofs.NodeLemmas.{address_valid}
 use Rattle.smith_body.specs.Bodies.{Drawing, State, limited_at, limited_by, masked_at, near_at, operand_at, operands_at, written}
 use Rattle.smith_body.specs.DraftSteps.{IsDrawn, IsWritten, state_of}
 use Rattle.smith_body.specs.Limits.{limit_at}

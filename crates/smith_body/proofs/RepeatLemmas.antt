@@ -1,37 +1,26 @@
 -- Loops that a local counts down.
-use Rattle.std.proofs.Common.{◌≡◌, inl, inr, ℕ, zero, suc, ◌+◌, ◌-◌, ◌<◌, ◌≤◌, Bool, true}
-use Rattle.std.proofs.Common.{false, List, [], ◌∷◌, ◌++◌, Some, None, length, refl, subst, ap, ◌∙◌, arith}
-use Rattle.std.specs.Prelude.{ℤ, pos, Option, option_to_list, slice_get}
+use Rattle.smith_body.proofs.Common.{[], ap, AreBelow, AreValid, arith, bare, block_cost, BlockType, BodyContext, Bool, both, choose_at}
+use Rattle.smith_body.proofs.Common.{Config, Draft, F32, F64, false, false≢true, HasInstrType, I32, I64, Instr, IsAllowedIn, IsNoStop}
+use Rattle.smith_body.proofs.Common.{IsOrderly, IsValBelow-refl, length, List, no_valid, None, not_zero, one_valid, Opening, option_to_list}
+use Rattle.smith_body.proofs.Common.{Ref, refl, Scope, sets, slice_get, Some, subst, SubType, suc, true, V128, ValType, where_stands}
+use Rattle.smith_body.proofs.Common.{widest, zero, ℕ, ◌++◌, ◌+◌, ◌-◌, ◌<◌, ◌∙◌, ◌∷◌, ◌≡◌, ◌≤◌}
+use Rattle.std.proofs.Common.{inl, inr}
+use Rattle.std.specs.Prelude.{Option, pos, ℤ}
 use Rattle.std.specs.Int.{cast_signed, w32}
-use Rattle.std.proofs.lemmas.Bool.{false≢true}
-use Rattle.smith_bytes.specs.Draws.{choose_at, range_at}
-use Rattle.smith_config.specs.declared.config.Config.{Config}
+use Rattle.smith_bytes.specs.Draws.{range_at}
 use Rattle.smith_types.specs.Subtyping.{IsValBelow}
-use Rattle.smith_types.specs.Types.{IsOrderly}
-use Rattle.smith_types.proofs.GrowthLemmas.{IsValBelow-refl}
-use Rattle.smith_syntax.specs.FeatureBits.{features_in}
-use Rattle.smith_syntax.specs.declared.composite_type.SubType.{SubType}
-use Rattle.smith_syntax.specs.declared.value_type.ValType.{ValType}
-use Rattle.smith_syntax.specs.declared.value_type.ValType.TheVariants.{I32, I64, F32, F64, V128, Ref}
-use Rattle.smith_instr.specs.Contexts.{AreBelow, AreValid, BodyContext, IsBlockType}
+use Rattle.smith_types.specs.Syntax.FeatureBits.{features_in}
+use Rattle.smith_instr.specs.Contexts.{IsBlockType}
 use Rattle.smith_instr.specs.Enabled.{has_features, is_enabled, is_kind_enabled}
-use Rattle.smith_instr.specs.InstrTypes.{HasInstrType, sets}
-use Rattle.smith_instr.specs.declared.control.BlockType.{BlockType}
-use Rattle.smith_instr.specs.declared.instr.Instr.{Instr}
 use Rattle.smith_instr.specs.declared.instr.Instr.TheVariants as instr
 use Rattle.smith_instr.specs.declared.numeric.IntBinary.TheVariants.{Sub}
 use Rattle.smith_instr.specs.declared.numeric.NumericInstr.TheVariants as numeric
-use Rattle.smith_body_nodes.specs.Nodes.{block_cost, taken_by}
+use Rattle.smith_body_nodes.specs.Nodes.{taken_by}
 use Rattle.smith_body_nodes.specs.Offered.{is_local_below, offered}
-use Rattle.smith_body_nodes.specs.Scopes.{bare, indexed, kinds_of_bodies, widest, where_stands, IsAllowedIn}
-use Rattle.smith_body_nodes.specs.Traps.{IsNoStop}
-use Rattle.smith_body_nodes.specs.declared.node.Opening.{Opening}
+use Rattle.smith_body_nodes.specs.Scopes.{indexed, kinds_of_bodies}
 use Rattle.smith_body_nodes.specs.declared.node.Opening.TheVariants as openings
-use Rattle.smith_body_nodes.specs.declared.scope.Draft.{Draft}
-use Rattle.smith_body_nodes.specs.declared.scope.Scope.{Scope}
-use Rattle.smith_body_nodes.proofs.ChosenLemmas.{not_zero}
-use Rattle.smith_body_nodes.proofs.NodeLemmas.{no_valid, one_valid, three_wide}
-use Rattle.smith_body_nodes.proofs.OfferLemmas.{both, local_below}
+use Rattle.smith_body_nodes.proofs.NodeLemmas.{three_wide}
+use Rattle.smith_body_nodes.proofs.OfferLemmas.{local_below}
 use Rattle.smith_body.specs.Bodies.{Drawing, State, count_set, counted_down, in_block}
 use Rattle.smith_body.specs.Bodies.{repeated_at, repeated_inside, setting_local, tested_at, values_at, written}
 use Rattle.smith_body.specs.DraftSteps.{IsDrawn, IsEnded, IsOpened, IsWritten, state_of}

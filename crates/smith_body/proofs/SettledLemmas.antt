@@ -1,36 +1,25 @@
 -- Values that are stored, tested or dropped.
-use Rattle.std.proofs.Common.{◌≡◌, ℕ, suc, ◌+◌, ◌-◌, ◌*◌, ◌<◌, ◌≤◌, Bool, true, false, List, [], ◌∷◌, ◌++◌, Option, Some, None, length}
-use Rattle.std.proofs.Common.{get_or, take, drop, drop-cons, refl, sym, subst, ap, ◌∙◌, arith, append_assoc, length-append}
-use Rattle.std.specs.Prelude.{Result, Ok, Err, OnOk, unwrap_or, ◌&&◌, nat_lt, option_to_list, slice_get, All, if◌then◌else◌}
-use Rattle.std.proofs.lemmas.List.{append-nil, drop_all, take_all, take_more}
+use Rattle.smith_body.proofs.Common.{[], All, ap, append-nil, append_assoc, AreValid, arith, bare, BodyContext, Bool, both, choose_at}
+use Rattle.smith_body.proofs.Common.{Config, context_of, Draft, drop, drop-cons, F32, F64, false, get_or, HasInstrType, I32, I64}
+use Rattle.smith_body.proofs.Common.{if◌then◌else◌, Instr, is_permitted, IsAllowedIn, IsNoStop, IsValBelow-refl, IsValid, length}
+use Rattle.smith_body.proofs.Common.{length-append, List, longest_leaf, most, no_valid, None, one_valid, Option, option_to_list, Ref, refl}
+use Rattle.smith_body.proofs.Common.{Scope, sets, slice_get, Some, subst, SubType, suc, sym, take, true, unwrap_or, V128, ValType}
+use Rattle.smith_body.proofs.Common.{where_stands, ℕ, ◌*◌, ◌++◌, ◌+◌, ◌-◌, ◌<◌, ◌∙◌, ◌∷◌, ◌≡◌, ◌≤◌}
+use Rattle.std.specs.Prelude.{Err, nat_lt, Ok, OnOk, Result, ◌&&◌}
+use Rattle.std.proofs.lemmas.List.{drop_all, take_all, take_more}
 use Rattle.std.proofs.lemmas.List.Elements.{All-take}
 use Rattle.std.proofs.lemmas.Option.{same_Some}
-use Rattle.smith_bytes.specs.Draws.{choose_at}
-use Rattle.smith_config.specs.declared.config.Config.{Config}
-use Rattle.smith_types.proofs.GrowthLemmas.{IsValBelow-refl}
 use Rattle.smith_syntax.specs.Same.{exact_val}
 use Rattle.smith_syntax.specs.contracts.value_type.ValTypePartialEq.TheImpl.{ghosts as val_same}
-use Rattle.smith_syntax.specs.declared.composite_type.SubType.{SubType}
-use Rattle.smith_syntax.specs.declared.entity_type.GlobalType.{GlobalType}
-use Rattle.smith_syntax.specs.declared.value_type.RefType.{RefType}
-use Rattle.smith_syntax.specs.declared.value_type.ValType.{ValType}
-use Rattle.smith_syntax.specs.declared.value_type.ValType.TheVariants.{I32, I64, F32, F64, V128, Ref}
-use Rattle.smith_instr.specs.Contexts.{BodyContext, IsValid, AreValid}
-use Rattle.smith_instr.specs.InstrTypes.{HasInstrType, sets}
-use Rattle.smith_instr.specs.declared.instr.Instr.{Instr}
+use Rattle.smith_types.specs.Syntax.entity_type.GlobalType.{GlobalType}
+use Rattle.smith_types.specs.Syntax.value_type.RefType.{RefType}
 use Rattle.smith_instr.specs.declared.instr.Instr.TheVariants as instr
 use Rattle.smith_instr.specs.declared.numeric.NumericInstr.TheVariants as numeric
 use Rattle.smith_instr.specs.declared.numeric.SaturatingConversion.TheVariants as saturating
 use Rattle.smith_instr.specs.declared.reference.ReferenceInstr.TheVariants as reference
 use Rattle.smith_instr.specs.declared.vector.IntShape.TheVariants as shape
 use Rattle.smith_instr.specs.declared.vector.VectorInstr.TheVariants as vector
-use Rattle.smith_body_nodes.specs.Scopes.{bare, context_of, is_permitted, most, where_stands, IsAllowedIn}
-use Rattle.smith_body_nodes.specs.Traps.{IsNoStop}
-use Rattle.smith_body_nodes.specs.declared.scope.Draft.{Draft}
-use Rattle.smith_body_nodes.specs.declared.scope.Scope.{Scope}
-use Rattle.smith_body_nodes.proofs.NodeLemmas.{no_valid, one_valid}
-use Rattle.smith_body_nodes.proofs.OfferLemmas.{both}
-use Rattle.smith_body_leaves.specs.Leaves.{longest_leaf, widest_struct}
+use Rattle.smith_body_leaves.specs.Leaves.{widest_struct}
 use Rattle.smith_body.specs.Bodies.{State, settled, settled_all}
 use Rattle.smith_body.specs.DraftSteps.{IsDrawn, IsWritten, state_of}
 use Rattle.smith_body.specs.Settled.{IsSettler, Settles, instructions_of, is_bare, is_bare_label, is_global_of}

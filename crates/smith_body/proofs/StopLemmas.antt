@@ -1,10 +1,7 @@
 -- Sequences in which each `unreachable` is needed, one after another.
-use Rattle.std.proofs.Common.{◌≡◌, ℕ, List, [], ◌∷◌, ◌++◌, refl, sym, subst, append_assoc}
-use Rattle.smith_syntax.specs.declared.value_type.ValType.{ValType}
-use Rattle.smith_config.specs.declared.config.Config.{Config}
-use Rattle.smith_instr.specs.Contexts.{BodyContext, AreValid}
-use Rattle.smith_instr.specs.Sequences.{Stacked, stacked, AreTyped, nothing, step, block, loop, if_alone, if_else, try_table}
-use Rattle.smith_instr.specs.declared.instr.Instr.{Instr}
+use Rattle.smith_body.proofs.Common.{[], append_assoc, AreValid, BodyContext, Config, Instr, List, refl, stacked, step, subst, sym, ValType}
+use Rattle.smith_body.proofs.Common.{ℕ, ◌++◌, ◌∷◌, ◌≡◌}
+use Rattle.smith_instr.specs.Sequences.{AreTyped, block, if_alone, if_else, loop, nothing, Stacked, try_table}
 use Rattle.smith_instr.specs.declared.instr.Instr.TheVariants as instr
 use Rattle.smith_instr.proofs.SequenceLemmas.{count_as_themselves}
 use Rattle.smith_body.specs.Stops.{AreStopsNeeded, HaveNeededStops}

@@ -2,13 +2,10 @@
 use Rattle.std.specs.Prelude.{ℕ, zero, suc, ◌+◌, ◌-◌, ◌/◌, ◌%◌, ◌==◌, ◌||◌, nat_le, not, Bool, true, false, Option, Some, None}
 use Rattle.std.specs.Prelude.{option_to_list, List, [], ◌∷◌, ◌++◌, length, pos, replicate, if◌then◌else◌}
 use Rattle.std.specs.Int.{cast_signed, w32}
-use Rattle.smith_bytes.specs.Draws.{range_at}
-use Rattle.smith_config.specs.declared.config.Config.{Config}
-use Rattle.smith_syntax.specs.declared.value_type.ValType.{ValType}
-use Rattle.smith_syntax.specs.declared.value_type.ValType.TheVariants.{I32, I64}
+use Rattle.smith_body.specs.Common.{BodyContext, Config, Head, I32, Instr, is_permitted, range_at, ValType}
+use Rattle.smith_types.specs.Syntax.value_type.ValType.TheVariants.{I64}
 use Rattle.smith_draw_types.specs.Choices.{chosen_at}
-use Rattle.smith_instr.specs.Contexts.{BodyContext, address, labelled}
-use Rattle.smith_instr.specs.declared.instr.Instr.{Instr}
+use Rattle.smith_instr.specs.Contexts.{address, labelled}
 use Rattle.smith_instr.specs.declared.instr.Instr.TheVariants as instr
 use Rattle.smith_instr.specs.declared.numeric.IntBinary.TheVariants.{Sub}
 use Rattle.smith_instr.specs.declared.numeric.NumericInstr.TheVariants as numeric
@@ -27,8 +24,6 @@ use Rattle.smith_body.specs.Repeats.{repeat_at}
 use Rattle.smith_body.specs.declared.repeats.Repeat.{Repeat}
 use Rattle.smith_body.specs.declared.repeats.Repeat.TheVariants as repeats
 use Rattle.smith_body_nodes.specs.Nodes.{is_node_allowed, label_of, opened}
-use Rattle.smith_body_nodes.specs.Scopes.{is_permitted}
-use Rattle.smith_body_nodes.specs.declared.node.Head.{Head}
 use Rattle.smith_body_nodes.specs.declared.node.Head.TheVariants as head
 use Rattle.smith_body_nodes.specs.declared.node.Node.{Node}
 use Rattle.smith_body_nodes.specs.declared.node.Opening.{Opening}

@@ -1,15 +1,13 @@
 -- The instructions that each step of drawing a body adds.
 use Rattle.std.specs.Prelude.{◌≡◌, ℕ, ◌+◌, ◌*◌, ◌≤◌, Option, List, [], ◌∷◌, ◌++◌, length, take, option_to_list, All}
-use Rattle.smith_syntax.specs.declared.value_type.ValType.{ValType}
+use Rattle.smith_body.specs.Common.{Instr, IsAllowedIn, Scope, ValType}
 use Rattle.smith_instr.specs.Contexts.{AreValid}
 use Rattle.smith_instr.specs.Sequences.{stacked}
-use Rattle.smith_instr.specs.declared.instr.Instr.{Instr}
 use Rattle.smith_body.specs.Bodies.{State}
 use Rattle.smith_body_leaves.specs.Leaves.{longest_leaf}
 use Rattle.smith_body.specs.Stops.{HaveNeededStops}
-use Rattle.smith_body_nodes.specs.Scopes.{bare, where_stands, most, IsAllowedIn}
+use Rattle.smith_body_nodes.specs.Scopes.{bare, most, where_stands}
 use Rattle.smith_body_nodes.specs.declared.scope.Draft.{Draft}
-use Rattle.smith_body_nodes.specs.declared.scope.Scope.{Scope}
 
 -- the new instructions take operands of the first types from the top of any stack, and leave values
 -- of the second types; each `unreachable` is needed; the labels are the same, and the budget pays

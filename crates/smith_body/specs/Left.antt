@@ -1,12 +1,9 @@
 -- Spare results: no instruction takes them. Rules of this project.
 use Rattle.std.specs.Prelude.{ℕ, ◌-◌, Option, Some, None, List, [], length, drop, slice_get, unwrap_or}
-use Rattle.smith_syntax.specs.declared.value_type.ValType.{ValType}
-use Rattle.smith_syntax.specs.declared.composite_type.FuncType.{FuncType}
-use Rattle.smith_instr.specs.Contexts.{BodyContext}
-use Rattle.smith_instr.specs.declared.instr.Instr.{Instr}
+use Rattle.smith_body.specs.Common.{BodyContext, Head, Instr, ValType}
+use Rattle.smith_types.specs.Syntax.composite_type.FuncType.{FuncType}
 use Rattle.smith_instr.specs.declared.instr.Instr.TheVariants as instr
 use Rattle.smith_body_nodes.specs.Offered.{func_in, function_at}
-use Rattle.smith_body_nodes.specs.declared.node.Head.{Head}
 use Rattle.smith_body_nodes.specs.declared.node.Head.TheVariants as head
 
 -- the results of a function type

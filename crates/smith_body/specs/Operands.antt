@@ -1,8 +1,7 @@
 -- Numbers below a limit and next to it. Rules of this project.
 use Rattle.std.specs.Prelude.{ℕ, ◌+◌, ◌-◌, ◌^◌, ◌%◌, min, Bool, List, [], ◌∷◌, if◌then◌else◌}
 use Rattle.std.specs.Int.{cast_signed, leading_zeros, w32, w64}
-use Rattle.smith_bytes.specs.Draws.{range_at}
-use Rattle.smith_instr.specs.declared.instr.Instr.{Instr}
+use Rattle.smith_body.specs.Common.{Instr, range_at}
 use Rattle.smith_instr.specs.declared.instr.Instr.TheVariants as instr
 use Rattle.smith_instr.specs.declared.numeric.IntBinary.TheVariants.{And}
 use Rattle.smith_instr.specs.declared.numeric.NumericInstr.TheVariants as numeric

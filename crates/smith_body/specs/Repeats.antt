@@ -1,20 +1,16 @@
 -- Loops that go back to their start. Rules of this project.
 use Rattle.std.specs.Prelude.{◌≡◌, ◌<◌, ℕ, ◌&&◌, ◌==◌, not, nat_le, nat_lt, Bool}
 use Rattle.std.specs.Prelude.{false, Option, Some, None, List, [], length, pos, slice_get, if◌then◌else◌}
-use Rattle.smith_bytes.specs.Draws.{choose_at, range_at}
-use Rattle.smith_syntax.specs.Features.{Features}
-use Rattle.smith_syntax.specs.declared.value_type.ValType.{ValType}
-use Rattle.smith_syntax.specs.declared.value_type.ValType.TheVariants.{I32}
-use Rattle.smith_config.specs.declared.config.Config.{Config}
-use Rattle.smith_instr.specs.Contexts.{BodyContext}
+use Rattle.smith_body.specs.Common.{BodyContext, Config, I32, is_permitted, IsAllowedIn, range_at, Scope, ValType}
+use Rattle.smith_bytes.specs.Draws.{choose_at}
+use Rattle.smith_types.specs.Syntax.Features.{Features}
 use Rattle.smith_instr.specs.declared.instr.Instr.TheVariants as instr
 use Rattle.smith_body.specs.declared.repeats.Repeat.{Repeat}
 use Rattle.smith_body.specs.declared.repeats.Repeat.TheVariants as repeats
 use Rattle.smith_body_nodes.specs.Offered.{is_local_below, offered}
-use Rattle.smith_body_nodes.specs.Scopes.{is_permitted, indexed, IsAllowedIn}
+use Rattle.smith_body_nodes.specs.Scopes.{indexed}
 use Rattle.smith_body_nodes.specs.declared.node.Opening.{Opening}
 use Rattle.smith_body_nodes.specs.declared.node.Opening.TheVariants as openings
-use Rattle.smith_body_nodes.specs.declared.scope.Scope.{Scope}
 
 -- whether a block may be repeated: a loop without parameters, with a budget
 abbrev pub may_repeat : Opening → List ValType → ℕ → Bool

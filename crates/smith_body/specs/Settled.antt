@@ -2,15 +2,12 @@
 use Rattle.std.specs.Prelude.{◌≡◌, ℕ, ◌+◌, ◌-◌, Bool, true, false, ◌&&◌, nat_lt, Option, Some, None, List, [], ◌∷◌}
 use Rattle.std.specs.Prelude.{length, min, slice_get, unwrap_or, if◌then◌else◌}
 use Rattle.smith_bytes.specs.Draws.{choose_at}
-use Rattle.smith_syntax.specs.Features.{Features}
+use Rattle.smith_types.specs.Syntax.Features.{Features}
 use Rattle.smith_syntax.specs.contracts.value_type.ValTypePartialEq.TheImpl.{ghosts as val_same}
-use Rattle.smith_syntax.specs.declared.value_type.ValType.{ValType}
-use Rattle.smith_syntax.specs.declared.value_type.ValType.TheVariants.{I32, I64, F32, F64, V128, Ref}
-use Rattle.smith_syntax.specs.declared.entity_type.GlobalType.{GlobalType}
-use Rattle.smith_config.specs.declared.config.Config.{Config}
-use Rattle.smith_instr.specs.Contexts.{BodyContext}
+use Rattle.smith_body.specs.Common.{BodyContext, Config, I32, Instr, is_permitted, IsAllowedIn, Scope, ValType}
+use Rattle.smith_types.specs.Syntax.value_type.ValType.TheVariants.{F32, F64, I64, Ref, V128}
+use Rattle.smith_types.specs.Syntax.entity_type.GlobalType.{GlobalType}
 use Rattle.smith_instr.specs.InstrTypes.{HasInstrType, sets}
-use Rattle.smith_instr.specs.declared.instr.Instr.{Instr}
 use Rattle.smith_instr.specs.declared.instr.Instr.TheVariants as instr
 use Rattle.smith_instr.specs.declared.numeric.NumericInstr.TheVariants as numeric
 use Rattle.smith_instr.specs.declared.numeric.SaturatingConversion.TheVariants as saturating
@@ -21,9 +18,8 @@ use Rattle.smith_body.specs.declared.settled.Settling.{Settling}
 use Rattle.smith_body.specs.declared.settled.Settling.TheVariants as settlings
 use Rattle.smith_body_nodes.specs.Chosen.{giving}
 use Rattle.smith_body_nodes.specs.Offered.{chunk_at, offered}
-use Rattle.smith_body_nodes.specs.Scopes.{context_of, indexed, is_permitted, IsAllowedIn}
+use Rattle.smith_body_nodes.specs.Scopes.{context_of, indexed}
 use Rattle.smith_body_nodes.specs.Traps.{IsNoStop}
-use Rattle.smith_body_nodes.specs.declared.scope.Scope.{Scope}
 
 -- the instructions that settle a value
 abbrev pub instructions_of : Settling → List Instr

@@ -1,11 +1,8 @@
 -- The places of `unreachable` in a body if traps are disallowed. Rules of this project.
 use Rattle.std.specs.Prelude.{◌≡◌, ℕ, IsTrue, List, [], ◌∷◌}
-use Rattle.smith_config.specs.declared.config.Config.{Config}
-use Rattle.smith_syntax.specs.declared.value_type.ValType.{ValType}
-use Rattle.smith_instr.specs.Contexts.{BodyContext}
+use Rattle.smith_body.specs.Common.{BodyContext, Config, Instr, ValType}
 use Rattle.smith_instr.specs.Sequences.{Stacked, IsFramed, IsStep, AreTyped, IsBodyTyped, nothing, step, block, loop, if_alone, if_else}
 use Rattle.smith_instr.specs.Sequences.{try_table}
-use Rattle.smith_instr.specs.declared.instr.Instr.{Instr}
 use Rattle.smith_instr.specs.declared.instr.Instr.TheVariants as instr
 use Rattle.smith_body_leaves.specs.Laws.{HasNoOther}
 

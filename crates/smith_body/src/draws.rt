@@ -1,8 +1,8 @@
 ghost use Rattle.std.specs.Prelude.{◌≡◌, ◌++◌, ◌+◌, ◌-◌, ◌<◌, ◌≤◌, [], ◌∷◌, All, List, length};
 ghost use Rattle.std.specs.Prelude.{IfErr, IfOk, IsTrue, OnOk, option_to_list};
 ghost use Rattle.smith_bytes.specs.Source.{KeepsPieces};
-ghost use Rattle.smith_syntax.specs.declared.value_type.ValType.{ValType as Val};
-ghost use Rattle.smith_syntax.specs.declared.value_type.ValType.TheVariants.{I32};
+ghost use Rattle.smith_types.specs.Syntax.value_type.ValType.{ValType as Val};
+ghost use Rattle.smith_types.specs.Syntax.value_type.ValType.TheVariants.{I32};
 ghost use Rattle.smith_instr.specs.Contexts.{AreBelow, AreValid, IsBlockType, IsValid, address};
 ghost use Rattle.smith_instr.specs.InstrTypes.{IsCatch};
 ghost use Rattle.smith_instr.specs.declared.instr.Instr.TheVariants as instr;

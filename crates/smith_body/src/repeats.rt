@@ -1,8 +1,8 @@
 ghost use Rattle.std.specs.Prelude.{◌≡◌, ℕ, List, [], ◌∷◌, length, pos, IfErr, IfSome, IsTrue, OnOk};
 ghost use Rattle.std.specs.Int.{cast_signed, w32};
 ghost use Rattle.smith_bytes.specs.Source.{KeepsPieces};
-ghost use Rattle.smith_syntax.specs.FeatureBits.{features_in};
-ghost use Rattle.smith_syntax.specs.declared.value_type.ValType.TheVariants.{I32};
+ghost use Rattle.smith_types.specs.Syntax.FeatureBits.{features_in};
+ghost use Rattle.smith_types.specs.Syntax.value_type.ValType.TheVariants.{I32};
 ghost use Rattle.smith_instr.specs.declared.instr.Instr.TheVariants as instr;
 ghost use Rattle.smith_body.specs.Bodies.{count_set, counted_down};
 ghost use Rattle.smith_body.specs.DraftSteps.{IsDrawn, state_of};

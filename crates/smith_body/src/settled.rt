@@ -1,7 +1,7 @@
 ghost use Rattle.std.specs.Prelude.{◌≡◌, ◌<◌, ◌++◌, [], ◌∷◌, List, length, slice_get, true, Some};
 ghost use Rattle.std.specs.Prelude.{IfErr, IfSome, OnOk};
 ghost use Rattle.smith_bytes.specs.Source.{KeepsPieces};
-ghost use Rattle.smith_syntax.specs.declared.value_type.ValType.{ValType as Val};
+ghost use Rattle.smith_types.specs.Syntax.value_type.ValType.{ValType as Val};
 ghost use Rattle.smith_instr.specs.Contexts.{AreValid, IsValid};
 ghost use Rattle.smith_instr.specs.declared.instr.Instr.TheVariants as instr;
 ghost use Rattle.smith_instr.specs.declared.numeric.NumericInstr.TheVariants as numeric;

@@ -1,6 +1,6 @@
 ghost use Rattle.std.specs.Prelude.{◌≡◌, List, ◌∷◌, ◌++◌, replicate};
 ghost use Rattle.std.specs.Prelude.{IfErr, OnOk};
-ghost use Rattle.smith_syntax.specs.declared.value_type.ValType.{ValType as Val};
+ghost use Rattle.smith_types.specs.Syntax.value_type.ValType.{ValType as Val};
 ghost use Rattle.smith_body.specs.DraftSteps.{IsWritten, IsOpened, IsEnded};
 
 use smith_body_nodes::Draft;

@@ -1,34 +1,33 @@
 -- The struct types, array types and fields that are offered.
-use Rattle.std.proofs.Common.{◌≡◌, ℕ, ◌<◌, Bool, true, false, List, [], ◌∷◌, Option, Some, None, length, get_or, refl, sym, subst, ap, ◌∙◌}
+use Rattle.smith_body_aggregates.proofs.Common.{[], BodyContext, both, false, FieldType, given_some, I32, is_elem_below, IsOrderly, IsValid}
+use Rattle.smith_body_aggregates.proofs.Common.{length, List, refl, Some, struct_there, sym, tested, true, ValType, value_of, ℕ, ◌<◌, ◌∙◌}
+use Rattle.smith_body_aggregates.proofs.Common.{◌∷◌, ◌≡◌}
+use Rattle.std.proofs.Common.{ap, Bool, get_or, None, Option, subst}
 use Rattle.std.specs.Prelude.{slice_get, option_map}
 use Rattle.std.proofs.lemmas.Option.{slice_get-get_or, slice_get_within}
 use Rattle.smith_types.specs.Expressions.{IsDefaultable, unpacked}
 use Rattle.smith_types.specs.Grounded.{is_defaultable}
 use Rattle.smith_types.specs.Matching.{IsStorageMatch}
-use Rattle.smith_types.specs.Types.{IsOrderly}
-use Rattle.smith_syntax.specs.declared.value_type.HeapType.TheVariants.{Concrete}
-use Rattle.smith_syntax.specs.declared.value_type.ValType.{ValType}
-use Rattle.smith_syntax.specs.declared.value_type.ValType.TheVariants.{I32, I64, F32, F64, V128, Ref}
-use Rattle.smith_syntax.specs.declared.composite_type.FieldType.{FieldType}
-use Rattle.smith_syntax.specs.declared.composite_type.StorageType.{StorageType}
-use Rattle.smith_syntax.specs.declared.composite_type.StorageType.TheVariants as storage
-use Rattle.smith_syntax.specs.declared.composite_type.StructType.{StructType}
-use Rattle.smith_syntax.specs.declared.composite_type.SubType.{SubType}
+use Rattle.smith_types.specs.Syntax.value_type.HeapType.TheVariants.{Concrete}
+use Rattle.smith_types.specs.Syntax.value_type.ValType.TheVariants.{F32, F64, I64, Ref, V128}
+use Rattle.smith_types.specs.Syntax.composite_type.StorageType.{StorageType}
+use Rattle.smith_types.specs.Syntax.composite_type.StorageType.TheVariants as storage
+use Rattle.smith_types.specs.Syntax.composite_type.StructType.{StructType}
+use Rattle.smith_types.specs.Syntax.composite_type.SubType.{SubType}
 use Rattle.smith_types.proofs.GroundedLemmas.{default_for}
 use Rattle.smith_bytes.specs.Draws.{choose_at}
-use Rattle.smith_instr.specs.AggregateTypes.{IsFieldAt, IsOfBytes, IsReadBy, IsElemOf, value_of}
-use Rattle.smith_instr.specs.Contexts.{BodyContext, IsValid, nullable_to}
+use Rattle.smith_instr.specs.AggregateTypes.{IsElemOf, IsFieldAt, IsOfBytes, IsReadBy}
+use Rattle.smith_instr.specs.Contexts.{nullable_to}
 use Rattle.smith_body_aggregates.specs.Aggregates.{array_at, array_there, created_array_at, field_at, field_in, field_there, fields_with}
 use Rattle.smith_body_aggregates.specs.Aggregates.{is_array, is_created_array, is_field, is_struct}
 use Rattle.smith_body_nodes.specs.IndexedTypes.{element_in, names_types, struct_in}
 use Rattle.smith_body_aggregates.specs.Fields.{extension_of, is_of_bytes, is_of_references, is_storage_below, is_usable, is_usable_in}
 use Rattle.smith_body_nodes.specs.Items.{continued}
-use Rattle.smith_body_nodes.specs.Offered.{chunk_at, is_elem_below}
+use Rattle.smith_body_nodes.specs.Offered.{chunk_at}
 use Rattle.smith_body_nodes.specs.Scopes.{indexed}
 use Rattle.smith_body_aggregates.specs.declared.fields.FieldUse.{FieldUse}
-use Rattle.smith_body_nodes.proofs.ItemLemmas.{given_none, given_some}
-use Rattle.smith_body_nodes.proofs.OfferLemmas.{both, segment_below_at, tested}
-use Rattle.smith_body_nodes.proofs.IndexedTypeLemmas.{struct_there}
+use Rattle.smith_body_nodes.proofs.ItemLemmas.{given_none}
+use Rattle.smith_body_nodes.proofs.OfferLemmas.{segment_below_at}
 
 -- a reference to the type with an index is valid
 pub concrete_valid : (context : BodyContext) (index : ℕ) (t : SubType) → names_types context ≡ true → slice_get context.types index ≡ Some t

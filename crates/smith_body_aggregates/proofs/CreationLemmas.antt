@@ -1,19 +1,18 @@
 -- Creations of structs and arrays.
-use Rattle.std.proofs.Common.{◌≡◌, ℕ, ◌<◌, ◌≤◌, true, false, List, [], ◌∷◌, Option, Some, length, replicate, refl, subst, ap, arith}
+use Rattle.smith_body_aggregates.proofs.Common.{[], arith, BodyContext, both, false, FieldType, given_some, I32, is_elem_below, IsOrderly}
+use Rattle.smith_body_aggregates.proofs.Common.{IsValid, length, List, refl, Some, struct_there, tested, true, ValType, value_of, ℕ, ◌<◌}
+use Rattle.smith_body_aggregates.proofs.Common.{◌∷◌, ◌≡◌}
+use Rattle.std.proofs.Common.{ap, Option, replicate, subst, ◌≤◌}
 use Rattle.std.specs.Prelude.{slice_get, option_map}
 use Rattle.std.proofs.lemmas.Bool.{leb-true}
 use Rattle.std.proofs.lemmas.List.{length-map, length-replicate}
 use Rattle.std.proofs.lemmas.List.Elements.{All-replicate}
 use Rattle.smith_types.specs.Expressions.{IsArrayAt, field_values, unpacked}
-use Rattle.smith_types.specs.Types.{IsOrderly}
-use Rattle.smith_syntax.specs.declared.composite_type.FieldType.{FieldType}
-use Rattle.smith_syntax.specs.declared.composite_type.StructType.{StructType}
-use Rattle.smith_syntax.specs.declared.value_type.ValType.{ValType}
-use Rattle.smith_syntax.specs.declared.value_type.ValType.TheVariants.{I32}
+use Rattle.smith_types.specs.Syntax.composite_type.StructType.{StructType}
 use Rattle.smith_types.specs.Grounded.{is_defaultable}
 use Rattle.smith_draw_types.specs.Choices.{chosen_at}
-use Rattle.smith_instr.specs.AggregateTypes.{HasAggregateType, value_of}
-use Rattle.smith_instr.specs.Contexts.{BodyContext, IsValid, AreValid, created_reference}
+use Rattle.smith_instr.specs.AggregateTypes.{HasAggregateType}
+use Rattle.smith_instr.specs.Contexts.{AreValid, created_reference}
 use Rattle.smith_instr.specs.declared.aggregate.AggregateInstr.{AggregateInstr}
 use Rattle.smith_instr.specs.declared.aggregate.AggregateInstr.TheVariants as aggregate
 use Rattle.smith_instr.specs.declared.instr.Instr.TheVariants as instr
@@ -22,15 +21,12 @@ use Rattle.smith_body_nodes.specs.IndexedTypes.{is_creatable_in, is_created_belo
 use Rattle.smith_body_nodes.specs.Nodes.{IsNode, aggregate_of}
 use Rattle.smith_body_aggregates.specs.CreationChoices.{created_at, creation_of, creations, struct_new_at, struct_new_node}
 use Rattle.smith_body_aggregates.specs.Fields.{is_of_bytes, is_of_references}
-use Rattle.smith_body_nodes.specs.Offered.{is_elem_below}
 use Rattle.smith_body_aggregates.specs.declared.creations.Creation.{Creation}
 use Rattle.smith_body_aggregates.specs.declared.creations.Creation.TheVariants as creation
-use Rattle.smith_body_nodes.proofs.IndexedTypeLemmas.{default_there, struct_there}
+use Rattle.smith_body_nodes.proofs.IndexedTypeLemmas.{default_there}
 use Rattle.smith_body_aggregates.proofs.AggregateLemmas.{of_bytes, one_default, segment_of}
 use Rattle.smith_body_nodes.proofs.ChosenLemmas.{chosen_by}
-use Rattle.smith_body_nodes.proofs.ItemLemmas.{given_some}
 use Rattle.smith_body_nodes.proofs.NodeLemmas.{no_valid, one_valid}
-use Rattle.smith_body_nodes.proofs.OfferLemmas.{both, tested}
 use Rattle.smith_body_nodes.proofs.PlainLemmas.{gives_one, two_valid}
 
 -- an instruction whose created value matches the wanted type

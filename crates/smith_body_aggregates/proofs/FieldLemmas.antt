@@ -1,15 +1,13 @@
 -- Reads and writes of fields and elements.
-use Rattle.std.proofs.Common.{◌≡◌, ℕ, ◌<◌, Bool, true, false, List, [], ◌∷◌, Some, None, refl, arith}
+use Rattle.smith_body_aggregates.proofs.Common.{[], arith, bare, BodyContext, both, false, FieldType, given_some, I32, is_elem_below}
+use Rattle.smith_body_aggregates.proofs.Common.{IsOrderly, IsValid, List, refl, Some, tested, true, ValType, value_of, ℕ, ◌<◌, ◌∷◌, ◌≡◌}
+use Rattle.std.proofs.Common.{Bool, None}
 use Rattle.smith_bytes.specs.Draws.{bool_at}
 use Rattle.smith_types.specs.Expressions.{IsArrayAt}
-use Rattle.smith_types.specs.Types.{IsOrderly}
-use Rattle.smith_syntax.specs.declared.composite_type.FieldType.{FieldType}
-use Rattle.smith_syntax.specs.declared.value_type.HeapType.TheVariants.{Concrete}
-use Rattle.smith_syntax.specs.declared.value_type.ValType.{ValType}
-use Rattle.smith_syntax.specs.declared.value_type.ValType.TheVariants.{I32}
+use Rattle.smith_types.specs.Syntax.value_type.HeapType.TheVariants.{Concrete}
 use Rattle.smith_draw_types.specs.Choices.{chosen_at}
-use Rattle.smith_instr.specs.AggregateTypes.{IsFieldAt, value_of}
-use Rattle.smith_instr.specs.Contexts.{BodyContext, IsValid, AreValid, nullable_to}
+use Rattle.smith_instr.specs.AggregateTypes.{IsFieldAt}
+use Rattle.smith_instr.specs.Contexts.{AreValid, nullable_to}
 use Rattle.smith_instr.specs.declared.aggregate.AggregateInstr.TheVariants as aggregate
 use Rattle.smith_instr.specs.declared.instr.Instr.TheVariants as instr
 use Rattle.smith_body_nodes.specs.IndexedTypes.{names_types}
@@ -19,8 +17,7 @@ use Rattle.smith_body_aggregates.specs.CreationChoices.{chosen_elem_at}
 use Rattle.smith_body_aggregates.specs.FieldChoices.{array_get_at, elem_initialized, field_read_at, field_write_at, field_writes, filled}
 use Rattle.smith_body_aggregates.specs.FieldChoices.{init_elem_node, read_at, struct_get_at, write_at, write_of}
 use Rattle.smith_body_aggregates.specs.Fields.{extension_of, is_of_bytes, is_of_references, is_usable}
-use Rattle.smith_body_nodes.specs.Scopes.{bare, context_of}
-use Rattle.smith_body_nodes.specs.Offered.{is_elem_below}
+use Rattle.smith_body_nodes.specs.Scopes.{context_of}
 use Rattle.smith_body_aggregates.specs.declared.aggregates.StructField.{StructField}
 use Rattle.smith_body_aggregates.specs.declared.field_writes.FieldWrite.{FieldWrite}
 use Rattle.smith_body_aggregates.specs.declared.field_writes.FieldWrite.TheVariants as write
@@ -28,9 +25,8 @@ use Rattle.smith_body_aggregates.specs.declared.fields.FieldUse.TheVariants as f
 use Rattle.smith_body_nodes.specs.declared.scope.Scope.{Scope}
 use Rattle.smith_body_aggregates.proofs.AggregateLemmas.{concrete_valid, of_bytes, read_by, segment_of, storage_match}
 use Rattle.smith_body_nodes.proofs.ChosenLemmas.{chosen_by}
-use Rattle.smith_body_nodes.proofs.ItemLemmas.{given_none, given_some}
+use Rattle.smith_body_nodes.proofs.ItemLemmas.{given_none}
 use Rattle.smith_body_nodes.proofs.NodeLemmas.{more_valid, one_valid}
-use Rattle.smith_body_nodes.proofs.OfferLemmas.{both, tested}
 use Rattle.smith_body_nodes.proofs.PlainLemmas.{gives_none, gives_one, three_valid, two_valid}
 
 -- references to a struct type and to an array type are valid

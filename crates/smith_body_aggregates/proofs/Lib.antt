@@ -1,3 +1,4 @@
+pub mod Common
 pub mod AggregateLemmas
 pub mod CreationLemmas
 pub mod FieldLemmas

@@ -1,6 +1,6 @@
 ghost use Rattle.std.specs.Prelude.{◌≡◌, ◌&&◌, List, [], IfOk, IfErr};
 ghost use Rattle.smith_bytes.specs.Source.{KeepsPieces};
-ghost use Rattle.smith_syntax.specs.declared.value_type.ValType.{ValType as Val};
+ghost use Rattle.smith_types.specs.Syntax.value_type.ValType.{ValType as Val};
 ghost use Rattle.smith_body_control.specs.CallChoices.{IsLeft, IsOutcome, by_reference_at};
 ghost use Rattle.smith_body_control.specs.CallChoices.{by_reference_instr, indirect_at};
 ghost use Rattle.smith_body_control.specs.CallChoices.{indirect_instr};

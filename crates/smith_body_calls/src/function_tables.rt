@@ -1,7 +1,7 @@
 ghost use Rattle.std.specs.Prelude.{◌≡◌, ◌<◌, true, length, IfSome};
 ghost use Rattle.smith_bytes.specs.Source.{KeepsPieces};
 ghost use Rattle.smith_types.specs.Subtyping.{IsValInRange};
-ghost use Rattle.smith_syntax.specs.declared.value_type.ValType.TheVariants.{Ref};
+ghost use Rattle.smith_types.specs.Syntax.value_type.ValType.TheVariants.{Ref};
 ghost use Rattle.smith_body_control.specs.CallChoices.{holds_functions, is_below_func};
 ghost use Rattle.smith_body_control.specs.CallChoices.{is_function_table};
 ghost use Rattle.smith_body_nodes.specs.Offered.{chunk_at};

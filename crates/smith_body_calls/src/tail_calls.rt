@@ -1,6 +1,6 @@
 ghost use Rattle.std.specs.Prelude.{◌≡◌, ◌<◌, true, List, [], length, IfOk, IfErr, IfSome};
 ghost use Rattle.smith_bytes.specs.Source.{KeepsPieces};
-ghost use Rattle.smith_syntax.specs.declared.value_type.ValType.{ValType as Val};
+ghost use Rattle.smith_types.specs.Syntax.value_type.ValType.{ValType as Val};
 ghost use Rattle.smith_instr.specs.Contexts.{AreValid};
 ghost use Rattle.smith_body_control.specs.CallChoices.{is_returnable, return_call_at, tail_call_at};
 ghost use Rattle.smith_body_nodes.specs.Nodes.{IsNode, IsOffer};

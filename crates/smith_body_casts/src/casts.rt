@@ -1,7 +1,7 @@
 ghost use Rattle.std.specs.Prelude.{◌≡◌, false, true, Some, [], ◌∷◌, IfOk, IfErr};
 ghost use Rattle.std.specs.Prelude.{IfSome};
 ghost use Rattle.smith_bytes.specs.Source.{KeepsPieces};
-ghost use Rattle.smith_syntax.specs.declared.value_type.ValType.TheVariants.{I32, Ref};
+ghost use Rattle.smith_types.specs.Syntax.value_type.ValType.TheVariants.{I32, Ref};
 ghost use Rattle.smith_instr.specs.Contexts.{IsValid, nullable_to};
 ghost use Rattle.smith_body_nodes.specs.IndexedTypes.{names_types};
 ghost use Rattle.smith_body_casts.specs.CastChoices.{cast_at, cast_choice_at, cast_for};

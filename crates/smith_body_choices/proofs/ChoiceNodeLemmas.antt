@@ -1,21 +1,20 @@
 -- Calls, drops, and instructions on locals and globals leave the values of their definitions.
 use Rattle.std.specs.Prelude.{slice_get, All}
-use Rattle.std.proofs.Common.{◌≡◌, ℕ, ◌-◌, ◌<◌, ◌≤◌, true, List, [], ◌∷◌, ◌++◌, Option, Some, length, get_or, drop, refl, sym, subst, ap}
-use Rattle.std.proofs.Common.{◌∙◌, arith}
+use Rattle.smith_body_choices.proofs.Common.{ap, arith, function_there, Some, sym, ◌∙◌, ◌≡◌}
+use Rattle.std.proofs.Common.{[], drop, get_or, length, List, Option, refl, subst, true, ℕ, ◌++◌, ◌-◌, ◌<◌, ◌∷◌, ◌≤◌}
 use Rattle.std.proofs.lemmas.List.{append-nil}
 use Rattle.std.proofs.lemmas.List.Elements.{All-drop}
 use Rattle.std.proofs.lemmas.Option.{same_Some, slice_get-get_or, slice_get_within}
 use Rattle.smith_types.specs.Subtyping.{IsValBelow}
 use Rattle.smith_types.specs.Types.{IsOrderly}
-use Rattle.smith_syntax.specs.declared.value_type.ValType.{ValType}
-use Rattle.smith_syntax.specs.declared.composite_type.FuncType.{FuncType}
-use Rattle.smith_syntax.specs.declared.entity_type.GlobalType.{GlobalType}
+use Rattle.smith_types.specs.Syntax.value_type.ValType.{ValType}
+use Rattle.smith_types.specs.Syntax.composite_type.FuncType.{FuncType}
+use Rattle.smith_types.specs.Syntax.entity_type.GlobalType.{GlobalType}
 use Rattle.smith_instr.specs.Contexts.{BodyContext, IsValid, AreValid, AreBelow, IsFunction}
 use Rattle.smith_instr.specs.declared.instr.Instr.TheVariants as instr
 use Rattle.smith_instr.proofs.SequenceLemmas.{below_themselves}
 use Rattle.smith_body_nodes.specs.Nodes.{IsNode, node_of, setting}
 use Rattle.smith_body_nodes.specs.Offered.{is_callable, is_callable_at, function_at, IsLocalBelow, IsGlobalMutable}
-use Rattle.smith_body_nodes.proofs.OfferLemmas.{function_there}
 use Rattle.smith_body_nodes.proofs.NodeLemmas.{AreParamsValid, first_below, func_wide, no_valid, one_valid, three_wide, zip_length}
 
 pub tee_node : (context : BodyContext) (set : List ℕ) (wanted : ValType) (index : ℕ) (d : ValType) → IsValid context wanted

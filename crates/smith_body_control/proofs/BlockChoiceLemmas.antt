@@ -1,14 +1,10 @@
 -- The chosen block, by the drawn places.
-use Rattle.std.specs.Prelude.{slice_get, slice_index_or, ◌%◌}
-use Rattle.std.proofs.Common.{◌≡◌, ℕ, false, List, [], ◌∷◌, Option, Some, None, length, refl}
-use Rattle.smith_bytes.specs.Draws.{range_at}
-use Rattle.smith_syntax.specs.declared.value_type.ValType.{ValType}
-use Rattle.smith_syntax.specs.declared.composite_type.FuncType.{FuncType}
-use Rattle.smith_instr.specs.Contexts.{BodyContext}
+use Rattle.smith_body_control.proofs.Common.{[], BodyContext, false, FuncType, indexed, length, List, None, Option, range_at, refl}
+use Rattle.smith_body_control.proofs.Common.{slice_get, Some, ValType, ℕ, ◌∷◌, ◌≡◌}
+use Rattle.std.specs.Prelude.{slice_index_or, ◌%◌}
 use Rattle.smith_instr.specs.declared.control.BlockType.TheVariants as block
 use Rattle.smith_body_nodes.specs.Nodes.{blocked}
 use Rattle.smith_body_nodes.specs.Offered.{func_in}
-use Rattle.smith_body_nodes.specs.Scopes.{indexed}
 use Rattle.smith_body_nodes.specs.declared.node.Opening.{Opening}
 use Rattle.smith_body_control.specs.BlockChoices.{any_block_at, any_block_node, block_at, is_of_handler, opening_at, openings}
 

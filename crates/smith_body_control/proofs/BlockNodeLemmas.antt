@@ -1,26 +1,20 @@
 -- Blocks leave the values of their types.
 use Rattle.std.specs.Prelude.{IfSome, if◌then◌else◌}
 use Rattle.std.specs.Cmp.Lexicographic.{pointwise}
-use Rattle.std.proofs.Common.{◌≡◌, ℕ, ◌+◌, ◌≤◌, Bool, true, false, List, [], ◌∷◌, ◌++◌, Option, Some, None, length, length-append, refl}
-use Rattle.std.proofs.Common.{arith}
-use Rattle.std.proofs.lemmas.List.Elements.{All-push}
+use Rattle.smith_body_control.proofs.Common.{[], All-push, AreValid, arith, below_themselves, BodyContext, false, func_wide, FuncType, I32}
+use Rattle.smith_body_control.proofs.Common.{IsFuncAt, IsNode, IsValBelow-refl, IsValid, length, List, no_valid, None, one_valid, Option}
+use Rattle.smith_body_control.proofs.Common.{refl, Some, three_wide, true, ValType, ℕ, ◌++◌, ◌+◌, ◌∷◌, ◌≡◌, ◌≤◌}
+use Rattle.std.proofs.Common.{Bool, length-append}
 use Rattle.smith_syntax.specs.Same.{exact_items, exact_val}
-use Rattle.smith_types.specs.Entities.{IsFuncAt}
 use Rattle.smith_syntax.specs.contracts.value_type.ValTypePartialEq.TheImpl.{ghosts as val_same}
-use Rattle.smith_syntax.specs.declared.value_type.ValType.{ValType}
-use Rattle.smith_syntax.specs.declared.value_type.ValType.TheVariants.{I32}
-use Rattle.smith_syntax.specs.declared.composite_type.FuncType.{FuncType}
-use Rattle.smith_types.proofs.GrowthLemmas.{IsValBelow-refl}
-use Rattle.smith_instr.specs.Contexts.{BodyContext, IsValid, AreValid, AreBelow, IsBlockType}
+use Rattle.smith_instr.specs.Contexts.{AreBelow, IsBlockType}
 use Rattle.smith_instr.specs.declared.control.BlockType.{BlockType}
 use Rattle.smith_instr.specs.declared.control.BlockType.TheVariants as block
-use Rattle.smith_instr.proofs.SequenceLemmas.{below_themselves}
 use Rattle.smith_body_nodes.specs.Scopes.{widest}
-use Rattle.smith_body_nodes.specs.Nodes.{AreSidesValid, IsNode, MayOpen, blocked, fitting, opened_by, taken_by}
+use Rattle.smith_body_nodes.specs.Nodes.{AreSidesValid, blocked, fitting, MayOpen, opened_by, taken_by}
 use Rattle.smith_body_nodes.specs.declared.node.Opening.{Opening}
 use Rattle.smith_body_nodes.specs.declared.node.Opening.TheVariants as opening
 use Rattle.smith_body_nodes.specs.declared.node.Sides.{Sides}
-use Rattle.smith_body_nodes.proofs.NodeLemmas.{func_wide, no_valid, one_valid, three_wide}
 
 -- the operands of a block are valid
 pub taken_valid : (context : BodyContext) (opening : Opening) (params : List ValType) → AreValid context params

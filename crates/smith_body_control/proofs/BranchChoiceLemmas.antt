@@ -1,14 +1,9 @@
 -- The chosen branch, by the drawn places.
-use Rattle.std.specs.Prelude.{slice_get}
-use Rattle.std.proofs.Common.{◌≡◌, ℕ, ◌-◌, ◌<◌, true, false, List, [], ◌∷◌, ◌++◌, Some, None, length, refl, ap, ◌∙◌, arith}
+use Rattle.smith_body_control.proofs.Common.{[], ap, arith, BodyContext, false, I32, label_count, length, List, node_of, None, range_at}
+use Rattle.smith_body_control.proofs.Common.{refl, slice_get, Some, true, ValType, ℕ, ◌++◌, ◌-◌, ◌<◌, ◌∙◌, ◌∷◌, ◌≡◌}
 use Rattle.std.proofs.lemmas.Option.{slice_get_past}
-use Rattle.smith_bytes.specs.Draws.{bool_at, range_at}
-use Rattle.smith_syntax.specs.declared.value_type.ValType.{ValType}
-use Rattle.smith_syntax.specs.declared.value_type.ValType.TheVariants.{I32}
-use Rattle.smith_instr.specs.Contexts.{BodyContext}
+use Rattle.smith_bytes.specs.Draws.{bool_at}
 use Rattle.smith_instr.specs.declared.instr.Instr.TheVariants as instr
-use Rattle.smith_body_nodes.specs.Nodes.{node_of}
-use Rattle.smith_body_nodes.specs.Offered.{label_count}
 use Rattle.smith_body_nodes.proofs.ChosenLemmas.{no_range, not_zero}
 use Rattle.smith_body_control.specs.BranchChoices.{branch_at, label_at, leaving_at, return_node, some_targets_at, table_at}
 

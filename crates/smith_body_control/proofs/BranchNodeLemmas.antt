@@ -1,18 +1,11 @@
 -- Unconditional branches leave any values.
-use Rattle.std.specs.Prelude.{All}
-use Rattle.std.proofs.Common.{◌≡◌, ℕ, ◌<◌, ◌≤◌, List, [], ◌∷◌, ◌++◌, length, length-append, get_or, refl, arith}
-use Rattle.std.proofs.lemmas.List.{append-nil}
-use Rattle.std.proofs.lemmas.List.Elements.{All-push}
-use Rattle.smith_syntax.specs.declared.value_type.ValType.{ValType}
-use Rattle.smith_syntax.specs.declared.value_type.ValType.TheVariants.{I32}
-use Rattle.smith_instr.specs.Contexts.{BodyContext, IsValid, AreValid}
-use Rattle.smith_instr.specs.InstrTypes.{IsTaken}
+use Rattle.smith_body_control.proofs.Common.{[], All, All-push, append-nil, AreValid, arith, bare, below_themselves, BodyContext}
+use Rattle.smith_body_control.proofs.Common.{context_of, get_or, I32, IsNode, IsTaken, IsValid, length, List, no_valid, node_of, refl}
+use Rattle.smith_body_control.proofs.Common.{ValType, ℕ, ◌++◌, ◌<◌, ◌∷◌, ◌≡◌, ◌≤◌}
+use Rattle.std.proofs.Common.{length-append}
 use Rattle.smith_instr.specs.declared.instr.Instr.TheVariants as instr
-use Rattle.smith_instr.proofs.SequenceLemmas.{below_themselves}
-use Rattle.smith_body_nodes.specs.Scopes.{context_of, bare, widest, AreLabels}
-use Rattle.smith_body_nodes.specs.Nodes.{IsNode, node_of}
+use Rattle.smith_body_nodes.specs.Scopes.{AreLabels, widest}
 use Rattle.smith_body_nodes.specs.declared.scope.Scope.{Scope}
-use Rattle.smith_body_nodes.proofs.NodeLemmas.{no_valid}
 use Rattle.smith_body_nodes.proofs.LabelLemmas.{label_at}
 use Rattle.smith_body_control.proofs.BlockNodeLemmas.{taken_valid}
 

@@ -1,14 +1,9 @@
 -- Handlers leave a reference to an exception, which is dropped.
 use Rattle.std.specs.Prelude.{nat_le}
-use Rattle.std.proofs.Common.{◌≡◌, ℕ, true, List, [], ◌∷◌, Some, refl, arith}
-use Rattle.smith_bytes.specs.Draws.{range_at}
-use Rattle.smith_types.proofs.GrowthLemmas.{IsValBelow-refl}
-use Rattle.smith_instr.specs.Contexts.{BodyContext, IsValid}
+use Rattle.smith_body_control.proofs.Common.{[], arith, BodyContext, both, IsNode, IsValBelow-refl, IsValid, List, no_valid, one_valid}
+use Rattle.smith_body_control.proofs.Common.{range_at, refl, Some, three_wide, true, ℕ, ◌∷◌, ◌≡◌}
 use Rattle.smith_instr.specs.declared.control.BlockType.TheVariants as block
-use Rattle.smith_body_nodes.specs.Nodes.{IsNode}
 use Rattle.smith_body_nodes.specs.declared.node.Opening.TheVariants as opening
-use Rattle.smith_body_nodes.proofs.NodeLemmas.{no_valid, one_valid, three_wide}
-use Rattle.smith_body_nodes.proofs.OfferLemmas.{both}
 use Rattle.smith_body_nodes.proofs.ReferenceChoiceLemmas.{nullable_valid}
 use Rattle.smith_body_control.specs.BlockChoices.{any_block_at, exnref, handler, is_of_handler}
 use Rattle.smith_body_control.specs.ThrowChoices.{exn, refers_to_exceptions}

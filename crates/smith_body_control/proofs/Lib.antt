@@ -1,3 +1,4 @@
+pub mod Common
 pub mod BranchNodeLemmas
 pub mod BranchChoiceLemmas
 pub mod TargetLemmas

@@ -1,17 +1,15 @@
 -- Labels of a branch to one of several, one after another.
-use Rattle.std.proofs.Common.{◌≡◌, ℕ, zero, suc, ◌+◌, ◌-◌, ◌<◌, ◌≤◌, List, [], ◌∷◌, ◌++◌, Option, Some, None, length, get_or, refl, sym, ap}
-use Rattle.std.proofs.Common.{◌∙◌, arith}
-use Rattle.std.specs.Prelude.{slice_get}
-use Rattle.std.proofs.lemmas.List.{append-nil}
+use Rattle.smith_body_control.proofs.Common.{[], ap, append-nil, AreDrawnSoFar, arith, BodyContext, get_or, label_count, length, List, None}
+use Rattle.smith_body_control.proofs.Common.{Option, range_at, refl, slice_get, Some, sym, ValType, ℕ, ◌++◌, ◌+◌, ◌-◌, ◌<◌, ◌∙◌, ◌∷◌, ◌≡◌}
+use Rattle.smith_body_control.proofs.Common.{◌≤◌}
+use Rattle.std.proofs.Common.{suc, zero}
 use Rattle.std.proofs.lemmas.Option.{slice_get-get_or}
-use Rattle.smith_bytes.specs.Draws.{choose_at, range_at}
+use Rattle.smith_bytes.specs.Draws.{choose_at}
 use Rattle.smith_bytes.proofs.DrawnLemmas.{range_within}
-use Rattle.smith_syntax.specs.declared.value_type.ValType.{ValType}
-use Rattle.smith_instr.specs.Contexts.{BodyContext}
 use Rattle.smith_body_control.specs.BranchChoices.{some_targets_at, target_count_at, targets_at}
-use Rattle.smith_body_nodes.specs.Offered.{is_target, label_count, offered}
+use Rattle.smith_body_nodes.specs.Offered.{is_target, offered}
 use Rattle.smith_body_nodes.proofs.ChosenLemmas.{choose_none}
-use Rattle.smith_body_nodes.proofs.RepeatLemmas.{AreDrawnSoFar, all_turns, no_turn, one_turn}
+use Rattle.smith_body_nodes.proofs.RepeatLemmas.{all_turns, no_turn, one_turn}
 
 -- no item is chosen only if there is none
 none_offered : {A : Type 0} (items : List A) (bytes left : List ℕ) → choose_at items bytes ≡ (None, left) → length items ≡ 0

@@ -1,27 +1,22 @@
 -- Throws of exceptions.
-use Rattle.std.proofs.Common.{◌≡◌, ℕ, ◌-◌, ◌<◌, true, List, [], ◌∷◌, Option, Some, None, length, get_or, refl, sym, subst, ap, ◌∙◌, arith}
-use Rattle.std.specs.Prelude.{All, slice_get, option_map}
+use Rattle.smith_body_control.proofs.Common.{[], All, ap, append-nil, AreValid, arith, below_themselves, BodyContext, both, func_there}
+use Rattle.smith_body_control.proofs.Common.{func_wide, FuncType, get_or, indexed, IsFuncAt, IsNode, length, List, no_valid, node_of, None}
+use Rattle.smith_body_control.proofs.Common.{one_valid, Option, range_at, refl, slice_get, Some, sym, true, ValType, ℕ, ◌-◌, ◌<◌, ◌∙◌, ◌∷◌}
+use Rattle.smith_body_control.proofs.Common.{◌≡◌}
+use Rattle.std.proofs.Common.{subst}
+use Rattle.std.specs.Prelude.{option_map}
 use Rattle.std.proofs.lemmas.Bool.{ne_eqb}
-use Rattle.std.proofs.lemmas.List.{append-nil}
 use Rattle.std.proofs.lemmas.Option.{same_Some, slice_get_within, get_or_from_slice_get}
-use Rattle.smith_bytes.specs.Draws.{range_at}
-use Rattle.smith_types.specs.Entities.{IsFuncAt, IsTagValid}
-use Rattle.smith_syntax.specs.declared.value_type.ValType.{ValType}
-use Rattle.smith_syntax.specs.declared.composite_type.CompositeInnerType.TheVariants.{Func}
-use Rattle.smith_syntax.specs.declared.composite_type.FuncType.{FuncType}
-use Rattle.smith_syntax.specs.declared.composite_type.SubType.{SubType}
-use Rattle.smith_instr.specs.Contexts.{BodyContext, AreValid, IsTag, nullable_to}
+use Rattle.smith_types.specs.Entities.{IsTagValid}
+use Rattle.smith_types.specs.Syntax.composite_type.CompositeInnerType.TheVariants.{Func}
+use Rattle.smith_types.specs.Syntax.composite_type.SubType.{SubType}
+use Rattle.smith_instr.specs.Contexts.{IsTag, nullable_to}
 use Rattle.smith_instr.specs.declared.instr.Instr.TheVariants as instr
-use Rattle.smith_instr.proofs.SequenceLemmas.{below_themselves}
 use Rattle.smith_body_nodes.specs.Chosen.{giving}
-use Rattle.smith_body_nodes.specs.Nodes.{IsNode, node_of}
 use Rattle.smith_body_nodes.specs.Offered.{function_in}
-use Rattle.smith_body_nodes.specs.Scopes.{indexed}
 use Rattle.smith_body_control.specs.ThrowChoices.{any_throw_at, exn, refers_to_exceptions, tag_at, tag_type_at, throw_at, throw_node}
 use Rattle.smith_body_control.specs.ThrowChoices.{throw_ref_node}
 use Rattle.smith_body_nodes.proofs.ChosenLemmas.{not_zero}
-use Rattle.smith_body_nodes.proofs.NodeLemmas.{func_wide, no_valid, one_valid}
-use Rattle.smith_body_nodes.proofs.OfferLemmas.{both, func_there}
 use Rattle.smith_body_nodes.proofs.PlainNodeLemmas.{plain_node}
 use Rattle.smith_body_nodes.proofs.ReferenceChoiceLemmas.{nullable_valid}
 

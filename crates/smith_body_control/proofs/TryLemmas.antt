@@ -1,28 +1,21 @@
 -- Blocks that catch exceptions, and their clauses.
-use Rattle.std.specs.Prelude.{All, IfSome, IsTrue, option_map, option_to_list, slice_get, ◌&&◌}
-use Rattle.std.proofs.Common.{◌≡◌, ℕ, ◌+◌, ◌<◌, ◌≤◌, Bool, true, false, List, [], ◌∷◌, ◌++◌, Option, Some, None, length, refl, subst, ap}
-use Rattle.std.proofs.Common.{◌∙◌, arith}
-use Rattle.std.proofs.lemmas.List.{append-nil}
-use Rattle.std.proofs.lemmas.List.Elements.{All-push}
-use Rattle.smith_bytes.specs.Draws.{bool_at, choose_at, range_at}
-use Rattle.smith_types.specs.Entities.{IsFuncAt}
+use Rattle.smith_body_control.proofs.Common.{[], All, All-push, ap, append-nil, AreDrawnSoFar, AreValid, arith, below_themselves}
+use Rattle.smith_body_control.proofs.Common.{BodyContext, both, false, func_wide, FuncType, indexed, IsCatch, IsFuncAt, IsNode, IsTaken}
+use Rattle.smith_body_control.proofs.Common.{IsValBelow-refl, IsValid, label_count, length, List, no_valid, None, one_valid, Option}
+use Rattle.smith_body_control.proofs.Common.{range_at, refl, slice_get, Some, three_wide, true, ValType, ℕ, ◌++◌, ◌+◌, ◌<◌, ◌∙◌, ◌∷◌, ◌≡◌}
+use Rattle.smith_body_control.proofs.Common.{◌≤◌}
+use Rattle.std.specs.Prelude.{IfSome, IsTrue, option_map, option_to_list, ◌&&◌}
+use Rattle.std.proofs.Common.{Bool, subst}
+use Rattle.smith_bytes.specs.Draws.{bool_at, choose_at}
 use Rattle.smith_types.specs.Expressions.{reference_to}
-use Rattle.smith_syntax.specs.Features.{Features}
-use Rattle.smith_syntax.specs.declared.value_type.ValType.{ValType}
-use Rattle.smith_syntax.specs.declared.composite_type.FuncType.{FuncType}
-use Rattle.smith_types.proofs.GrowthLemmas.{IsValBelow-refl}
-use Rattle.smith_instr.specs.Contexts.{BodyContext, IsValid, AreBelow, AreValid, IsBlockType}
-use Rattle.smith_instr.specs.InstrTypes.{IsCatch, IsTaken}
+use Rattle.smith_types.specs.Syntax.Features.{Features}
+use Rattle.smith_instr.specs.Contexts.{AreBelow, IsBlockType}
 use Rattle.smith_instr.specs.declared.control.BlockType.{BlockType}
 use Rattle.smith_instr.specs.declared.control.BlockType.TheVariants as block
 use Rattle.smith_instr.specs.declared.control.Catch.{Catch}
-use Rattle.smith_instr.proofs.SequenceLemmas.{below_themselves}
-use Rattle.smith_body_nodes.specs.Nodes.{AreSidesValid, IsNode, trying}
-use Rattle.smith_body_nodes.specs.Offered.{func_in, is_target, label_count, offered}
-use Rattle.smith_body_nodes.specs.Scopes.{indexed}
-use Rattle.smith_body_nodes.proofs.NodeLemmas.{func_wide, no_valid, one_valid, three_wide}
-use Rattle.smith_body_nodes.proofs.OfferLemmas.{both}
-use Rattle.smith_body_nodes.proofs.RepeatLemmas.{AreDrawnSoFar, all_turns, one_turn}
+use Rattle.smith_body_nodes.specs.Nodes.{AreSidesValid, trying}
+use Rattle.smith_body_nodes.specs.Offered.{func_in, is_target, offered}
+use Rattle.smith_body_nodes.proofs.RepeatLemmas.{all_turns, one_turn}
 use Rattle.smith_body_control.specs.ThrowChoices.{exn, refers_to_exceptions, tag_at, tag_type_at}
 use Rattle.smith_body_control.specs.TryChoices.{IsCaught, any_try_at, any_try_node, passed_values, clause_at, clause_of, clause_to}
 use Rattle.smith_body_control.specs.TryChoices.{clauses_at, referenced_at, refers_to_caught, some_clauses_at, tagged_by, tagged_clause_at}

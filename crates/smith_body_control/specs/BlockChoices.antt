@@ -1,19 +1,11 @@
 -- Drawn blocks. The choices, their order and their weights are rules of this project.
 use Rattle.std.specs.Prelude.{ℕ, ◌%◌, nat_le, ◌&&◌, Bool, Option, Some, None, List, [], ◌∷◌, length, slice_get, slice_index_or}
 use Rattle.std.specs.Prelude.{if◌then◌else◌}
-use Rattle.smith_bytes.specs.Draws.{range_at}
-use Rattle.smith_syntax.specs.Features.{Features}
-use Rattle.smith_syntax.specs.declared.value_type.ValType.{ValType}
-use Rattle.smith_syntax.specs.declared.composite_type.FuncType.{FuncType}
-use Rattle.smith_instr.specs.Contexts.{BodyContext, nullable_to}
+use Rattle.smith_body_control.specs.Common.{BodyContext, Chosen, Features, func_in, FuncType, indexed, Node, nullable_to, range_at, ValType}
 use Rattle.smith_instr.specs.declared.control.BlockType.TheVariants as block
-use Rattle.smith_body_nodes.specs.Chosen.{Chosen}
 use Rattle.smith_body_nodes.specs.Nodes.{blocked}
-use Rattle.smith_body_nodes.specs.Offered.{func_in}
-use Rattle.smith_body_nodes.specs.Scopes.{indexed}
 use Rattle.smith_body_control.specs.ThrowChoices.{exn}
 use Rattle.smith_body_control.specs.TryChoices.{refers_to_caught}
-use Rattle.smith_body_nodes.specs.declared.node.Node.{Node}
 use Rattle.smith_body_nodes.specs.declared.node.Opening.{Opening}
 use Rattle.smith_body_nodes.specs.declared.node.Opening.TheVariants as opening
 

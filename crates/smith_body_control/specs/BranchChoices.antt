@@ -1,15 +1,11 @@
 -- Drawn branches. The choices, their order and their weights are rules of this project.
 use Rattle.std.specs.Prelude.{ℕ, zero, suc, ◌-◌, ◌/◌, ◌==◌, Option, Some, None, option_map, option_to_list, List, [], ◌∷◌, ◌++◌, length}
 use Rattle.std.specs.Prelude.{slice_get, if◌then◌else◌}
-use Rattle.smith_bytes.specs.Draws.{bool_at, range_at, choose_at}
-use Rattle.smith_syntax.specs.declared.value_type.ValType.{ValType}
-use Rattle.smith_syntax.specs.declared.value_type.ValType.TheVariants.{I32}
-use Rattle.smith_instr.specs.Contexts.{BodyContext}
+use Rattle.smith_body_control.specs.Common.{BodyContext, Chosen, Node, node_of, range_at, ValType}
+use Rattle.smith_bytes.specs.Draws.{bool_at, choose_at}
+use Rattle.smith_types.specs.Syntax.value_type.ValType.TheVariants.{I32}
 use Rattle.smith_instr.specs.declared.instr.Instr.TheVariants as instr
-use Rattle.smith_body_nodes.specs.Chosen.{Chosen}
-use Rattle.smith_body_nodes.specs.Nodes.{node_of}
 use Rattle.smith_body_nodes.specs.Offered.{is_target, label_count, offered}
-use Rattle.smith_body_nodes.specs.declared.node.Node.{Node}
 
 -- a label, or 0 if there is none
 abbrev pub label_at : BodyContext → List ℕ → ℕ × List ℕ

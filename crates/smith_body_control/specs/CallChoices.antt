@@ -3,29 +3,24 @@
 use Rattle.std.specs.Prelude.{◌≡◌, ℕ, ◌-◌, ◌==◌, ◌&&◌, ◌||◌, Bool, true, false, if◌then◌else◌, List, [], ◌∷◌, ◌++◌, length, take, All}
 use Rattle.std.specs.Prelude.{Option, Some, None, option_and_then, option_map, slice_get}
 use Rattle.std.specs.Cmp.Lexicographic.{pointwise}
-use Rattle.smith_bytes.specs.Draws.{range_at}
-use Rattle.smith_syntax.specs.Features.{Features}
+use Rattle.smith_body_control.specs.Common.{BodyContext, Chosen, Features, func_in, FuncType, indexed, Node, node_of, nullable_to, range_at}
+use Rattle.smith_body_control.specs.Common.{ValType}
 use Rattle.smith_types.specs.ValidTypes.{IsValTypeValid}
-use Rattle.smith_syntax.specs.declared.value_type.AbstractHeapType.TheVariants as abstract
-use Rattle.smith_syntax.specs.declared.value_type.HeapType.TheVariants.{Abstract, Concrete}
-use Rattle.smith_syntax.specs.declared.value_type.RefType.{RefType}
+use Rattle.smith_types.specs.Syntax.value_type.AbstractHeapType.TheVariants as abstract
+use Rattle.smith_types.specs.Syntax.value_type.HeapType.TheVariants.{Abstract, Concrete}
+use Rattle.smith_types.specs.Syntax.value_type.RefType.{RefType}
 use Rattle.smith_syntax.specs.contracts.value_type.ValTypePartialEq.TheImpl.{ghosts as val_same}
-use Rattle.smith_syntax.specs.declared.value_type.ValType.{ValType}
-use Rattle.smith_syntax.specs.declared.value_type.ValType.TheVariants.{Ref}
-use Rattle.smith_syntax.specs.declared.composite_type.FuncType.{FuncType}
-use Rattle.smith_syntax.specs.declared.composite_type.SubType.{SubType}
-use Rattle.smith_syntax.specs.declared.entity_type.TableType.{TableType}
+use Rattle.smith_types.specs.Syntax.value_type.ValType.TheVariants.{Ref}
+use Rattle.smith_types.specs.Syntax.composite_type.SubType.{SubType}
+use Rattle.smith_types.specs.Syntax.entity_type.TableType.{TableType}
 use Rattle.smith_draw_types.specs.Below.{is_val_below}
-use Rattle.smith_instr.specs.Contexts.{BodyContext, address, nullable_to}
+use Rattle.smith_instr.specs.Contexts.{address}
 use Rattle.smith_instr.specs.declared.instr.Instr.{Instr}
 use Rattle.smith_instr.specs.declared.instr.Instr.TheVariants as instr
-use Rattle.smith_body_nodes.specs.Chosen.{Chosen, giving}
-use Rattle.smith_body_nodes.specs.Nodes.{node_of}
-use Rattle.smith_body_nodes.specs.Offered.{chunk_at, are_below, func_in, function_at, function_in, is_first_below}
-use Rattle.smith_body_nodes.specs.Scopes.{indexed}
+use Rattle.smith_body_nodes.specs.Chosen.{giving}
+use Rattle.smith_body_nodes.specs.Offered.{are_below, chunk_at, function_at, function_in, is_first_below}
 use Rattle.smith_body_control.specs.declared.outcomes.Outcome.{Outcome}
 use Rattle.smith_body_control.specs.declared.outcomes.Outcome.TheVariants as outcome
-use Rattle.smith_body_nodes.specs.declared.node.Node.{Node}
 
 -- the wanted type of a call is valid
 abbrev pub IsOutcomeOver : Features → List SubType → Outcome → Type 0

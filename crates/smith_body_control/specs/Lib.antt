@@ -1,3 +1,4 @@
+pub mod Common
 pub mod BranchChoices
 pub mod BlockChoices
 pub mod CallChoices

@@ -1,19 +1,13 @@
 -- Drawn throws. The choices, their order and their weights are rules of this project.
 use Rattle.std.specs.Prelude.{ℕ, ◌-◌, ◌==◌, ◌&&◌, Bool, false, Option, Some, None, option_map, List, [], ◌∷◌, length, slice_get}
 use Rattle.std.specs.Prelude.{if◌then◌else◌}
-use Rattle.smith_bytes.specs.Draws.{range_at}
-use Rattle.smith_syntax.specs.Features.{Features}
-use Rattle.smith_syntax.specs.declared.value_type.AbstractHeapType.TheVariants as abstract
-use Rattle.smith_syntax.specs.declared.value_type.HeapType.{HeapType}
-use Rattle.smith_syntax.specs.declared.value_type.HeapType.TheVariants.{Abstract}
-use Rattle.smith_syntax.specs.declared.composite_type.FuncType.{FuncType}
-use Rattle.smith_instr.specs.Contexts.{BodyContext, nullable_to}
+use Rattle.smith_body_control.specs.Common.{BodyContext, Chosen, Features, FuncType, indexed, Node, node_of, nullable_to, range_at}
+use Rattle.smith_types.specs.Syntax.value_type.AbstractHeapType.TheVariants as abstract
+use Rattle.smith_types.specs.Syntax.value_type.HeapType.{HeapType}
+use Rattle.smith_types.specs.Syntax.value_type.HeapType.TheVariants.{Abstract}
 use Rattle.smith_instr.specs.declared.instr.Instr.TheVariants as instr
-use Rattle.smith_body_nodes.specs.Chosen.{Chosen, giving}
-use Rattle.smith_body_nodes.specs.Nodes.{node_of}
+use Rattle.smith_body_nodes.specs.Chosen.{giving}
 use Rattle.smith_body_nodes.specs.Offered.{function_in}
-use Rattle.smith_body_nodes.specs.Scopes.{indexed}
-use Rattle.smith_body_nodes.specs.declared.node.Node.{Node}
 
 -- the type of a tag
 abbrev pub tag_type_at : BodyContext → ℕ → Option FuncType

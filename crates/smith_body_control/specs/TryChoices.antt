@@ -1,21 +1,16 @@
 -- Drawn `try_table` blocks. The choices, their order and their weights are rules of this project.
 use Rattle.std.specs.Prelude.{◌≡◌, ℕ, zero, suc, ◌&&◌, Bool, true, false, Option, Some, None, option_map, option_to_list, List, [], ◌∷◌}
 use Rattle.std.specs.Prelude.{◌++◌, length, slice_get, if◌then◌else◌}
-use Rattle.smith_bytes.specs.Draws.{bool_at, choose_at, range_at}
+use Rattle.smith_body_control.specs.Common.{BodyContext, Chosen, Features, func_in, FuncType, indexed, Node, range_at, ValType}
+use Rattle.smith_bytes.specs.Draws.{bool_at, choose_at}
 use Rattle.smith_types.specs.Expressions.{reference_to}
-use Rattle.smith_syntax.specs.Features.{Features}
-use Rattle.smith_syntax.specs.declared.value_type.ValType.{ValType}
-use Rattle.smith_syntax.specs.declared.composite_type.FuncType.{FuncType}
-use Rattle.smith_instr.specs.Contexts.{BodyContext, IsTag}
+use Rattle.smith_instr.specs.Contexts.{IsTag}
 use Rattle.smith_instr.specs.declared.control.BlockType.TheVariants as block
 use Rattle.smith_instr.specs.declared.control.Catch.{Catch}
 use Rattle.smith_instr.specs.declared.control.Catch.TheVariants as catch
-use Rattle.smith_body_nodes.specs.Chosen.{Chosen}
 use Rattle.smith_body_nodes.specs.Nodes.{trying}
-use Rattle.smith_body_nodes.specs.Offered.{func_in, is_target, label_count, offered}
-use Rattle.smith_body_nodes.specs.Scopes.{indexed}
+use Rattle.smith_body_nodes.specs.Offered.{is_target, label_count, offered}
 use Rattle.smith_body_control.specs.ThrowChoices.{exn, refers_to_exceptions, tag_at, tag_type_at}
-use Rattle.smith_body_nodes.specs.declared.node.Node.{Node}
 
 -- whether non-nullable references to exceptions are enabled
 abbrev pub refers_to_caught : Features → Bool

@@ -1,6 +1,6 @@
 ghost use Rattle.std.specs.Prelude.{◌≡◌, List, [], All, Some, IfOk, IfErr};
 ghost use Rattle.smith_bytes.specs.Source.{KeepsPieces};
-ghost use Rattle.smith_syntax.specs.declared.value_type.ValType.{ValType as Val};
+ghost use Rattle.smith_types.specs.Syntax.value_type.ValType.{ValType as Val};
 ghost use Rattle.smith_instr.specs.Contexts.{AreValid};
 ghost use Rattle.smith_instr.specs.InstrTypes.{IsTaken};
 ghost use Rattle.smith_body_control.specs.BranchChoices.{branch_at, leaving_at, some_targets_at};

@@ -1,7 +1,7 @@
 ghost use Rattle.std.specs.Prelude.{◌≡◌, ◌<◌, ◌&&◌, List, None, Some, [], length, IfOk, IfErr};
 ghost use Rattle.std.specs.Prelude.{IfSome, MatchOption};
 ghost use Rattle.smith_bytes.specs.Source.{KeepsPieces};
-ghost use Rattle.smith_syntax.specs.declared.value_type.ValType.{ValType as Val};
+ghost use Rattle.smith_types.specs.Syntax.value_type.ValType.{ValType as Val};
 ghost use Rattle.smith_instr.specs.Contexts.{AreValid};
 ghost use Rattle.smith_body_nodes.specs.Nodes.{IsNode, IsOffer};
 ghost use Rattle.smith_body_nodes.specs.Scopes.{IsScope, bare, where_stands};

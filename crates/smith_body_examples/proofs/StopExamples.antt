@@ -3,7 +3,7 @@ use Rattle.std.proofs.Common.{◌≡◌, true, List, [], ◌∷◌, ◌++◌, re
 use Rattle.std.specs.Prelude.{IsTrue}
 use Rattle.std.proofs.lemmas.List.Elements.{All-nil, All-push}
 use Rattle.smith_types.proofs.GrowthLemmas.{IsValBelow-refl}
-use Rattle.smith_syntax.specs.declared.value_type.ValType.{ValType}
+use Rattle.smith_types.specs.Syntax.value_type.ValType.{ValType}
 use Rattle.smith_config.specs.declared.config.Config.{Config}
 use Rattle.smith_instr.specs.Contexts.{BodyContext, IsValid, AreValid}
 use Rattle.smith_instr.specs.Sequences.{Stacked, AreTyped, nothing, step, block, loop, if_alone, if_else, try_table}

@@ -4,11 +4,11 @@ use Rattle.smith_types.specs.ExampleEntities.{constant_global}
 use Rattle.smith_types.specs.ExampleFeatures.{usual_features, without_gc}
 use Rattle.smith_types.specs.ExampleTypes.{nullable, plain}
 use Rattle.smith_types.specs.Flags.{funcref}
-use Rattle.smith_syntax.specs.declared.entity_type.TableType.{TableType}
-use Rattle.smith_syntax.specs.declared.value_type.AbstractHeapType.TheVariants as heap
-use Rattle.smith_syntax.specs.declared.value_type.RefType.{RefType}
-use Rattle.smith_syntax.specs.declared.value_type.ValType.{ValType}
-use Rattle.smith_syntax.specs.declared.value_type.ValType.TheVariants.{I32, I64, Ref}
+use Rattle.smith_types.specs.Syntax.entity_type.TableType.{TableType}
+use Rattle.smith_types.specs.Syntax.value_type.AbstractHeapType.TheVariants as heap
+use Rattle.smith_types.specs.Syntax.value_type.RefType.{RefType}
+use Rattle.smith_types.specs.Syntax.value_type.ValType.{ValType}
+use Rattle.smith_types.specs.Syntax.value_type.ValType.TheVariants.{I32, I64, Ref}
 use Rattle.smith_instr.specs.Contexts.{BodyContext}
 use Rattle.smith_instr_examples.specs.ExampleBodies.{function_of, functions}
 

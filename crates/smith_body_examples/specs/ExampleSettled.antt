@@ -1,7 +1,7 @@
 -- Settling of values, as instructions.
 use Rattle.std.specs.Prelude.{ℕ, List}
 use Rattle.smith_config.specs.declared.config.Config.{Config}
-use Rattle.smith_syntax.specs.declared.value_type.ValType.{ValType}
+use Rattle.smith_types.specs.Syntax.value_type.ValType.{ValType}
 use Rattle.smith_instr.specs.Contexts.{BodyContext}
 use Rattle.smith_instr.specs.declared.instr.Instr.{Instr}
 use Rattle.smith_body.specs.Settled.{instructions_of, settling_at}

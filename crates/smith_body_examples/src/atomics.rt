@@ -1,7 +1,7 @@
 #![tactic(auto, unfolding(smith_body_memory::specs::AtomicChoices::atomic_at, smith_body_memory::specs::AtomicChoices::atomic_store_at, smith_body_memory::specs::Accesses::access_at, smith_body_memory::specs::Accesses::offset_at, smith_body_memory::specs::Accesses::place_at, smith_draw_types::specs::Choices::chosen_at, smith_bytes::specs::Draws::choose_at, smith_bytes::specs::Draws::digit_count, smith_bytes::specs::Draws::range_at))]
 
 ghost use Rattle.std.specs.Prelude.{◌≡◌, Some, None, [], ◌∷◌};
-ghost use Rattle.smith_syntax.specs.declared.value_type.ValType.TheVariants.{I32, I64, F32};
+ghost use Rattle.smith_types.specs.Syntax.value_type.ValType.TheVariants.{I32, I64, F32};
 ghost use Rattle.smith_config.specs.Config.{default_config};
 ghost use Rattle.smith_instr.specs.declared.atomic.AtomicAccess.TheVariants as atomic;
 ghost use Rattle.smith_instr.specs.declared.atomic.AtomicUpdate.TheVariants as update;

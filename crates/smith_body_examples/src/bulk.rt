@@ -1,7 +1,7 @@
 #![tactic(auto, unfolding(smith_body_tables::specs::BulkChoices::bulk_at, smith_body_nodes::specs::Items::index_at, smith_body_nodes::specs::Items::item_at, smith_draw_types::specs::Choices::chosen_at, smith_bytes::specs::Draws::digit_count, smith_bytes::specs::Draws::range_at))]
 
 ghost use Rattle.std.specs.Prelude.{◌≡◌, Some, None, [], ◌∷◌};
-ghost use Rattle.smith_syntax.specs.declared.value_type.ValType.TheVariants.{I32, I64};
+ghost use Rattle.smith_types.specs.Syntax.value_type.ValType.TheVariants.{I32, I64};
 ghost use Rattle.smith_instr.specs.declared.instr.Instr.TheVariants as instr;
 ghost use Rattle.smith_instr.specs.declared.memory.MemoryInstr.TheVariants as memory;
 ghost use Rattle.smith_instr_examples.specs.ExampleBodies.{function_of};

@@ -1,9 +1,9 @@
 ghost use Rattle.std.specs.Prelude.{◌≡◌, [], ◌∷◌, ◌++◌, false, true, pos};
 ghost use Rattle.smith_types.specs.ExampleFeatures.{usual_features};
-ghost use Rattle.smith_syntax.specs.Instructions.{every_kind, kind_bits, kinds_bits, no_kind, union_of};
-ghost use Rattle.smith_syntax.specs.declared.instruction_kind.InstructionKind.TheVariants as kind;
-ghost use Rattle.smith_syntax.specs.declared.instruction_kind.InstructionKind.TheVariants.{Control, NumericInt};
-ghost use Rattle.smith_syntax.specs.declared.value_type.ValType.TheVariants.{I32, I64, F32};
+ghost use Rattle.smith_types.specs.Syntax.Instructions.{every_kind, kind_bits, kinds_bits, no_kind, union_of};
+ghost use Rattle.smith_types.specs.Syntax.instruction_kind.InstructionKind.TheVariants as kind;
+ghost use Rattle.smith_types.specs.Syntax.instruction_kind.InstructionKind.TheVariants.{Control, NumericInt};
+ghost use Rattle.smith_types.specs.Syntax.value_type.ValType.TheVariants.{I32, I64, F32};
 ghost use Rattle.smith_config.specs.Config.{default_config};
 ghost use Rattle.smith_config.specs.ExampleMembers.{without_floats};
 ghost use Rattle.smith_instr.specs.declared.instr.Instr.TheVariants as instr;

@@ -2,7 +2,7 @@
 
 ghost use Rattle.std.specs.Prelude.{◌≡◌, ◌≤◌, ℕ, ◌==◌, ◌||◌, Bool, true, List, Some, None, [], ◌∷◌};
 ghost use Rattle.smith_bytes.specs.Draws.{choose_at};
-ghost use Rattle.smith_syntax.specs.declared.value_type.ValType.TheVariants.{I32};
+ghost use Rattle.smith_types.specs.Syntax.value_type.ValType.TheVariants.{I32};
 ghost use Rattle.smith_instr.specs.declared.instr.Instr.TheVariants as instr;
 ghost use Rattle.smith_body_leaves.specs.Leaves.{first_single, leaf_choice_at};
 ghost use Rattle.smith_body_nodes.specs.Offered.{chunk_at, offered};

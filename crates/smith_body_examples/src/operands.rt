@@ -1,5 +1,5 @@
 ghost use Rattle.std.specs.Prelude.{◌≡◌, false, [], ◌∷◌};
-ghost use Rattle.smith_syntax.specs.declared.value_type.ValType.TheVariants.{I32};
+ghost use Rattle.smith_types.specs.Syntax.value_type.ValType.TheVariants.{I32};
 ghost use Rattle.smith_config.specs.Config.{default_config};
 ghost use Rattle.smith_instr.specs.declared.aggregate.AggregateInstr.TheVariants as aggregate;
 ghost use Rattle.smith_instr.specs.declared.instr.Instr.TheVariants as instr;

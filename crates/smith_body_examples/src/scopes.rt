@@ -2,8 +2,8 @@
 
 ghost use Rattle.std.specs.Prelude.{◌≡◌, ◌-◌, ◌^◌, [], ◌∷◌, replicate};
 ghost use Rattle.smith_types.specs.ExampleTypes.{final_type, plain_func, struct, taking};
-ghost use Rattle.smith_syntax.specs.declared.composite_type.CompositeInnerType.TheVariants.{Func};
-ghost use Rattle.smith_syntax.specs.declared.value_type.ValType.TheVariants.{I32, I64};
+ghost use Rattle.smith_types.specs.Syntax.composite_type.CompositeInnerType.TheVariants.{Func};
+ghost use Rattle.smith_types.specs.Syntax.value_type.ValType.TheVariants.{I32, I64};
 ghost use Rattle.smith_config.specs.Config.{default_config};
 ghost use Rattle.smith_body_nodes.specs.Scopes.{func_size, indexed, most, widest};
 ghost use Rattle.smith_body_leaves.specs.Leaves.{longest_leaf, widest_struct};

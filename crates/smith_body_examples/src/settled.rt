@@ -1,8 +1,8 @@
 ghost use Rattle.std.specs.Prelude.{◌≡◌, false, [], ◌∷◌};
 ghost use Rattle.smith_types.specs.ExampleFeatures.{usual_features};
 ghost use Rattle.smith_types.specs.Flags.{funcref};
-ghost use Rattle.smith_syntax.specs.declared.instruction_kind.InstructionKind.TheVariants as kind;
-ghost use Rattle.smith_syntax.specs.declared.value_type.ValType.TheVariants.{F32, I32, I64, Ref};
+ghost use Rattle.smith_types.specs.Syntax.instruction_kind.InstructionKind.TheVariants as kind;
+ghost use Rattle.smith_types.specs.Syntax.value_type.ValType.TheVariants.{F32, I32, I64, Ref};
 ghost use Rattle.smith_config.specs.Config.{default_config};
 ghost use Rattle.smith_instr.specs.declared.control.BlockType.TheVariants as block;
 ghost use Rattle.smith_instr.specs.declared.instr.Instr.TheVariants as instr;

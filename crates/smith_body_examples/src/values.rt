@@ -1,8 +1,8 @@
 ghost use Rattle.std.specs.Prelude.{◌≡◌, [], ◌∷◌, ◌++◌, false, negsuc, pos};
 ghost use Rattle.smith_types.specs.Flags.{funcref};
-ghost use Rattle.smith_syntax.specs.declared.value_type.AbstractHeapType.TheVariants as heap;
-ghost use Rattle.smith_syntax.specs.declared.value_type.HeapType.TheVariants.{Abstract};
-ghost use Rattle.smith_syntax.specs.declared.value_type.ValType.TheVariants.{I32, I64, F32, F64, V128, Ref};
+ghost use Rattle.smith_types.specs.Syntax.value_type.AbstractHeapType.TheVariants as heap;
+ghost use Rattle.smith_types.specs.Syntax.value_type.HeapType.TheVariants.{Abstract};
+ghost use Rattle.smith_types.specs.Syntax.value_type.ValType.TheVariants.{I32, I64, F32, F64, V128, Ref};
 ghost use Rattle.smith_config.specs.Config.{default_config};
 ghost use Rattle.smith_instr.specs.declared.instr.Instr.TheVariants as instr;
 ghost use Rattle.smith_instr.specs.declared.numeric.IntBinary.TheVariants.{Sub};

@@ -2,13 +2,13 @@
 use Rattle.std.proofs.Common.{◌≡◌, inl, inr, ℕ, List, Some, subst, sym}
 use Rattle.std.specs.Prelude.{nat_le, slice_get, if◌then◌else◌}
 use Rattle.smith_types.specs.Expressions.{Context, function_reference, reference_to}
-use Rattle.smith_syntax.specs.Features.{Features}
+use Rattle.smith_types.specs.Syntax.Features.{Features}
 use Rattle.smith_types.specs.Grounded.{IsGrounded, IsGroundedByFuncs, IsGroundedByStructs}
 use Rattle.smith_types.specs.Subtyping.{IsValBelow}
-use Rattle.smith_syntax.specs.declared.composite_type.SubType.{SubType}
-use Rattle.smith_syntax.specs.declared.value_type.HeapType.{HeapType}
-use Rattle.smith_syntax.specs.declared.value_type.HeapType.TheVariants.{Concrete, Exact}
-use Rattle.smith_syntax.specs.declared.value_type.ValType.{ValType}
+use Rattle.smith_types.specs.Syntax.composite_type.SubType.{SubType}
+use Rattle.smith_types.specs.Syntax.value_type.HeapType.{HeapType}
+use Rattle.smith_types.specs.Syntax.value_type.HeapType.TheVariants.{Concrete, Exact}
+use Rattle.smith_types.specs.Syntax.value_type.ValType.{ValType}
 use Rattle.smith_instr.specs.Contexts.{BodyContext, reference_to_function}
 use Rattle.smith_body_law.specs.Barren.{IsBarren}
 use Rattle.smith_body_law.specs.Unnamed.{AreOfOneModule, IsGroundedByUnnamed}

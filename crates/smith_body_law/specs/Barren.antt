@@ -6,14 +6,14 @@ use Rattle.std.specs.List.{Contains}
 use Rattle.smith_config.specs.declared.config.Config.{Config}
 use Rattle.smith_types.specs.Expressions.{IsArrayAt, reference_to}
 use Rattle.smith_types.specs.Grounded.{IsGroundedByStructs}
-use Rattle.smith_syntax.specs.Instructions.{every_kind}
+use Rattle.smith_types.specs.Syntax.Instructions.{every_kind}
 use Rattle.smith_types.specs.Subtyping.{IsBelow, IsValBelow}
-use Rattle.smith_syntax.specs.declared.composite_type.FieldType.{FieldType}
-use Rattle.smith_syntax.specs.declared.value_type.AbstractHeapType.TheVariants as abstract
-use Rattle.smith_syntax.specs.declared.value_type.HeapType.{HeapType}
-use Rattle.smith_syntax.specs.declared.value_type.HeapType.TheVariants.{Abstract}
-use Rattle.smith_syntax.specs.declared.value_type.ValType.{ValType}
-use Rattle.smith_syntax.specs.declared.value_type.ValType.TheVariants.{Ref}
+use Rattle.smith_types.specs.Syntax.composite_type.FieldType.{FieldType}
+use Rattle.smith_types.specs.Syntax.value_type.AbstractHeapType.TheVariants as abstract
+use Rattle.smith_types.specs.Syntax.value_type.HeapType.{HeapType}
+use Rattle.smith_types.specs.Syntax.value_type.HeapType.TheVariants.{Abstract}
+use Rattle.smith_types.specs.Syntax.value_type.ValType.{ValType}
+use Rattle.smith_types.specs.Syntax.value_type.ValType.TheVariants.{Ref}
 use Rattle.smith_instr.specs.Contexts.{BodyContext, IsValid, created_reference, reference_to_function}
 use Rattle.smith_body_nodes.specs.Scopes.{kinds_of_bodies}
 use Rattle.smith_body_leaves.specs.Laws.{HasNoOther}

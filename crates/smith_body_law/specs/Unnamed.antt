@@ -4,7 +4,7 @@ use Rattle.std.specs.List.{Contains}
 use Rattle.smith_types.specs.Expressions.{Context, function_reference, reference_to}
 use Rattle.smith_types.specs.Grounded.{IsGrounded, IsGroundedByFuncs, IsGroundedByStructs}
 use Rattle.smith_types.specs.Subtyping.{IsValBelow}
-use Rattle.smith_syntax.specs.declared.value_type.HeapType.{HeapType}
+use Rattle.smith_types.specs.Syntax.value_type.HeapType.{HeapType}
 use Rattle.smith_instr.specs.Contexts.{BodyContext}
 use Rattle.smith_body_law.specs.Barren.{IsBarren}
 

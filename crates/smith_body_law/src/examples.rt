@@ -1,10 +1,10 @@
 ghost use Rattle.std.specs.Prelude.{[], ◌∷◌};
 ghost use Rattle.smith_types.specs.ExampleTypes.{constant, empty_struct, final_type, not_null};
 ghost use Rattle.smith_types.specs.ExampleTypes.{nullable, plain, plain_func, struct};
-ghost use Rattle.smith_syntax.specs.declared.composite_type.StorageType.TheVariants.{Val};
-ghost use Rattle.smith_syntax.specs.declared.value_type.AbstractHeapType.TheVariants as heap;
-ghost use Rattle.smith_syntax.specs.declared.value_type.HeapType.TheVariants.{Concrete};
-ghost use Rattle.smith_syntax.specs.declared.value_type.ValType.TheVariants.{I32, Ref};
+ghost use Rattle.smith_types.specs.Syntax.composite_type.StorageType.TheVariants.{Val};
+ghost use Rattle.smith_types.specs.Syntax.value_type.AbstractHeapType.TheVariants as heap;
+ghost use Rattle.smith_types.specs.Syntax.value_type.HeapType.TheVariants.{Concrete};
+ghost use Rattle.smith_types.specs.Syntax.value_type.ValType.TheVariants.{I32, Ref};
 ghost use Rattle.smith_body_law.specs.ExampleContexts.{naming, outside, with_type};
 ghost use Rattle.smith_body_law.specs.Barren.{IsBarrenReference};
 ghost use Rattle.smith_body_law.specs.Unnamed.{AreOfOneModule, IsGroundedByUnnamed};

@@ -1,5 +1,5 @@
 -- Constants, by the family that is drawn.
-use Rattle.std.proofs.Common.{◌≡◌, ℕ, List, refl, ◌∙◌}
+use Rattle.smith_body_leaves.proofs.Common.{List, refl, ℕ, ◌∙◌, ◌≡◌}
 use Rattle.smith_draw_types.specs.Choices.{chosen_at}
 use Rattle.smith_body_nodes.proofs.ChosenLemmas.{chosen_by}
 use Rattle.smith_body_leaves.specs.Constants.{both_listed_at, listed_at, with_value}

@@ -1,20 +1,12 @@
 -- Conversions of references, each with an operand of a valid type.
-use Rattle.std.proofs.Common.{◌≡◌, ℕ, Bool, true, false, List, [], ◌∷◌, Option, Some, None, refl, sym, subst}
-use Rattle.std.specs.Prelude.{IfSome, if◌then◌else◌}
-use Rattle.smith_config.specs.declared.config.Config.{Config}
-use Rattle.smith_syntax.specs.declared.value_type.AbstractHeapType.{AbstractHeapType}
-use Rattle.smith_syntax.specs.declared.value_type.AbstractHeapType.TheVariants as abstract
-use Rattle.smith_syntax.specs.declared.value_type.HeapType.{HeapType}
-use Rattle.smith_syntax.specs.declared.value_type.HeapType.TheVariants.{Abstract, Concrete, Exact}
-use Rattle.smith_syntax.specs.declared.value_type.ValType.{ValType}
-use Rattle.smith_syntax.specs.declared.value_type.ValType.TheVariants.{I32, I64, F32, F64, V128, Ref}
-use Rattle.smith_instr.specs.AggregateTypes.{external, internal}
-use Rattle.smith_instr.specs.Contexts.{BodyContext, IsValid}
+use Rattle.smith_body_leaves.proofs.Common.{[], Abstract, AbstractHeapType, BodyContext, Bool, Concrete, Config, Exact, external, F32, F64}
+use Rattle.smith_body_leaves.proofs.Common.{false, HeapType, I32, I64, IfSome, if◌then◌else◌, internal, is_permitted, IsValid, List, None}
+use Rattle.smith_body_leaves.proofs.Common.{Option, Ref, refl, Some, subst, sym, true, V128, ValType, ℕ, ◌∷◌, ◌≡◌}
+use Rattle.smith_types.specs.Syntax.value_type.AbstractHeapType.TheVariants as abstract
 use Rattle.smith_instr.specs.declared.aggregate.AggregateInstr.TheVariants as aggregate
 use Rattle.smith_instr.specs.declared.instr.Instr.TheVariants as instr
 use Rattle.smith_body_leaves.specs.Leaves.{IsTaking, conversion_over, conversion_to, conversion_to_type, unary_permitted}
 use Rattle.smith_body_leaves.specs.declared.unary.Unary.{Unary}
-use Rattle.smith_body_nodes.specs.Scopes.{is_permitted}
 use Rattle.smith_body_leaves.proofs.LawLemmas.{IsFound}
 use Rattle.smith_body_leaves.proofs.LeafLemmas.{inside_over, internal_valid, outside_over}
 

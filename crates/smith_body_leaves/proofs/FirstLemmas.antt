@@ -1,20 +1,14 @@
 -- The first of the offered items.
-use Rattle.std.proofs.Common.{◌≡◌, ℕ, ◌-◌, ◌<◌, Bool, true, false, List, [], ◌∷◌, Option, Some, None, length, refl, sym, subst, ap, ◌∙◌}
-use Rattle.std.specs.Prelude.{◌&&◌, is_some, slice_get}
+use Rattle.smith_body_leaves.proofs.Common.{[], ap, BodyContext, Bool, both, CompositeInnerType, false, FieldType, is_created_below}
+use Rattle.smith_body_leaves.proofs.Common.{is_some, IsArrayAt, length, List, None, offered, Option, refl, slice_get, Some, subst, SubType}
+use Rattle.smith_body_leaves.proofs.Common.{sym, true, ValType, ℕ, ◌&&◌, ◌<◌, ◌∙◌, ◌∷◌, ◌≡◌}
+use Rattle.std.proofs.Common.{◌-◌}
 use Rattle.std.proofs.Math.Nat.{zero-mod}
 use Rattle.std.proofs.Math.Seq.{take-nil}
 use Rattle.smith_bytes.specs.Draws.{choose_at, range_at}
-use Rattle.smith_types.specs.Expressions.{IsArrayAt}
-use Rattle.smith_syntax.specs.declared.composite_type.CompositeInnerType.{CompositeInnerType}
-use Rattle.smith_syntax.specs.declared.composite_type.FieldType.{FieldType}
-use Rattle.smith_syntax.specs.declared.composite_type.SubType.{SubType}
-use Rattle.smith_syntax.specs.declared.value_type.ValType.{ValType}
-use Rattle.smith_instr.specs.Contexts.{BodyContext}
 use Rattle.smith_body_leaves.specs.FirstCreated.{first_offered, is_created_empty}
-use Rattle.smith_body_nodes.specs.IndexedTypes.{element_in, element_of, is_created_below}
+use Rattle.smith_body_nodes.specs.IndexedTypes.{element_in, element_of}
 use Rattle.smith_body_nodes.proofs.IndexedTypeLemmas.{array_is}
-use Rattle.smith_body_nodes.specs.Offered.{offered}
-use Rattle.smith_body_nodes.proofs.OfferLemmas.{both}
 use Rattle.smith_body_nodes.proofs.OfferedLemmas.{offered_place}
 
 -- without bytes the first number is drawn

@@ -1,30 +1,22 @@
 -- Where `unreachable` is drawn for a value, no other instructions that take no budget produce one.
-use Rattle.std.proofs.Common.{◌≡◌, ℕ, zero, suc, ◌<◌, Bool, true, false, List, [], ◌∷◌, ◌++◌, Option, Some, None, length, refl, sym, subst}
-use Rattle.std.proofs.Common.{ap, ◌∙◌, arith}
-use Rattle.std.specs.Prelude.{◌&&◌, pos, Any, IfSome, is_some, IsTrue, option_and_then, option_map, slice_get, unwrap_or, if◌then◌else◌}
-use Rattle.std.proofs.lemmas.Option.{get_or_from_slice_get, slice_get-get_or, slice_get_within}
+use Rattle.smith_body_leaves.proofs.Common.{[], Abstract, ap, arith, BodyContext, Bool, both, CompositeInnerType, Config, created_reference}
+use Rattle.smith_body_leaves.proofs.Common.{external, F32, F64, false, field_values, FieldType, HeapType, I32, I64, IfSome, if◌then◌else◌}
+use Rattle.smith_body_leaves.proofs.Common.{Instr, internal, is_created_below, is_created_struct, is_global_below, is_named, is_permitted}
+use Rattle.smith_body_leaves.proofs.Common.{is_readable, is_reference, is_some, is_val_below, IsOrderly, IsValBelow, length, List, None}
+use Rattle.smith_body_leaves.proofs.Common.{offered, Option, option_map, pos, Ref, reference_to_function, refl, slice_get, slice_get-get_or}
+use Rattle.smith_body_leaves.proofs.Common.{Some, struct_in, subst, SubType, suc, sym, true, unpacked, V128, ValType, zero, ℕ, ◌&&◌, ◌++◌}
+use Rattle.smith_body_leaves.proofs.Common.{◌<◌, ◌∙◌, ◌∷◌, ◌≡◌}
+use Rattle.std.specs.Prelude.{Any, IsTrue, option_and_then, unwrap_or}
+use Rattle.std.proofs.lemmas.Option.{get_or_from_slice_get, slice_get_within}
 use Rattle.smith_bytes.specs.Draws.{choose_at}
-use Rattle.smith_config.specs.declared.config.Config.{Config}
-use Rattle.smith_types.specs.Expressions.{IsStructAt, field_values, unpacked}
-use Rattle.smith_syntax.specs.Features.{Features}
-use Rattle.smith_types.specs.Subtyping.{IsValBelow}
-use Rattle.smith_types.specs.Types.{IsOrderly}
-use Rattle.smith_syntax.specs.declared.composite_type.CompositeInnerType.{CompositeInnerType}
-use Rattle.smith_syntax.specs.declared.composite_type.FieldType.{FieldType}
-use Rattle.smith_syntax.specs.declared.composite_type.StructType.{StructType}
-use Rattle.smith_syntax.specs.declared.composite_type.SubType.{SubType}
-use Rattle.smith_syntax.specs.declared.value_type.AbstractHeapType.TheVariants as abstract
-use Rattle.smith_syntax.specs.declared.value_type.HeapType.{HeapType}
-use Rattle.smith_syntax.specs.declared.value_type.HeapType.TheVariants.{Abstract}
-use Rattle.smith_syntax.specs.declared.value_type.ValType.{ValType}
-use Rattle.smith_syntax.specs.declared.value_type.ValType.TheVariants.{I32, I64, F32, F64, V128, Ref}
-use Rattle.smith_draw_types.specs.Below.{is_val_below}
-use Rattle.smith_instr.specs.AggregateTypes.{external, internal}
-use Rattle.smith_instr.specs.Contexts.{BodyContext, created_reference, nullable_to, reference_to_function}
+use Rattle.smith_types.specs.Expressions.{IsStructAt}
+use Rattle.smith_types.specs.Syntax.Features.{Features}
+use Rattle.smith_types.specs.Syntax.composite_type.StructType.{StructType}
+use Rattle.smith_types.specs.Syntax.value_type.AbstractHeapType.TheVariants as abstract
+use Rattle.smith_instr.specs.Contexts.{nullable_to}
 use Rattle.smith_instr.specs.Enabled.{is_enabled}
 use Rattle.smith_instr.specs.InstrTypes.{IsNumberOrVector}
 use Rattle.smith_instr.specs.declared.aggregate.AggregateInstr.TheVariants as aggregate
-use Rattle.smith_instr.specs.declared.instr.Instr.{Instr}
 use Rattle.smith_instr.specs.declared.instr.Instr.TheVariants as instr
 use Rattle.smith_instr.specs.declared.reference.ReferenceInstr.TheVariants as reference
 use Rattle.smith_body_leaves.specs.Laws.{HasNoOther, HasNoSingle, HasNoValue, IsConversion, IsI31Creation, IsIndex, IsNumber, IsOther}
@@ -39,12 +31,10 @@ use Rattle.smith_body_leaves.specs.declared.leaf.Leaf.{Leaf}
 use Rattle.smith_body_leaves.specs.declared.unary.Unary.{Unary}
 use Rattle.smith_body_leaves.specs.declared.families.LeafFamily.TheVariants as leaf
 use Rattle.smith_body_leaves.specs.FirstCreated.{first_created_array, first_created_struct, is_created_empty}
-use Rattle.smith_body_nodes.specs.IndexedTypes.{is_created_below, is_created_struct, struct_in, struct_of}
+use Rattle.smith_body_nodes.specs.IndexedTypes.{struct_of}
 use Rattle.smith_body_leaves.proofs.FirstLemmas.{chosen_first, none_offered}
-use Rattle.smith_body_nodes.specs.Offered.{is_global_below, is_named, is_readable, is_reference, offered}
-use Rattle.smith_body_nodes.specs.Scopes.{indexed, is_permitted}
+use Rattle.smith_body_nodes.specs.Scopes.{indexed}
 use Rattle.smith_body_nodes.specs.declared.offer.Reach.TheVariants as reach
-use Rattle.smith_body_nodes.proofs.OfferLemmas.{both}
 use Rattle.smith_body_nodes.proofs.StopLemmas.{stop_forbidden}
 use Rattle.smith_body_leaves.proofs.OtherLemmas.{any_top, array_is, below_is, extern_top, first_passes, global_is, readable_is}
 use Rattle.smith_body_leaves.proofs.OtherLemmas.{reference_is, struct_is}

@@ -1,22 +1,16 @@
 -- The instruction without operands that is chosen.
-use Rattle.std.proofs.Common.{◌≡◌, ℕ, ◌+◌, ◌<◌, ◌≤◌, Bool, true, false, List, [], ◌∷◌, ◌++◌, arith, Option, Some, None, length, get_or}
-use Rattle.std.proofs.Common.{refl, sym, subst, ap, ◌∙◌}
-use Rattle.std.specs.Prelude.{option_map, option_to_list, slice_get, if◌then◌else◌}
-use Rattle.std.proofs.lemmas.Option.{slice_get-get_or}
-use Rattle.smith_config.specs.declared.config.Config.{Config}
-use Rattle.smith_syntax.specs.declared.composite_type.SubType.{SubType}
-use Rattle.smith_syntax.specs.declared.value_type.ValType.{ValType}
+use Rattle.smith_body_leaves.proofs.Common.{[], ap, arith, BodyContext, Bool, Config, false, get_or, if◌then◌else◌, Instr, is_permitted}
+use Rattle.smith_body_leaves.proofs.Common.{is_reference, length, List, None, Option, option_map, refl, slice_get, slice_get-get_or, Some}
+use Rattle.smith_body_leaves.proofs.Common.{subst, SubType, sym, true, ValType, ℕ, ◌++◌, ◌+◌, ◌<◌, ◌∙◌, ◌∷◌, ◌≡◌, ◌≤◌}
+use Rattle.std.specs.Prelude.{option_to_list}
 use Rattle.smith_draw_types.specs.Choices.{chosen_at}
-use Rattle.smith_instr.specs.Contexts.{BodyContext}
-use Rattle.smith_instr.specs.declared.instr.Instr.{Instr}
 use Rattle.smith_instr.specs.declared.instr.Instr.TheVariants as instr
 use Rattle.smith_body_nodes.specs.Chosen.{giving}
 use Rattle.smith_body_leaves.specs.DrawnLeaves.{leaf_at, preferred_to}
 use Rattle.smith_body_leaves.specs.Leaves.{any_leaf_at, constant_instr_at, created_from, created_type, first_leaf, first_of, if_permitted}
 use Rattle.smith_body_leaves.specs.Leaves.{instructions_of, leaf_choice_at, leaf_families, leaf_of, leaf_within, longest_leaf, named_at}
 use Rattle.smith_body_leaves.specs.Leaves.{or_constant, spare_leaf, widest_struct}
-use Rattle.smith_body_nodes.specs.Offered.{is_reference, within_at}
-use Rattle.smith_body_nodes.specs.Scopes.{is_permitted}
+use Rattle.smith_body_nodes.specs.Offered.{within_at}
 use Rattle.smith_body_nodes.specs.declared.offer.Reach.{Reach}
 use Rattle.smith_body_nodes.specs.declared.offer.Reach.TheVariants as reach
 use Rattle.smith_body_leaves.specs.declared.families.LeafFamily.{LeafFamily}

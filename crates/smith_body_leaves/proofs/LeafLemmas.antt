@@ -1,30 +1,25 @@
 -- Instructions that produce a value, and take no budget.
-use Rattle.std.proofs.Common.{◌≡◌, ℕ, Bool, true, false, List, [], ◌∷◌, refl}
-use Rattle.std.specs.Prelude.{◌||◌, not, slice_get}
-use Rattle.smith_config.specs.declared.config.Config.{Config}
-use Rattle.smith_types.specs.Types.{IsOrderly}
-use Rattle.smith_types.specs.Subtyping.{itself}
-use Rattle.smith_syntax.specs.declared.value_type.RefType.{RefType}
-use Rattle.smith_syntax.specs.declared.value_type.ValType.{ValType}
-use Rattle.smith_syntax.specs.declared.value_type.ValType.TheVariants.{I32, Ref}
+use Rattle.smith_body_leaves.proofs.Common.{[], BodyContext, Bool, both, Config, created_reference, external, false, I32, internal}
+use Rattle.smith_body_leaves.proofs.Common.{is_created_below, is_created_struct, is_global_below, is_permitted, is_readable, is_val_below}
+use Rattle.smith_body_leaves.proofs.Common.{IsOrderly, IsValid, itself, List, Ref, refl, slice_get, struct_in, tested, true, ValType, ℕ}
+use Rattle.smith_body_leaves.proofs.Common.{◌∷◌, ◌≡◌}
+use Rattle.std.specs.Prelude.{not, ◌||◌}
+use Rattle.smith_types.specs.Syntax.value_type.RefType.{RefType}
 use Rattle.smith_types.proofs.GrowthLemmas.{IsValBelow-refl}
-use Rattle.smith_draw_types.specs.Below.{is_val_below}
-use Rattle.smith_instr.specs.AggregateTypes.{external, internal}
-use Rattle.smith_instr.specs.Contexts.{BodyContext, IsValid, created_reference}
 use Rattle.smith_instr.specs.Enabled.{is_enabled}
 use Rattle.smith_instr.specs.declared.aggregate.AggregateInstr.TheVariants as aggregate
 use Rattle.smith_instr.specs.declared.instr.Instr.TheVariants as instr
 use Rattle.smith_instr.specs.declared.reference.ReferenceInstr.TheVariants as reference
 use Rattle.smith_body_leaves.specs.Leaves.{IsConstant, IsLeaf, IsTaking, i31_of, i31_type}
-use Rattle.smith_body_nodes.specs.IndexedTypes.{is_creatable_in, is_created_below, is_created_struct, struct_in}
+use Rattle.smith_body_nodes.specs.IndexedTypes.{is_creatable_in}
 use Rattle.smith_body_leaves.specs.FirstCreated.{is_created_empty}
 use Rattle.smith_body_nodes.proofs.IndexedTypeLemmas.{default_there}
 use Rattle.smith_body_leaves.proofs.FirstLemmas.{array_created}
-use Rattle.smith_body_nodes.specs.Scopes.{IsAllowedIn, is_permitted, kinds_of_bodies}
+use Rattle.smith_body_nodes.specs.Scopes.{IsAllowedIn, kinds_of_bodies}
 use Rattle.smith_body_nodes.specs.Traps.{may_trap}
-use Rattle.smith_body_nodes.specs.Offered.{is_readable, is_global_below, IsReferenceTo}
+use Rattle.smith_body_nodes.specs.Offered.{IsReferenceTo}
 use Rattle.smith_body_nodes.specs.declared.scope.Scope.{Scope}
-use Rattle.smith_body_nodes.proofs.OfferLemmas.{both, global_below, readable, tested}
+use Rattle.smith_body_nodes.proofs.OfferLemmas.{global_below, readable}
 use Rattle.smith_body_nodes.proofs.NodeLemmas.{one_valid}
 
 pub null_constant : (to : RefType) → to.nullable ≡ true → IsConstant (Ref to) (instr.Reference (reference.Null to.heap_type))

@@ -1,3 +1,4 @@
+pub mod Common
 pub mod FirstLemmas
 pub mod ReferenceLemmas
 pub mod LeafLemmas

@@ -1,16 +1,10 @@
 -- A value is `unreachable` only if no other instructions that take no budget produce one.
-use Rattle.std.proofs.Common.{◌≡◌, ℕ, Bool, true, false, List, [], ◌∷◌, refl, subst}
-use Rattle.std.specs.Prelude.{if◌then◌else◌}
-use Rattle.smith_config.specs.declared.config.Config.{Config}
-use Rattle.smith_types.specs.Types.{IsOrderly}
-use Rattle.smith_syntax.specs.declared.value_type.ValType.{ValType}
-use Rattle.smith_instr.specs.Contexts.{BodyContext}
-use Rattle.smith_instr.specs.declared.instr.Instr.{Instr}
+use Rattle.smith_body_leaves.proofs.Common.{[], BodyContext, Bool, Config, false, if◌then◌else◌, Instr, is_permitted, IsOrderly, List, refl}
+use Rattle.smith_body_leaves.proofs.Common.{subst, true, ValType, ℕ, ◌∷◌, ◌≡◌}
 use Rattle.smith_instr.specs.declared.instr.Instr.TheVariants as instr
 use Rattle.smith_body_leaves.specs.DrawnLeaves.{leaf_at, permitted_or_spare, preferred_to}
 use Rattle.smith_body_leaves.specs.Laws.{HasNoOther}
 use Rattle.smith_body_leaves.specs.Leaves.{any_leaf_at, first_leaf, spare_leaf}
-use Rattle.smith_body_nodes.specs.Scopes.{is_permitted}
 use Rattle.smith_body_nodes.proofs.StopLemmas.{stop_forbidden}
 use Rattle.smith_body_leaves.proofs.LawLemmas.{apart, both_none, heads, none_other}
 use Rattle.smith_body_leaves.proofs.PreferredLemmas.{preferred_found}

@@ -1,36 +1,32 @@
 -- Items with the wanted property are offered.
-use Rattle.std.proofs.Common.{◌≡◌, ◌⊎◌, inl, inr, ℕ, zero, suc, ◌<◌, Bool, true, false, List, [], ◌∷◌, ◌++◌, Option, Some, refl, sym, subst}
-use Rattle.std.specs.Prelude.{◌&&◌, ◌||◌, nat_lt, slice_get, All, if◌then◌else◌}
+use Rattle.smith_body_leaves.proofs.Common.{[], Abstract, AbstractHeapType, BodyContext, Bool, CompositeInnerType, Concrete}
+use Rattle.smith_body_leaves.proofs.Common.{created_reference, Exact, F32, F64, false, field_values, FieldType, HeapType, I32, I64}
+use Rattle.smith_body_leaves.proofs.Common.{if◌then◌else◌, is_created_struct, is_global_below, is_named, is_readable, is_reference}
+use Rattle.smith_body_leaves.proofs.Common.{is_val_below, IsArrayAt, IsOrderly, IsValBelow, itself, List, offered, Option, Ref}
+use Rattle.smith_body_leaves.proofs.Common.{reference_to_function, refl, slice_get, Some, struct_in, subst, SubType, suc, sym, true}
+use Rattle.smith_body_leaves.proofs.Common.{unpacked, V128, ValType, zero, ℕ, ◌&&◌, ◌++◌, ◌<◌, ◌∷◌, ◌≡◌}
+use Rattle.std.proofs.Common.{inl, inr, ◌⊎◌}
+use Rattle.std.specs.Prelude.{All, nat_lt, ◌||◌}
 use Rattle.std.specs.List.{AllByRecursion, Contains}
 use Rattle.std.proofs.lemmas.Bool.{lt-ltb}
 use Rattle.std.proofs.lemmas.List.Elements.{recursion_from_All}
 use Rattle.std.proofs.lemmas.Option.{same_Some}
-use Rattle.smith_types.specs.Expressions.{IsArrayAt, IsDefaultable, IsStructAt, field_values, unpacked}
+use Rattle.smith_types.specs.Expressions.{IsDefaultable, IsStructAt}
 use Rattle.smith_types.specs.Grounded.{are_defaultable, is_defaultable}
-use Rattle.smith_syntax.specs.Kinds.{bottom_of}
-use Rattle.smith_types.specs.Subtyping.{IsBelow, IsStep, IsValBelow, by_step, is_abstract_step, itself}
-use Rattle.smith_types.specs.Types.{IsOrderly}
-use Rattle.smith_syntax.specs.declared.composite_type.CompositeInnerType.{CompositeInnerType}
-use Rattle.smith_syntax.specs.declared.composite_type.CompositeInnerType.TheVariants.{Array, Func, Struct}
-use Rattle.smith_syntax.specs.declared.composite_type.FieldType.{FieldType}
-use Rattle.smith_syntax.specs.declared.composite_type.SubType.{SubType}
-use Rattle.smith_syntax.specs.declared.entity_type.GlobalType.{GlobalType}
-use Rattle.smith_syntax.specs.declared.value_type.AbstractHeapType.{AbstractHeapType}
-use Rattle.smith_syntax.specs.declared.value_type.AbstractHeapType.TheVariants as abstract
-use Rattle.smith_syntax.specs.declared.value_type.HeapType.{HeapType}
-use Rattle.smith_syntax.specs.declared.value_type.HeapType.TheVariants.{Abstract, Concrete, Exact}
-use Rattle.smith_syntax.specs.declared.value_type.ValType.{ValType}
-use Rattle.smith_syntax.specs.declared.value_type.ValType.TheVariants.{I32, I64, F32, F64, V128, Ref}
-use Rattle.smith_draw_types.specs.Below.{is_val_below}
+use Rattle.smith_types.specs.Syntax.Kinds.{bottom_of}
+use Rattle.smith_types.specs.Subtyping.{by_step, is_abstract_step, IsBelow, IsStep}
+use Rattle.smith_types.specs.Syntax.composite_type.CompositeInnerType.TheVariants.{Array, Func, Struct}
+use Rattle.smith_types.specs.Syntax.entity_type.GlobalType.{GlobalType}
+use Rattle.smith_types.specs.Syntax.value_type.AbstractHeapType.TheVariants as abstract
 use Rattle.smith_draw_types.proofs.BelowLemmas.{val_decides}
-use Rattle.smith_instr.specs.Contexts.{BodyContext, IsLocalSet, created_reference, reference_to_function}
-use Rattle.smith_body_nodes.specs.IndexedTypes.{is_creatable_in, is_created_struct, struct_in, struct_of}
+use Rattle.smith_instr.specs.Contexts.{IsLocalSet}
+use Rattle.smith_body_nodes.specs.IndexedTypes.{is_creatable_in, struct_of}
 use Rattle.smith_body_leaves.specs.FirstCreated.{is_created_empty}
 use Rattle.smith_body_leaves.proofs.FirstLemmas.{array_offered, both_are}
 use Rattle.smith_instr.proofs.AmongLemmas.{among_is}
 use Rattle.smith_instr.specs.SetLocals.{is_among}
-use Rattle.smith_body_nodes.specs.Offered.{has_default, is_global_below, is_global_below_at, is_named, is_readable}
-use Rattle.smith_body_nodes.specs.Offered.{is_readable_at, is_reference, is_reference_at, offered}
+use Rattle.smith_body_nodes.specs.Offered.{has_default, is_global_below_at}
+use Rattle.smith_body_nodes.specs.Offered.{is_readable_at, is_reference_at}
 
 first_is : (a b : Bool) → a ≡ true → (a || b) ≡ true
 first_is true b p = refl

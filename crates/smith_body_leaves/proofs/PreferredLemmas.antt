@@ -1,25 +1,18 @@
 -- Values that are preferred to null.
-use Rattle.std.proofs.Common.{◌≡◌, ℕ, ℤ, Bool, true, false, List, [], ◌∷◌, Option, Some, None, length, refl, sym, subst, ap, ◌∙◌}
-use Rattle.std.specs.Prelude.{◌&&◌, not, pos, IfSome, IsTrue, option_map, slice_get, if◌then◌else◌}
-use Rattle.smith_config.specs.declared.config.Config.{Config}
-use Rattle.smith_types.specs.Expressions.{IsArrayAt, IsDefaultable, unpacked}
+use Rattle.smith_body_leaves.proofs.Common.{[], Abstract, AbstractHeapType, ap, BodyContext, Bool, both, Config, created_reference, F32}
+use Rattle.smith_body_leaves.proofs.Common.{F64, false, FieldType, HeapType, I32, I64, IfSome, if◌then◌else◌, Instr, is_created_below}
+use Rattle.smith_body_leaves.proofs.Common.{is_permitted, is_val_below, IsArrayAt, IsOrderly, IsValBelow, IsValid, itself, length, List}
+use Rattle.smith_body_leaves.proofs.Common.{None, Option, option_map, pos, Ref, refl, slice_get, Some, subst, SubType, sym, tested, true}
+use Rattle.smith_body_leaves.proofs.Common.{unpacked, V128, ValType, ℕ, ◌&&◌, ◌∙◌, ◌∷◌, ◌≡◌}
+use Rattle.std.proofs.Common.{ℤ}
+use Rattle.std.specs.Prelude.{IsTrue, not}
+use Rattle.smith_types.specs.Expressions.{IsDefaultable}
 use Rattle.smith_types.specs.Grounded.{is_defaultable}
-use Rattle.smith_types.specs.Subtyping.{IsValBelow, itself}
-use Rattle.smith_types.specs.Types.{IsOrderly}
 use Rattle.smith_types.proofs.GrowthLemmas.{IsValBelow-refl, IsValBelow-trans}
-use Rattle.smith_syntax.specs.Features.{Features}
-use Rattle.smith_syntax.specs.declared.composite_type.FieldType.{FieldType}
-use Rattle.smith_syntax.specs.declared.composite_type.SubType.{SubType}
-use Rattle.smith_syntax.specs.declared.value_type.AbstractHeapType.{AbstractHeapType}
-use Rattle.smith_syntax.specs.declared.value_type.HeapType.{HeapType}
-use Rattle.smith_syntax.specs.declared.value_type.HeapType.TheVariants.{Abstract}
-use Rattle.smith_syntax.specs.declared.value_type.RefType.{RefType}
-use Rattle.smith_syntax.specs.declared.value_type.ValType.{ValType}
-use Rattle.smith_syntax.specs.declared.value_type.ValType.TheVariants.{I32, I64, F32, F64, V128, Ref}
+use Rattle.smith_types.specs.Syntax.Features.{Features}
+use Rattle.smith_types.specs.Syntax.value_type.RefType.{RefType}
 use Rattle.smith_instr.specs.AggregateTypes.{value_of}
-use Rattle.smith_instr.specs.Contexts.{BodyContext, IsValid, created_reference}
 use Rattle.smith_instr.specs.declared.aggregate.AggregateInstr.TheVariants as aggregate
-use Rattle.smith_instr.specs.declared.instr.Instr.{Instr}
 use Rattle.smith_instr.specs.declared.instr.Instr.TheVariants as instr
 use Rattle.smith_body_leaves.specs.DrawnLeaves.{IsBrief, IsMadeBy, alone, array_at, created_of, created_value_at, has_default_element}
 use Rattle.smith_body_leaves.specs.DrawnLeaves.{held_of, may_be_created, is_created_array, is_to_created, length_at, numbered, or_next}
@@ -32,15 +25,12 @@ use Rattle.smith_body_leaves.specs.declared.families.CreatedFamily.TheVariants a
 use Rattle.smith_body_leaves.specs.declared.families.LeafFamily.{LeafFamily}
 use Rattle.smith_body_leaves.specs.declared.families.LeafFamily.TheVariants as leaf
 use Rattle.smith_body_leaves.specs.declared.leaf.Leaf.{Leaf}
-use Rattle.smith_body_nodes.specs.IndexedTypes.{element_in, is_created_below}
-use Rattle.smith_body_nodes.specs.Scopes.{is_permitted}
+use Rattle.smith_body_nodes.specs.IndexedTypes.{element_in}
 use Rattle.smith_body_nodes.specs.declared.offer.Reach.TheVariants as reach
 use Rattle.smith_body_nodes.proofs.IndexedTypeLemmas.{array_is}
-use Rattle.smith_body_nodes.proofs.OfferLemmas.{both, tested}
 use Rattle.smith_body_leaves.proofs.LawLemmas.{IsFound, IsLeafFound, found, only_found}
 use Rattle.smith_body_leaves.proofs.LeafLemmas.{i31_over}
 use Rattle.smith_body_leaves.proofs.SearchLemmas.{or_some}
-use Rattle.smith_draw_types.specs.Below.{is_val_below}
 
 -- the first of two choices, or the second
 pub next_first : {A : Type 0} (drawn : Option A × List ℕ) (next : List ℕ → Option A × List ℕ) (x : A) (left : List ℕ)

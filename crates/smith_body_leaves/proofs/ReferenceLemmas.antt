@@ -1,18 +1,14 @@
 -- References to functions that may be named.
-use Rattle.std.proofs.Common.{◌≡◌, ℕ, ◌<◌, ◌≤◌, Bool, true, false, List, Option, Some, None, length, get_or, refl, sym, subst, ap, ◌∙◌}
-use Rattle.std.specs.Prelude.{slice_get, if◌then◌else◌, All}
-use Rattle.std.proofs.lemmas.Option.{slice_get-get_or, slice_get_past, slice_get_within, get_or_from_slice_get}
+use Rattle.smith_body_leaves.proofs.Common.{ap, BodyContext, Bool, Concrete, Exact, false, get_or, if◌then◌else◌, is_named, is_reference}
+use Rattle.smith_body_leaves.proofs.Common.{is_val_below, IsOrderly, IsValBelow, length, List, None, Option, reference_to_function, refl}
+use Rattle.smith_body_leaves.proofs.Common.{slice_get, slice_get-get_or, Some, subst, SubType, sym, tested, true, ValType, ℕ, ◌<◌, ◌∙◌, ◌≡◌}
+use Rattle.smith_body_leaves.proofs.Common.{◌≤◌}
+use Rattle.std.specs.Prelude.{All}
+use Rattle.std.proofs.lemmas.Option.{get_or_from_slice_get, slice_get_past, slice_get_within}
 use Rattle.smith_types.specs.Entities.{IsFuncTypeIndex}
 use Rattle.smith_types.specs.Expressions.{reference_to}
-use Rattle.smith_types.specs.Subtyping.{IsValBelow, IsValInRange}
-use Rattle.smith_types.specs.Types.{IsOrderly}
-use Rattle.smith_syntax.specs.declared.composite_type.SubType.{SubType}
-use Rattle.smith_syntax.specs.declared.value_type.HeapType.TheVariants.{Concrete, Exact}
-use Rattle.smith_syntax.specs.declared.value_type.ValType.{ValType}
-use Rattle.smith_draw_types.specs.Below.{is_val_below}
-use Rattle.smith_instr.specs.Contexts.{BodyContext, reference_to_function}
-use Rattle.smith_body_nodes.specs.Offered.{is_reference_at, is_named, is_reference, IsReferenceTo}
-use Rattle.smith_body_nodes.proofs.OfferLemmas.{tested}
+use Rattle.smith_types.specs.Subtyping.{IsValInRange}
+use Rattle.smith_body_nodes.specs.Offered.{is_reference_at, IsReferenceTo}
 
 chosen_in_range : (types : List SubType) (index : ℕ) → index < length types → (a b : Bool)
     → IsValInRange types (if a then reference_to (if b then Exact index else Concrete index) else reference_to (Concrete index))

@@ -1,13 +1,9 @@
 -- The search for a value.
-use Rattle.std.proofs.Common.{◌≡◌, inl, inr, ℕ, zero, suc, ◌-◌, ◌<◌, Bool, true, false, List, Option, Some, None, length, refl, subst}
-use Rattle.std.proofs.Common.{arith}
-use Rattle.std.specs.Prelude.{IfSome, is_some}
+use Rattle.smith_body_leaves.proofs.Common.{arith, BodyContext, Bool, Config, false, IfSome, Instr, is_some, length, List, None, Option}
+use Rattle.smith_body_leaves.proofs.Common.{refl, Some, subst, suc, true, ValType, zero, ℕ, ◌<◌, ◌≡◌}
+use Rattle.std.proofs.Common.{inl, inr, ◌-◌}
 use Rattle.std.specs.Option.{option_or}
 use Rattle.std.proofs.lemmas.Bool.{cases_lt, false≢true}
-use Rattle.smith_config.specs.declared.config.Config.{Config}
-use Rattle.smith_syntax.specs.declared.value_type.ValType.{ValType}
-use Rattle.smith_instr.specs.Contexts.{BodyContext}
-use Rattle.smith_instr.specs.declared.instr.Instr.{Instr}
 use Rattle.smith_body_leaves.specs.Laws.{IsTriedBy}
 use Rattle.smith_body_leaves.specs.Leaves.{created_leaf, created_over, default_struct, empty_array, first_below, first_constant, first_of}
 use Rattle.smith_body_leaves.specs.Leaves.{first_single, first_tried, leaf_within, named_type, only, searches_on, unary_leaf}

@@ -1,19 +1,16 @@
 -- The values of one instruction that the fields of a struct have.
-use Rattle.std.proofs.Common.{◌≡◌, ℕ, zero, suc, ◌+◌, ◌<◌, ◌≤◌, List, [], ◌∷◌, ◌++◌, Option, Some, None, length, get_or, drop, drop-cons}
-use Rattle.std.proofs.Common.{refl, sym, ap, ◌∙◌, append_assoc, arith}
-use Rattle.std.specs.Prelude.{option_to_list, slice_get}
+use Rattle.smith_body_leaves.proofs.Common.{[], ap, arith, BodyContext, Config, drop, field_values, FieldType, get_or, Instr, length, List}
+use Rattle.smith_body_leaves.proofs.Common.{None, Option, refl, slice_get, Some, struct_in, suc, sym, unpacked, ValType, where_stands, zero}
+use Rattle.smith_body_leaves.proofs.Common.{ℕ, ◌++◌, ◌+◌, ◌<◌, ◌∙◌, ◌∷◌, ◌≡◌, ◌≤◌}
+use Rattle.std.proofs.Common.{drop-cons}
+use Rattle.std.proofs.Common.{append_assoc}
+use Rattle.std.specs.Prelude.{option_to_list}
 use Rattle.std.proofs.lemmas.List.{append-nil}
-use Rattle.smith_config.specs.declared.config.Config.{Config}
-use Rattle.smith_types.specs.Expressions.{field_values, unpacked}
-use Rattle.smith_syntax.specs.declared.composite_type.FieldType.{FieldType}
-use Rattle.smith_syntax.specs.declared.composite_type.StructType.{StructType}
-use Rattle.smith_syntax.specs.declared.value_type.ValType.{ValType}
-use Rattle.smith_instr.specs.Contexts.{BodyContext, AreValid}
-use Rattle.smith_instr.specs.declared.instr.Instr.{Instr}
+use Rattle.smith_types.specs.Syntax.composite_type.StructType.{StructType}
+use Rattle.smith_instr.specs.Contexts.{AreValid}
 use Rattle.smith_body_leaves.specs.Leaves.{fields_at, fields_in, first_single, singles}
-use Rattle.smith_body_nodes.specs.IndexedTypes.{struct_in}
 use Rattle.smith_body_nodes.proofs.IndexedTypeLemmas.{struct_fields, struct_there}
-use Rattle.smith_body_nodes.specs.Scopes.{IsScope, where_stands}
+use Rattle.smith_body_nodes.specs.Scopes.{IsScope}
 use Rattle.smith_body_nodes.specs.declared.scope.Draft.{Draft}
 use Rattle.smith_body_nodes.specs.declared.scope.Scope.{Scope}
 use Rattle.smith_body_nodes.proofs.NodeLemmas.{no_valid}

@@ -1,6 +1,6 @@
 -- The first types whose created values match a wanted type.
 use Rattle.std.specs.Prelude.{ℕ, Bool, true, ◌&&◌, Option, is_some, length, slice_get}
-use Rattle.smith_syntax.specs.declared.value_type.ValType.{ValType}
+use Rattle.smith_types.specs.Syntax.value_type.ValType.{ValType}
 use Rattle.smith_instr.specs.Contexts.{BodyContext}
 use Rattle.smith_body_nodes.specs.IndexedTypes.{element_in, is_created_below, is_created_struct}
 use Rattle.smith_body_nodes.specs.Offered.{offered}

@@ -6,15 +6,15 @@ use Rattle.smith_bytes.specs.Draws.{choose_at}
 use Rattle.smith_config.specs.declared.config.Config.{Config}
 use Rattle.smith_types.specs.Expressions.{field_values, reference_to, unpacked}
 use Rattle.smith_types.specs.Subtyping.{IsValBelow}
-use Rattle.smith_syntax.specs.declared.composite_type.FieldType.{FieldType}
-use Rattle.smith_syntax.specs.declared.composite_type.StructType.{StructType}
-use Rattle.smith_syntax.specs.declared.composite_type.SubType.{SubType}
-use Rattle.smith_syntax.specs.declared.value_type.AbstractHeapType.TheVariants as abstract
-use Rattle.smith_syntax.specs.declared.value_type.HeapType.{HeapType}
-use Rattle.smith_syntax.specs.declared.value_type.HeapType.TheVariants.{Abstract, Concrete, Exact}
-use Rattle.smith_syntax.specs.declared.value_type.RefType.{RefType}
-use Rattle.smith_syntax.specs.declared.value_type.ValType.{ValType}
-use Rattle.smith_syntax.specs.declared.value_type.ValType.TheVariants.{I32, I64, F32, F64, V128, Ref}
+use Rattle.smith_types.specs.Syntax.composite_type.FieldType.{FieldType}
+use Rattle.smith_types.specs.Syntax.composite_type.StructType.{StructType}
+use Rattle.smith_types.specs.Syntax.composite_type.SubType.{SubType}
+use Rattle.smith_types.specs.Syntax.value_type.AbstractHeapType.TheVariants as abstract
+use Rattle.smith_types.specs.Syntax.value_type.HeapType.{HeapType}
+use Rattle.smith_types.specs.Syntax.value_type.HeapType.TheVariants.{Abstract, Concrete, Exact}
+use Rattle.smith_types.specs.Syntax.value_type.RefType.{RefType}
+use Rattle.smith_types.specs.Syntax.value_type.ValType.{ValType}
+use Rattle.smith_types.specs.Syntax.value_type.ValType.TheVariants.{I32, I64, F32, F64, V128, Ref}
 use Rattle.smith_draw_types.specs.Below.{is_val_below}
 use Rattle.smith_draw_types.specs.Choices.{chosen_at}
 use Rattle.smith_draw_types.specs.HeldFields.{fields_of}

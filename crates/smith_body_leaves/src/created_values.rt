@@ -3,7 +3,7 @@ ghost use Rattle.smith_bytes.specs.Source.{KeepsPieces};
 ghost use Rattle.smith_instr.specs.Contexts.{IsValid};
 ghost use Rattle.smith_body_leaves.specs.DrawnLeaves.{IsBrief, created_of, created_value_at};
 ghost use Rattle.smith_body_leaves.specs.DrawnLeaves.{is_to_created, may_be_created, over_number};
-ghost use Rattle.smith_syntax.specs.declared.value_type.HeapType.TheVariants.{Abstract};
+ghost use Rattle.smith_types.specs.Syntax.value_type.HeapType.TheVariants.{Abstract};
 ghost use Rattle.smith_body_leaves.specs.declared.families.CreatedFamily.TheVariants as created;
 ghost use Rattle.smith_body_nodes.specs.Scopes.{IsScope, bare, where_stands};
 ghost use Rattle.smith_body_nodes.specs.declared.scope.Draft.{Draft};

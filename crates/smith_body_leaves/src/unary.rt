@@ -1,5 +1,5 @@
 ghost use Rattle.std.specs.Prelude.{◌≡◌, ◌<◌, length, IfSome, false, true};
-ghost use Rattle.smith_syntax.specs.declared.value_type.ValType.TheVariants.{Ref};
+ghost use Rattle.smith_types.specs.Syntax.value_type.ValType.TheVariants.{Ref};
 ghost use Rattle.smith_instr.specs.Contexts.{IsValid};
 ghost use Rattle.smith_body_leaves.specs.Leaves.{conversion_to, conversion_to_type, creation_of};
 ghost use Rattle.smith_body_leaves.specs.Leaves.{fields_at, i31_by, i31_creation, i31_of, i31_type};

@@ -1,11 +1,7 @@
 -- The chosen atomic access, by the drawn places.
-use Rattle.std.proofs.Common.{◌≡◌, ℕ, ◌-◌, ◌<◌, List, Option, None, length, get_or, refl, ap, ◌∙◌}
+use Rattle.smith_body_memory.proofs.Common.{ap, BodyContext, chosen_at, Config, get_or, length, List, None, Option, range_at, refl, ValType}
+use Rattle.smith_body_memory.proofs.Common.{ℕ, ◌-◌, ◌<◌, ◌∙◌, ◌≡◌}
 use Rattle.std.specs.Prelude.{option_map}
-use Rattle.smith_bytes.specs.Draws.{range_at}
-use Rattle.smith_syntax.specs.declared.value_type.ValType.{ValType}
-use Rattle.smith_config.specs.declared.config.Config.{Config}
-use Rattle.smith_draw_types.specs.Choices.{chosen_at}
-use Rattle.smith_instr.specs.Contexts.{BodyContext}
 use Rattle.smith_instr.specs.declared.atomic.AtomicAccess.{AtomicAccess}
 use Rattle.smith_instr.specs.declared.atomic.AtomicAccess.TheVariants as atomic
 use Rattle.smith_instr.specs.declared.atomic.AtomicWidth.{AtomicWidth}

@@ -1,22 +1,18 @@
 -- Nodes of atomic accesses.
-use Rattle.std.proofs.Common.{rules, ◌≡◌, ℕ, ◌<◌, ◌≤◌, Bool, true, List, [], ◌∷◌, length, get_or, refl, subst, arith}
+use Rattle.smith_body_memory.proofs.Common.{[], address, address_valid, arith, BodyContext, Bool, F32, F64, get_or, I32, I64, IsAccess}
+use Rattle.smith_body_memory.proofs.Common.{IsNode, IsValid, length, List, list_all, MemArg, more_valid, no_valid, node_of, one_valid, Ref}
+use Rattle.smith_body_memory.proofs.Common.{refl, rules, subst, true, V128, ValType, ℕ, ◌<◌, ◌∷◌, ◌≡◌, ◌≤◌}
 use Rattle.std.specs.Cmp.Lexicographic.{pointwise}
-use Rattle.std.specs.List.{list_all}
 use Rattle.smith_syntax.specs.contracts.value_type.ValTypePartialEq.TheImpl.{ghosts as val_same}
-use Rattle.smith_syntax.specs.declared.value_type.ValType.{ValType}
-use Rattle.smith_syntax.specs.declared.value_type.ValType.TheVariants.{I32, I64, F32, F64, V128, Ref}
-use Rattle.smith_instr.specs.Contexts.{BodyContext, IsValid, AreValid, address}
-use Rattle.smith_instr.specs.MemoryTypes.{HasAtomicType, IsAccess, atomic_width}
+use Rattle.smith_instr.specs.Contexts.{AreValid}
+use Rattle.smith_instr.specs.MemoryTypes.{atomic_width, HasAtomicType}
 use Rattle.smith_instr.specs.declared.atomic.AtomicAccess.{AtomicAccess}
 use Rattle.smith_instr.specs.declared.atomic.AtomicAccess.TheVariants as atomic
 use Rattle.smith_instr.specs.declared.atomic.AtomicWidth.{AtomicWidth}
 use Rattle.smith_instr.specs.declared.instr.Instr.TheVariants as instr
-use Rattle.smith_instr.specs.declared.memory.MemArg.{MemArg}
 use Rattle.smith_body_memory.specs.AtomicChoices.{atomic_node}
 use Rattle.smith_body_memory.specs.AtomicRows.{atomic_bytes, atomic_operands, atomic_rows}
-use Rattle.smith_body_nodes.specs.Nodes.{IsNode, node_of}
 use Rattle.smith_body_memory.specs.declared.memories.Access.{Access}
-use Rattle.smith_body_nodes.proofs.NodeLemmas.{address_valid, more_valid, no_valid, one_valid}
 use Rattle.smith_body_nodes.proofs.PlainNodeLemmas.{plain_node, row_gives}
 
 -- the results of an atomic access

@@ -1,3 +1,4 @@
+pub mod Common
 pub mod MemoryLemmas
 pub mod MemoryNodeLemmas
 pub mod MemoryChoiceLemmas

@@ -1,21 +1,15 @@
 -- The chosen access to a memory, by the drawn places.
 use Rattle.std.specs.Prelude.{slice_get}
-use Rattle.std.proofs.Common.{◌≡◌, ℕ, ◌-◌, ◌<◌, Bool, List, [], ◌∷◌, Option, Some, None, length, get_or, refl, sym, subst, ap, ◌∙◌}
+use Rattle.smith_body_memory.proofs.Common.{[], address, ap, BodyContext, Bool, chosen_at, Config, get_or, I32, length, List, MemoryType}
+use Rattle.smith_body_memory.proofs.Common.{node_of, None, Option, range_at, refl, Some, subst, sym, ValType, ℕ, ◌-◌, ◌<◌, ◌∙◌, ◌∷◌, ◌≡◌}
 use Rattle.std.proofs.lemmas.Option.{slice_get-get_or, slice_get_past}
-use Rattle.smith_bytes.specs.Draws.{bool_at, choose_at, range_at}
-use Rattle.smith_syntax.specs.declared.value_type.ValType.{ValType}
-use Rattle.smith_syntax.specs.declared.value_type.ValType.TheVariants.{I32}
-use Rattle.smith_syntax.specs.declared.entity_type.MemoryType.{MemoryType}
-use Rattle.smith_config.specs.declared.config.Config.{Config}
-use Rattle.smith_draw_types.specs.Choices.{chosen_at}
-use Rattle.smith_instr.specs.Contexts.{BodyContext, address}
+use Rattle.smith_bytes.specs.Draws.{bool_at, choose_at}
 use Rattle.smith_instr.specs.MemoryTypes.{loaded, stored}
 use Rattle.smith_instr.specs.declared.instr.Instr.TheVariants as instr
 use Rattle.smith_instr.specs.declared.memory.Load.{Load}
 use Rattle.smith_instr.specs.declared.memory.Store.{Store}
 use Rattle.smith_instr.specs.declared.memory.Store.TheVariants as store
 use Rattle.smith_body_nodes.specs.Chosen.{giving}
-use Rattle.smith_body_nodes.specs.Nodes.{node_of}
 use Rattle.smith_body_nodes.specs.Offered.{chunk_at, is_addressed}
 use Rattle.smith_body_nodes.specs.Scopes.{indexed}
 use Rattle.smith_body_nodes.proofs.ChosenLemmas.{choose_none, choose_there, no_count, no_index}

@@ -1,9 +1,9 @@
 -- The pages of valid memories.
-use Rattle.std.proofs.Common.{◌≡◌, ℕ, ◌-◌, ◌^◌, ◌<◌, ◌≤◌, ◌⊎◌, Bool, true, false, List, Option, Some, None, inl, inr, length, get_or, arith}
+use Rattle.smith_body_memory.proofs.Common.{arith, Bool, get_or, length, List, MemoryType, None, Option, Some, true, ℕ, ◌-◌, ◌<◌, ◌≡◌, ◌≤◌}
+use Rattle.std.proofs.Common.{false, inl, inr, ◌^◌, ◌⊎◌}
 use Rattle.std.specs.Prelude.{IfSome, IsTrue, All, if◌then◌else◌}
-use Rattle.smith_syntax.specs.Features.{Features}
+use Rattle.smith_types.specs.Syntax.Features.{Features}
 use Rattle.smith_types.specs.Entities.{IsMemoryValid, addresses, page_log2}
-use Rattle.smith_syntax.specs.declared.entity_type.MemoryType.{MemoryType}
 
 -- a page has at most 64 KiB
 page_fits : (features : Features) (stated : Option ℕ)

@@ -1,22 +1,18 @@
 -- Loads, stores, and the size and growth of memories leave the values of their types.
-use Rattle.std.specs.List.{list_all}
-use Rattle.std.proofs.Common.{rules, ◌≡◌, ℕ, ◌<◌, ◌≤◌, Bool, true, List, [], ◌∷◌, length, get_or, refl, sym, subst, ap, arith}
+use Rattle.smith_body_memory.proofs.Common.{[], address, address_valid, ap, arith, BodyContext, Bool, F32, F64, get_or, I32, I64, IsAccess}
+use Rattle.smith_body_memory.proofs.Common.{IsNode, IsValid, length, List, list_all, MemArg, more_valid, no_valid, node_of, one_valid, Ref}
+use Rattle.smith_body_memory.proofs.Common.{refl, rules, subst, sym, true, V128, ValType, ℕ, ◌<◌, ◌∷◌, ◌≡◌, ◌≤◌}
 use Rattle.std.proofs.lemmas.List.Sums.{AllPass-from_list_all}
 use Rattle.smith_types.specs.Subtyping.{IsValBelow}
-use Rattle.smith_syntax.specs.declared.value_type.ValType.{ValType}
-use Rattle.smith_syntax.specs.declared.value_type.ValType.TheVariants.{I32, I64, F32, F64, V128, Ref}
 use Rattle.smith_types.proofs.GrowthLemmas.{IsValBelow-refl}
-use Rattle.smith_instr.specs.Contexts.{BodyContext, IsValid, address}
-use Rattle.smith_instr.specs.MemoryTypes.{IsAccess, loaded, stored}
+use Rattle.smith_instr.specs.MemoryTypes.{loaded, stored}
 use Rattle.smith_instr.specs.declared.instr.Instr.TheVariants as instr
 use Rattle.smith_instr.specs.declared.memory.Load.{Load}
 use Rattle.smith_instr.specs.declared.memory.Store.{Store}
-use Rattle.smith_instr.specs.declared.memory.MemArg.{MemArg}
 use Rattle.smith_instr.specs.declared.memory.MemoryInstr.TheVariants as memory
-use Rattle.smith_body_nodes.specs.Nodes.{IsNode, node_of}
 use Rattle.smith_body_nodes.specs.Offered.{is_addressed}
 use Rattle.smith_body_nodes.proofs.OfferLemmas.{addressed}
-use Rattle.smith_body_nodes.proofs.NodeLemmas.{address_valid, begins, begins_with, more_valid, no_valid, one_valid, three_wide}
+use Rattle.smith_body_nodes.proofs.NodeLemmas.{begins, begins_with, three_wide}
 use Rattle.smith_body_nodes.proofs.ChosenLemmas.{same_item}
 use Rattle.smith_body_memory.specs.MemoryRows.{loads_of}
 

@@ -1,13 +1,9 @@
 -- The chosen vector instruction, by the drawn places.
-use Rattle.std.proofs.Common.{◌≡◌, ℕ, suc, ◌+◌, ◌-◌, ◌^◌, ◌<◌, true, false, List, [], ◌∷◌, ◌++◌, Option, Some, None, length, get_or, refl}
-use Rattle.std.proofs.Common.{ap, ◌∙◌, add-one}
+use Rattle.smith_body_memory.proofs.Common.{[], ap, BodyContext, chosen_at, Config, get_or, length, List, MemoryType, None, Option}
+use Rattle.smith_body_memory.proofs.Common.{range_at, refl, Some, true, ValType, ℕ, ◌-◌, ◌<◌, ◌∙◌, ◌∷◌, ◌≡◌}
+use Rattle.std.proofs.Common.{false, suc, ◌++◌, ◌+◌, ◌^◌}
+use Rattle.std.proofs.Common.{add-one}
 use Rattle.std.specs.Prelude.{option_map}
-use Rattle.smith_bytes.specs.Draws.{range_at}
-use Rattle.smith_syntax.specs.declared.entity_type.MemoryType.{MemoryType}
-use Rattle.smith_syntax.specs.declared.value_type.ValType.{ValType}
-use Rattle.smith_config.specs.declared.config.Config.{Config}
-use Rattle.smith_draw_types.specs.Choices.{chosen_at}
-use Rattle.smith_instr.specs.Contexts.{BodyContext}
 use Rattle.smith_instr.specs.MemoryTypes.{vector_bytes}
 use Rattle.smith_instr.specs.declared.vector.VectorInstr.{VectorInstr}
 use Rattle.smith_instr.specs.declared.vector.VectorLoad.{VectorLoad}

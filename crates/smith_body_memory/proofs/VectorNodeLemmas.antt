@@ -1,24 +1,20 @@
 -- Nodes of vector instructions.
-use Rattle.std.proofs.Common.{rules, ◌≡◌, ℕ, ◌<◌, ◌≤◌, Bool, true, List, [], ◌∷◌, length, get_or, refl, subst, arith}
+use Rattle.smith_body_memory.proofs.Common.{[], address, address_valid, arith, BodyContext, Bool, F32, F64, get_or, I32, I64, IsAccess}
+use Rattle.smith_body_memory.proofs.Common.{IsNode, IsValid, length, List, list_all, MemArg, more_valid, no_valid, node_of, one_valid, Ref}
+use Rattle.smith_body_memory.proofs.Common.{refl, rules, subst, true, V128, ValType, ℕ, ◌<◌, ◌∷◌, ◌≡◌, ◌≤◌}
 use Rattle.std.specs.Prelude.{IsTrue}
 use Rattle.std.specs.Cmp.Lexicographic.{pointwise}
-use Rattle.std.specs.List.{list_all}
 use Rattle.std.proofs.lemmas.List.Sums.{AllPass-from_list_all}
 use Rattle.smith_syntax.specs.contracts.value_type.ValTypePartialEq.TheImpl.{ghosts as val_same}
-use Rattle.smith_syntax.specs.declared.value_type.ValType.{ValType}
-use Rattle.smith_syntax.specs.declared.value_type.ValType.TheVariants.{I32, I64, F32, F64, V128, Ref}
-use Rattle.smith_instr.specs.Contexts.{BodyContext, IsValid, AreValid, address}
-use Rattle.smith_instr.specs.MemoryTypes.{IsAccess, IsLane, vector_bytes}
+use Rattle.smith_instr.specs.Contexts.{AreValid}
+use Rattle.smith_instr.specs.MemoryTypes.{IsLane, vector_bytes}
 use Rattle.smith_instr.specs.VectorTypes.{HasVectorType}
 use Rattle.smith_instr.specs.declared.instr.Instr.TheVariants as instr
-use Rattle.smith_instr.specs.declared.memory.MemArg.{MemArg}
 use Rattle.smith_instr.specs.declared.vector.VectorInstr.{VectorInstr}
 use Rattle.smith_instr.specs.declared.vector.VectorLoad.{VectorLoad}
 use Rattle.smith_body_nodes.specs.NumericChoices.{is_numeric}
-use Rattle.smith_body_nodes.specs.Nodes.{IsNode, node_of}
 use Rattle.smith_body_memory.specs.VectorChoices.{vector_node}
 use Rattle.smith_body_memory.specs.VectorRows.{vector_operands, vector_result, vector_rows}
-use Rattle.smith_body_nodes.proofs.NodeLemmas.{address_valid, more_valid, no_valid, one_valid}
 use Rattle.smith_body_nodes.proofs.PlainNodeLemmas.{plain_node, row_gives}
 
 -- numbers and vectors are valid if vectors are enabled

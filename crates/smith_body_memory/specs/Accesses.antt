@@ -3,12 +3,10 @@ use Rattle.std.specs.Prelude.{ℕ, ◌+◌, ◌-◌, ◌*◌, ◌^◌, min, max,
 use Rattle.std.specs.Prelude.{if◌then◌else◌}
 use Rattle.smith_bytes.specs.Draws.{range_at}
 use Rattle.smith_types.specs.Entities.{addresses, page_log2}
-use Rattle.smith_syntax.specs.declared.entity_type.MemoryType.{MemoryType}
-use Rattle.smith_config.specs.declared.config.Config.{Config}
+use Rattle.smith_body_memory.specs.Common.{Config, MemoryType, Node}
 use Rattle.smith_config.specs.declared.offset_choices.MemoryOffsetChoices.{MemoryOffsetChoices}
 use Rattle.smith_body_nodes.specs.Scopes.{indexed}
 use Rattle.smith_body_memory.specs.declared.memories.Access.{Access}
-use Rattle.smith_body_nodes.specs.declared.node.Node.{Node}
 
 -- the number of bytes of pages of a memory
 abbrev pub bytes_of : MemoryType → ℕ → ℕ

@@ -1,20 +1,13 @@
 -- Drawn atomic accesses. The choices, their order and their weights are rules of this project.
 use Rattle.std.specs.Prelude.{ℕ, Option, Some, None, List, ◌∷◌}
-use Rattle.smith_bytes.specs.Draws.{choose_at}
-use Rattle.smith_syntax.specs.declared.value_type.ValType.{ValType}
-use Rattle.smith_syntax.specs.declared.entity_type.MemoryType.{MemoryType}
-use Rattle.smith_config.specs.declared.config.Config.{Config}
-use Rattle.smith_draw_types.specs.Choices.{chosen_at}
-use Rattle.smith_instr.specs.Contexts.{BodyContext, address}
+use Rattle.smith_body_memory.specs.Common.{address, BodyContext, choose_at, chosen_at, Config, MemoryType, Node, node_of, ValType}
 use Rattle.smith_instr.specs.declared.atomic.AtomicAccess.{AtomicAccess}
 use Rattle.smith_instr.specs.declared.atomic.AtomicAccess.TheVariants as atomic
 use Rattle.smith_instr.specs.declared.atomic.AtomicWidth.TheVariants as width
 use Rattle.smith_instr.specs.declared.instr.Instr.TheVariants as instr
 use Rattle.smith_body_memory.specs.Accesses.{access_at, accessing}
 use Rattle.smith_body_memory.specs.AtomicRows.{atomic_bytes, atomic_operands, atomic_rows, atomic_widths}
-use Rattle.smith_body_nodes.specs.Nodes.{node_of}
 use Rattle.smith_body_memory.specs.declared.memories.Access.{Access}
-use Rattle.smith_body_nodes.specs.declared.node.Node.{Node}
 
 -- an atomic access, whose alignment is its size
 abbrev pub atomic_node : AtomicAccess → Access → Node

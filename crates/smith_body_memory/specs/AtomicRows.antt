@@ -1,8 +1,8 @@
 -- Atomic accesses by the type of their result, and their operands and results.
 use Rattle.std.specs.Prelude.{ℕ, List, [], ◌∷◌}
-use Rattle.smith_syntax.specs.declared.value_type.ValType.{ValType}
-use Rattle.smith_syntax.specs.declared.value_type.ValType.TheVariants as value
-use Rattle.smith_syntax.specs.declared.value_type.ValType.TheVariants.{I32, I64}
+use Rattle.smith_body_memory.specs.Common.{I32, ValType}
+use Rattle.smith_types.specs.Syntax.value_type.ValType.TheVariants as value
+use Rattle.smith_types.specs.Syntax.value_type.ValType.TheVariants.{I64}
 use Rattle.smith_instr.specs.MemoryTypes.{atomic_width}
 use Rattle.smith_instr.specs.declared.atomic.AtomicAccess.{AtomicAccess}
 use Rattle.smith_instr.specs.declared.atomic.AtomicAccess.TheVariants as atomic

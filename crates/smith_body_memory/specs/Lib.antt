@@ -1,3 +1,4 @@
+pub mod Common
 pub mod Accesses
 pub mod MemoryRows
 pub mod MemoryChoices

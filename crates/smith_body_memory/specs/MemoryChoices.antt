@@ -1,13 +1,8 @@
 -- Drawn loads and stores, and drawn instructions on the size of a memory. The choices, their order
 -- and their weights are rules of this project.
 use Rattle.std.specs.Prelude.{ℕ, Bool, Option, Some, None, List, [], ◌∷◌, length, if◌then◌else◌}
-use Rattle.smith_bytes.specs.Draws.{bool_at, choose_at}
-use Rattle.smith_syntax.specs.declared.value_type.ValType.{ValType}
-use Rattle.smith_syntax.specs.declared.value_type.ValType.TheVariants.{I32}
-use Rattle.smith_syntax.specs.declared.entity_type.MemoryType.{MemoryType}
-use Rattle.smith_config.specs.declared.config.Config.{Config}
-use Rattle.smith_draw_types.specs.Choices.{chosen_at}
-use Rattle.smith_instr.specs.Contexts.{BodyContext, address}
+use Rattle.smith_body_memory.specs.Common.{address, BodyContext, choose_at, chosen_at, Config, I32, MemoryType, Node, node_of, ValType}
+use Rattle.smith_bytes.specs.Draws.{bool_at}
 use Rattle.smith_instr.specs.MemoryTypes.{loaded, stored}
 use Rattle.smith_instr.specs.declared.instr.Instr.TheVariants as instr
 use Rattle.smith_instr.specs.declared.memory.Load.{Load}
@@ -15,10 +10,8 @@ use Rattle.smith_instr.specs.declared.memory.Store.{Store}
 use Rattle.smith_instr.specs.declared.memory.Store.TheVariants as store
 use Rattle.smith_instr.specs.declared.memory.MemoryInstr.TheVariants as memory
 use Rattle.smith_body_nodes.specs.Chosen.{Chosen, giving}
-use Rattle.smith_body_nodes.specs.Nodes.{node_of}
 use Rattle.smith_body_nodes.specs.Offered.{chunk_at, is_addressed}
 use Rattle.smith_body_nodes.specs.Scopes.{indexed}
-use Rattle.smith_body_nodes.specs.declared.node.Node.{Node}
 use Rattle.smith_body_memory.specs.Accesses.{access_at}
 use Rattle.smith_body_memory.specs.MemoryRows.{loads_of, stores}
 use Rattle.smith_body_memory.specs.declared.memories.Access.{Access}

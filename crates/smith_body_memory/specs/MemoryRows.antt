@@ -1,7 +1,7 @@
 -- The loads by the type of their value, and the stores.
 use Rattle.std.specs.Prelude.{List, [], ◌∷◌}
-use Rattle.smith_syntax.specs.declared.value_type.ValType.{ValType}
-use Rattle.smith_syntax.specs.declared.value_type.ValType.TheVariants as value
+use Rattle.smith_body_memory.specs.Common.{ValType}
+use Rattle.smith_types.specs.Syntax.value_type.ValType.TheVariants as value
 use Rattle.smith_instr.specs.declared.memory.Load.{Load}
 use Rattle.smith_instr.specs.declared.memory.Load.TheVariants as load
 use Rattle.smith_instr.specs.declared.memory.Store.{Store}

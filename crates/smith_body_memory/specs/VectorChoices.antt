@@ -1,12 +1,8 @@
 -- Drawn vector instructions. The choices, their order and their weights are rules of this project.
 use Rattle.std.specs.Prelude.{ℕ, zero, suc, ◌-◌, ◌^◌, Option, Some, None, List, [], ◌∷◌, ◌++◌, if◌then◌else◌}
-use Rattle.smith_bytes.specs.Draws.{choose_at, range_at}
-use Rattle.smith_syntax.specs.declared.value_type.ValType.{ValType}
-use Rattle.smith_syntax.specs.declared.value_type.ValType.TheVariants.{V128}
-use Rattle.smith_syntax.specs.declared.entity_type.MemoryType.{MemoryType}
-use Rattle.smith_config.specs.declared.config.Config.{Config}
-use Rattle.smith_draw_types.specs.Choices.{chosen_at}
-use Rattle.smith_instr.specs.Contexts.{BodyContext, address}
+use Rattle.smith_body_memory.specs.Common.{address, BodyContext, choose_at, chosen_at, Config, MemoryType, Node, node_of, ValType}
+use Rattle.smith_bytes.specs.Draws.{range_at}
+use Rattle.smith_types.specs.Syntax.value_type.ValType.TheVariants.{V128}
 use Rattle.smith_instr.specs.MemoryTypes.{vector_bytes}
 use Rattle.smith_instr.specs.VectorTypes.{extracted, lanes}
 use Rattle.smith_instr.specs.declared.instr.Instr.TheVariants as instr
@@ -15,13 +11,11 @@ use Rattle.smith_instr.specs.declared.vector.VectorInstr.TheVariants as vector
 use Rattle.smith_instr.specs.declared.vector.VectorLoad.{VectorLoad}
 use Rattle.smith_instr.specs.declared.vector.VectorLoad.TheVariants as load
 use Rattle.smith_body_memory.specs.Accesses.{access_at, accessing}
-use Rattle.smith_body_nodes.specs.Nodes.{node_of}
 use Rattle.smith_body_memory.specs.VectorRows.{vector_loads, vector_operands, vector_rows}
 use Rattle.smith_body_memory.specs.declared.vectors.VectorFamily.{VectorFamily}
 use Rattle.smith_body_memory.specs.declared.vectors.VectorFamily.TheVariants as family
 use Rattle.smith_body_memory.specs.declared.memories.Access.{Access}
 use Rattle.smith_body_memory.specs.declared.vector_memory.LaneAccess.{LaneAccess}
-use Rattle.smith_body_nodes.specs.declared.node.Node.{Node}
 
 -- lanes of two vectors of bytes, one after another
 unfoldable pub shuffled_at : ℕ → List ℕ → List ℕ × List ℕ

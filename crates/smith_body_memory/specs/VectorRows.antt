@@ -1,9 +1,9 @@
 -- Vector instructions by the type of their result, with lane 0 if they have lanes, and the types of
 -- their operands and results.
 use Rattle.std.specs.Prelude.{List, [], ◌∷◌, replicate}
-use Rattle.smith_syntax.specs.declared.value_type.ValType.{ValType}
-use Rattle.smith_syntax.specs.declared.value_type.ValType.TheVariants as value
-use Rattle.smith_syntax.specs.declared.value_type.ValType.TheVariants.{I32, V128}
+use Rattle.smith_body_memory.specs.Common.{I32, ValType}
+use Rattle.smith_types.specs.Syntax.value_type.ValType.TheVariants as value
+use Rattle.smith_types.specs.Syntax.value_type.ValType.TheVariants.{V128}
 use Rattle.smith_instr.specs.VectorTypes.{extracted, lanes}
 use Rattle.smith_instr.specs.declared.vector.IntShape.TheVariants as int_shape
 use Rattle.smith_instr.specs.declared.vector.LaneShape.TheVariants as shape

@@ -1,6 +1,6 @@
 ghost use Rattle.std.specs.Prelude.{◌≡◌, ◌-◌, ◌<◌, ◌≤◌, ◌^◌, [], ◌∷◌, IfOk, IfErr, IfSome, IsTrue};
 ghost use Rattle.smith_bytes.specs.Source.{KeepsPieces};
-ghost use Rattle.smith_syntax.specs.declared.value_type.ValType.TheVariants.{V128};
+ghost use Rattle.smith_types.specs.Syntax.value_type.ValType.TheVariants.{V128};
 ghost use Rattle.smith_instr.specs.MemoryTypes.{IsAccess, IsLane, vector_bytes};
 ghost use Rattle.smith_body_nodes.specs.Chosen.{or_nop};
 ghost use Rattle.smith_body_nodes.specs.Nodes.{IsNode, IsOffer};

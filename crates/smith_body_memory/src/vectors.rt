@@ -1,6 +1,6 @@
 ghost use Rattle.std.specs.Prelude.{◌≡◌, ◌-◌, ◌<◌, ℕ, All, [], ◌∷◌, IfOk, IfErr, IsTrue};
 ghost use Rattle.smith_bytes.specs.Source.{KeepsPieces};
-ghost use Rattle.smith_syntax.specs.declared.value_type.ValType.TheVariants.{V128};
+ghost use Rattle.smith_types.specs.Syntax.value_type.ValType.TheVariants.{V128};
 ghost use Rattle.smith_instr.specs.Contexts.{IsValid};
 ghost use Rattle.smith_instr.specs.VectorTypes.{HasVectorType, extracted, lanes};
 ghost use Rattle.smith_body_nodes.specs.Nodes.{IsOffer};

@@ -1,19 +1,12 @@
 -- Types that a reference type matches.
-use Rattle.std.proofs.Common.{◌≡◌, ℕ, ◌<◌, true, false, List, Option, Some, None, length, get_or, refl, subst, ap, ◌∙◌}
+use Rattle.smith_body_nodes.proofs.Common.{Abstract, ap, BodyContext, choose_at, F32, F64, false, get_or, I32, I64, is_val_below, IsOrderly}
+use Rattle.smith_body_nodes.proofs.Common.{IsValid, length, List, None, Option, Ref, refl, RefType, slice_get-get_or, Some, subst, SubType}
+use Rattle.smith_body_nodes.proofs.Common.{true, V128, ValType, ℕ, ◌<◌, ◌∙◌, ◌≡◌}
 use Rattle.std.specs.Prelude.{unwrap_or}
-use Rattle.std.proofs.lemmas.Option.{slice_get-get_or}
-use Rattle.smith_bytes.specs.Draws.{bool_at, choose_at}
+use Rattle.smith_bytes.specs.Draws.{bool_at}
 use Rattle.smith_types.specs.Subtyping.{IsRefBelow, itself}
-use Rattle.smith_types.specs.Types.{IsOrderly}
-use Rattle.smith_syntax.specs.declared.composite_type.SubType.{SubType}
-use Rattle.smith_syntax.specs.declared.value_type.AbstractHeapType.{AbstractHeapType}
-use Rattle.smith_syntax.specs.declared.value_type.AbstractHeapType.TheVariants as abstract
-use Rattle.smith_syntax.specs.declared.value_type.HeapType.TheVariants.{Abstract}
-use Rattle.smith_syntax.specs.declared.value_type.RefType.{RefType}
-use Rattle.smith_syntax.specs.declared.value_type.ValType.{ValType}
-use Rattle.smith_syntax.specs.declared.value_type.ValType.TheVariants.{I32, I64, F32, F64, V128, Ref}
-use Rattle.smith_draw_types.specs.Below.{is_val_below}
-use Rattle.smith_instr.specs.Contexts.{BodyContext, IsValid}
+use Rattle.smith_types.specs.Syntax.value_type.AbstractHeapType.{AbstractHeapType}
+use Rattle.smith_types.specs.Syntax.value_type.AbstractHeapType.TheVariants as abstract
 use Rattle.smith_body_nodes.specs.Above.{above_at, above_in, is_above, is_above_at, is_internal, is_under, local_above_at, nullable_type}
 use Rattle.smith_body_nodes.specs.Above.{reference_in, top_above, with_null}
 use Rattle.smith_body_nodes.specs.Offered.{offered}

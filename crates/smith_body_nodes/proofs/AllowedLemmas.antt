@@ -1,14 +1,12 @@
 -- Instructions that may be chosen are allowed.
-use Rattle.std.specs.Prelude.{◌&&◌, ◌||◌, not, IsTrue, All}
-use Rattle.std.proofs.Common.{◌≡◌, Bool, true, false, List, refl, ◌<◌, length, sym, ◌∙◌}
+use Rattle.smith_body_nodes.proofs.Common.{Bool, false, Features, Instr, length, List, refl, sym, true, ◌&&◌, ◌<◌, ◌||◌, ◌∙◌, ◌≡◌}
+use Rattle.std.specs.Prelude.{All, IsTrue, not}
 use Rattle.std.proofs.lemmas.Bool.{false≢true}
 use Rattle.std.proofs.lemmas.List.Elements.{All-weaker}
-use Rattle.smith_syntax.specs.FeatureBits.{features_in}
-use Rattle.smith_syntax.specs.Features.{Features}
-use Rattle.smith_syntax.specs.declared.instruction_kind.InstructionKind.TheVariants as kind
+use Rattle.smith_types.specs.Syntax.FeatureBits.{features_in}
+use Rattle.smith_types.specs.Syntax.instruction_kind.InstructionKind.TheVariants as kind
 use Rattle.smith_config.specs.declared.config.Config.{Config}
 use Rattle.smith_instr.specs.Enabled.{is_enabled, IsEnabled, is_allowed, is_block_enabled}
-use Rattle.smith_instr.specs.declared.instr.Instr.{Instr}
 use Rattle.smith_instr.specs.declared.control.BlockType.{BlockType}
 use Rattle.smith_instr.specs.declared.control.Catch.{Catch}
 use Rattle.smith_instr.specs.declared.instr.Instr.TheVariants as instr

@@ -1,9 +1,6 @@
 -- Tests of lists.
-use Rattle.std.proofs.Common.{◌≡◌, suc, Bool, true, false, List, [], ◌∷◌, length, refl, ap, ◌∙◌}
-use Rattle.std.specs.Prelude.{◌&&◌}
-use Rattle.smith_syntax.specs.declared.value_type.ValType.{ValType}
-use Rattle.smith_syntax.specs.declared.composite_type.SubType.{SubType}
-use Rattle.smith_draw_types.specs.Below.{is_val_below}
+use Rattle.smith_body_nodes.proofs.Common.{[], ap, Bool, false, is_val_below, length, List, refl, SubType, suc, true, ValType, ◌&&◌, ◌∙◌}
+use Rattle.smith_body_nodes.proofs.Common.{◌∷◌, ◌≡◌}
 use Rattle.smith_body_nodes.specs.Offered.{are_below}
 
 and_false : (b : Bool) → false ≡ (b && false)

@@ -1,9 +1,9 @@
 -- Draws of items, and the chosen node.
 use Rattle.std.specs.Prelude.{Result, Ok, Err, IfOk, ◌==◌}
 use Rattle.std.specs.Cmp.{unsigned_Decides}
-use Rattle.std.proofs.Common.{◌≡◌, ℕ, ◌<◌, ◌≤◌, ◌-◌, List, [], ◌∷◌, length, get_or, sym, ◌∙◌, false, Some, None, refl, ap, arith}
-use Rattle.std.proofs.lemmas.Option.{same_Some, slice_get-get_or}
-use Rattle.smith_bytes.specs.Draws.{choose_at, digit_count, range_at}
+use Rattle.smith_body_nodes.proofs.Common.{[], ap, arith, choose_at, false, get_or, length, List, None, range_at, refl, same_Some}
+use Rattle.smith_body_nodes.proofs.Common.{slice_get-get_or, Some, sym, ℕ, ◌-◌, ◌<◌, ◌∙◌, ◌∷◌, ◌≡◌, ◌≤◌}
+use Rattle.smith_bytes.specs.Draws.{digit_count}
 use Rattle.smith_bytes.specs.declared.error.Error.{Error}
 use Rattle.smith_draw_types.specs.Choices.{chosen_at}
 use Rattle.smith_instr.specs.declared.instr.Instr.TheVariants as instr

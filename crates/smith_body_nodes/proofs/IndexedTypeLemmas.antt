@@ -1,20 +1,18 @@
 -- Types by their indices.
-use Rattle.std.proofs.Common.{◌≡◌, ℕ, ◌<◌, true, List, [], ◌∷◌, Option, Some, None, length, get_or, refl, subst, ap, arith}
-use Rattle.std.specs.Prelude.{slice_get, map, All}
+use Rattle.smith_body_nodes.proofs.Common.{[], ap, AreValid, arith, BodyContext, get_or, IsValid, length, List, None, Option, refl}
+use Rattle.smith_body_nodes.proofs.Common.{same_Some, slice_get, Some, subst, SubType, true, ℕ, ◌<◌, ◌∷◌, ◌≡◌}
+use Rattle.std.specs.Prelude.{All, map}
 use Rattle.std.proofs.lemmas.List.{get_or-map, length-map}
 use Rattle.std.proofs.lemmas.List.Elements.{All-from_recursion}
-use Rattle.std.proofs.lemmas.Option.{same_Some}
 use Rattle.smith_types.specs.Expressions.{IsArrayAt, IsDefaultable, IsStructAt, field_values, unpacked}
 use Rattle.smith_types.specs.Grounded.{are_defaultable}
-use Rattle.smith_syntax.specs.declared.composite_type.CompositeInnerType.{CompositeInnerType}
-use Rattle.smith_syntax.specs.declared.composite_type.CompositeInnerType.TheVariants as inner
-use Rattle.smith_syntax.specs.declared.composite_type.FieldType.{FieldType}
-use Rattle.smith_syntax.specs.declared.composite_type.StructType.{StructType}
-use Rattle.smith_syntax.specs.declared.composite_type.SubType.{SubType}
+use Rattle.smith_types.specs.Syntax.composite_type.CompositeInnerType.{CompositeInnerType}
+use Rattle.smith_types.specs.Syntax.composite_type.CompositeInnerType.TheVariants as inner
+use Rattle.smith_types.specs.Syntax.composite_type.FieldType.{FieldType}
+use Rattle.smith_types.specs.Syntax.composite_type.StructType.{StructType}
 use Rattle.smith_types.proofs.GroundedLemmas.{defaults_each}
 use Rattle.smith_draw_types.specs.HeldFields.{fields_of}
 use Rattle.smith_instr.specs.AggregateTypes.{value_of}
-use Rattle.smith_instr.specs.Contexts.{BodyContext, IsValid, AreValid}
 use Rattle.smith_body_nodes.specs.IndexedTypes.{AreFieldsValid, element_in, element_of, is_creatable_in, struct_in, struct_of}
 use Rattle.smith_body_nodes.specs.Scopes.{IsScope}
 

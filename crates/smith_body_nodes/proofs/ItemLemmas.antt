@@ -1,7 +1,6 @@
 -- Draws of items, and the draws that follow.
-use Rattle.std.proofs.Common.{◌≡◌, ℕ, zero, suc, ◌-◌, ◌<◌, List, Option, Some, None, length, refl, ap, ◌∙◌, arith}
-use Rattle.std.specs.Prelude.{slice_get, option_map}
-use Rattle.smith_bytes.specs.Draws.{range_at}
+use Rattle.smith_body_nodes.proofs.Common.{ap, arith, length, List, None, Option, option_map, range_at, refl, slice_get, Some, suc, zero, ℕ}
+use Rattle.smith_body_nodes.proofs.Common.{◌-◌, ◌<◌, ◌∙◌, ◌≡◌}
 use Rattle.smith_body_nodes.specs.Chosen.{giving}
 use Rattle.smith_body_nodes.specs.Items.{index_at, item_at}
 use Rattle.smith_body_nodes.specs.Scopes.{indexed}

@@ -1,9 +1,6 @@
 -- The operands of a branch to a label.
-use Rattle.std.specs.Prelude.{slice_get}
-use Rattle.std.proofs.Common.{◌≡◌, ℕ, ◌<◌, ◌≤◌, List, Some, length, get_or, refl, sym, subst}
+use Rattle.smith_body_nodes.proofs.Common.{AreValid, get_or, length, List, refl, slice_get, Some, subst, sym, ValType, ℕ, ◌<◌, ◌≡◌, ◌≤◌}
 use Rattle.std.proofs.lemmas.Option.{slice_get_read}
-use Rattle.smith_syntax.specs.declared.value_type.ValType.{ValType}
-use Rattle.smith_instr.specs.Contexts.{AreValid}
 use Rattle.smith_body_nodes.specs.Scopes.{AreLabels, bare, widest}
 use Rattle.smith_body_nodes.specs.declared.scope.Scope.{Scope}
 

@@ -1,3 +1,4 @@
+pub mod Common
 pub mod OfferedLemmas
 pub mod OfferLemmas
 pub mod IndexedTypeLemmas

@@ -1,20 +1,13 @@
 -- Nodes that leave the values of their types.
-use Rattle.std.specs.Prelude.{slice_get}
-use Rattle.std.specs.List.{list_all, AllZip}
-use Rattle.std.proofs.Common.{◌≡◌, ℕ, zero, suc, ◌+◌, ◌≤◌, Bool, true, false, List, [], ◌∷◌, Some, length, get_or, drop, refl, ap, arith}
+use Rattle.smith_body_nodes.proofs.Common.{[], AllPass-from_list_all, ap, AreValid, arith, below_themselves, BodyContext, Bool, drop, F32}
+use Rattle.smith_body_nodes.proofs.Common.{F64, false, get_or, I32, I64, IsOrderly, IsValBelow, IsValid, length, List, list_all, Ref, refl}
+use Rattle.smith_body_nodes.proofs.Common.{same_Some, slice_get, Some, SubType, suc, true, V128, ValType, zero, ℕ, ◌+◌, ◌∷◌, ◌≡◌, ◌≤◌}
+use Rattle.std.specs.List.{AllZip}
 use Rattle.std.proofs.lemmas.List.Elements.{All-nil, All-append, All-push}
-use Rattle.std.proofs.lemmas.List.Sums.{AllPass-from_list_all}
-use Rattle.std.proofs.lemmas.Option.{same_Some}
-use Rattle.smith_types.specs.Subtyping.{IsValBelow}
-use Rattle.smith_types.specs.Types.{IsOrderly}
 use Rattle.smith_types.specs.Entities.{IsFuncAt}
-use Rattle.smith_syntax.specs.declared.value_type.ValType.{ValType}
-use Rattle.smith_syntax.specs.declared.value_type.ValType.TheVariants.{I32, I64, F32, F64, V128, Ref}
-use Rattle.smith_syntax.specs.declared.composite_type.FuncType.{FuncType}
-use Rattle.smith_syntax.specs.declared.composite_type.SubType.{SubType}
-use Rattle.smith_instr.specs.Contexts.{BodyContext, IsValid, AreValid, address}
+use Rattle.smith_types.specs.Syntax.composite_type.FuncType.{FuncType}
+use Rattle.smith_instr.specs.Contexts.{address}
 use Rattle.smith_instr.specs.declared.instr.Instr.TheVariants as instr
-use Rattle.smith_instr.proofs.SequenceLemmas.{below_themselves}
 use Rattle.smith_body_nodes.specs.Scopes.{func_size, widest}
 use Rattle.smith_body_nodes.specs.Nodes.{IsNode, node_of}
 use Rattle.smith_body_nodes.specs.Offered.{is_first_below}

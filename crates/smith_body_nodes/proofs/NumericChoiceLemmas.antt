@@ -1,7 +1,6 @@
 -- The chosen numeric instruction, by the drawn place.
-use Rattle.std.proofs.Common.{◌≡◌, ℕ, ◌-◌, ◌<◌, List, Option, Some, None, length, get_or, sym, subst, ap, ◌∙◌}
-use Rattle.smith_bytes.specs.Draws.{choose_at, range_at}
-use Rattle.smith_syntax.specs.declared.value_type.ValType.{ValType}
+use Rattle.smith_body_nodes.proofs.Common.{ap, choose_at, get_or, length, List, None, Option, range_at, Some, subst, sym, ValType, ℕ, ◌-◌}
+use Rattle.smith_body_nodes.proofs.Common.{◌<◌, ◌∙◌, ◌≡◌}
 use Rattle.smith_instr.specs.NumericTypes.{signature}
 use Rattle.smith_instr.specs.declared.instr.Instr.TheVariants as instr
 use Rattle.smith_instr.specs.declared.numeric.NumericInstr.{NumericInstr}

@@ -1,17 +1,14 @@
 -- Numeric instructions, and `select`, leave the values of their types.
-use Rattle.std.specs.List.{list_all}
-use Rattle.std.proofs.Common.{rules, ◌≡◌, ℕ, suc, ◌+◌, ◌-◌, ◌<◌, ◌≤◌, true, List, [], ◌∷◌, length, get_or, drop, refl, sym, subst, ap, ◌∙◌}
-use Rattle.std.proofs.Common.{arith}
-use Rattle.std.proofs.lemmas.List.Sums.{AllPass-from_list_all}
-use Rattle.smith_syntax.specs.declared.value_type.ValType.{ValType}
-use Rattle.smith_syntax.specs.declared.value_type.ValType.TheVariants.{I32, I64, F32, F64, V128, Ref}
+use Rattle.smith_body_nodes.proofs.Common.{[], AllPass-from_list_all, ap, AreValid, arith, below_themselves, BodyContext, drop, F32, F64}
+use Rattle.smith_body_nodes.proofs.Common.{get_or, I32, I64, IsValid, length, List, list_all, Ref, refl, subst, suc, sym, true, V128}
+use Rattle.smith_body_nodes.proofs.Common.{ValType, ℕ, ◌+◌, ◌-◌, ◌<◌, ◌∙◌, ◌∷◌, ◌≡◌, ◌≤◌}
+use Rattle.std.proofs.Common.{rules}
 use Rattle.smith_types.proofs.GrowthLemmas.{IsValBelow-refl}
-use Rattle.smith_instr.specs.Contexts.{BodyContext, IsValid, AreValid, AreBelow}
+use Rattle.smith_instr.specs.Contexts.{AreBelow}
 use Rattle.smith_instr.specs.InstrTypes.{IsNumberOrVector}
 use Rattle.smith_instr.specs.NumericTypes.{signature}
 use Rattle.smith_instr.specs.declared.instr.Instr.TheVariants as instr
 use Rattle.smith_instr.specs.declared.numeric.NumericInstr.{NumericInstr}
-use Rattle.smith_instr.proofs.SequenceLemmas.{below_themselves}
 use Rattle.smith_body_nodes.specs.Nodes.{IsNode, node_of}
 use Rattle.smith_body_nodes.specs.NumericRows.{numeric_rows}
 use Rattle.smith_body_nodes.proofs.NodeLemmas.{begins, begins_with, is_number, more_valid, no_valid, numbers_valid, one_valid, three_wide}

@@ -1,26 +1,21 @@
 -- Offered items have the wanted property.
-use Rattle.std.proofs.Common.{◌≡◌, inl, inr, ℕ, suc, ◌<◌, ◌⊎◌, Bool, true, false, List, [], ◌∷◌, Option, Some, None, refl, ap, arith}
-use Rattle.std.specs.Prelude.{slice_get, option_map, nat_lt, ◌&&◌, ◌||◌, ◌==◌}
+use Rattle.smith_body_nodes.proofs.Common.{[], ap, arith, BodyContext, Bool, F32, F64, false, I32, I64, is_val_below, IsOrderly, IsValBelow}
+use Rattle.smith_body_nodes.proofs.Common.{List, None, Option, option_map, Ref, refl, RefType, same_Some, slice_get, Some, SubType, suc}
+use Rattle.smith_body_nodes.proofs.Common.{true, V128, ValType, ℕ, ◌&&◌, ◌<◌, ◌||◌, ◌∷◌, ◌≡◌}
+use Rattle.std.proofs.Common.{inl, inr, ◌⊎◌}
+use Rattle.std.specs.Prelude.{nat_lt, ◌==◌}
 use Rattle.std.specs.List.{AllZip, Contains}
 use Rattle.std.specs.Cmp.{unsigned_Decides}
 use Rattle.std.proofs.lemmas.Bool.{ltb-true}
-use Rattle.std.proofs.lemmas.Option.{same_Some}
-use Rattle.smith_types.specs.Subtyping.{IsValBelow}
-use Rattle.smith_types.specs.Types.{IsOrderly}
 use Rattle.smith_types.specs.Entities.{IsFuncAt}
 use Rattle.smith_types.specs.Expressions.{IsDefaultable}
-use Rattle.smith_syntax.specs.declared.value_type.RefType.{RefType}
-use Rattle.smith_syntax.specs.declared.value_type.ValType.{ValType}
-use Rattle.smith_syntax.specs.declared.value_type.ValType.TheVariants.{I32, I64, F32, F64, V128, Ref}
-use Rattle.smith_syntax.specs.declared.composite_type.CompositeInnerType.{CompositeInnerType}
-use Rattle.smith_syntax.specs.declared.composite_type.CompositeInnerType.TheVariants.{Array, Func, Struct}
-use Rattle.smith_syntax.specs.declared.composite_type.FuncType.{FuncType}
-use Rattle.smith_syntax.specs.declared.composite_type.SubType.{SubType}
-use Rattle.smith_syntax.specs.declared.entity_type.GlobalType.{GlobalType}
-use Rattle.smith_syntax.specs.declared.entity_type.MemoryType.{MemoryType}
-use Rattle.smith_draw_types.specs.Below.{is_val_below}
+use Rattle.smith_types.specs.Syntax.composite_type.CompositeInnerType.{CompositeInnerType}
+use Rattle.smith_types.specs.Syntax.composite_type.CompositeInnerType.TheVariants.{Array, Func, Struct}
+use Rattle.smith_types.specs.Syntax.composite_type.FuncType.{FuncType}
+use Rattle.smith_types.specs.Syntax.entity_type.GlobalType.{GlobalType}
+use Rattle.smith_types.specs.Syntax.entity_type.MemoryType.{MemoryType}
 use Rattle.smith_draw_types.proofs.BelowLemmas.{val_decides}
-use Rattle.smith_instr.specs.Contexts.{BodyContext, IsFunction, address}
+use Rattle.smith_instr.specs.Contexts.{address, IsFunction}
 use Rattle.smith_instr.specs.SetLocals.{is_among}
 use Rattle.smith_instr.proofs.AmongLemmas.{among}
 use Rattle.smith_instr.specs.InstrTypes.{IsTaken}

@@ -1,12 +1,13 @@
 -- The places of offered items.
-use Rattle.std.proofs.Common.{◌≡◌, ℕ, zero, suc, ◌+◌, ◌-◌, ◌*◌, ◌/◌, ◌<◌, Bool, true, false, List, [], ◌∷◌, ◌++◌, Option, Some, None}
-use Rattle.std.proofs.Common.{length, length-append, refl, sym, ap, ◌∙◌, arith}
-use Rattle.std.specs.Prelude.{min, option_map, slice_get, if◌then◌else◌}
+use Rattle.smith_body_nodes.proofs.Common.{[], ap, append-nil, arith, Bool, choose_at, false, length, List, None, Option, option_map}
+use Rattle.smith_body_nodes.proofs.Common.{range_at, refl, slice_get, slice_get-get_or, Some, suc, sym, true, zero, ℕ, ◌++◌, ◌+◌, ◌-◌, ◌<◌}
+use Rattle.smith_body_nodes.proofs.Common.{◌∙◌, ◌∷◌, ◌≡◌}
+use Rattle.std.proofs.Common.{◌*◌, ◌/◌}
+use Rattle.std.proofs.Common.{length-append}
+use Rattle.std.specs.Prelude.{if◌then◌else◌, min}
 use Rattle.std.proofs.Math.ListN.{get_or-append}
 use Rattle.std.proofs.Math.Seq.{get_or-append_seam}
-use Rattle.std.proofs.lemmas.List.{append-nil}
-use Rattle.std.proofs.lemmas.Option.{slice_get-get_or, slice_get_past}
-use Rattle.smith_bytes.specs.Draws.{choose_at, range_at}
+use Rattle.std.proofs.lemmas.Option.{slice_get_past}
 use Rattle.smith_body_nodes.specs.Offered.{chunk_at, offered}
 
 pub offered_more : (test : ℕ → Bool) (n : ℕ) → test n ≡ true → offered test (n + 1) ≡ offered test n ++ n ∷ []

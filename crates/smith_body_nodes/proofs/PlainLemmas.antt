@@ -1,11 +1,8 @@
 -- Nodes of one instruction that sets no local.
-use Rattle.std.proofs.Common.{◌≡◌, ℕ, ◌≤◌, Bool, true, false, List, [], ◌∷◌, ◌++◌, length, refl, arith}
-use Rattle.smith_types.specs.Subtyping.{IsValBelow}
-use Rattle.smith_syntax.specs.declared.value_type.ValType.{ValType}
-use Rattle.smith_instr.specs.Contexts.{BodyContext, IsValid, AreValid}
+use Rattle.smith_body_nodes.proofs.Common.{[], AreValid, arith, BodyContext, Bool, false, Instr, IsValBelow, IsValid, length, List, refl}
+use Rattle.smith_body_nodes.proofs.Common.{true, ValType, ℕ, ◌++◌, ◌∷◌, ◌≡◌, ◌≤◌}
 use Rattle.smith_instr.specs.InstrTypes.{sets, HasInstrType}
 use Rattle.smith_instr.specs.ReferenceTypes.{narrower}
-use Rattle.smith_instr.specs.declared.instr.Instr.{Instr}
 use Rattle.smith_body_nodes.specs.Nodes.{IsNode, node_of}
 use Rattle.smith_body_nodes.proofs.NodeLemmas.{address_valid, more_valid, no_valid, one_valid, three_wide}
 use Rattle.smith_body_nodes.proofs.PlainNodeLemmas.{plain_node}

@@ -1,18 +1,11 @@
 -- Instructions whose results are just the wanted types: rows of them, and their nodes.
-use Rattle.std.proofs.Common.{◌≡◌, ℕ, ◌-◌, ◌<◌, ◌≤◌, true, List, [], ◌∷◌, ◌++◌, Some, None, length, get_or, refl, sym, subst, ap, ◌∙◌}
-use Rattle.std.proofs.Common.{arith}
+use Rattle.smith_body_nodes.proofs.Common.{[], AllPass-from_list_all, ap, append-nil, AreValid, arith, below_themselves, BodyContext}
+use Rattle.smith_body_nodes.proofs.Common.{choose_at, get_or, Instr, length, List, list_all, None, range_at, refl, Some, subst, sym, true}
+use Rattle.smith_body_nodes.proofs.Common.{ValType, ℕ, ◌++◌, ◌-◌, ◌<◌, ◌∙◌, ◌∷◌, ◌≡◌, ◌≤◌}
 use Rattle.std.specs.Cmp.Lexicographic.{pointwise}
-use Rattle.std.specs.List.{list_all}
-use Rattle.std.proofs.lemmas.List.{append-nil}
-use Rattle.std.proofs.lemmas.List.Sums.{AllPass-from_list_all}
-use Rattle.smith_bytes.specs.Draws.{choose_at, range_at}
 use Rattle.smith_syntax.specs.Same.{exact_items, exact_val}
 use Rattle.smith_syntax.specs.contracts.value_type.ValTypePartialEq.TheImpl.{ghosts as val_same}
-use Rattle.smith_syntax.specs.declared.value_type.ValType.{ValType}
-use Rattle.smith_instr.specs.Contexts.{BodyContext, AreValid}
 use Rattle.smith_instr.specs.InstrTypes.{sets, HasInstrType}
-use Rattle.smith_instr.specs.declared.instr.Instr.{Instr}
-use Rattle.smith_instr.proofs.SequenceLemmas.{below_themselves}
 use Rattle.smith_body_nodes.specs.Nodes.{IsNode, node_of}
 use Rattle.smith_body_nodes.proofs.ChosenLemmas.{choose_none, choose_there}
 use Rattle.smith_body_nodes.proofs.NodeLemmas.{no_valid, three_wide}

@@ -1,20 +1,16 @@
 -- The chosen instruction on references.
-use Rattle.std.proofs.Common.{◌≡◌, ℕ, zero, suc, ◌+◌, ◌-◌, ◌<◌, ◌≤◌, true, false, List, [], ◌∷◌, Some, None, length, get_or, refl, ap, ◌∙◌}
-use Rattle.std.proofs.Common.{arith}
+use Rattle.smith_body_nodes.proofs.Common.{[], Abstract, ap, AreValid, arith, BodyContext, F32, F64, false, Features, get_or, I32, I64}
+use Rattle.smith_body_nodes.proofs.Common.{IsValid, length, List, None, range_at, Ref, refl, RefType, Some, suc, true, V128, ValType, zero}
+use Rattle.smith_body_nodes.proofs.Common.{ℕ, ◌+◌, ◌-◌, ◌<◌, ◌∙◌, ◌∷◌, ◌≡◌, ◌≤◌}
 use Rattle.std.specs.Prelude.{slice_index_or, IsTrue}
-use Rattle.smith_bytes.specs.Draws.{bool_at, range_at}
+use Rattle.smith_bytes.specs.Draws.{bool_at}
 use Rattle.smith_types.specs.Expressions.{reference_to}
-use Rattle.smith_syntax.specs.Features.{Features}
 use Rattle.smith_types.specs.Subtyping.{itself}
-use Rattle.smith_syntax.specs.declared.value_type.AbstractHeapType.TheVariants as abstract
-use Rattle.smith_syntax.specs.declared.value_type.HeapType.{HeapType}
-use Rattle.smith_syntax.specs.declared.value_type.HeapType.TheVariants.{Abstract}
-use Rattle.smith_syntax.specs.declared.value_type.RefType.{RefType}
-use Rattle.smith_syntax.specs.declared.value_type.ValType.{ValType}
-use Rattle.smith_syntax.specs.declared.value_type.ValType.TheVariants.{I32, I64, F32, F64, V128, Ref}
+use Rattle.smith_types.specs.Syntax.value_type.AbstractHeapType.TheVariants as abstract
+use Rattle.smith_types.specs.Syntax.value_type.HeapType.{HeapType}
 use Rattle.smith_types.proofs.GrowthLemmas.{IsValBelow-refl}
 use Rattle.smith_draw_types.specs.Choices.{chosen_at}
-use Rattle.smith_instr.specs.Contexts.{BodyContext, IsValid, AreValid, IsHeapValid, nullable_to}
+use Rattle.smith_instr.specs.Contexts.{IsHeapValid, nullable_to}
 use Rattle.smith_instr.specs.declared.instr.Instr.TheVariants as instr
 use Rattle.smith_instr.specs.declared.reference.ReferenceInstr.TheVariants as reference
 use Rattle.smith_body_nodes.specs.Nodes.{IsNode, node_of}

@@ -1,6 +1,6 @@
 -- Items that are drawn one after another.
-use Rattle.std.proofs.Common.{◌≡◌, ℕ, suc, ◌+◌, ◌-◌, ◌<◌, ◌≤◌, List, [], ◌++◌, refl, ap, ◌∙◌, append_assoc, arith}
-use Rattle.std.proofs.lemmas.List.{append-nil}
+use Rattle.smith_body_nodes.proofs.Common.{[], ap, append-nil, arith, List, refl, suc, ℕ, ◌++◌, ◌+◌, ◌-◌, ◌<◌, ◌∙◌, ◌≡◌, ◌≤◌}
+use Rattle.std.proofs.Common.{append_assoc}
 
 -- the items drawn in some turns, and the remaining ones
 abbrev pub AreDrawnSoFar : {A : Type 0} → (ℕ → List ℕ → List A × List ℕ) → ℕ → List ℕ → ℕ → List A → List ℕ → Type 0

@@ -1,10 +1,8 @@
 -- With `disallow_traps`, what is allowed has no `unreachable`.
-use Rattle.std.proofs.Common.{◌≡◌, Bool, true, false, subst}
-use Rattle.std.specs.Prelude.{◌||◌, not}
-use Rattle.smith_syntax.specs.Features.{Features}
+use Rattle.smith_body_nodes.proofs.Common.{Bool, false, Features, Instr, subst, true, ◌||◌, ◌≡◌}
+use Rattle.std.specs.Prelude.{not}
 use Rattle.smith_config.specs.declared.config.Config.{Config}
 use Rattle.smith_instr.specs.Enabled.{is_enabled}
-use Rattle.smith_instr.specs.declared.instr.Instr.{Instr}
 use Rattle.smith_instr.specs.declared.instr.Instr.TheVariants as instr
 use Rattle.smith_body_nodes.specs.Nodes.{head_instruction, is_drop_allowed, is_head_allowed, is_node_allowed}
 use Rattle.smith_body_nodes.specs.Scopes.{is_permitted, kinds_of_bodies}

@@ -1,15 +1,11 @@
 -- Types that a reference type matches.
 use Rattle.std.specs.Prelude.{ℕ, Bool, true, false, ◌&&◌, Option, Some, None, unwrap_or, List, length, slice_get, if◌then◌else◌}
-use Rattle.smith_bytes.specs.Draws.{bool_at, choose_at}
-use Rattle.smith_syntax.specs.declared.composite_type.SubType.{SubType}
-use Rattle.smith_syntax.specs.declared.value_type.AbstractHeapType.{AbstractHeapType}
-use Rattle.smith_syntax.specs.declared.value_type.AbstractHeapType.TheVariants as abstract
-use Rattle.smith_syntax.specs.declared.value_type.HeapType.TheVariants.{Abstract}
-use Rattle.smith_syntax.specs.declared.value_type.RefType.{RefType}
-use Rattle.smith_syntax.specs.declared.value_type.ValType.{ValType}
-use Rattle.smith_syntax.specs.declared.value_type.ValType.TheVariants.{Ref}
-use Rattle.smith_draw_types.specs.Below.{is_val_below}
-use Rattle.smith_instr.specs.Contexts.{BodyContext}
+use Rattle.smith_body_nodes.specs.Common.{BodyContext, choose_at, is_val_below, Ref, SubType, ValType}
+use Rattle.smith_bytes.specs.Draws.{bool_at}
+use Rattle.smith_types.specs.Syntax.value_type.AbstractHeapType.{AbstractHeapType}
+use Rattle.smith_types.specs.Syntax.value_type.AbstractHeapType.TheVariants as abstract
+use Rattle.smith_types.specs.Syntax.value_type.HeapType.TheVariants.{Abstract}
+use Rattle.smith_types.specs.Syntax.value_type.RefType.{RefType}
 use Rattle.smith_body_nodes.specs.Offered.{offered}
 use Rattle.smith_body_nodes.specs.Scopes.{indexed}
 

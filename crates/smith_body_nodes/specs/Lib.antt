@@ -1,3 +1,4 @@
+pub mod Common
 pub mod Traps
 pub mod Scopes
 pub mod Nodes

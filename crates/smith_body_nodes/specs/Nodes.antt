@@ -3,19 +3,14 @@ use Rattle.std.specs.Prelude.{◌≡◌, ℕ, ◌+◌, ◌*◌, ◌≤◌, ◌<�
 use Rattle.std.specs.Prelude.{◌++◌, length, option_to_list, All, if◌then◌else◌}
 use Rattle.std.specs.Cmp.Lexicographic.{pointwise}
 use Rattle.smith_bytes.specs.declared.error.Error.{Error}
-use Rattle.smith_syntax.specs.Features.{Features}
-use Rattle.smith_config.specs.declared.config.Config.{Config}
+use Rattle.smith_body_nodes.specs.Common.{AreValid, BodyContext, Config, Features, I32, Instr, SubType, ValType}
 use Rattle.smith_types.specs.ValidTypes.{IsValTypeValid}
 use Rattle.smith_syntax.specs.contracts.value_type.ValTypePartialEq.TheImpl.{ghosts as val_same}
-use Rattle.smith_syntax.specs.declared.value_type.ValType.{ValType}
-use Rattle.smith_syntax.specs.declared.value_type.ValType.TheVariants.{I32}
-use Rattle.smith_syntax.specs.declared.composite_type.SubType.{SubType}
-use Rattle.smith_instr.specs.Contexts.{BodyContext, AreValid, AreBelow, IsBlockType}
+use Rattle.smith_instr.specs.Contexts.{AreBelow, IsBlockType}
 use Rattle.smith_instr.specs.InstrTypes.{sets, HasInstrType, IsCatch}
 use Rattle.smith_instr.specs.declared.aggregate.AggregateInstr.{AggregateInstr}
 use Rattle.smith_instr.specs.declared.control.BlockType.{BlockType}
 use Rattle.smith_instr.specs.declared.control.Catch.{Catch}
-use Rattle.smith_instr.specs.declared.instr.Instr.{Instr}
 use Rattle.smith_instr.specs.declared.instr.Instr.TheVariants as instr
 use Rattle.smith_body_nodes.specs.Scopes.{is_permitted, widest, IsAllowedIn}
 use Rattle.smith_body_nodes.specs.declared.node.Head.{Head}

@@ -1,7 +1,7 @@
 -- The numeric instructions by the type of their first result.
 use Rattle.std.specs.Prelude.{List, [], ◌∷◌}
-use Rattle.smith_syntax.specs.declared.value_type.ValType.{ValType}
-use Rattle.smith_syntax.specs.declared.value_type.ValType.TheVariants as value
+use Rattle.smith_body_nodes.specs.Common.{NumericInstr, ValType}
+use Rattle.smith_types.specs.Syntax.value_type.ValType.TheVariants as value
 use Rattle.smith_instr.specs.declared.numeric.IntUnary.TheVariants as int_unary
 use Rattle.smith_instr.specs.declared.numeric.IntBinary.TheVariants as int_binary
 use Rattle.smith_instr.specs.declared.numeric.IntCompare.TheVariants as int_compare
@@ -12,7 +12,6 @@ use Rattle.smith_instr.specs.declared.numeric.Conversion.TheVariants as convert
 use Rattle.smith_instr.specs.declared.numeric.SaturatingConversion.TheVariants as saturate
 use Rattle.smith_instr.specs.declared.numeric.SignExtension.TheVariants as extend
 use Rattle.smith_instr.specs.declared.numeric.WideArithmetic.TheVariants as wide
-use Rattle.smith_instr.specs.declared.numeric.NumericInstr.{NumericInstr}
 use Rattle.smith_instr.specs.declared.numeric.NumericInstr.TheVariants as numeric
 
 -- the numeric instructions whose first result is an i32

@@ -2,18 +2,15 @@
 use Rattle.std.specs.Prelude.{◌≡◌, ℕ, zero, suc, ◌+◌, ◌-◌, ◌*◌, ◌/◌, Bool, true, false, ◌&&◌, ◌||◌, not, nat_lt, ◌==◌, Option, Some, None}
 use Rattle.std.specs.Prelude.{option_map, List, [], ◌∷◌, ◌++◌, length, min, slice_get, if◌then◌else◌}
 use Rattle.std.specs.List.{Contains}
-use Rattle.smith_bytes.specs.Draws.{choose_at, range_at}
+use Rattle.smith_body_nodes.specs.Common.{BodyContext, choose_at, CompositeInnerType, I32, is_val_below, Ref, SubType, ValType}
+use Rattle.smith_bytes.specs.Draws.{range_at}
 use Rattle.smith_types.specs.Subtyping.{IsValBelow}
-use Rattle.smith_syntax.specs.declared.value_type.ValType.{ValType}
-use Rattle.smith_syntax.specs.declared.value_type.ValType.TheVariants.{I32, I64, Ref}
-use Rattle.smith_syntax.specs.declared.composite_type.CompositeInnerType.TheVariants as inner
-use Rattle.smith_syntax.specs.declared.composite_type.CompositeInnerType.{CompositeInnerType}
-use Rattle.smith_syntax.specs.declared.composite_type.FuncType.{FuncType}
-use Rattle.smith_syntax.specs.declared.composite_type.SubType.{SubType}
-use Rattle.smith_syntax.specs.declared.entity_type.GlobalType.{GlobalType}
-use Rattle.smith_syntax.specs.declared.entity_type.MemoryType.{MemoryType}
-use Rattle.smith_draw_types.specs.Below.{is_val_below}
-use Rattle.smith_instr.specs.Contexts.{BodyContext, IsLocalSet, IsFunction, reference_to_function}
+use Rattle.smith_types.specs.Syntax.value_type.ValType.TheVariants.{I64}
+use Rattle.smith_types.specs.Syntax.composite_type.CompositeInnerType.TheVariants as inner
+use Rattle.smith_types.specs.Syntax.composite_type.FuncType.{FuncType}
+use Rattle.smith_types.specs.Syntax.entity_type.GlobalType.{GlobalType}
+use Rattle.smith_types.specs.Syntax.entity_type.MemoryType.{MemoryType}
+use Rattle.smith_instr.specs.Contexts.{IsFunction, IsLocalSet, reference_to_function}
 use Rattle.smith_instr.specs.SetLocals.{is_among}
 use Rattle.smith_body_nodes.specs.declared.offer.Reach.{Reach}
 use Rattle.smith_body_nodes.specs.declared.offer.Reach.TheVariants as reach

@@ -1,26 +1,21 @@
 -- The context in which a body is drawn.
 use Rattle.std.specs.Prelude.{◌≡◌, ℕ, ◌+◌, ◌*◌, ◌≤◌, ◌-◌, ◌^◌, ◌&&◌, ◌||◌, not, Bool, IsTrue, min, max, List, [], ◌∷◌, length, slice_get}
 use Rattle.std.specs.Prelude.{Some, All, bit_and, if◌then◌else◌}
-use Rattle.smith_syntax.specs.FeatureBits.{features_in}
-use Rattle.smith_syntax.specs.Features.{Features}
-use Rattle.smith_syntax.specs.Instructions.{float_bits, kinds_bits}
+use Rattle.smith_types.specs.Syntax.FeatureBits.{features_in}
+use Rattle.smith_body_nodes.specs.Common.{AreValid, BodyContext, CompositeInnerType, Config, Features, Instr, SubType, ValType}
+use Rattle.smith_types.specs.Syntax.Instructions.{float_bits, kinds_bits}
 use Rattle.smith_types.specs.Types.{IsOrderly}
 use Rattle.smith_types.specs.Entities.{IsFuncAt, IsFuncTypeIndex, IsMemoryValid, IsTagValid}
 use Rattle.smith_types.specs.Expressions.{field_values}
 use Rattle.smith_types.specs.ValidTypes.{IsValTypeValid}
-use Rattle.smith_syntax.specs.declared.value_type.ValType.{ValType}
-use Rattle.smith_syntax.specs.declared.composite_type.CompositeInnerType.{CompositeInnerType}
-use Rattle.smith_syntax.specs.declared.composite_type.CompositeInnerType.TheVariants as inner
-use Rattle.smith_syntax.specs.declared.composite_type.FuncType.{FuncType}
-use Rattle.smith_syntax.specs.declared.composite_type.SubType.{SubType}
-use Rattle.smith_syntax.specs.declared.entity_type.GlobalType.{GlobalType}
-use Rattle.smith_syntax.specs.declared.entity_type.TableType.{TableType}
-use Rattle.smith_syntax.specs.declared.instruction_kind.InstructionKinds.{InstructionKinds}
-use Rattle.smith_config.specs.declared.config.Config.{Config}
+use Rattle.smith_types.specs.Syntax.composite_type.CompositeInnerType.TheVariants as inner
+use Rattle.smith_types.specs.Syntax.composite_type.FuncType.{FuncType}
+use Rattle.smith_types.specs.Syntax.entity_type.GlobalType.{GlobalType}
+use Rattle.smith_types.specs.Syntax.entity_type.TableType.{TableType}
+use Rattle.smith_types.specs.Syntax.instruction_kind.InstructionKinds.{InstructionKinds}
 use Rattle.smith_draw_types.specs.HeldFields.{fields_of}
-use Rattle.smith_instr.specs.Contexts.{BodyContext, AreValid, IsRefValid}
+use Rattle.smith_instr.specs.Contexts.{IsRefValid}
 use Rattle.smith_instr.specs.Enabled.{is_enabled, IsEnabled}
-use Rattle.smith_instr.specs.declared.instr.Instr.{Instr}
 use Rattle.smith_body_nodes.specs.Traps.{may_trap, IsTrapless}
 use Rattle.smith_body_nodes.specs.declared.scope.Scope.{Scope}
 use Rattle.smith_body_nodes.specs.declared.scope.Draft.{Draft}

@@ -3,10 +3,9 @@
 -- since the instructions of the called function are judged by themselves; nor are the limits of
 -- stacks and memory.
 use Rattle.std.specs.Prelude.{◌≡◌, Bool, true, false, IsTrue}
-use Rattle.smith_config.specs.declared.config.Config.{Config}
+use Rattle.smith_body_nodes.specs.Common.{Config, Instr, NumericInstr}
 use Rattle.smith_instr.specs.declared.aggregate.AggregateInstr.{AggregateInstr}
 use Rattle.smith_instr.specs.declared.aggregate.AggregateInstr.TheVariants as aggregate
-use Rattle.smith_instr.specs.declared.instr.Instr.{Instr}
 use Rattle.smith_instr.specs.declared.instr.Instr.TheVariants as instr
 use Rattle.smith_instr.specs.declared.memory.MemoryInstr.{MemoryInstr}
 use Rattle.smith_instr.specs.declared.memory.MemoryInstr.TheVariants as memory
@@ -14,7 +13,6 @@ use Rattle.smith_instr.specs.declared.numeric.Conversion.{Conversion}
 use Rattle.smith_instr.specs.declared.numeric.Conversion.TheVariants as convert
 use Rattle.smith_instr.specs.declared.numeric.IntBinary.{IntBinary}
 use Rattle.smith_instr.specs.declared.numeric.IntBinary.TheVariants as int_binary
-use Rattle.smith_instr.specs.declared.numeric.NumericInstr.{NumericInstr}
 use Rattle.smith_instr.specs.declared.numeric.NumericInstr.TheVariants as numeric
 use Rattle.smith_instr.specs.declared.reference.ReferenceInstr.{ReferenceInstr}
 use Rattle.smith_instr.specs.declared.reference.ReferenceInstr.TheVariants as reference

@@ -1,7 +1,7 @@
 ghost use Rattle.std.specs.Prelude.{◌≡◌, Some, unwrap_or};
 ghost use Rattle.smith_bytes.specs.Source.{KeepsPieces};
 ghost use Rattle.smith_types.specs.Subtyping.{IsRefBelow};
-ghost use Rattle.smith_syntax.specs.declared.value_type.ValType.TheVariants.{Ref};
+ghost use Rattle.smith_types.specs.Syntax.value_type.ValType.TheVariants.{Ref};
 ghost use Rattle.smith_instr.specs.Contexts.{IsValid};
 ghost use Rattle.smith_body_nodes.specs.Above.{above_at, is_internal, is_under, local_above_at};
 ghost use Rattle.smith_body_nodes.specs.Above.{nullable_type, reference_in, top_above, with_null};
@@ -22,7 +22,7 @@ struct AboveOffer<'a> {
 
 impl<'a> Offer for AboveOffer<'a> {
     ghost use Rattle.std.specs.Prelude.{length};
-    ghost use Rattle.smith_syntax.specs.declared.value_type.ValType.TheVariants.{Ref};
+    ghost use Rattle.smith_types.specs.Syntax.value_type.ValType.TheVariants.{Ref};
     ghost use Rattle.smith_instr.specs.Contexts.{IsValid};
     ghost use Rattle.smith_body_nodes.specs.Above.{is_above};
     ghost use Rattle.smith_body_nodes.specs.Scopes.{IsScope, bare, indexed};

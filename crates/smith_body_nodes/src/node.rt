@@ -1,8 +1,8 @@
 ghost use Rattle.std.specs.Prelude.{◌≡◌, ◌<◌, List, length, ◌∷◌, [], ◌++◌, ◌&&◌, replicate};
 ghost use Rattle.std.specs.Prelude.{unwrap_or, Some, None, IfOk, IfErr, OnOk, IsTrue};
-ghost use Rattle.smith_syntax.specs.FeatureBits.{features_in};
-ghost use Rattle.smith_syntax.specs.declared.value_type.ValType.{ValType as Val};
-ghost use Rattle.smith_syntax.specs.declared.value_type.ValType.TheVariants.{I32};
+ghost use Rattle.smith_types.specs.Syntax.FeatureBits.{features_in};
+ghost use Rattle.smith_types.specs.Syntax.value_type.ValType.{ValType as Val};
+ghost use Rattle.smith_types.specs.Syntax.value_type.ValType.TheVariants.{I32};
 ghost use Rattle.smith_instr.specs.declared.control.Catch.{Catch as Clause};
 ghost use Rattle.smith_instr.specs.declared.instr.Instr.TheVariants as instr;
 ghost use Rattle.smith_body_nodes.specs.Scopes.{IsAllowedIn, is_permitted, kinds_of_bodies};

@@ -1,6 +1,6 @@
 ghost use Rattle.std.specs.Prelude.{◌≡◌, ℕ, false, List, Some, [], ◌∷◌, IfOk, IfErr, IsTrue};
 ghost use Rattle.smith_bytes.specs.Source.{KeepsPieces};
-ghost use Rattle.smith_syntax.specs.declared.value_type.ValType.TheVariants.{I32, Ref};
+ghost use Rattle.smith_types.specs.Syntax.value_type.ValType.TheVariants.{I32, Ref};
 ghost use Rattle.smith_instr.specs.Contexts.{BodyContext, IsHeapValid, IsValid, nullable_to};
 ghost use Rattle.smith_body_nodes.specs.Nodes.{IsOffer};
 ghost use Rattle.smith_body_nodes.specs.ReferenceChoices.{eq_node, is_null_node, non_null_node};

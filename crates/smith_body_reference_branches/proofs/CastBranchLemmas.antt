@@ -1,6 +1,7 @@
 -- Branches on casts.
-use Rattle.std.proofs.Common.{◌≡◌, ℕ, ◌-◌, ◌<◌, ◌≤◌, Bool, true, false, List, [], ◌∷◌, ◌++◌, Option, Some, None, length, get_or, take, refl}
-use Rattle.std.proofs.Common.{sym, subst, ap, ◌∙◌, arith}
+use Rattle.smith_body_reference_branches.proofs.Common.{arith, bare, false, length, None, one_valid, Ref, refl, Some, sym, true, ◌<◌, ◌∙◌}
+use Rattle.std.proofs.Common.{[], Bool, get_or, List, Option, take, ℕ, ◌++◌, ◌-◌, ◌∷◌, ◌≡◌, ◌≤◌}
+use Rattle.std.proofs.Common.{ap, subst}
 use Rattle.std.specs.Prelude.{slice_get, ◌==◌, not, IsTrue, min, option_map, option_and_then, unwrap_or, if◌then◌else◌}
 use Rattle.std.specs.List.{AllZip}
 use Rattle.std.proofs.lemmas.List.{length-take-le}
@@ -9,11 +10,11 @@ use Rattle.std.proofs.lemmas.Option.{same_Some, slice_get-get_or}
 use Rattle.smith_bytes.specs.Draws.{bool_at, choose_at, range_at}
 use Rattle.smith_types.specs.Subtyping.{IsRefBelow, IsValBelow, itself}
 use Rattle.smith_types.specs.Types.{IsOrderly}
-use Rattle.smith_syntax.specs.declared.composite_type.SubType.{SubType}
-use Rattle.smith_syntax.specs.declared.value_type.HeapType.{HeapType}
-use Rattle.smith_syntax.specs.declared.value_type.RefType.{RefType}
-use Rattle.smith_syntax.specs.declared.value_type.ValType.{ValType}
-use Rattle.smith_syntax.specs.declared.value_type.ValType.TheVariants.{I32, I64, F32, F64, V128, Ref}
+use Rattle.smith_types.specs.Syntax.composite_type.SubType.{SubType}
+use Rattle.smith_types.specs.Syntax.value_type.HeapType.{HeapType}
+use Rattle.smith_types.specs.Syntax.value_type.RefType.{RefType}
+use Rattle.smith_types.specs.Syntax.value_type.ValType.{ValType}
+use Rattle.smith_types.specs.Syntax.value_type.ValType.TheVariants.{F32, F64, I32, I64, V128}
 use Rattle.smith_types.proofs.GrowthLemmas.{IsRefBelow-trans, IsValBelow-refl}
 use Rattle.smith_draw_types.specs.Below.{is_val_below}
 use Rattle.smith_instr.specs.Contexts.{BodyContext, IsValid, AreValid}
@@ -32,12 +33,12 @@ use Rattle.smith_body_nodes.specs.Items.{continued}
 use Rattle.smith_body_nodes.specs.Nodes.{IsNode}
 use Rattle.smith_body_reference_branches.specs.NullChoices.{is_of_reference, last_reference}
 use Rattle.smith_body_nodes.specs.Offered.{chunk_at, is_below_at, is_local_below, is_target, offered}
-use Rattle.smith_body_nodes.specs.Scopes.{AreLabels, bare, context_of, indexed, widest}
+use Rattle.smith_body_nodes.specs.Scopes.{AreLabels, context_of, indexed, widest}
 use Rattle.smith_body_reference_branches.specs.declared.cast_branches.CastLabel.{CastLabel}
 use Rattle.smith_body_nodes.specs.declared.scope.Scope.{Scope}
 use Rattle.smith_body_nodes.proofs.ItemLemmas.{given_none, given_some}
 use Rattle.smith_body_nodes.proofs.LabelLemmas.{label_at}
-use Rattle.smith_body_nodes.proofs.NodeLemmas.{no_valid, one_valid}
+use Rattle.smith_body_nodes.proofs.NodeLemmas.{no_valid}
 use Rattle.smith_body_reference_branches.proofs.NullLemmas.{last_is, last_there, one_longer}
 use Rattle.smith_body_nodes.proofs.OfferLemmas.{both, target_there, tested}
 use Rattle.smith_body_nodes.proofs.PlainLemmas.{gives_one}

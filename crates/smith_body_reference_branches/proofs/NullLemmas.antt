@@ -1,6 +1,7 @@
 -- Branches on null.
-use Rattle.std.proofs.Common.{◌≡◌, ℕ, suc, ◌+◌, ◌-◌, ◌<◌, ◌≤◌, Bool, true, false, List, [], ◌∷◌, ◌++◌, Option, Some, None, length}
-use Rattle.std.proofs.Common.{length-append, get_or, take, drop, drop-cons, refl, sym, subst, ap, ◌∙◌, arith}
+use Rattle.smith_body_reference_branches.proofs.Common.{arith, bare, false, length, None, one_valid, Ref, refl, Some, sym, true, ◌<◌, ◌∙◌}
+use Rattle.std.proofs.Common.{[], Bool, List, Option, suc, ℕ, ◌++◌, ◌+◌, ◌-◌, ◌∷◌, ◌≡◌, ◌≤◌}
+use Rattle.std.proofs.Common.{ap, drop, drop-cons, get_or, length-append, subst, take}
 use Rattle.std.specs.Prelude.{slice_get, IsTrue, option_map, if◌then◌else◌}
 use Rattle.std.specs.List.{AllZip}
 use Rattle.std.proofs.Math.ListN.{drop_of_length-le}
@@ -11,11 +12,11 @@ use Rattle.std.proofs.lemmas.Option.{get_or_from_slice_get, same_Some, slice_get
 use Rattle.smith_bytes.specs.Draws.{bool_at, choose_at}
 use Rattle.smith_types.specs.Expressions.{reference_to}
 use Rattle.smith_types.specs.Subtyping.{IsValBelow, itself}
-use Rattle.smith_syntax.specs.declared.value_type.HeapType.{HeapType}
-use Rattle.smith_syntax.specs.declared.value_type.RefType.{RefType}
-use Rattle.smith_syntax.specs.declared.value_type.ValType.{ValType}
-use Rattle.smith_syntax.specs.declared.value_type.ValType.TheVariants.{I32, I64, F32, F64, V128, Ref}
-use Rattle.smith_syntax.specs.declared.composite_type.SubType.{SubType}
+use Rattle.smith_types.specs.Syntax.value_type.HeapType.{HeapType}
+use Rattle.smith_types.specs.Syntax.value_type.RefType.{RefType}
+use Rattle.smith_types.specs.Syntax.value_type.ValType.{ValType}
+use Rattle.smith_types.specs.Syntax.value_type.ValType.TheVariants.{F32, F64, I32, I64, V128}
+use Rattle.smith_types.specs.Syntax.composite_type.SubType.{SubType}
 use Rattle.smith_types.proofs.GrowthLemmas.{IsValBelow-refl}
 use Rattle.smith_instr.specs.Contexts.{BodyContext, IsHeapValid, IsValid, AreValid, nullable_to}
 use Rattle.smith_instr.specs.declared.instr.Instr.TheVariants as instr
@@ -28,10 +29,10 @@ use Rattle.smith_body_reference_branches.specs.NullChoices.{is_short_at, kept_no
 use Rattle.smith_body_nodes.specs.Above.{reference_in}
 use Rattle.smith_body_nodes.specs.Offered.{label_count, offered}
 use Rattle.smith_body_nodes.specs.ReferenceChoices.{referent_at}
-use Rattle.smith_body_nodes.specs.Scopes.{AreLabels, bare, context_of}
+use Rattle.smith_body_nodes.specs.Scopes.{AreLabels, context_of}
 use Rattle.smith_body_nodes.specs.declared.scope.Scope.{Scope}
 use Rattle.smith_body_nodes.proofs.LabelLemmas.{label_at}
-use Rattle.smith_body_nodes.proofs.NodeLemmas.{no_valid, one_valid, three_wide}
+use Rattle.smith_body_nodes.proofs.NodeLemmas.{no_valid, three_wide}
 use Rattle.smith_body_nodes.proofs.PlainLemmas.{gives_one}
 use Rattle.smith_body_nodes.proofs.ReferenceChoiceLemmas.{nullable_valid}
 

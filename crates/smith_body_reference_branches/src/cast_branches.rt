@@ -1,7 +1,7 @@
 ghost use Rattle.std.specs.Prelude.{◌≡◌, ◌<◌, [], ◌∷◌, Some, length, IfOk, IfErr, IfSome};
 ghost use Rattle.smith_bytes.specs.Source.{KeepsPieces};
 ghost use Rattle.smith_types.specs.Subtyping.{IsRefBelow};
-ghost use Rattle.smith_syntax.specs.declared.value_type.ValType.TheVariants.{Ref};
+ghost use Rattle.smith_types.specs.Syntax.value_type.ValType.TheVariants.{Ref};
 ghost use Rattle.smith_instr.specs.Contexts.{IsValid};
 ghost use Rattle.smith_body_reference_branches.specs.CastBranchChoices.{below_at, br_on_cast_at};
 ghost use Rattle.smith_body_reference_branches.specs.CastBranchChoices.{br_on_cast_fail_at, cast_branch_at};
@@ -34,7 +34,7 @@ struct SubtypeOffer<'a> {
 
 impl<'a> Offer for SubtypeOffer<'a> {
     ghost use Rattle.std.specs.Prelude.{length};
-    ghost use Rattle.smith_syntax.specs.declared.value_type.ValType.TheVariants.{Ref};
+    ghost use Rattle.smith_types.specs.Syntax.value_type.ValType.TheVariants.{Ref};
     ghost use Rattle.smith_instr.specs.Contexts.{IsValid};
     ghost use Rattle.smith_body_nodes.specs.Scopes.{IsScope, bare, indexed};
     ghost use Rattle.smith_body_reference_branches.specs.CastBranchChoices.{is_strictly_below};

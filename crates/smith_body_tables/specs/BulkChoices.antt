@@ -1,8 +1,8 @@
 -- Drawn instructions on several bytes of a memory. The choices, their order and their weights are
 -- rules of this project.
 use Rattle.std.specs.Prelude.{ℕ, Option, Some, List, [], ◌∷◌}
-use Rattle.smith_syntax.specs.declared.entity_type.MemoryType.{MemoryType}
-use Rattle.smith_syntax.specs.declared.value_type.ValType.TheVariants.{I32}
+use Rattle.smith_types.specs.Syntax.entity_type.MemoryType.{MemoryType}
+use Rattle.smith_types.specs.Syntax.value_type.ValType.TheVariants.{I32}
 use Rattle.smith_draw_types.specs.Choices.{chosen_at}
 use Rattle.smith_instr.specs.Contexts.{BodyContext, address}
 use Rattle.smith_instr.specs.ReferenceTypes.{narrower}

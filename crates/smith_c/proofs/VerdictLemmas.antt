@@ -6,7 +6,7 @@ use Rattle.smith_judge.specs.Verdicts.{answer_number, verdict_of}
 use Rattle.smith_judge.specs.declared.answer.Answer.{Answer as Judgement}
 use Rattle.smith_judge.specs.declared.answer.Answer.TheVariants as judgements
 use Rattle.smith_judge.specs.declared.verdict.Verdict.{Verdict}
-use Rattle.smith_syntax.specs.Features.{Features}
+use Rattle.smith_types.specs.Syntax.Features.{Features}
 use Rattle.smith_c.specs.Files.{IsVerdict}
 
 number_of : (judgement : Judgement) → (verdict_of judgement).kind ≡ answer_number judgement

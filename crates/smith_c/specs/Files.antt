@@ -17,7 +17,7 @@ use Rattle.smith_judge.specs.declared.verdict.Verdict.{Verdict}
 use Rattle.smith_request.specs.Refusals.{status_of}
 use Rattle.smith_request.specs.declared.refusal.Refusal.{Refusal}
 use Rattle.smith_request.specs.declared.refusal.Refusal.TheVariants as refusals
-use Rattle.smith_syntax.specs.Features.{Features}
+use Rattle.smith_types.specs.Syntax.Features.{Features}
 use Rattle.smith_wrong.specs.Changes.{family_of}
 use Rattle.smith_wrong.specs.Numbers.{family_number}
 use Rattle.smith_wrong.specs.declared.wrong.Wrong.{Wrong}

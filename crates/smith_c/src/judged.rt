@@ -1,5 +1,5 @@
 ghost use Rattle.std.specs.Prelude.{◌≡◌, IfOk, IfErr, OnOk};
-ghost use Rattle.smith_syntax.specs.FeatureBits.{features_in};
+ghost use Rattle.smith_types.specs.Syntax.FeatureBits.{features_in};
 ghost use Rattle.smith_c.specs.Files.{IsJudgedBy, IsSet, IsUnjudged, IsUnset, IsVerdict, IsVerdictBy, judging_config};
 
 use smith_bytes::Error;

@@ -1,13 +1,9 @@
 -- What the steps of the check say of a module.
-use Rattle.std.proofs.Common.{ℕ, ◌+◌, [], take}
-use Rattle.smith_syntax.specs.Features.{Features}
-use Rattle.smith_decode.specs.Modules.{syntax_of}
+use Rattle.smith_check.proofs.Common.{[], AreSectionsValid, Features, IsTypeSectionValid, syntax_of, take, ℕ, ◌+◌}
 use Rattle.smith_decode.specs.declared.modules.Module.{Module}
 use Rattle.smith_check_types.specs.CheckedTypes.{AreChecked}
-use Rattle.smith_check_types.specs.TypeSections.{IsTypeSectionValid}
 use Rattle.smith_check_types.specs.declared.check.CheckedTypes.{CheckedTypes}
 use Rattle.smith_check_module.specs.SectionFaults.{IsFirstFault}
-use Rattle.smith_check_module.specs.ValidModules.{AreSectionsValid}
 use Rattle.smith_check_module.specs.declared.faults.SectionFault.{SectionFault}
 use Rattle.smith_check.specs.Faults.{AreTypesRight, IsJudgement}
 use Rattle.smith_check.specs.declared.judgement.Fault.TheVariants as fault

@@ -1,28 +1,20 @@
 -- The modules of the examples.
-use Rattle.std.proofs.Common.{◌≡◌, ◌∙◌, ℕ, zero, suc, ◌<◌, ◌≤◌, List, [], ◌∷◌, Some, refl, sym, ap, subst, arith}
-use Rattle.std.specs.Prelude.{slice_get}
-use Rattle.std.proofs.lemmas.List.Elements.{All-cons, All-nil}
-use Rattle.std.proofs.lemmas.Option.{same_Some}
-use Rattle.smith_syntax.specs.declared.composite_type.CompositeInnerType.TheVariants.{Func}
-use Rattle.smith_syntax.specs.declared.composite_type.FuncType.{FuncType}
-use Rattle.smith_syntax.specs.declared.composite_type.SubType.{SubType}
-use Rattle.smith_syntax.specs.declared.value_type.ValType.{ValType}
-use Rattle.smith_syntax.specs.declared.value_type.ValType.TheVariants.{I32}
-use Rattle.smith_types.specs.Entities.{IsFuncAt, IsFuncTypeIndex}
+use Rattle.smith_check.proofs.Common.{[], All-nil, ap, AreSectionsValid, AreTypesValid, arith, canonical_groups, canonical_index, FuncType}
+use Rattle.smith_check.proofs.Common.{I32, Instr, IsBodyTyped, IsFuncAt, List, refl, same_Some, slice_get, Some, space_of, subst, SubType}
+use Rattle.smith_check.proofs.Common.{suc, sym, types_in, ValType, zero, ℕ, ◌<◌, ◌∙◌, ◌∷◌, ◌≡◌, ◌≤◌}
+use Rattle.std.proofs.lemmas.List.Elements.{All-cons}
+use Rattle.smith_types.specs.Syntax.composite_type.CompositeInnerType.TheVariants.{Func}
+use Rattle.smith_types.specs.Entities.{IsFuncTypeIndex}
 use Rattle.smith_types.specs.ExampleFeatures.{usual_features}
-use Rattle.smith_types.specs.Groups.{space_of}
-use Rattle.smith_types.specs.ValidTypes.{AreTypesValid, IsGroupValid, IsTypeValid}
+use Rattle.smith_types.specs.ValidTypes.{IsGroupValid, IsTypeValid}
 use Rattle.smith_instr.specs.Contexts.{BodyContext}
-use Rattle.smith_instr.specs.declared.instr.Instr.{Instr}
 use Rattle.smith_check_rules.specs.Slots.{AreBelow, values}
-use Rattle.smith_check_rules.specs.Sequences.{AreTyped, CountsAs, IsBodyTyped, Stacked, block, if_alone, if_else, loop}
+use Rattle.smith_check_rules.specs.Sequences.{AreTyped, block, CountsAs, if_alone, if_else, loop, Stacked}
 use Rattle.smith_check_rules.specs.Sequences.{nothing, step, try_table}
 use Rattle.smith_check_types.specs.Canonical.{AreCanonical, IsFirstEqual, defined_types}
-use Rattle.smith_check_types.specs.TypeSections.{IsInScope, IsTypeInScope, canonical_groups, canonical_index}
+use Rattle.smith_check_types.specs.TypeSections.{IsInScope, IsTypeInScope}
 use Rattle.smith_check_renamed.specs.RenamedInstructions.{renamed_body}
-use Rattle.smith_check_module.specs.Contexts.{types_in}
 use Rattle.smith_check_module.specs.ExampleSyntax.{nothing as no_items}
-use Rattle.smith_check_module.specs.ValidModules.{AreSectionsValid}
 use Rattle.smith_check.specs.ExamplePrograms.{does_nothing, function_type, returns_nothing}
 use Rattle.smith_check.specs.ValidPrograms.{IsFunctionValid, IsValidProgram}
 use Rattle.smith_check.proofs.GroupLemmas.{none_canonical, no_types}

@@ -1,22 +1,13 @@
 -- Functions of a module, and what makes the module wrong.
-use Rattle.std.proofs.Common.{◌≡◌, ◌∙◌, ℕ, ◌<◌, List, length, map, sym, ap, subst, arith, inl, inr}
-use Rattle.std.proofs.lemmas.Option.{same_Some, slice_get_within}
-use Rattle.smith_syntax.specs.Features.{Features}
-use Rattle.smith_syntax.specs.declared.composite_type.CompositeInnerType.TheVariants.{Func}
-use Rattle.smith_syntax.specs.declared.composite_type.FuncType.{FuncType}
-use Rattle.smith_syntax.specs.declared.composite_type.SubType.{SubType}
-use Rattle.smith_syntax.specs.declared.value_type.ValType.{ValType}
-use Rattle.smith_types.specs.Entities.{IsFuncAt}
-use Rattle.smith_instr.specs.declared.instr.Instr.{Instr}
+use Rattle.smith_check.proofs.Common.{ap, AreSectionsValid, arith, canonical_index, Features, FuncType, inl, inr, Instr, IsBodyTyped}
+use Rattle.smith_check.proofs.Common.{IsFuncAt, IsTypeSectionValid, length, List, map, renamed_val, same_Some, subst, SubType, sym}
+use Rattle.smith_check.proofs.Common.{types_in, ValType, ℕ, ◌<◌, ◌∙◌, ◌≡◌}
+use Rattle.std.proofs.lemmas.Option.{slice_get_within}
+use Rattle.smith_types.specs.Syntax.composite_type.CompositeInnerType.TheVariants.{Func}
 use Rattle.smith_decode.specs.Modules.{Syntax}
-use Rattle.smith_check_rules.specs.Sequences.{IsBodyTyped}
 use Rattle.smith_check_renamed.specs.RenamedInstructions.{renamed_body}
 use Rattle.smith_check_types.proofs.CheckLemmas.{section_valid}
 use Rattle.smith_check_types.proofs.LawLemmas.{unique_indices}
-use Rattle.smith_check_types.specs.Renamed.{renamed_val}
-use Rattle.smith_check_types.specs.TypeSections.{canonical_index, IsTypeSectionValid}
-use Rattle.smith_check_module.specs.Contexts.{types_in}
-use Rattle.smith_check_module.specs.ValidModules.{AreSectionsValid}
 use Rattle.smith_check.specs.Faults.{AreTypesRight, IsBodyRefused, IsUnpaired}
 use Rattle.smith_check.specs.ValidPrograms.{IsFunctionAt, IsFunctionValid, IsValidProgram, context_of_function}
 

@@ -1,16 +1,10 @@
 -- The first groups of types.
-use Rattle.std.proofs.Common.{◌≡◌, ℕ, zero, suc, ◌<◌, ◌≤◌, List, [], ◌∷◌, Option, Some, None, length, take, arith, refl}
+use Rattle.smith_check.proofs.Common.{[], All-nil, AreTypesValid, arith, Features, flat_map, IsTypeSectionValid, length, List, MatchOption}
+use Rattle.smith_check.proofs.Common.{Option, refl, Some, space_of, SubType, suc, take, zero, ℕ, ◌<◌, ◌∷◌, ◌≡◌, ◌≤◌}
+use Rattle.std.proofs.Common.{None}
 use Rattle.std.proofs.Common.{length-append}
-use Rattle.std.specs.Prelude.{MatchOption}
-use Rattle.std.specs.List.{flat_map}
-use Rattle.std.proofs.lemmas.List.Elements.{All-nil}
-use Rattle.smith_syntax.specs.Features.{Features}
-use Rattle.smith_syntax.specs.declared.composite_type.SubType.{SubType}
-use Rattle.smith_types.specs.Groups.{space_of}
-use Rattle.smith_types.specs.ValidTypes.{AreTypesValid}
 use Rattle.smith_check_types.specs.Canonical.{AreCanonical}
 use Rattle.smith_check_types.specs.CheckedTypes.{AreChecked}
-use Rattle.smith_check_types.specs.TypeSections.{IsTypeSectionValid}
 use Rattle.smith_check_types.specs.declared.check.CheckedTypes.{CheckedTypes}
 
 -- no groups are valid types

@@ -1,19 +1,15 @@
 -- The locals of runs.
-use Rattle.std.proofs.Common.{◌≡◌, ◌∙◌, ℕ, zero, suc, ◌+◌, ◌<◌, List, [], ◌∷◌, ◌++◌, length}
-use Rattle.std.proofs.Common.{map, replicate, take, get_or, sym, ap, subst, arith, refl, append_assoc}
+use Rattle.smith_check.proofs.Common.{[], All-nil, all_right, ap, arith, canonical_index, Features, get_or, length, List, LocalRun, map}
+use Rattle.smith_check.proofs.Common.{refl, renamed_val, subst, suc, sym, take, total, ValType, zero, ℕ, ◌++◌, ◌+◌, ◌<◌, ◌∙◌, ◌∷◌, ◌≡◌}
+use Rattle.std.proofs.Common.{append_assoc, replicate}
 use Rattle.std.specs.Prelude.{All}
 use Rattle.std.proofs.lemmas.List.{append-nil, take_more, length-append, length-replicate, map-append}
-use Rattle.std.proofs.lemmas.List.Elements.{All-append, All-cons, All-head, All-nil, All-replicate}
-use Rattle.smith_syntax.specs.Features.{Features}
-use Rattle.smith_syntax.specs.declared.value_type.ValType.{ValType}
+use Rattle.std.proofs.lemmas.List.Elements.{All-append, All-cons, All-head, All-replicate}
 use Rattle.smith_types.specs.ValidTypes.{IsValTypeValid}
 use Rattle.smith_binary_sections.specs.Codes.{locals_of}
-use Rattle.smith_decode.specs.BodyReadings.{run_pair, total}
-use Rattle.smith_decode.specs.declared.bodies.LocalRun.{LocalRun}
-use Rattle.smith_check_operands.proofs.ListLemmas.{all_left, all_right}
+use Rattle.smith_decode.specs.BodyReadings.{run_pair}
+use Rattle.smith_check_operands.proofs.ListLemmas.{all_left}
 use Rattle.smith_check_operands.proofs.StepLemmas.{all_at}
-use Rattle.smith_check_types.specs.Renamed.{renamed_val}
-use Rattle.smith_check_types.specs.TypeSections.{canonical_index}
 use Rattle.smith_check.specs.Locals.{IsFirstWrongRun, IsRunRight}
 
 -- the locals of runs, by canonical indices

@@ -1,25 +1,22 @@
 -- The functions that the parts of a module name, and the types of its element segments.
-use Rattle.std.proofs.Common.{◌≡◌, ◌∙◌, ℕ, List, [], ◌∷◌, ◌++◌, ap, append_assoc, map, refl, sym}
-use Rattle.std.specs.List.{flat_map}
+use Rattle.smith_check.proofs.Common.{[], ap, canonical_index, ElementSegment, flat_map, Instr, List, map, refl, renamed_ref, sym}
+use Rattle.smith_check.proofs.Common.{syntax_of, ℕ, ◌++◌, ◌∙◌, ◌∷◌, ◌≡◌}
+use Rattle.std.proofs.Common.{append_assoc}
 use Rattle.std.proofs.lemmas.List.Folds.{flat_map-map}
 use Rattle.std.proofs.lemmas.Simd.{map-map}
-use Rattle.smith_syntax.specs.declared.entity_type.ExportKind.{ExportKind}
-use Rattle.smith_syntax.specs.declared.entity_type.GlobalType.{GlobalType}
-use Rattle.smith_syntax.specs.declared.entity_type.TableType.{TableType}
+use Rattle.smith_types.specs.Syntax.entity_type.ExportKind.{ExportKind}
+use Rattle.smith_types.specs.Syntax.entity_type.GlobalType.{GlobalType}
+use Rattle.smith_types.specs.Syntax.entity_type.TableType.{TableType}
 use Rattle.smith_binary_read.specs.declared.exports.Export.{Export}
-use Rattle.smith_instr.specs.declared.instr.Instr.{Instr}
 use Rattle.smith_decode.specs.Data.{Data}
 use Rattle.smith_decode.specs.DataReadings.{mode_view, segment_view}
 use Rattle.smith_decode.specs.ElementReadings.{element_view}
 use Rattle.smith_decode.specs.Elements.{Elem, func_items}
-use Rattle.smith_decode.specs.Modules.{export_triple, global_pair, syntax_of, table_pair}
+use Rattle.smith_decode.specs.Modules.{export_triple, global_pair, table_pair}
 use Rattle.smith_decode.specs.declared.data.DataSegment.{DataSegment}
 use Rattle.smith_decode.specs.declared.definitions.GlobalDefinition.{GlobalDefinition}
 use Rattle.smith_decode.specs.declared.definitions.TableDefinition.{TableDefinition}
-use Rattle.smith_decode.specs.declared.elements.ElementSegment.{ElementSegment}
 use Rattle.smith_decode.specs.declared.modules.Module.{Module}
-use Rattle.smith_check_types.specs.Renamed.{renamed_ref}
-use Rattle.smith_check_types.specs.TypeSections.{canonical_index}
 use Rattle.smith_check.specs.References.{exported_by, named_by_data_mode, named_by_element, named_in, references_of}
 use Rattle.smith_check.specs.ValidPrograms.{element_types}
 

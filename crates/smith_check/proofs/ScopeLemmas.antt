@@ -1,32 +1,27 @@
 -- The context of a function of a module whose types and sections are valid.
-use Rattle.std.proofs.Common.{◌≡◌, ℕ, ◌<◌, List, ◌++◌, length, get_or, sym, subst, arith, inl, inr}
-use Rattle.std.specs.Prelude.{Some, slice_get}
+use Rattle.smith_check.proofs.Common.{all_right, AreSectionsValid, AreTypesValid, arith, canonical_groups, canonical_index, Features}
+use Rattle.smith_check.proofs.Common.{FuncType, get_or, inl, inr, IsFuncAt, length, List, renamed_ref, slice_get, space_of, subst, SubType}
+use Rattle.smith_check.proofs.Common.{sym, types_in, ValType, ℕ, ◌++◌, ◌<◌, ◌≡◌}
+use Rattle.std.specs.Prelude.{Some}
 use Rattle.std.proofs.lemmas.List.Elements.{All-append, All-map, All-weaker}
 use Rattle.std.proofs.lemmas.Option.{slice_get-get_or}
-use Rattle.smith_syntax.specs.Features.{Features}
-use Rattle.smith_syntax.specs.declared.composite_type.CompositeInnerType.{CompositeInnerType}
-use Rattle.smith_syntax.specs.declared.composite_type.FuncType.{FuncType}
-use Rattle.smith_syntax.specs.declared.composite_type.SubType.{SubType}
-use Rattle.smith_syntax.specs.declared.entity_type.GlobalType.{GlobalType}
-use Rattle.smith_syntax.specs.declared.entity_type.TableType.{TableType}
-use Rattle.smith_syntax.specs.declared.value_type.HeapType.{HeapType}
-use Rattle.smith_syntax.specs.declared.value_type.HeapType.TheVariants.{Abstract, Concrete, Exact}
-use Rattle.smith_syntax.specs.declared.value_type.RefType.{RefType}
-use Rattle.smith_syntax.specs.declared.value_type.ValType.{ValType}
+use Rattle.smith_types.specs.Syntax.composite_type.CompositeInnerType.{CompositeInnerType}
+use Rattle.smith_types.specs.Syntax.entity_type.GlobalType.{GlobalType}
+use Rattle.smith_types.specs.Syntax.entity_type.TableType.{TableType}
+use Rattle.smith_types.specs.Syntax.value_type.HeapType.{HeapType}
+use Rattle.smith_types.specs.Syntax.value_type.HeapType.TheVariants.{Abstract, Concrete, Exact}
+use Rattle.smith_types.specs.Syntax.value_type.RefType.{RefType}
 use Rattle.smith_types.proofs.GroupGrowthLemmas.{AreTypesOpen-at, AreTypesOpen-start}
-use Rattle.smith_types.specs.Entities.{IsFuncAt, IsGlobalValid, IsTableValid}
+use Rattle.smith_types.specs.Entities.{IsGlobalValid, IsTableValid}
 use Rattle.smith_types.specs.Expressions.{seeing, seen_by_segments}
-use Rattle.smith_types.specs.Groups.{space_of}
 use Rattle.smith_types.specs.Subtyping.{IsInRange}
-use Rattle.smith_types.specs.ValidTypes.{AreTypesValid, IsHeapTypeValid, IsTypeValid, IsValTypeValid, IsRefTypeValid, values_of}
+use Rattle.smith_types.specs.ValidTypes.{IsHeapTypeValid, IsRefTypeValid, IsTypeValid, IsValTypeValid, values_of}
 use Rattle.smith_decode.specs.Elements.{Elem}
 use Rattle.smith_decode.specs.Modules.{Syntax}
-use Rattle.smith_check_operands.proofs.ListLemmas.{all_left, all_right}
+use Rattle.smith_check_operands.proofs.ListLemmas.{all_left}
 use Rattle.smith_check_operands.specs.Scopes.{IsScope}
-use Rattle.smith_check_types.specs.Renamed.{renamed_ref}
-use Rattle.smith_check_types.specs.TypeSections.{canonical_index, canonical_groups}
-use Rattle.smith_check_module.specs.Contexts.{context_in, spaces_in, types_in}
-use Rattle.smith_check_module.specs.ValidModules.{AreSectionsValid, IsElementTypeValid, IsElementValid}
+use Rattle.smith_check_module.specs.Contexts.{context_in, spaces_in}
+use Rattle.smith_check_module.specs.ValidModules.{IsElementTypeValid, IsElementValid}
 use Rattle.smith_check.specs.ValidPrograms.{AreValuesValid, context_of_function}
 
 heap_in_range : (features : Features) (types : List SubType) (heap : HeapType) → IsHeapTypeValid features (length types) heap

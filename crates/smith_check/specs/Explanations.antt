@@ -1,12 +1,7 @@
 -- Why an instruction of a module is refused. Rules of this project.
 use Rattle.std.specs.Prelude.{◌≡◌, ℕ, List, length}
-use Rattle.smith_syntax.specs.Features.{Features}
-use Rattle.smith_syntax.specs.declared.composite_type.FuncType.{FuncType}
-use Rattle.smith_syntax.specs.declared.value_type.ValType.{ValType}
+use Rattle.smith_check.specs.Common.{Features, FuncType, imported_spaces, Instr, Syntax, syntax_of, ValType}
 use Rattle.smith_types.specs.EntitySpaces.{spaces_in}
-use Rattle.smith_types.specs.Imports.{imported_spaces}
-use Rattle.smith_instr.specs.declared.instr.Instr.{Instr}
-use Rattle.smith_decode.specs.Modules.{Syntax, syntax_of}
 use Rattle.smith_decode.specs.declared.modules.Module.{Module}
 use Rattle.smith_explain.specs.Causes.{IsExplanation}
 use Rattle.smith_explain.specs.declared.explanation.Explanation.{Explanation}

@@ -2,20 +2,15 @@
 -- order of faults is a rule of this project: types, then the other sections, then the bodies in
 -- order.
 use Rattle.std.specs.Prelude.{◌≡◌, ◌⊎◌, ℕ, ◌+◌, ◌^◌, ◌<◌, ◌≤◌, List, ◌++◌, Some, length, take, slice_get}
-use Rattle.smith_syntax.specs.Features.{Features}
-use Rattle.smith_syntax.specs.declared.composite_type.FuncType.{FuncType}
-use Rattle.smith_syntax.specs.declared.value_type.ValType.{ValType}
+use Rattle.smith_check.specs.Common.{AreSectionsValid, Features, FuncType, Instr, Syntax, syntax_of, ValType}
 use Rattle.smith_types.specs.Groups.{space_of}
-use Rattle.smith_instr.specs.declared.instr.Instr.{Instr}
 use Rattle.smith_decode.specs.declared.bodies.Body.{Body}
 use Rattle.smith_decode.specs.declared.modules.Module.{Module}
-use Rattle.smith_decode.specs.Modules.{Syntax, syntax_of}
 use Rattle.smith_check_types.specs.Canonical.{AreCanonical}
 use Rattle.smith_check_types.specs.TypeSections.{IsTypeSectionValid}
 use Rattle.smith_check_body.specs.Verdicts.{IsRefused}
 use Rattle.smith_check_module.specs.Contexts.{types_in}
 use Rattle.smith_check_module.specs.SectionFaults.{IsFirstFault as IsFirstSectionFault}
-use Rattle.smith_check_module.specs.ValidModules.{AreSectionsValid}
 use Rattle.smith_check.specs.Locals.{IsFirstWrongRun}
 use Rattle.smith_check.specs.ValidPrograms.{AreValuesValid, IsFunctionAt, IsFunctionValid, IsValidProgram, context_of_function}
 use Rattle.smith_check.specs.declared.judgement.Fault.{Fault}

@@ -1,22 +1,15 @@
 -- The parts of a module by which its functions are judged.
 use Rattle.std.specs.Prelude.{◌≡◌, ℕ, ◌<◌, List, [], Some, length, map, slice_get}
-use Rattle.smith_syntax.specs.FeatureBits.{features_in}
-use Rattle.smith_syntax.specs.declared.composite_type.FuncType.{FuncType}
-use Rattle.smith_syntax.specs.declared.value_type.ValType.{ValType}
+use Rattle.smith_types.specs.Syntax.FeatureBits.{features_in}
+use Rattle.smith_check.specs.Common.{AreSectionsValid, canonical_index, FuncType, imported_spaces, Instr, renamed_val, syntax_of, ValType}
 use Rattle.smith_types.specs.Entities.{IsFuncAt}
 use Rattle.smith_types.specs.EntitySpaces.{spaces_in}
-use Rattle.smith_types.specs.Imports.{imported_spaces}
 use Rattle.smith_instr.specs.Contexts.{BodyContext}
-use Rattle.smith_instr.specs.declared.instr.Instr.{Instr}
 use Rattle.smith_decode.specs.BodyReadings.{body_view}
-use Rattle.smith_decode.specs.Modules.{syntax_of}
 use Rattle.smith_decode.specs.declared.bodies.Body.{Body}
 use Rattle.smith_check_types.specs.CheckedTypes.{AreChecked}
-use Rattle.smith_check_types.specs.Renamed.{renamed_val}
-use Rattle.smith_check_types.specs.TypeSections.{canonical_index}
 use Rattle.smith_check_renamed.specs.RenamedInstructions.{renamed_body}
 use Rattle.smith_check_module.specs.Contexts.{spaces_in as spaces_of_module}
-use Rattle.smith_check_module.specs.ValidModules.{AreSectionsValid}
 use Rattle.smith_check.specs.References.{references_of}
 use Rattle.smith_check.specs.ValidPrograms.{AreValuesValid, IsFunctionValid, context_of_function, element_types}
 use Rattle.smith_check.specs.declared.functions.FunctionJudge.{FunctionJudge}

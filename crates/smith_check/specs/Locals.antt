@@ -1,10 +1,8 @@
 -- Runs of locals.
 use Rattle.std.specs.Prelude.{◌≡◌, ℕ, ◌<◌, List, Some, take, slice_get, All}
-use Rattle.smith_syntax.specs.Features.{Features}
+use Rattle.smith_check.specs.Common.{canonical_index, Features, renamed_val}
 use Rattle.smith_types.specs.ValidTypes.{IsValTypeValid}
 use Rattle.smith_decode.specs.declared.bodies.LocalRun.{LocalRun}
-use Rattle.smith_check_types.specs.Renamed.{renamed_val}
-use Rattle.smith_check_types.specs.TypeSections.{canonical_index}
 
 -- a run of locals is empty, or its type is valid over `end` types, by canonical indices
 -- (Validation, Locals)

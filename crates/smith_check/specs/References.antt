@@ -2,17 +2,16 @@
 -- of the WebAssembly Core Specification 3.0 (C.refs).
 use Rattle.std.specs.Prelude.{ℕ, List, [], ◌∷◌, ◌++◌}
 use Rattle.std.specs.List.{flat_map}
-use Rattle.smith_syntax.specs.declared.entity_type.ExportKind.{ExportKind}
-use Rattle.smith_syntax.specs.declared.entity_type.ExportKind.TheVariants as kind
-use Rattle.smith_syntax.specs.declared.entity_type.GlobalType.{GlobalType}
-use Rattle.smith_syntax.specs.declared.entity_type.TableType.{TableType}
-use Rattle.smith_instr.specs.declared.instr.Instr.{Instr}
+use Rattle.smith_types.specs.Syntax.entity_type.ExportKind.{ExportKind}
+use Rattle.smith_types.specs.Syntax.entity_type.ExportKind.TheVariants as kind
+use Rattle.smith_types.specs.Syntax.entity_type.GlobalType.{GlobalType}
+use Rattle.smith_types.specs.Syntax.entity_type.TableType.{TableType}
+use Rattle.smith_check.specs.Common.{Instr, Syntax}
 use Rattle.smith_instr.specs.declared.instr.Instr.TheVariants as instr
 use Rattle.smith_instr.specs.declared.reference.ReferenceInstr.{ReferenceInstr}
 use Rattle.smith_instr.specs.declared.reference.ReferenceInstr.TheVariants as reference
 use Rattle.smith_decode.specs.Data.{Data, DataMode}
 use Rattle.smith_decode.specs.Elements.{Elem, Mode}
-use Rattle.smith_decode.specs.Modules.{Syntax}
 
 -- the function that a reference instruction names, if any (Structure, Reference Instructions)
 abbrev pub named_by_reference : ReferenceInstr → List ℕ

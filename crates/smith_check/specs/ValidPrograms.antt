@@ -3,25 +3,20 @@
 -- are one type. The conditions on features, sharedness and exact types are rules of this project.
 -- The features of a body's instructions are not checked here, because the decoder checks them.
 use Rattle.std.specs.Prelude.{◌≡◌, ℕ, ◌<◌, List, [], ◌++◌, Some, length, map, slice_get, All}
-use Rattle.smith_syntax.specs.Features.{Features}
-use Rattle.smith_syntax.specs.declared.composite_type.FuncType.{FuncType}
-use Rattle.smith_syntax.specs.declared.value_type.RefType.{RefType}
-use Rattle.smith_syntax.specs.declared.value_type.ValType.{ValType}
+use Rattle.smith_check.specs.Common.{AreSectionsValid, canonical_index, Features, FuncType, imported_spaces, Instr, renamed_val, Syntax}
+use Rattle.smith_check.specs.Common.{ValType}
+use Rattle.smith_types.specs.Syntax.value_type.RefType.{RefType}
 use Rattle.smith_types.specs.Entities.{IsFuncAt}
 use Rattle.smith_types.specs.Groups.{space_of}
-use Rattle.smith_types.specs.Imports.{imported_spaces}
 use Rattle.smith_types.specs.ValidTypes.{AreTypesValid, IsValTypeValid}
 use Rattle.smith_instr.specs.Contexts.{BodyContext}
-use Rattle.smith_instr.specs.declared.instr.Instr.{Instr}
 use Rattle.smith_decode.specs.Elements.{Elem}
-use Rattle.smith_decode.specs.Modules.{Syntax}
 use Rattle.smith_check_rules.specs.Sequences.{IsBodyTyped}
 use Rattle.smith_check_types.specs.Canonical.{AreCanonical}
-use Rattle.smith_check_types.specs.Renamed.{renamed_ref, renamed_val}
-use Rattle.smith_check_types.specs.TypeSections.{canonical_index, canonical_groups, AreGroupsInScope}
+use Rattle.smith_check_types.specs.Renamed.{renamed_ref}
+use Rattle.smith_check_types.specs.TypeSections.{AreGroupsInScope, canonical_groups}
 use Rattle.smith_check_renamed.specs.RenamedInstructions.{renamed_body}
 use Rattle.smith_check_module.specs.Contexts.{spaces_in, types_in}
-use Rattle.smith_check_module.specs.ValidModules.{AreSectionsValid}
 use Rattle.smith_check.specs.References.{references_of}
 
 -- the types of the element segments, by canonical indices (Validation, Modules)

@@ -1,6 +1,6 @@
 ghost use Rattle.std.specs.Prelude.{◌≡◌, ◌↔◌, ◌+◌, ◌≤◌, ◌++◌, map, replicate, All};
 ghost use Rattle.std.specs.Prelude.{IsTrue, IfOk, IfErr, OnOk, MatchOption};
-ghost use Rattle.smith_syntax.specs.FeatureBits.{features_in};
+ghost use Rattle.smith_types.specs.Syntax.FeatureBits.{features_in};
 ghost use Rattle.smith_binary_sections.specs.Codes.{locals_of};
 ghost use Rattle.smith_decode.specs.BodyReadings.{run_pair, total};
 ghost use Rattle.smith_check_types.specs.Renamed.{renamed_val};

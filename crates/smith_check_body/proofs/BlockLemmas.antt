@@ -1,18 +1,12 @@
 -- Instructions that open blocks.
-use Rattle.std.proofs.Common.{◌≡◌, List, [], ◌∷◌, ◌++◌, refl, sym, ap, ◌∙◌, subst, inl, inr}
-use Rattle.smith_syntax.specs.declared.value_type.ValType.{ValType}
-use Rattle.smith_check_operands.specs.declared.frame.Kind.{Kind}
+use Rattle.smith_check_body.proofs.Common.{[], ap, AreTyped, block, BlockType, BodyContext, ClosesWith, HasStackType, if_alone, if_else}
+use Rattle.smith_check_body.proofs.Common.{inl, inr, Instr, IsBlockType, IsFramed, IsStep, Kind, label_by, List, loop, nothing, refl}
+use Rattle.smith_check_body.proofs.Common.{Stacked, stacked, step, subst, sym, try_table, ValType, values, ◌++◌, ◌∙◌, ◌∷◌, ◌≡◌}
 use Rattle.smith_check_operands.specs.declared.frame.Kind.TheVariants as kind
-use Rattle.smith_instr.specs.declared.control.BlockType.{BlockType}
 use Rattle.smith_instr.specs.declared.control.Catch.{Catch}
-use Rattle.smith_instr.specs.declared.instr.Instr.{Instr}
 use Rattle.smith_instr.specs.declared.instr.Instr.TheVariants as instr
-use Rattle.smith_check_rules.specs.Slots.{values}
-use Rattle.smith_instr.specs.Contexts.{BodyContext, labelled, IsBlockType}
-use Rattle.smith_check_rules.specs.StackTypes.{HasStackType}
-use Rattle.smith_check_rules.specs.Sequences.{Stacked, stacked, IsFramed, IsStep, AreTyped, nothing, step, block, loop, if_alone, if_else}
-use Rattle.smith_check_rules.specs.Sequences.{try_table}
-use Rattle.smith_check_operands.specs.Closes.{label_by, ClosesWith, Ends}
+use Rattle.smith_instr.specs.Contexts.{labelled}
+use Rattle.smith_check_operands.specs.Closes.{Ends}
 use Rattle.smith_check_body.specs.Opens.{opening, taken_by}
 use Rattle.smith_check_body.proofs.PlainLemmas.{same_first, same_others, not_empty}
 

@@ -1,18 +1,14 @@
 -- Bodies that are checked.
-use Rattle.std.proofs.Common.{◌≡◌, ℕ, ◌+◌, ◌<◌, Bool, true, false, MatchBool, List, [], ◌∷◌, ◌++◌, length, take, drop, get_or, reverse, sym}
-use Rattle.std.proofs.Common.{ap, ◌∙◌, subst, append_assoc, arith}
-use Rattle.std.proofs.lemmas.List.{append-nil, take_more, take-append-drop, length-reverse}
-use Rattle.std.proofs.lemmas.List.Elements.{All-nil}
+use Rattle.smith_check_body.proofs.Common.{[], All-nil, ap, append-nil, AreSlotsValid, AreValid, arith, BodyContext, Bool, EndsHere, false}
+use Rattle.smith_check_body.proofs.Common.{Finishes, Frame, Held, held, holding, Instr, IsSlotValid, length, List, MatchBool, reverse}
+use Rattle.smith_check_body.proofs.Common.{Shape, subst, sym, take, true, ℕ, ◌++◌, ◌<◌, ◌∙◌, ◌∷◌, ◌≡◌}
+use Rattle.std.proofs.Common.{drop, get_or, ◌+◌}
+use Rattle.std.proofs.Common.{append_assoc}
+use Rattle.std.proofs.lemmas.List.{length-reverse, take-append-drop, take_more}
 use Rattle.smith_check_body.specs.declared.checker.Checker.{Checker}
-use Rattle.smith_check_operands.specs.declared.frame.Frame.{Frame}
-use Rattle.smith_check_operands.specs.declared.frame.Shape.{Shape}
 use Rattle.smith_check_operands.specs.declared.frame.Kind.TheVariants as kind
-use Rattle.smith_instr.specs.declared.instr.Instr.{Instr}
-use Rattle.smith_instr.specs.Contexts.{BodyContext, IsValid, AreValid}
-use Rattle.smith_check_rules.specs.Slots.{IsSlotValid, AreSlotsValid}
+use Rattle.smith_instr.specs.Contexts.{IsValid}
 use Rattle.smith_check_rules.specs.Sequences.{IsBodyTyped}
-use Rattle.smith_check_operands.specs.Covers.{Held, holding, held}
-use Rattle.smith_check_operands.specs.Closes.{Finishes, EndsHere}
 use Rattle.smith_check_body.specs.Checks.{CanFinish, IsShapeValid, AreWell, Goes, Stops, IsReached}
 use Rattle.smith_check_body.specs.Verdicts.{IsRefused}
 use Rattle.smith_check_body.proofs.FrameLemmas.{body_finishes, finished_body, last_finish, last_begin, open_unfinished}

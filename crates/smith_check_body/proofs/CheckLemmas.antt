@@ -1,25 +1,18 @@
 -- Steps of the check of a body.
-use Rattle.std.proofs.Common.{◌≡◌, ℕ, ◌<◌, Bool, true, false, List, [], ◌∷◌, ◌++◌, length, take, reverse, refl, sym, ap, ◌∙◌, subst, arith}
-use Rattle.std.specs.Prelude.{All}
-use Rattle.std.proofs.lemmas.List.Elements.{All-nil, All-cons}
+use Rattle.smith_check_body.proofs.Common.{[], All, All-nil, ap, AreSlotsValid, AreValid, arith, BlockType, BodyContext, Bool, EndsHere}
+use Rattle.smith_check_body.proofs.Common.{false, Finishes, Frame, Held, held, holding, Instr, Kind, label_by, label_of, labels_of, length}
+use Rattle.smith_check_body.proofs.Common.{List, Pushes, refl, reverse, Shape, subst, sym, take, take_all, true, ValType, values, ℕ, ◌++◌}
+use Rattle.smith_check_body.proofs.Common.{◌<◌, ◌∙◌, ◌∷◌, ◌≡◌}
+use Rattle.std.proofs.lemmas.List.Elements.{All-cons}
 use Rattle.std.proofs.Math.Seq.{take-length}
-use Rattle.std.proofs.lemmas.List.{take-append-le, take_all, length-append, length-take-le, length-reverse, reverse-append}
-use Rattle.smith_syntax.specs.declared.value_type.ValType.{ValType}
+use Rattle.std.proofs.lemmas.List.{length-append, length-reverse, length-take-le, reverse-append, take-append-le}
 use Rattle.smith_check_body.specs.declared.checker.Checker.{Checker}
-use Rattle.smith_check_operands.specs.declared.frame.Frame.{Frame}
 use Rattle.smith_check_operands.specs.declared.frame.Operands.{Operands}
-use Rattle.smith_check_operands.specs.declared.frame.Shape.{Shape}
-use Rattle.smith_check_operands.specs.declared.frame.Kind.{Kind}
 use Rattle.smith_check_operands.specs.declared.frame.Kind.TheVariants as kind
-use Rattle.smith_instr.specs.declared.control.BlockType.{BlockType}
-use Rattle.smith_instr.specs.declared.instr.Instr.{Instr}
 use Rattle.smith_instr.specs.declared.instr.Instr.TheVariants as instr
-use Rattle.smith_check_rules.specs.Slots.{values}
-use Rattle.smith_instr.specs.Contexts.{BodyContext, AreValid}
-use Rattle.smith_check_rules.specs.Slots.{AreSlotsValid}
 use Rattle.smith_instr.specs.InstrTypes.{sets}
-use Rattle.smith_check_operands.specs.Covers.{Held, holding, held, Takes, Pops, PopsNothing, Pushes}
-use Rattle.smith_check_operands.specs.Closes.{label_by, label_of, labels_of, MayEnd, IsFirst, EndsHere, Finishes, StepsNowhere, IsPlain}
+use Rattle.smith_check_operands.specs.Covers.{Pops, PopsNothing, Takes}
+use Rattle.smith_check_operands.specs.Closes.{IsFirst, IsPlain, MayEnd, StepsNowhere}
 use Rattle.smith_check_body.specs.Opens.{opening, taken_by}
 use Rattle.smith_check_operands.specs.Applies.{IsTaken, IsTried}
 use Rattle.smith_check_body.specs.Checks.{IsShapeValid, AreWell, IsWell, Goes, Stops, HasNoType, IsShapeOf}

@@ -1,16 +1,12 @@
 -- A sequence that is typed from values is typed from values that match them.
-use Rattle.std.proofs.Common.{ℕ, List, [], ◌++◌, refl, sym, subst}
+use Rattle.smith_check_body.proofs.Common.{[], AreSlotsValid, AreTyped, block, BodyContext, ClosesWith, if_alone, if_else, Instr, IsFramed}
+use Rattle.smith_check_body.proofs.Common.{IsSlotValid, List, loop, nothing, refl, Stacked, stacked, step, subst, sym, try_table, ValType}
+use Rattle.smith_check_body.proofs.Common.{ℕ, ◌++◌}
 use Rattle.std.specs.List.{AllZip}
 use Rattle.std.proofs.lemmas.List.Elements.{All-append}
-use Rattle.smith_syntax.specs.declared.value_type.ValType.{ValType}
 use Rattle.smith_check_rules.specs.declared.slot.Slot.{Slot}
-use Rattle.smith_instr.specs.declared.instr.Instr.{Instr}
 use Rattle.smith_check_rules.specs.Slots.{IsBelow}
-use Rattle.smith_instr.specs.Contexts.{BodyContext}
-use Rattle.smith_check_rules.specs.Slots.{IsSlotValid, AreSlotsValid}
-use Rattle.smith_check_rules.specs.Sequences.{Stacked, stacked, CountsAs, IsFramed, AreTyped, nothing, step, block, loop, if_alone, if_else}
-use Rattle.smith_check_rules.specs.Sequences.{try_table}
-use Rattle.smith_check_operands.specs.Closes.{ClosesWith}
+use Rattle.smith_check_rules.specs.Sequences.{CountsAs}
 use Rattle.smith_check_operands.proofs.ListLemmas.{all_left, zip_parts, zip_join}
 use Rattle.smith_check_operands.proofs.BelowLemmas.{below_themselves, below_all}
 

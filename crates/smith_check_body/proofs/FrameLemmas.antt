@@ -1,29 +1,21 @@
 -- Blocks that are opened and closed.
-use Rattle.std.proofs.Common.{◌≡◌, ℕ, false, List, [], ◌∷◌, ◌++◌, take, refl, sym, ap, ◌∙◌, subst, inl, inr, append_assoc}
+use Rattle.smith_check_body.proofs.Common.{[], All-nil, ap, append-nil, AreSlotsValid, AreTyped, block, BlockType, BodyContext, ClosesWith}
+use Rattle.smith_check_body.proofs.Common.{EndsHere, false, Finishes, Frame, HasStackType, Held, held, holding, if_alone, if_else, inl, inr}
+use Rattle.smith_check_body.proofs.Common.{Instr, IsBlockType, IsFramed, IsSlotValid, IsStep, IsTail, Kind, label_by, label_of, labels_of}
+use Rattle.smith_check_body.proofs.Common.{List, loop, nothing, Pushes, refl, Shape, Stacked, stacked, step, subst, sym, take, try_table}
+use Rattle.smith_check_body.proofs.Common.{ValType, values, with_labels, ℕ, ◌++◌, ◌∙◌, ◌∷◌, ◌≡◌}
+use Rattle.std.proofs.Common.{append_assoc}
 use Rattle.std.proofs.lemmas.Bool.{false≢true}
-use Rattle.std.proofs.lemmas.List.{append-nil}
-use Rattle.std.proofs.lemmas.List.Elements.{All-nil}
-use Rattle.smith_syntax.specs.declared.composite_type.FuncType.{FuncType}
-use Rattle.smith_syntax.specs.declared.value_type.ValType.{ValType}
+use Rattle.smith_types.specs.Syntax.composite_type.FuncType.{FuncType}
 use Rattle.smith_check_rules.specs.declared.slot.Slot.{Slot}
-use Rattle.smith_check_operands.specs.declared.frame.Frame.{Frame}
-use Rattle.smith_check_operands.specs.declared.frame.Shape.{Shape}
-use Rattle.smith_check_operands.specs.declared.frame.Kind.{Kind}
 use Rattle.smith_check_operands.specs.declared.frame.Kind.TheVariants as kind
-use Rattle.smith_instr.specs.declared.control.BlockType.{BlockType}
 use Rattle.smith_instr.specs.declared.control.BlockType.TheVariants as block_type
-use Rattle.smith_instr.specs.declared.instr.Instr.{Instr}
 use Rattle.smith_instr.specs.declared.instr.Instr.TheVariants as instr
-use Rattle.smith_check_rules.specs.Slots.{AreBelow, values}
-use Rattle.smith_instr.specs.Contexts.{BodyContext, IsBlockType}
-use Rattle.smith_check_rules.specs.Slots.{IsSlotValid, AreSlotsValid}
-use Rattle.smith_check_rules.specs.StackTypes.{HasStackType}
-use Rattle.smith_check_rules.specs.Sequences.{Stacked, stacked, CountsAs, IsFramed, IsStep, AreTyped, nothing, step, block, loop, if_alone}
-use Rattle.smith_check_rules.specs.Sequences.{if_else, try_table, IsBodyTyped}
-use Rattle.smith_check_operands.specs.Covers.{Held, holding, held, Covers, CoversGiven, Takes, Pops, Pushes}
-use Rattle.smith_check_operands.specs.Closes.{label_by, label_of, labels_of, with_labels, MayEnd, IsFirst, ClosesWith, Ends, Resumes}
-use Rattle.smith_check_operands.specs.Closes.{IsTail}
-use Rattle.smith_check_operands.specs.Closes.{Finishes, EndsHere}
+use Rattle.smith_check_rules.specs.Slots.{AreBelow}
+use Rattle.smith_check_rules.specs.Sequences.{CountsAs}
+use Rattle.smith_check_rules.specs.Sequences.{IsBodyTyped}
+use Rattle.smith_check_operands.specs.Covers.{Covers, CoversGiven, Pops, Takes}
+use Rattle.smith_check_operands.specs.Closes.{Ends, IsFirst, MayEnd, Resumes}
 use Rattle.smith_check_body.specs.Opens.{opening, taken_by}
 use Rattle.smith_check_operands.proofs.BelowLemmas.{below_themselves}
 use Rattle.smith_check_body.proofs.PlainLemmas.{same_first, same_others, not_empty, head_of}

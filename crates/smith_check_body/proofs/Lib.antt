@@ -1,3 +1,4 @@
+pub mod Common
 pub mod PlainLemmas
 pub mod ComposeLemmas
 pub mod BlockLemmas

@@ -1,15 +1,11 @@
 -- Instructions that open and close no block.
-use Rattle.std.proofs.Common.{◌≡◌, ◌⊎◌, ℕ, List, [], ◌∷◌, ◌++◌, refl, sym, ap, ◌∙◌, subst, inl, inr}
-use Rattle.smith_syntax.specs.declared.value_type.ValType.{ValType}
-use Rattle.smith_check_operands.specs.declared.frame.Frame.{Frame}
-use Rattle.smith_check_operands.specs.declared.frame.Shape.{Shape}
-use Rattle.smith_instr.specs.declared.instr.Instr.{Instr}
+use Rattle.smith_check_body.proofs.Common.{[], ap, AreTyped, block, BodyContext, ClosesWith, Finishes, Frame, Held, if_alone, if_else, inl}
+use Rattle.smith_check_body.proofs.Common.{inr, Instr, IsStep, IsTail, label_of, labels_of, List, loop, nothing, refl, Shape, Stacked}
+use Rattle.smith_check_body.proofs.Common.{stacked, step, subst, sym, try_table, ValType, with_labels, ℕ, ◌++◌, ◌∙◌, ◌∷◌, ◌≡◌}
+use Rattle.std.proofs.Common.{◌⊎◌}
 use Rattle.smith_instr.specs.declared.instr.Instr.TheVariants as instr
-use Rattle.smith_instr.specs.Contexts.{BodyContext}
 use Rattle.smith_instr.specs.InstrTypes.{sets}
-use Rattle.smith_check_rules.specs.Sequences.{Stacked, stacked, IsStep, AreTyped, nothing, step, block, loop, if_alone, if_else, try_table}
-use Rattle.smith_check_operands.specs.Covers.{Held}
-use Rattle.smith_check_operands.specs.Closes.{label_of, labels_of, with_labels, ClosesWith, IsTail, Finishes, Steps, StepsNowhere, IsPlain}
+use Rattle.smith_check_operands.specs.Closes.{IsPlain, Steps, StepsNowhere}
 
 -- the first item of a list, or another
 first_or : Instr → List Instr → Instr

@@ -1,21 +1,15 @@
 -- Blocks with clauses for exceptions: as blocks, where the labels take what the clauses pass.
-use Rattle.std.proofs.Common.{◌≡◌, ◌↔◌, ℕ, Bool, true, false, IsTrue, MatchBool, List, [], ◌∷◌, ◌++◌, reverse, sym, ap, ◌∙◌, subst}
-use Rattle.std.proofs.Common.{inl, inr}
-use Rattle.std.specs.Prelude.{All, Result, Ok, Err, IfOk}
+use Rattle.smith_check_body.proofs.Common.{[], All, ap, AreTyped, block, BlockType, BodyContext, Bool, false, Finishes, Frame, HasStackType}
+use Rattle.smith_check_body.proofs.Common.{Held, if_alone, if_else, inl, inr, Instr, IsBlockType, IsStep, IsTail, label_of, labels_of, List}
+use Rattle.smith_check_body.proofs.Common.{loop, MatchBool, nothing, reverse, Shape, Stacked, step, subst, sym, true, try_table}
+use Rattle.smith_check_body.proofs.Common.{with_labels, ℕ, ◌++◌, ◌∙◌, ◌∷◌, ◌≡◌}
+use Rattle.std.proofs.Common.{IsTrue, ◌↔◌}
+use Rattle.std.specs.Prelude.{Err, IfOk, Ok, Result}
 use Rattle.std.proofs.lemmas.Bool.{false≢true}
 use Rattle.smith_bytes.specs.declared.error.Error.{Error}
-use Rattle.smith_instr.specs.Contexts.{BodyContext, IsBlockType}
 use Rattle.smith_instr.specs.InstrTypes.{IsCatch}
-use Rattle.smith_instr.specs.declared.control.BlockType.{BlockType}
 use Rattle.smith_instr.specs.declared.control.Catch.{Catch}
-use Rattle.smith_instr.specs.declared.instr.Instr.{Instr}
 use Rattle.smith_instr.specs.declared.instr.Instr.TheVariants as instr
-use Rattle.smith_check_rules.specs.StackTypes.{HasStackType}
-use Rattle.smith_check_rules.specs.Sequences.{Stacked, IsStep, AreTyped, nothing, step, block, loop, if_alone, if_else, try_table}
-use Rattle.smith_check_operands.specs.Closes.{label_of, labels_of, with_labels, IsTail, Finishes}
-use Rattle.smith_check_operands.specs.Covers.{Held}
-use Rattle.smith_check_operands.specs.declared.frame.Frame.{Frame}
-use Rattle.smith_check_operands.specs.declared.frame.Shape.{Shape}
 use Rattle.smith_check_operands.specs.declared.frame.Kind.TheVariants as kind
 use Rattle.smith_check_body.specs.Checks.{Goes, Stops}
 use Rattle.smith_check_body.specs.declared.checker.Checker.{Checker}

@@ -1,7 +1,7 @@
 -- The states of the check of a body, and its steps.
 use Rattle.std.specs.Prelude.{◌≡◌, ℕ, ◌≤◌, List, [], ◌∷◌, ◌++◌, length, take, reverse}
 use Rattle.smith_check_rules.specs.Sequences.{IsBodyTyped}
-use Rattle.smith_syntax.specs.declared.value_type.ValType.{ValType}
+use Rattle.smith_types.specs.Syntax.value_type.ValType.{ValType}
 use Rattle.smith_check_body.specs.declared.checker.Checker.{Checker}
 use Rattle.smith_check_operands.specs.declared.frame.Frame.{Frame}
 use Rattle.smith_check_operands.specs.declared.frame.Shape.{Shape}

@@ -1,7 +1,7 @@
 -- Instructions that open blocks.
 use Rattle.std.specs.Prelude.{List, [], ◌∷◌, ◌++◌}
-use Rattle.smith_syntax.specs.declared.value_type.ValType.{ValType}
-use Rattle.smith_syntax.specs.declared.value_type.ValType.TheVariants.{I32}
+use Rattle.smith_types.specs.Syntax.value_type.ValType.{ValType}
+use Rattle.smith_types.specs.Syntax.value_type.ValType.TheVariants.{I32}
 use Rattle.smith_check_operands.specs.declared.frame.Kind.{Kind}
 use Rattle.smith_check_operands.specs.declared.frame.Kind.TheVariants as kind
 use Rattle.smith_instr.specs.declared.control.BlockType.{BlockType}

@@ -1,25 +1,17 @@
 -- Branches to one of several labels.
-use Rattle.std.proofs.Common.{◌≡◌, ℕ, true, List, [], ◌∷◌, ◌++◌, length, refl, sym, ap, ◌∙◌, subst, append_assoc}
-use Rattle.std.specs.Prelude.{Some, None, slice_get, All}
+use Rattle.smith_check_branches.proofs.Common.{[], All, all_at, ap, append_assoc, AreBelow, BodyContext, Covers, Held, I32, IsBelow}
+use Rattle.smith_check_branches.proofs.Common.{IsTaken, length, List, None, none_not_some, Pops, PopsNothing, refl, slice_get, Slot, Some}
+use Rattle.smith_check_branches.proofs.Common.{some_same, subst, sym, true, ValType, Value, values, with_labels, ℕ, ◌++◌, ◌∙◌, ◌∷◌, ◌≡◌}
 use Rattle.std.proofs.lemmas.List.Elements.{length_all_zip}
-use Rattle.smith_syntax.specs.declared.value_type.ValType.{ValType}
-use Rattle.smith_syntax.specs.declared.value_type.ValType.TheVariants.{I32}
-use Rattle.smith_instr.specs.Contexts.{BodyContext}
 use Rattle.smith_instr.specs.declared.instr.Instr.TheVariants as instr
-use Rattle.smith_check_rules.specs.Slots.{IsBelow, AreBelow, values}
-use Rattle.smith_check_rules.specs.StackTypes.{IsTaken}
 use Rattle.smith_check_rules.specs.Sequences.{Stacked, stacked, IsStep}
-use Rattle.smith_check_rules.specs.declared.slot.Slot.{Slot}
-use Rattle.smith_check_rules.specs.declared.slot.Slot.TheVariants.{Value}
 use Rattle.smith_check_operands.specs.Applies.{IsTaken as IsSteppedTo}
-use Rattle.smith_check_operands.specs.Closes.{with_labels, StepsNowhere}
-use Rattle.smith_check_operands.specs.Covers.{Held, Covers, Pops, PopsNothing}
+use Rattle.smith_check_operands.specs.Closes.{StepsNowhere}
 use Rattle.smith_check_operands.proofs.ApplyLemmas.{nothing_above, pops_then}
 use Rattle.smith_check_operands.proofs.BelowLemmas.{below_all}
 use Rattle.smith_check_operands.proofs.FitLemmas.{values_length}
 use Rattle.smith_check_operands.proofs.ListLemmas.{zip_parts}
-use Rattle.smith_check_operands.proofs.LookupLemmas.{some_same, none_not_some}
-use Rattle.smith_check_operands.proofs.StepLemmas.{left, all_at}
+use Rattle.smith_check_operands.proofs.StepLemmas.{left}
 use Rattle.smith_check_branches.specs.Tops.{top_of, IsOnTop}
 use Rattle.smith_check_branches.proofs.OperandLemmas.{leaves_as}
 use Rattle.smith_check_branches.proofs.TopLemmas.{pops_top}

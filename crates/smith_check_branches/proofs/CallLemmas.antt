@@ -1,33 +1,18 @@
 -- Calls of functions, and what they return from.
-use Rattle.std.proofs.Common.{◌≡◌, ◌↔◌, ℕ, ◌<◌, Bool, true, false, IsTrue, MatchBool, List, [], ◌∷◌, ◌++◌, length, sym, ap, ◌∙◌, subst}
-use Rattle.std.proofs.Common.{append_assoc}
-use Rattle.std.proofs.lemmas.Bool.{false≢true}
+use Rattle.smith_check_branches.proofs.Common.{[], address, All, all_in_range, ap, append_assoc, AreValid, BodyContext, Bool, Concrete}
+use Rattle.smith_check_branches.proofs.Common.{false, false≢true, func_same, FuncType, Held, IsBelow, IsFuncAt, IsTrue, IsValBelow}
+use Rattle.smith_check_branches.proofs.Common.{IsValInRange, length, List, MatchBool, nullable_to, Pops, PopsNothing, Ref, RefType}
+use Rattle.smith_check_branches.proofs.Common.{some_same, subst, SubType, sym, true, ValType, values, values_append, with_labels, zip_join}
+use Rattle.smith_check_branches.proofs.Common.{ℕ, ◌++◌, ◌<◌, ◌↔◌, ◌∙◌, ◌∷◌, ◌≡◌}
 use Rattle.std.proofs.lemmas.Option.{slice_get_within}
 use Rattle.std.specs.List.{AllZip}
-use Rattle.std.specs.Prelude.{All}
-use Rattle.smith_types.specs.Entities.{IsFuncAt}
-use Rattle.smith_types.specs.Subtyping.{IsValBelow, IsValInRange}
 use Rattle.smith_types.proofs.RangeLemmas.{below_stands}
-use Rattle.smith_syntax.specs.declared.value_type.HeapType.TheVariants.{Concrete}
-use Rattle.smith_syntax.specs.declared.value_type.RefType.{RefType}
-use Rattle.smith_syntax.specs.declared.value_type.ValType.{ValType}
-use Rattle.smith_syntax.specs.declared.value_type.ValType.TheVariants.{Ref}
-use Rattle.smith_syntax.specs.declared.composite_type.FuncType.{FuncType}
-use Rattle.smith_syntax.specs.declared.composite_type.SubType.{SubType}
-use Rattle.smith_syntax.specs.declared.entity_type.TableType.{TableType}
-use Rattle.smith_instr.specs.Contexts.{BodyContext, AreValid, address, nullable_to}
+use Rattle.smith_types.specs.Syntax.entity_type.TableType.{TableType}
 use Rattle.smith_instr.specs.InstrTypes.{IsFunctionTable, ReturnsFrom}
-use Rattle.smith_check_rules.specs.Slots.{IsBelow, values}
 use Rattle.smith_check_operands.specs.Applies.{LeavesBy}
-use Rattle.smith_check_operands.specs.Closes.{with_labels}
-use Rattle.smith_check_operands.specs.Covers.{Held, Pops, PopsNothing}
 use Rattle.smith_check_operands.specs.Fits.{AreMatched}
 use Rattle.smith_check_operands.specs.Scopes.{IsScope}
 use Rattle.smith_check_operands.proofs.ApplyLemmas.{nothing_below}
-use Rattle.smith_check_operands.proofs.FitLemmas.{values_append}
-use Rattle.smith_check_operands.proofs.ListLemmas.{zip_join}
-use Rattle.smith_check_operands.proofs.LookupLemmas.{some_same, func_same}
-use Rattle.smith_check_operands.proofs.RangeLemmas.{all_in_range}
 use Rattle.smith_check_branches.specs.Tables.{AreFunctions, functions}
 
 pub function_table_at : (context : BodyContext) (labels : List (List ValType)) (index : ℕ) (wide : Bool)

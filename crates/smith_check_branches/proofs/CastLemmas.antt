@@ -1,24 +1,14 @@
 -- Branches by a cast.
-use Rattle.std.proofs.Common.{◌≡◌, ◌↔◌, ℕ, IsTrue, List, [], ◌∷◌, ◌++◌, sym, ap, ◌∙◌, subst}
-use Rattle.std.specs.Prelude.{Some, slice_get, All}
+use Rattle.smith_check_branches.proofs.Common.{[], All, All-head, all_at, all_left, all_right, ap, AreBelow, AreValid, BodyContext}
+use Rattle.smith_check_branches.proofs.Common.{CountsAs, IsInRange, IsTrue, IsValBelow, IsValid, List, Ref, RefType, slice_get, Slot, Some}
+use Rattle.smith_check_branches.proofs.Common.{some_same, subst, sym, ValType, values, values_append, with_labels, ℕ, ◌++◌, ◌↔◌, ◌∙◌, ◌∷◌}
+use Rattle.smith_check_branches.proofs.Common.{◌≡◌}
 use Rattle.std.proofs.lemmas.List.{same_from_push}
-use Rattle.std.proofs.lemmas.List.Elements.{All-head}
-use Rattle.smith_types.specs.Subtyping.{IsInRange, IsRefBelow, IsValBelow}
-use Rattle.smith_syntax.specs.declared.value_type.RefType.{RefType}
-use Rattle.smith_syntax.specs.declared.value_type.ValType.{ValType}
-use Rattle.smith_syntax.specs.declared.value_type.ValType.TheVariants.{Ref}
-use Rattle.smith_instr.specs.Contexts.{BodyContext, IsValid, AreValid, IsRefValid}
+use Rattle.smith_types.specs.Subtyping.{IsRefBelow}
+use Rattle.smith_instr.specs.Contexts.{IsRefValid}
 use Rattle.smith_instr.specs.InstrTypes.{IsBranchCast}
 use Rattle.smith_instr.specs.declared.control.BranchCast.{BranchCast}
-use Rattle.smith_check_rules.specs.Sequences.{CountsAs}
-use Rattle.smith_check_rules.specs.Slots.{AreBelow, values}
-use Rattle.smith_check_rules.specs.declared.slot.Slot.{Slot}
 use Rattle.smith_check_rules.specs.declared.slot.Slot.TheVariants as slot
-use Rattle.smith_check_operands.specs.Closes.{with_labels}
-use Rattle.smith_check_operands.proofs.FitLemmas.{values_append}
-use Rattle.smith_check_operands.proofs.ListLemmas.{all_left, all_right}
-use Rattle.smith_check_operands.proofs.LookupLemmas.{some_same}
-use Rattle.smith_check_operands.proofs.StepLemmas.{all_at}
 use Rattle.smith_check_operands.proofs.BelowLemmas.{below_trans}
 use Rattle.smith_check_branches.specs.References.{least_valid, IsCastValid, TakesReference}
 use Rattle.smith_check_branches.proofs.OperandLemmas.{heap_in_range}

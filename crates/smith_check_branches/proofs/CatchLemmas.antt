@@ -1,28 +1,20 @@
 -- Clauses for exceptions.
-use Rattle.std.proofs.Common.{◌≡◌, ◌↔◌, ℕ, ◌<◌, Bool, false, IsTrue, List, [], ◌∷◌, ◌++◌, length, take, drop, sym, ap, ◌∙◌, subst, arith}
-use Rattle.std.specs.Prelude.{Some, None, slice_get, All}
-use Rattle.std.proofs.lemmas.Bool.{false≢true}
+use Rattle.smith_check_branches.proofs.Common.{[], All, all_in_range, ap, arith, BodyContext, Bool, drop, false, false≢true, func_same}
+use Rattle.smith_check_branches.proofs.Common.{FuncType, IsCatch, IsFuncAt, IsTrue, IsValBelow, IsValInRange, length, List, None}
+use Rattle.smith_check_branches.proofs.Common.{none_not_some, one_in_range, slice_get, Some, some_same, subst, SubType, sym, take, ValType}
+use Rattle.smith_check_branches.proofs.Common.{with_labels, zip_join, zip_split, ℕ, ◌++◌, ◌<◌, ◌↔◌, ◌∙◌, ◌∷◌, ◌≡◌}
 use Rattle.std.specs.List.{AllZip}
 use Rattle.std.proofs.lemmas.List.{append-nil, take-append-drop, length-append}
 use Rattle.std.proofs.lemmas.List.Elements.{length_all_zip}
 use Rattle.std.proofs.Math.Seq.{take-append_seam, drop-append_seam}
-use Rattle.smith_types.specs.Entities.{IsFuncAt}
 use Rattle.smith_types.specs.Expressions.{reference_to}
-use Rattle.smith_types.specs.Subtyping.{IsValBelow, IsValInRange}
-use Rattle.smith_syntax.specs.declared.composite_type.FuncType.{FuncType}
-use Rattle.smith_syntax.specs.declared.composite_type.SubType.{SubType}
-use Rattle.smith_syntax.specs.declared.value_type.AbstractHeapType.TheVariants as abstract
-use Rattle.smith_syntax.specs.declared.value_type.HeapType.TheVariants.{Abstract}
-use Rattle.smith_syntax.specs.declared.value_type.ValType.{ValType}
-use Rattle.smith_instr.specs.Contexts.{BodyContext, IsTag}
-use Rattle.smith_instr.specs.InstrTypes.{IsCatch, IsTaken}
+use Rattle.smith_types.specs.Syntax.value_type.AbstractHeapType.TheVariants as abstract
+use Rattle.smith_types.specs.Syntax.value_type.HeapType.TheVariants.{Abstract}
+use Rattle.smith_instr.specs.Contexts.{IsTag}
+use Rattle.smith_instr.specs.InstrTypes.{IsTaken}
 use Rattle.smith_instr.specs.declared.control.Catch.TheVariants as catch
-use Rattle.smith_check_operands.specs.Closes.{with_labels}
 use Rattle.smith_check_operands.specs.Fits.{AreMatched}
 use Rattle.smith_check_operands.specs.Scopes.{IsScope}
-use Rattle.smith_check_operands.proofs.ListLemmas.{zip_join, zip_split}
-use Rattle.smith_check_operands.proofs.LookupLemmas.{some_same, none_not_some, func_same}
-use Rattle.smith_check_operands.proofs.RangeLemmas.{all_in_range, one_in_range}
 use Rattle.smith_check_branches.specs.Catches.{HasNoTag}
 use Rattle.smith_check_branches.proofs.CallLemmas.{matched_both}
 

@@ -1,3 +1,4 @@
+pub mod Common
 pub mod OperandLemmas
 pub mod TopLemmas
 pub mod BranchTableLemmas

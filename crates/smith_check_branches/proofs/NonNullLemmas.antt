@@ -1,17 +1,11 @@
 -- Branches by a reference that is not null.
-use Rattle.std.proofs.Common.{◌≡◌, ℕ, List, [], ◌∷◌, ◌++◌, length, refl, sym, ap, ◌∙◌, subst, arith}
-use Rattle.std.specs.Prelude.{Some, None, slice_get, All}
+use Rattle.smith_check_branches.proofs.Common.{[], All, All-head, all_at, all_left, all_right, ap, AreValid, arith, BodyContext, I32}
+use Rattle.smith_check_branches.proofs.Common.{IsInRange, IsValid, IsValInRange, length, List, None, none_not_some, nullable_to}
+use Rattle.smith_check_branches.proofs.Common.{one_in_range, Ref, refl, RefType, slice_get, Some, some_same, subst, sym, To, ValType, ℕ}
+use Rattle.smith_check_branches.proofs.Common.{◌++◌, ◌∙◌, ◌∷◌, ◌≡◌}
 use Rattle.std.proofs.lemmas.List.{same_from_push, length-append}
-use Rattle.std.proofs.lemmas.List.Elements.{All-head}
-use Rattle.smith_types.specs.Subtyping.{IsInRange, IsValInRange}
-use Rattle.smith_syntax.specs.declared.value_type.RefType.{RefType}
-use Rattle.smith_syntax.specs.declared.value_type.ValType.{ValType}
-use Rattle.smith_syntax.specs.declared.value_type.ValType.TheVariants.{I32, I64, F32, F64, V128, Ref}
-use Rattle.smith_instr.specs.Contexts.{BodyContext, IsValid, AreValid, To, nullable_to}
-use Rattle.smith_check_operands.proofs.ListLemmas.{all_left, all_right}
-use Rattle.smith_check_operands.proofs.LookupLemmas.{some_same, none_not_some}
-use Rattle.smith_check_operands.proofs.RangeLemmas.{in_range, one_in_range}
-use Rattle.smith_check_operands.proofs.StepLemmas.{all_at}
+use Rattle.smith_types.specs.Syntax.value_type.ValType.TheVariants.{F32, F64, I64, V128}
+use Rattle.smith_check_operands.proofs.RangeLemmas.{in_range}
 use Rattle.smith_check_branches.specs.References.{EndsInNoReference, reference_of}
 
 whole_valid : (context : BodyContext) (labels : List (List ValType)) (index : ℕ) (taken others : List ValType) (reference : RefType)

@@ -1,28 +1,25 @@
 -- Branches by whether a reference is null.
-use Rattle.std.proofs.Common.{◌≡◌, ℕ, Bool, true, false, IsTrue, List, [], ◌∷◌, ◌++◌, refl, sym, ap, ◌∙◌, subst, inl, inr, append_assoc}
-use Rattle.std.specs.Prelude.{Some, None, MatchOption, slice_get, if◌then◌else◌}
-use Rattle.std.proofs.lemmas.Bool.{false≢true}
-use Rattle.std.proofs.lemmas.List.Elements.{All-head}
+use Rattle.smith_check_branches.proofs.Common.{[], All-head, all_right, ap, append_assoc, Applies, AreBelow, AreSlotsValid}
+use Rattle.smith_check_branches.proofs.Common.{below_themselves, BodyContext, Bool, Covers, false, false≢true, Held, I32, inl, IsBelow}
+use Rattle.smith_check_branches.proofs.Common.{IsSlotValid, IsTrue, IsValid, List, None, none_not_some, nullable_to, PopsNothing, Ref, refl}
+use Rattle.smith_check_branches.proofs.Common.{RefType, slice_get, Slot, Some, some_same, subst, SubType, sym, true, ValType, values}
+use Rattle.smith_check_branches.proofs.Common.{with_labels, zip_join, zip_split, ℕ, ◌++◌, ◌∙◌, ◌∷◌, ◌≡◌}
+use Rattle.std.proofs.Common.{inr}
+use Rattle.std.specs.Prelude.{if◌then◌else◌, MatchOption}
 use Rattle.smith_types.specs.Expressions.{reference_to}
 use Rattle.smith_types.specs.Subtyping.{itself, IsRefBelow}
-use Rattle.smith_syntax.specs.declared.composite_type.SubType.{SubType}
-use Rattle.smith_syntax.specs.declared.value_type.AbstractHeapType.{AbstractHeapType}
-use Rattle.smith_syntax.specs.declared.value_type.RefType.{RefType}
-use Rattle.smith_syntax.specs.declared.value_type.ValType.{ValType}
-use Rattle.smith_syntax.specs.declared.value_type.ValType.TheVariants.{I32, I64, F32, F64, V128, Ref}
-use Rattle.smith_instr.specs.Contexts.{BodyContext, IsValid, IsHeapValid, nullable_to}
+use Rattle.smith_types.specs.Syntax.value_type.AbstractHeapType.{AbstractHeapType}
+use Rattle.smith_types.specs.Syntax.value_type.ValType.TheVariants.{F32, F64, I64, V128}
+use Rattle.smith_instr.specs.Contexts.{IsHeapValid}
 use Rattle.smith_instr.specs.declared.instr.Instr.TheVariants as instr
 use Rattle.smith_check_rules.specs.Sequences.{Stacked, stacked, IsStep}
-use Rattle.smith_check_rules.specs.Slots.{IsBelow, AreBelow, IsSlotValid, AreSlotsValid, values}
 use Rattle.smith_check_rules.specs.StackTypes.{HasNonNull, IsBottomRef}
-use Rattle.smith_check_rules.specs.declared.slot.Slot.{Slot}
 use Rattle.smith_check_rules.specs.declared.slot.Slot.TheVariants as slot
-use Rattle.smith_check_operands.specs.Applies.{Applies, IsTaken}
-use Rattle.smith_check_operands.specs.Closes.{with_labels, StepsNowhere}
-use Rattle.smith_check_operands.specs.Covers.{Held, Covers, PopsNothing, Tops, TopsNothing}
-use Rattle.smith_check_operands.proofs.BelowLemmas.{below_refl, below_trans, below_themselves, below_all}
-use Rattle.smith_check_operands.proofs.ListLemmas.{all_right, zip_join, zip_parts, zip_split}
-use Rattle.smith_check_operands.proofs.LookupLemmas.{some_same, none_not_some}
+use Rattle.smith_check_operands.specs.Applies.{IsTaken}
+use Rattle.smith_check_operands.specs.Closes.{StepsNowhere}
+use Rattle.smith_check_operands.specs.Covers.{Tops, TopsNothing}
+use Rattle.smith_check_operands.proofs.BelowLemmas.{below_all, below_refl, below_trans}
+use Rattle.smith_check_operands.proofs.ListLemmas.{zip_parts}
 use Rattle.smith_check_operands.proofs.PushLemmas.{single}
 use Rattle.smith_check_branches.specs.References.{least_valid, least_non_null}
 use Rattle.smith_check_branches.proofs.OperandLemmas.{single_above}

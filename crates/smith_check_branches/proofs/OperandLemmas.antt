@@ -1,22 +1,16 @@
 -- Operands of instructions after which control does not continue, and the range of references.
-use Rattle.std.proofs.Common.{◌≡◌, ℕ, ◌-◌, true, List, [], ◌∷◌, ◌++◌, length, take, drop, refl, sym, subst, inl, arith}
-use Rattle.std.proofs.lemmas.List.{append-nil, length-drop, take_all}
+use Rattle.smith_check_branches.proofs.Common.{[], all_left, AreBelow, AreSlotsValid, arith, below_themselves, BodyContext, Concrete}
+use Rattle.smith_check_branches.proofs.Common.{Covers, drop, Held, inl, IsBelow, IsInRange, IsSlotValid, Leaves, length, List, refl, Slot}
+use Rattle.smith_check_branches.proofs.Common.{subst, SubType, sym, take, take_all, true, ValType, with_labels, zip_join, ℕ, ◌++◌, ◌-◌, ◌∷◌}
+use Rattle.smith_check_branches.proofs.Common.{◌≡◌}
+use Rattle.std.proofs.lemmas.List.{append-nil, length-drop}
 use Rattle.std.proofs.lemmas.List.Elements.{All-nil, All-append}
-use Rattle.smith_types.specs.Subtyping.{IsInRange}
-use Rattle.smith_syntax.specs.declared.composite_type.SubType.{SubType}
-use Rattle.smith_syntax.specs.declared.value_type.HeapType.{HeapType}
-use Rattle.smith_syntax.specs.declared.value_type.HeapType.TheVariants.{Abstract, Concrete, Exact}
-use Rattle.smith_syntax.specs.declared.value_type.ValType.{ValType}
-use Rattle.smith_instr.specs.Contexts.{BodyContext, IsHeapValid}
+use Rattle.smith_types.specs.Syntax.value_type.HeapType.{HeapType}
+use Rattle.smith_types.specs.Syntax.value_type.HeapType.TheVariants.{Abstract, Exact}
+use Rattle.smith_instr.specs.Contexts.{IsHeapValid}
 use Rattle.smith_instr.specs.declared.instr.Instr.{Instr}
-use Rattle.smith_check_rules.specs.Slots.{IsBelow, AreBelow, IsSlotValid, AreSlotsValid}
-use Rattle.smith_check_rules.specs.StackTypes.{HasStackType, Leaves}
-use Rattle.smith_check_rules.specs.declared.slot.Slot.{Slot}
+use Rattle.smith_check_rules.specs.StackTypes.{HasStackType}
 use Rattle.smith_check_operands.specs.Applies.{IsTaken, LeavesBy}
-use Rattle.smith_check_operands.specs.Closes.{with_labels}
-use Rattle.smith_check_operands.specs.Covers.{Held, Covers}
-use Rattle.smith_check_operands.proofs.BelowLemmas.{below_themselves}
-use Rattle.smith_check_operands.proofs.ListLemmas.{all_left, zip_join}
 
 -- the rest of a list, as a slice is read
 pub as_rest : {A : Type 0} (n : ℕ) (xs : List A) → take (length xs - n) (drop n xs) ≡ drop n xs

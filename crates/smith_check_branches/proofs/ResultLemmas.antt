@@ -1,18 +1,11 @@
 -- Results that are put on above others, or that count as the same.
-use Rattle.std.proofs.Common.{◌↔◌, Bool, true, false, MatchBool, List, [], ◌∷◌, ◌++◌, refl, sym, ap, ◌∙◌, subst, append_assoc}
+use Rattle.smith_check_branches.proofs.Common.{[], all_left, all_right, ap, append_assoc, Applies, AreSlotsValid, BodyContext, Bool}
+use Rattle.smith_check_branches.proofs.Common.{CountsAs, false, Held, IsBelow, IsSlotValid, List, MatchBool, PopsNothing, refl, Slot, subst}
+use Rattle.smith_check_branches.proofs.Common.{sym, true, ValType, Value, values, values_append, zip_join, zip_split, ◌++◌, ◌↔◌, ◌∙◌, ◌∷◌}
 use Rattle.std.specs.Prelude.{Result, Ok, Err, IfOk}
 use Rattle.std.proofs.lemmas.List.Elements.{All-append}
 use Rattle.smith_bytes.specs.declared.error.Error.{Error}
-use Rattle.smith_syntax.specs.declared.value_type.ValType.{ValType}
-use Rattle.smith_instr.specs.Contexts.{BodyContext}
-use Rattle.smith_check_rules.specs.Sequences.{CountsAs}
-use Rattle.smith_check_rules.specs.Slots.{IsBelow, IsSlotValid, AreSlotsValid, values}
-use Rattle.smith_check_rules.specs.declared.slot.Slot.{Slot}
-use Rattle.smith_check_rules.specs.declared.slot.Slot.TheVariants.{Value}
-use Rattle.smith_check_operands.specs.Applies.{Applies}
-use Rattle.smith_check_operands.specs.Covers.{Held, PopsNothing, Pushes}
-use Rattle.smith_check_operands.proofs.FitLemmas.{values_append}
-use Rattle.smith_check_operands.proofs.ListLemmas.{all_left, all_right, zip_join, zip_split}
+use Rattle.smith_check_operands.specs.Covers.{Pushes}
 
 -- more results above others
 pub applies_then : (context : BodyContext) (operands results more : List Slot) (old middle new : Held)

@@ -1,21 +1,17 @@
 -- Values on top of the stack.
-use Rattle.std.proofs.Common.{◌≡◌, ◌⊎◌, ℕ, ◌-◌, ◌≤◌, zero, suc, Bool, true, IsTrue, List, [], ◌∷◌, ◌++◌, length, take, drop, sym, ap, ◌∙◌}
-use Rattle.std.proofs.Common.{subst, inl, inr, arith}
+use Rattle.smith_check_branches.proofs.Common.{[], ap, AreBelow, AreSlotsValid, arith, below_themselves, BodyContext, Bool, drop, Held, inl}
+use Rattle.smith_check_branches.proofs.Common.{IsBelow, IsTrue, length, List, Pops, Slot, subst, SubType, sym, take, true, ValType, values}
+use Rattle.smith_check_branches.proofs.Common.{values_append, zip_join, ℕ, ◌++◌, ◌-◌, ◌∙◌, ◌∷◌, ◌≡◌}
+use Rattle.std.proofs.Common.{suc, zero, ◌≤◌, ◌⊎◌}
+use Rattle.std.proofs.Common.{inr}
 use Rattle.std.specs.Prelude.{replicate}
 use Rattle.std.proofs.lemmas.List.{take-append-drop, length-take-le}
 use Rattle.smith_types.proofs.ValidityLemmas.{before_or_not}
-use Rattle.smith_syntax.specs.declared.value_type.ValType.{ValType}
-use Rattle.smith_syntax.specs.declared.composite_type.SubType.{SubType}
-use Rattle.smith_instr.specs.Contexts.{BodyContext}
-use Rattle.smith_check_rules.specs.Slots.{IsBelow, AreBelow, AreSlotsValid, values}
-use Rattle.smith_check_rules.specs.declared.slot.Slot.{Slot}
 use Rattle.smith_check_rules.specs.declared.slot.Slot.TheVariants.{Bottom}
-use Rattle.smith_check_operands.specs.Covers.{Held, holding, Pops}
+use Rattle.smith_check_operands.specs.Covers.{holding}
 use Rattle.smith_check_operands.specs.Fits.{AreFit}
-use Rattle.smith_check_operands.proofs.BelowLemmas.{below_themselves}
 use Rattle.smith_check_operands.proofs.CoverLemmas.{pop_enough, pop_beyond}
-use Rattle.smith_check_operands.proofs.FitLemmas.{below_from_fit, values_append, values_length}
-use Rattle.smith_check_operands.proofs.ListLemmas.{zip_join}
+use Rattle.smith_check_operands.proofs.FitLemmas.{below_from_fit, values_length}
 use Rattle.smith_check_branches.specs.Tops.{top_of, IsOnTop}
 use Rattle.smith_check_branches.proofs.OperandLemmas.{as_rest}
 

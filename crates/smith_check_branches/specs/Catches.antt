@@ -1,6 +1,6 @@
 -- Clauses for exceptions.
 use Rattle.std.specs.Prelude.{ℕ, List}
-use Rattle.smith_syntax.specs.declared.value_type.ValType.{ValType}
+use Rattle.smith_types.specs.Syntax.value_type.ValType.{ValType}
 use Rattle.smith_instr.specs.Contexts.{BodyContext, IsTag}
 
 -- there is no tag at an index (Validation, Contexts)

@@ -2,10 +2,10 @@
 -- WebAssembly Core Specification 3.0.
 use Rattle.std.specs.Prelude.{ℕ, Bool, true, List}
 use Rattle.smith_types.specs.Subtyping.{IsRefBelow}
-use Rattle.smith_syntax.specs.declared.value_type.AbstractHeapType.TheVariants as abstract
-use Rattle.smith_syntax.specs.declared.value_type.HeapType.TheVariants.{Abstract}
-use Rattle.smith_syntax.specs.declared.value_type.RefType.{RefType}
-use Rattle.smith_syntax.specs.declared.composite_type.SubType.{SubType}
+use Rattle.smith_types.specs.Syntax.value_type.AbstractHeapType.TheVariants as abstract
+use Rattle.smith_types.specs.Syntax.value_type.HeapType.TheVariants.{Abstract}
+use Rattle.smith_types.specs.Syntax.value_type.RefType.{RefType}
+use Rattle.smith_types.specs.Syntax.composite_type.SubType.{SubType}
 use Rattle.smith_instr.specs.Contexts.{BodyContext}
 use Rattle.smith_instr.specs.InstrTypes.{IsFunctionTable}
 

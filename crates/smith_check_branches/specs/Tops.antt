@@ -1,6 +1,6 @@
 -- The types on top of the stack, for the number of operands of an instruction.
 use Rattle.std.specs.Prelude.{◌⊎◌, ℕ, ◌-◌, ◌≤◌, IsTrue, List, ◌++◌, length, drop, replicate}
-use Rattle.smith_syntax.specs.declared.value_type.ValType.{ValType}
+use Rattle.smith_types.specs.Syntax.value_type.ValType.{ValType}
 use Rattle.smith_instr.specs.Contexts.{BodyContext}
 use Rattle.smith_check_rules.specs.Slots.{AreBelow, values}
 use Rattle.smith_check_rules.specs.declared.slot.Slot.{Slot}

@@ -1,6 +1,6 @@
 ghost use Rattle.std.specs.Prelude.{◌≡◌, ◌↔◌, [], ◌∷◌, ◌++◌, ℕ, List, All, IsTrue, IfOk, IfErr, MatchBool, MatchOption, reverse};
 ghost use Rattle.smith_types.specs.Subtyping.{IsInRange, IsValInRange};
-ghost use Rattle.smith_syntax.specs.declared.value_type.ValType.TheVariants.{Ref};
+ghost use Rattle.smith_types.specs.Syntax.value_type.ValType.TheVariants.{Ref};
 ghost use Rattle.smith_instr.specs.Contexts.{AreValid, IsValid};
 ghost use Rattle.smith_instr.specs.InstrTypes.{difference};
 ghost use Rattle.smith_instr.specs.declared.instr.Instr.TheVariants as instr;

@@ -1,7 +1,7 @@
 ghost use Rattle.std.specs.Prelude.{◌≡◌, ◌↔◌, [], ◌∷◌, ◌++◌, false, IsTrue, All, MatchOption, reverse};
 ghost use Rattle.smith_types.specs.Expressions.{reference_to};
-ghost use Rattle.smith_syntax.specs.declared.value_type.AbstractHeapType.TheVariants as abstract;
-ghost use Rattle.smith_syntax.specs.declared.value_type.HeapType.TheVariants.{Abstract};
+ghost use Rattle.smith_types.specs.Syntax.value_type.AbstractHeapType.TheVariants as abstract;
+ghost use Rattle.smith_types.specs.Syntax.value_type.HeapType.TheVariants.{Abstract};
 ghost use Rattle.smith_types.specs.Subtyping.{IsValInRange};
 ghost use Rattle.smith_instr.specs.Contexts.{AreValid, IsTag};
 ghost use Rattle.smith_instr.specs.InstrTypes.{IsCatch, IsTaken};

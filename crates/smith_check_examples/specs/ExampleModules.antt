@@ -1,8 +1,8 @@
 -- Modules of the examples, as they are decoded.
 use Rattle.std.specs.Prelude.{List, [], ◌∷◌, Some}
-use Rattle.smith_syntax.specs.declared.value_type.HeapType.TheVariants.{Concrete}
-use Rattle.smith_syntax.specs.declared.value_type.ValType.{ValType}
-use Rattle.smith_syntax.specs.declared.value_type.ValType.TheVariants.{I32, Ref}
+use Rattle.smith_types.specs.Syntax.value_type.HeapType.TheVariants.{Concrete}
+use Rattle.smith_types.specs.Syntax.value_type.ValType.{ValType}
+use Rattle.smith_types.specs.Syntax.value_type.ValType.TheVariants.{I32, Ref}
 use Rattle.smith_instr.specs.declared.instr.Instr.{Instr}
 use Rattle.smith_types.specs.ExampleTypes.{nullable}
 use Rattle.smith_decode.specs.BodyReadings.{body_of, local_run}

@@ -1,13 +1,13 @@
 -- Modules of the examples, in the abstract syntax.
 use Rattle.std.specs.Prelude.{ℕ, List, [], ◌∷◌, false, Some, None, replicate}
-use Rattle.smith_syntax.specs.declared.composite_type.SubType.{SubType}
-use Rattle.smith_syntax.specs.declared.entity_type.EntityType.{EntityType}
-use Rattle.smith_syntax.specs.declared.entity_type.EntityType.TheVariants as entity
-use Rattle.smith_syntax.specs.declared.entity_type.ExportKind.{ExportKind}
-use Rattle.smith_syntax.specs.declared.entity_type.ExportKind.TheVariants as kind
-use Rattle.smith_syntax.specs.declared.entity_type.GlobalType.{GlobalType}
-use Rattle.smith_syntax.specs.declared.entity_type.MemoryType.{MemoryType}
-use Rattle.smith_syntax.specs.declared.value_type.ValType.TheVariants.{I32, Ref}
+use Rattle.smith_types.specs.Syntax.composite_type.SubType.{SubType}
+use Rattle.smith_types.specs.Syntax.entity_type.EntityType.{EntityType}
+use Rattle.smith_types.specs.Syntax.entity_type.EntityType.TheVariants as entity
+use Rattle.smith_types.specs.Syntax.entity_type.ExportKind.{ExportKind}
+use Rattle.smith_types.specs.Syntax.entity_type.ExportKind.TheVariants as kind
+use Rattle.smith_types.specs.Syntax.entity_type.GlobalType.{GlobalType}
+use Rattle.smith_types.specs.Syntax.entity_type.MemoryType.{MemoryType}
+use Rattle.smith_types.specs.Syntax.value_type.ValType.TheVariants.{I32, Ref}
 use Rattle.smith_instr.specs.declared.instr.Instr.{Instr}
 use Rattle.smith_instr.specs.declared.instr.Instr.TheVariants as instr
 use Rattle.smith_instr.specs.declared.reference.ReferenceInstr.TheVariants as reference

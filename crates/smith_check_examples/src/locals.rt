@@ -1,7 +1,7 @@
 // Runs of locals, and the first that is wrong.
 
 ghost use Rattle.std.specs.Prelude.{◌≡◌, [], ◌∷◌};
-ghost use Rattle.smith_syntax.specs.declared.value_type.ValType.TheVariants.{I32};
+ghost use Rattle.smith_types.specs.Syntax.value_type.ValType.TheVariants.{I32};
 ghost use Rattle.smith_types.specs.ExampleFeatures.{usual_features};
 ghost use Rattle.smith_decode.specs.BodyReadings.{local_run};
 ghost use Rattle.smith_check.specs.Locals.{IsFirstWrongRun, IsRunRight};

@@ -1,8 +1,8 @@
 // Modules that are valid, and modules of which one part is not.
 
 ghost use Rattle.std.specs.Prelude.{◌≡◌, [], ◌∷◌};
-ghost use Rattle.smith_syntax.specs.declared.entity_type.EntityType.TheVariants as entity;
-ghost use Rattle.smith_syntax.specs.declared.entity_type.ExportKind.TheVariants as kind;
+ghost use Rattle.smith_types.specs.Syntax.entity_type.EntityType.TheVariants as entity;
+ghost use Rattle.smith_types.specs.Syntax.entity_type.ExportKind.TheVariants as kind;
 ghost use Rattle.smith_types.specs.ExampleFeatures.{usual_features};
 ghost use Rattle.smith_check.specs.ValidPrograms.{IsValidProgram};
 ghost use Rattle.smith_check_examples.specs.ExampleSyntax.{below_a_final_type, bodiless, copied_bytes, copied_functions, crossed_limits};

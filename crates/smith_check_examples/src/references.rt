@@ -4,7 +4,7 @@ ghost use Rattle.std.specs.Prelude.{◌≡◌, [], ◌∷◌, Some};
 ghost use Rattle.smith_check_module.specs.ExampleSyntax.{nothing};
 ghost use Rattle.smith_check.specs.References.{references_of};
 ghost use Rattle.smith_check_examples.specs.ExampleSyntax.{copies, declares, exports, holds, in_a_body, in_each_section};
-ghost use Rattle.smith_syntax.specs.declared.entity_type.ExportKind.TheVariants as kind;
+ghost use Rattle.smith_types.specs.Syntax.entity_type.ExportKind.TheVariants as kind;
 
 fn exports()
     ensures function { references_of (exports kind.Func 2) ≡ 2 ∷ [] }

@@ -1,18 +1,13 @@
 -- Atomic accesses, their operands and their results.
-use Rattle.std.proofs.Common.{◌≡◌, ◌≤◌, ℕ, Bool, List, [], ◌∷◌, arith}
-use Rattle.std.specs.Prelude.{Option, Some, None, MatchOption}
-use Rattle.std.proofs.lemmas.List.Elements.{All-nil, All-cons}
-use Rattle.smith_syntax.specs.declared.value_type.ValType.{ValType}
-use Rattle.smith_syntax.specs.declared.value_type.ValType.TheVariants.{I32, I64}
-use Rattle.smith_instr.specs.Contexts.{BodyContext, IsValid, AreValid, To, address}
-use Rattle.smith_syntax.specs.declared.entity_type.MemoryType.{MemoryType}
+use Rattle.smith_check_instr.proofs.Common.{[], address, All-cons, All-nil, AreValid, arith, BodyContext, Bool, I32, I64, IsValid, List}
+use Rattle.smith_check_instr.proofs.Common.{MatchOption, MemoryType, one_valid, To, ValType, ℕ, ◌∷◌, ◌≡◌, ◌≤◌}
+use Rattle.std.specs.Prelude.{None, Option, Some}
 use Rattle.smith_instr.specs.MemoryTypes.{HasAtomicType, IsAccess, IsAtomicAccess, atomic_width}
 use Rattle.smith_instr.specs.declared.memory.MemArg.{MemArg}
 use Rattle.smith_instr.specs.declared.atomic.AtomicWidth.{AtomicWidth}
 use Rattle.smith_instr.specs.declared.atomic.AtomicWidth.TheVariants as width
 use Rattle.smith_instr.specs.declared.atomic.AtomicAccess.{AtomicAccess}
 use Rattle.smith_instr.specs.declared.atomic.AtomicAccess.TheVariants as atomic
-use Rattle.smith_check_operands.proofs.StepLemmas.{one_valid}
 use Rattle.smith_check_operands.specs.Lookups.{HasNoAccess}
 use Rattle.smith_check_instr.specs.AtomicSignatures.{HasNoAtomicAccess, atomic_bytes, atomic_operands, atomic_results}
 

@@ -1,3 +1,4 @@
+pub mod Common
 pub mod PlainLemmas
 pub mod VectorLemmas
 pub mod AtomicLemmas

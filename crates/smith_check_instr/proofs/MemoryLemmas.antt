@@ -1,16 +1,13 @@
 -- Accesses to memories.
-use Rattle.std.proofs.Common.{◌≡◌, Bool, true, false, List, sym, ap, ◌∙◌}
-use Rattle.smith_syntax.specs.declared.composite_type.SubType.{SubType}
-use Rattle.smith_syntax.specs.declared.entity_type.MemoryType.{MemoryType}
-use Rattle.smith_types.specs.Subtyping.{IsValInRange}
-use Rattle.smith_instr.specs.Contexts.{BodyContext, IsValid, address}
+use Rattle.smith_check_instr.proofs.Common.{address, ap, BodyContext, Bool, false, IsValid, IsValInRange, List, MemoryType, some_same}
+use Rattle.smith_check_instr.proofs.Common.{SubType, sym, ◌∙◌, ◌≡◌}
+use Rattle.std.proofs.Common.{true}
 use Rattle.smith_instr.specs.MemoryTypes.{IsAccess, loaded, stored}
 use Rattle.smith_instr.specs.declared.memory.Load.{Load}
 use Rattle.smith_instr.specs.declared.memory.Load.TheVariants as load
 use Rattle.smith_instr.specs.declared.memory.MemArg.{MemArg}
 use Rattle.smith_instr.specs.declared.memory.Store.{Store}
 use Rattle.smith_instr.specs.declared.memory.Store.TheVariants as store
-use Rattle.smith_check_operands.proofs.LookupLemmas.{some_same}
 
 pub access_same : (memories : List MemoryType) (at : MemArg) (one other : Bool) → IsAccess memories at one → IsAccess memories at other
     → one ≡ other

@@ -1,15 +1,12 @@
 -- Number types and vector types, which refer to no type and match only themselves.
-use Rattle.std.proofs.Common.{◌≡◌, Bool, true, false, List, [], ◌∷◌, refl, sym, subst}
-use Rattle.std.specs.Prelude.{All}
-use Rattle.std.proofs.lemmas.List.Elements.{All-nil, All-cons, All-head}
-use Rattle.smith_syntax.specs.declared.value_type.ValType.{ValType}
-use Rattle.smith_syntax.specs.declared.value_type.ValType.TheVariants.{I32, I64, F32, F64, V128, Ref}
-use Rattle.smith_syntax.specs.declared.composite_type.SubType.{SubType}
-use Rattle.smith_types.specs.Subtyping.{IsValInRange}
-use Rattle.smith_instr.specs.Contexts.{BodyContext, IsValid, address}
+use Rattle.smith_check_instr.proofs.Common.{[], address, All, All-cons, All-nil, BodyContext, Bool, F32, F64, false, I32, I64, IsSlotValid}
+use Rattle.smith_check_instr.proofs.Common.{IsValid, IsValInRange, List, refl, subst, SubType, sym, V128, ValType, ◌∷◌, ◌≡◌}
+use Rattle.std.proofs.Common.{true}
+use Rattle.std.proofs.lemmas.List.Elements.{All-head}
+use Rattle.smith_types.specs.Syntax.value_type.ValType.TheVariants.{Ref}
 use Rattle.smith_instr.specs.InstrTypes.{IsNumberOrVector}
 use Rattle.smith_instr.specs.ReferenceTypes.{narrower}
-use Rattle.smith_check_rules.specs.Slots.{IsBelow, AreBelow, IsSlotValid, AreSlotsValid}
+use Rattle.smith_check_rules.specs.Slots.{AreBelow, AreSlotsValid, IsBelow}
 use Rattle.smith_check_rules.specs.declared.slot.Slot.{Slot}
 use Rattle.smith_check_rules.specs.declared.slot.Slot.TheVariants.{Bottom, SomeRef, EitherRef, Value}
 use Rattle.smith_check_operands.proofs.PushLemmas.{single}

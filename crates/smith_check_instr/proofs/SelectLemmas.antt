@@ -1,23 +1,21 @@
 -- `select` without a type, with the types of dead code.
-use Rattle.std.proofs.Common.{◌≡◌, ℕ, List, [], ◌∷◌, ◌++◌, arith, length, rules, refl, sym, ap, ◌∙◌, subst, append_assoc}
-use Rattle.std.specs.Prelude.{None, MatchOption, Bool, slice_index_or}
-use Rattle.smith_syntax.specs.declared.composite_type.SubType.{SubType}
-use Rattle.smith_syntax.specs.declared.value_type.ValType.TheVariants.{I32, I64, F32, F64, V128, Ref}
-use Rattle.smith_syntax.specs.declared.value_type.ValType.{ValType}
-use Rattle.smith_syntax.specs.declared.value_type.RefType.{RefType}
-use Rattle.smith_syntax.specs.declared.value_type.AbstractHeapType.{AbstractHeapType}
+use Rattle.smith_check_instr.proofs.Common.{[], All-cons, All-nil, ap, arith, BodyContext, F32, F64, I32, I64, IsSlotValid, List}
+use Rattle.smith_check_instr.proofs.Common.{MatchOption, refl, subst, SubType, sym, V128, ValType, with_labels, ℕ, ◌∙◌, ◌∷◌, ◌≡◌}
+use Rattle.std.proofs.Common.{append_assoc, length, rules, ◌++◌}
+use Rattle.std.specs.Prelude.{Bool, None, slice_index_or}
+use Rattle.smith_types.specs.Syntax.value_type.ValType.TheVariants.{Ref}
+use Rattle.smith_types.specs.Syntax.value_type.RefType.{RefType}
+use Rattle.smith_types.specs.Syntax.value_type.AbstractHeapType.{AbstractHeapType}
 use Rattle.smith_instr.specs.declared.instr.Instr.TheVariants as instr
 use Rattle.smith_check_rules.specs.declared.slot.Slot.{Slot}
 use Rattle.smith_check_rules.specs.declared.slot.Slot.TheVariants.{Bottom, SomeRef, EitherRef, Value}
-use Rattle.smith_check_rules.specs.Slots.{IsBelow, AreBelow, IsSlotValid, AreSlotsValid}
-use Rattle.std.proofs.lemmas.List.Elements.{All-nil, All-cons}
+use Rattle.smith_check_rules.specs.Slots.{AreBelow, AreSlotsValid, IsBelow}
 use Rattle.smith_check_operands.proofs.CoverLemmas.{push_all}
-use Rattle.smith_instr.specs.Contexts.{BodyContext}
 use Rattle.smith_check_rules.specs.StackTypes.{IsNumeric}
 use Rattle.smith_check_instr.specs.Selects.{IsJoin, HaveNoJoin, number, both, join}
 use Rattle.smith_check_rules.specs.Sequences.{Stacked, stacked, IsFramed, IsStep}
 use Rattle.smith_check_operands.specs.Covers.{Held, holding, Covers, Pops, PopsNothing, Pushes, Tops, TopsNothing}
-use Rattle.smith_check_operands.specs.Closes.{with_labels, StepsNowhere}
+use Rattle.smith_check_operands.specs.Closes.{StepsNowhere}
 use Rattle.smith_check_operands.specs.Applies.{IsTaken}
 use Rattle.smith_check_operands.proofs.ApplyLemmas.{nothing_above}
 use Rattle.smith_check_operands.proofs.BelowLemmas.{below_refl, below_trans, below_all}

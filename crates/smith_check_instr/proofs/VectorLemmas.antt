@@ -1,7 +1,5 @@
 -- Operands and results of vector instructions.
-use Rattle.std.proofs.Common.{List, [], ◌∷◌}
-use Rattle.smith_syntax.specs.declared.value_type.ValType.{ValType}
-use Rattle.smith_instr.specs.Contexts.{To}
+use Rattle.smith_check_instr.proofs.Common.{[], List, To, ValType, ◌∷◌}
 use Rattle.smith_instr.specs.InstrTypes.{IsNumberOrVector}
 use Rattle.smith_instr.specs.VectorTypes.{HasVectorType, lanes, extracted}
 use Rattle.smith_instr.specs.declared.vector.LaneShape.{LaneShape}

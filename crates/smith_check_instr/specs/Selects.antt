@@ -1,9 +1,9 @@
 -- The results of `select` without a type: the section Validation, Parametric Instructions, of the
 -- WebAssembly Core Specification 3.0.
 use Rattle.std.specs.Prelude.{List, Option, Some, None}
-use Rattle.smith_syntax.specs.declared.value_type.ValType.{ValType}
-use Rattle.smith_syntax.specs.declared.value_type.ValType.TheVariants.{I32, I64, F32, F64, V128, Ref}
-use Rattle.smith_syntax.specs.declared.composite_type.SubType.{SubType}
+use Rattle.smith_types.specs.Syntax.value_type.ValType.{ValType}
+use Rattle.smith_types.specs.Syntax.value_type.ValType.TheVariants.{I32, I64, F32, F64, V128, Ref}
+use Rattle.smith_types.specs.Syntax.composite_type.SubType.{SubType}
 use Rattle.smith_check_rules.specs.Slots.{IsBelow}
 use Rattle.smith_check_rules.specs.StackTypes.{IsNumeric}
 use Rattle.smith_check_rules.specs.declared.slot.Slot.{Slot}

@@ -1,6 +1,6 @@
 ghost use Rattle.std.specs.Prelude.{IsTrue, ◌↔◌, ◌≡◌, ◌<◌, ◌≤◌, ℕ, List, IfOk, IfErr, MatchOption, slice_get};
 ghost use Rattle.smith_instr.specs.declared.memory.MemoryInstr.TheVariants as memory;
-ghost use Rattle.smith_syntax.specs.declared.value_type.ValType.{ValType};
+ghost use Rattle.smith_types.specs.Syntax.value_type.ValType.{ValType};
 ghost use Rattle.smith_instr.specs.Contexts.{address};
 ghost use Rattle.smith_instr.specs.MemoryTypes.{IsAccess};
 ghost use Rattle.smith_instr.specs.ReferenceTypes.{narrower};

@@ -1,6 +1,6 @@
 ghost use Rattle.std.specs.Prelude.{IsTrue, ◌↔◌, ◌≡◌, ◌<◌, ◌∷◌, [], ℕ, List, All, IfOk, IfErr};
-ghost use Rattle.smith_syntax.specs.declared.value_type.ValType.{ValType};
-ghost use Rattle.smith_syntax.specs.declared.value_type.ValType.TheVariants.{V128};
+ghost use Rattle.smith_types.specs.Syntax.value_type.ValType.{ValType};
+ghost use Rattle.smith_types.specs.Syntax.value_type.ValType.TheVariants.{V128};
 ghost use Rattle.smith_instr.specs.MemoryTypes.{IsLane, vector_bytes};
 ghost use Rattle.smith_instr.specs.VectorTypes.{extracted, lanes};
 ghost use Rattle.smith_instr.specs.declared.instr.Instr.TheVariants as instr;

@@ -1,24 +1,19 @@
 -- The signatures of instructions that create structs and arrays.
-use Rattle.std.proofs.Common.{◌≡◌, ℕ, ◌<◌, true, false, List, [], ◌∷◌, Some, length}
-use Rattle.std.proofs.Common.{replicate, refl, sym, ap, subst, ◌∙◌, arith}
-use Rattle.std.specs.Prelude.{All, slice_get}
+use Rattle.smith_check_module.proofs.Common.{[], All, All-cons, All-head, All-nil, ap, arith, Context, false, I32, IsArrayAt, IsStructAt}
+use Rattle.smith_check_module.proofs.Common.{IsValInRange, length, length-map, List, Ref, refl, replicate, same_Some, slice_get}
+use Rattle.smith_check_module.proofs.Common.{slice_get_within, Some, subst, SubType, sym, true, ValType, ℕ, ◌<◌, ◌∙◌, ◌∷◌, ◌≡◌}
 use Rattle.std.specs.List.{flat_map}
 use Rattle.std.specs.List.{AllByRecursion as Each}
-use Rattle.std.proofs.lemmas.List.{length-map, length-replicate}
-use Rattle.std.proofs.lemmas.List.Elements.{All-nil, All-cons, All-head, All-replicate, All-from_recursion, recursion_from_All}
-use Rattle.std.proofs.lemmas.Option.{same_Some, slice_get_within}
-use Rattle.smith_syntax.specs.declared.composite_type.CompositeInnerType.{CompositeInnerType}
-use Rattle.smith_syntax.specs.declared.composite_type.CompositeInnerType.TheVariants as inner
-use Rattle.smith_syntax.specs.declared.composite_type.FieldType.{FieldType}
-use Rattle.smith_syntax.specs.declared.composite_type.StorageType.{StorageType}
-use Rattle.smith_syntax.specs.declared.composite_type.StorageType.TheVariants as storage
-use Rattle.smith_syntax.specs.declared.composite_type.SubType.{SubType}
-use Rattle.smith_syntax.specs.declared.const_instr.ConstInstr.TheVariants as constant
-use Rattle.smith_syntax.specs.declared.value_type.ValType.{ValType}
-use Rattle.smith_syntax.specs.declared.value_type.ValType.TheVariants.{I32, Ref}
-use Rattle.smith_types.specs.Expressions.{Context, IsArrayAt, IsStructAt, IsDefaultable, created, field_values, unpacked}
+use Rattle.std.proofs.lemmas.List.{length-replicate}
+use Rattle.std.proofs.lemmas.List.Elements.{All-from_recursion, All-replicate, recursion_from_All}
+use Rattle.smith_types.specs.Syntax.composite_type.CompositeInnerType.{CompositeInnerType}
+use Rattle.smith_types.specs.Syntax.composite_type.CompositeInnerType.TheVariants as inner
+use Rattle.smith_types.specs.Syntax.composite_type.FieldType.{FieldType}
+use Rattle.smith_types.specs.Syntax.composite_type.StorageType.{StorageType}
+use Rattle.smith_types.specs.Syntax.composite_type.StorageType.TheVariants as storage
+use Rattle.smith_types.specs.Syntax.const_instr.ConstInstr.TheVariants as constant
+use Rattle.smith_types.specs.Expressions.{created, field_values, IsDefaultable, unpacked}
 use Rattle.smith_types.specs.Grounded.{are_defaultable, is_defaultable}
-use Rattle.smith_types.specs.Subtyping.{IsValInRange}
 use Rattle.smith_types.specs.ValidTypes.{values_of, values_of_storage}
 use Rattle.smith_types.proofs.GroundedLemmas.{default_for, defaults_each}
 use Rattle.smith_validity.proofs.HeldValueLemmas.{all_apart}

@@ -1,6 +1,5 @@
 -- The parts of a module, one by one.
-use Rattle.std.proofs.Common.{◌≡◌, ℕ, suc, ◌<◌, ◌∷◌, ◌++◌, length, get_or, take, drop, sym, ap, ◌∙◌}
-use Rattle.std.specs.Prelude.{All}
+use Rattle.smith_check_module.proofs.Common.{All, ap, drop, get_or, length, suc, sym, take, ℕ, ◌++◌, ◌<◌, ◌∙◌, ◌∷◌, ◌≡◌}
 use Rattle.std.proofs.Math.Seq.{split_at}
 use Rattle.smith_check_module.specs.Judges.{AreRight, IsRight}
 use Rattle.smith_check_module.specs.SectionFaults.{IsFirstBy, IsFirstWrong, parts}

@@ -1,20 +1,13 @@
 -- Conversions between internal and external references.
-use Rattle.std.proofs.Common.{◌≡◌, ◌-◌, ◌<◌, get_or, take, Bool, List, [], ◌∷◌, ◌++◌, length, refl, sym, ap}
-use Rattle.std.proofs.Common.{subst, ◌∙◌, arith}
-use Rattle.std.specs.List.{AllZip}
-use Rattle.std.proofs.lemmas.List.{length-append}
-use Rattle.std.proofs.lemmas.List.Elements.{All-nil, All-cons, length_all_zip}
-use Rattle.std.proofs.lemmas.Option.{same_Some}
-use Rattle.smith_syntax.specs.Kinds.{shared}
-use Rattle.smith_syntax.specs.declared.composite_type.SubType.{SubType}
-use Rattle.smith_syntax.specs.declared.value_type.AbstractHeapType.{AbstractHeapType}
-use Rattle.smith_syntax.specs.declared.value_type.HeapType.{HeapType}
-use Rattle.smith_syntax.specs.declared.value_type.HeapType.TheVariants.{Abstract, Concrete, Exact}
-use Rattle.smith_syntax.specs.declared.value_type.RefType.{RefType}
-use Rattle.smith_syntax.specs.declared.value_type.ValType.{ValType}
-use Rattle.smith_syntax.specs.declared.value_type.ValType.TheVariants.{I32, I64, F32, F64, V128, Ref}
-use Rattle.smith_types.specs.Expressions.{Context}
-use Rattle.smith_types.specs.Subtyping.{IsBelow, IsRefBelow, IsValBelow, IsValInRange, itself}
+use Rattle.smith_check_module.proofs.Common.{[], All-cons, All-nil, AllZip, ap, arith, Bool, Context, get_or, I32, IsValBelow, IsValInRange}
+use Rattle.smith_check_module.proofs.Common.{length, length-append, length_all_zip, List, Ref, refl, RefType, same_Some, subst, SubType}
+use Rattle.smith_check_module.proofs.Common.{sym, take, ValType, ◌++◌, ◌-◌, ◌<◌, ◌∙◌, ◌∷◌, ◌≡◌}
+use Rattle.smith_types.specs.Syntax.Kinds.{shared}
+use Rattle.smith_types.specs.Syntax.value_type.AbstractHeapType.{AbstractHeapType}
+use Rattle.smith_types.specs.Syntax.value_type.HeapType.{HeapType}
+use Rattle.smith_types.specs.Syntax.value_type.HeapType.TheVariants.{Abstract, Concrete, Exact}
+use Rattle.smith_types.specs.Syntax.value_type.ValType.TheVariants.{F32, F64, I64, V128}
+use Rattle.smith_types.specs.Subtyping.{IsBelow, IsRefBelow, itself}
 use Rattle.smith_types.specs.Types.{IsOrderly}
 use Rattle.smith_types.proofs.WalkLemmas.{by_cases_from_below}
 use Rattle.smith_check_module.specs.ConstScopes.{IsScope}

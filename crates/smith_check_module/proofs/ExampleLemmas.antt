@@ -1,17 +1,11 @@
 -- Modules of the examples.
-use Rattle.std.proofs.Common.{ℕ, List, [], ◌∷◌, refl, arith}
+use Rattle.smith_check_module.proofs.Common.{[], All-cons, All-head, All-nil, AreTypesValid, arith, EntityType, ExportKind, I32, IsEntityAt}
+use Rattle.smith_check_module.proofs.Common.{IsInstrEnabled, List, refl, ℕ, ◌∷◌}
 use Rattle.std.specs.Prelude.{pos}
-use Rattle.std.proofs.lemmas.List.Elements.{All-nil, All-head, All-cons}
-use Rattle.smith_syntax.specs.declared.const_instr.ConstInstr.TheVariants as constant
-use Rattle.smith_syntax.specs.declared.value_type.ValType.TheVariants.{I32}
+use Rattle.smith_types.specs.Syntax.const_instr.ConstInstr.TheVariants as constant
 use Rattle.smith_types.specs.ExampleFeatures.{usual_features}
-use Rattle.smith_types.specs.ValidTypes.{AreTypesValid}
-use Rattle.smith_types.specs.Flags.{IsInstrEnabled}
 use Rattle.smith_types.specs.Groups.{space_of}
-use Rattle.smith_types.specs.Exports.{IsEntityAt}
-use Rattle.smith_syntax.specs.declared.entity_type.EntityType.{EntityType}
-use Rattle.smith_syntax.specs.declared.entity_type.ExportKind.{ExportKind}
-use Rattle.smith_syntax.specs.declared.entity_type.ExportKind.TheVariants as kind
+use Rattle.smith_types.specs.Syntax.entity_type.ExportKind.TheVariants as kind
 use Rattle.smith_check_types.specs.Canonical.{AreCanonical}
 use Rattle.smith_check_module.specs.Contexts.{context_in, spaces_in}
 use Rattle.smith_check_module.specs.ValidModules.{IsConstant, AreSectionsValid}

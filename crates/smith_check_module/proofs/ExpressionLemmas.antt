@@ -1,20 +1,14 @@
 -- Constant expressions, instruction by instruction, by the stacks of the least types.
-use Rattle.std.proofs.Common.{◌≡◌, ◌↔◌, ℕ, ◌+◌, ◌<◌, ◌≤◌, List, [], ◌∷◌, ◌++◌, Some, None, length, get_or, map, drop, refl, sym, ap}
-use Rattle.std.proofs.Common.{◌∙◌, subst}
-use Rattle.std.specs.Prelude.{All, Bool, true, false, IfOk, MatchBool, Result, Ok, Err}
-use Rattle.std.specs.List.{AllZip}
+use Rattle.smith_check_module.proofs.Common.{[], All, All-cons, All-head, All-nil, AllZip, ap, as_instr, canonical_index, ConstInstr}
+use Rattle.smith_check_module.proofs.Common.{Context, drop, Err, Error, get_or, IfOk, Instr, IsInstrEnabled, IsValBelow, IsValBelow-refl}
+use Rattle.smith_check_module.proofs.Common.{length, List, map, MatchBool, None, Ok, refl, Result, Some, subst, sym, ValType, ℕ, ◌++◌, ◌+◌}
+use Rattle.smith_check_module.proofs.Common.{◌<◌, ◌↔◌, ◌∙◌, ◌∷◌, ◌≡◌, ◌≤◌}
+use Rattle.std.specs.Prelude.{Bool, false, true}
 use Rattle.std.proofs.lemmas.List.{drop_more, drop_all}
-use Rattle.std.proofs.lemmas.List.Elements.{All-nil, All-cons, All-head, All-tail, AllZip-push}
-use Rattle.smith_bytes.specs.declared.error.Error.{Error}
-use Rattle.smith_syntax.specs.declared.const_instr.ConstInstr.{ConstInstr}
-use Rattle.smith_syntax.specs.declared.value_type.ValType.{ValType}
-use Rattle.smith_instr.specs.declared.instr.Instr.{Instr}
-use Rattle.smith_types.specs.Expressions.{Context, IsStackStep, AreStackSteps}
-use Rattle.smith_types.specs.Flags.{IsInstrEnabled}
-use Rattle.smith_types.specs.Subtyping.{IsValBelow}
-use Rattle.smith_types.proofs.GrowthLemmas.{IsValBelow-refl, IsValBelow-trans}
-use Rattle.smith_decode.specs.Constants.{as_expr, as_instr}
-use Rattle.smith_check_types.specs.TypeSections.{canonical_index}
+use Rattle.std.proofs.lemmas.List.Elements.{All-tail, AllZip-push}
+use Rattle.smith_types.specs.Expressions.{AreStackSteps, IsStackStep}
+use Rattle.smith_types.proofs.GrowthLemmas.{IsValBelow-trans}
+use Rattle.smith_decode.specs.Constants.{as_expr}
 use Rattle.smith_check_module.specs.CanonicalModules.{renamed_const}
 use Rattle.smith_check_module.specs.ConstInstrs.{Goes, IsConstInstr, Stops, const_of}
 use Rattle.smith_check_module.specs.Typings.{HasNoStep, IsBestStep}

@@ -1,23 +1,15 @@
 -- Items of element segments.
-use Rattle.std.proofs.Common.{◌≡◌, ◌↔◌, ℕ, ◌<◌, ◌≤◌, Bool, true, false, List, [], ◌∷◌, ◌++◌, length, get_or, map, refl, sym}
-use Rattle.std.proofs.Common.{ap, arith, ◌∙◌, subst, inl, inr}
-use Rattle.std.specs.Prelude.{All, IsTrue}
-use Rattle.std.proofs.lemmas.List.Elements.{All-nil, All-cons, All-head, All-tail, All-map, All-weaker}
-use Rattle.smith_syntax.specs.declared.const_instr.ConstInstr.{ConstInstr}
-use Rattle.smith_syntax.specs.declared.const_instr.ConstInstr.TheVariants as constant
-use Rattle.smith_syntax.specs.declared.value_type.RefType.{RefType}
-use Rattle.smith_syntax.specs.declared.value_type.ValType.{ValType}
-use Rattle.smith_syntax.specs.declared.value_type.ValType.TheVariants.{Ref}
-use Rattle.smith_instr.specs.declared.instr.Instr.{Instr}
+use Rattle.smith_check_module.proofs.Common.{[], All, All-cons, All-head, All-nil, ap, arith, as_instr, Bool, canonical_index, ConstInstr}
+use Rattle.smith_check_module.proofs.Common.{Context, false, get_or, inl, inr, Instr, IsInstrEnabled, IsItem, IsTrue, IsValBelow, length}
+use Rattle.smith_check_module.proofs.Common.{List, map, Ref, refl, RefType, subst, sym, true, ValType, ℕ, ◌++◌, ◌<◌, ◌↔◌, ◌∙◌, ◌∷◌, ◌≡◌}
+use Rattle.smith_check_module.proofs.Common.{◌≤◌}
+use Rattle.std.proofs.lemmas.List.Elements.{All-map, All-tail, All-weaker}
+use Rattle.smith_types.specs.Syntax.const_instr.ConstInstr.TheVariants as constant
 use Rattle.smith_instr.specs.declared.instr.Instr.TheVariants.{Reference}
 use Rattle.smith_instr.specs.declared.reference.ReferenceInstr.TheVariants.{Func}
-use Rattle.smith_types.specs.Expressions.{Context, AreStackSteps, IsStackStep, function_reference}
-use Rattle.smith_types.specs.Flags.{IsInstrEnabled}
-use Rattle.smith_types.specs.Segments.{IsItem}
-use Rattle.smith_types.specs.Subtyping.{IsValBelow}
-use Rattle.smith_decode.specs.Constants.{as_expr, as_instr}
+use Rattle.smith_types.specs.Expressions.{AreStackSteps, function_reference, IsStackStep}
+use Rattle.smith_decode.specs.Constants.{as_expr}
 use Rattle.smith_decode.specs.Elements.{func_items}
-use Rattle.smith_check_types.specs.TypeSections.{canonical_index}
 use Rattle.smith_check_module.specs.CanonicalModules.{renamed_const}
 use Rattle.smith_check_module.specs.Items.{IsItemValid}
 use Rattle.smith_check_module.specs.ValidModules.{AreFunctions, AreItemsValid, IsConstant}

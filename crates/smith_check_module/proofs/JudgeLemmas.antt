@@ -1,29 +1,16 @@
 -- The items of a module, as a judge sees them.
-use Rattle.std.proofs.Common.{◌≡◌, ◌↔◌, ◌⊎◌, ℕ, zero, suc, ◌+◌, ◌<◌, ◌≤◌, Bool, List, Some, length, get_or}
-use Rattle.std.proofs.Common.{map, take, sym}
-use Rattle.std.proofs.Common.{subst, arith, inl, inr}
-use Rattle.std.specs.Prelude.{All, IfOk, IsTrue, Result, Ok, Err, slice_get}
-use Rattle.std.proofs.lemmas.List.{length-map}
+use Rattle.smith_check_module.proofs.Common.{All, AreTypesValid, arith, Bool, EntitySpaces, EntityType, Err, Error, export_triple}
+use Rattle.smith_check_module.proofs.Common.{ExportKind, Features, features_in, get_or, global_pair, GlobalType, IfOk, inl, inr, IsEntityAt}
+use Rattle.smith_check_module.proofs.Common.{IsFuncTypeIndex, IsGlobalValid, IsTrue, IsValInRange, length, length-map, List, map, Ok}
+use Rattle.smith_check_module.proofs.Common.{Result, slice_get, slice_get_past, slice_get_within, Some, spaces_in, subst, SubType, suc, sym}
+use Rattle.smith_check_module.proofs.Common.{syntax_of, table_pair, take, ℕ, ◌+◌, ◌<◌, ◌↔◌, ◌≡◌, ◌≤◌}
+use Rattle.std.proofs.Common.{zero, ◌⊎◌}
 use Rattle.std.proofs.lemmas.List.Elements.{All-weaker}
-use Rattle.std.proofs.lemmas.Option.{slice_get-get_or, slice_get_past, slice_get_within}
-use Rattle.smith_bytes.specs.declared.error.Error.{Error}
-use Rattle.smith_syntax.specs.Features.{Features}
-use Rattle.smith_syntax.specs.declared.composite_type.SubType.{SubType}
-use Rattle.smith_syntax.specs.FeatureBits.{features_in}
-use Rattle.smith_syntax.specs.declared.entity_type.EntityType.{EntityType}
-use Rattle.smith_syntax.specs.declared.entity_type.ExportKind.{ExportKind}
-use Rattle.smith_syntax.specs.declared.entity_type.GlobalType.{GlobalType}
-use Rattle.smith_types.specs.Entities.{IsFuncTypeIndex, IsGlobalValid}
-use Rattle.smith_types.specs.Exports.{IsEntityAt}
+use Rattle.std.proofs.lemmas.Option.{slice_get-get_or}
 use Rattle.smith_types.specs.GroupedTypes.{GroupedTypes}
-use Rattle.smith_types.specs.Imports.{EntitySpaces}
-use Rattle.smith_types.specs.Subtyping.{IsValInRange}
-use Rattle.smith_types.specs.ValidTypes.{AreTypesValid}
 use Rattle.smith_validity.proofs.ReferredTypeLemmas.{valid_in_range, value_in_range}
 use Rattle.smith_decode.specs.DataReadings.{segment_view}
 use Rattle.smith_decode.specs.ElementReadings.{element_view}
-use Rattle.smith_decode.specs.Modules.{export_triple, global_pair, syntax_of, table_pair}
-use Rattle.smith_types.specs.EntitySpaces.{spaces_in}
 use Rattle.smith_check_types.proofs.CanonicalLemmas.{some_at}
 use Rattle.smith_check_module.specs.ConstScopes.{AreStanding, IsScope, context_of}
 use Rattle.smith_check_module.specs.Judges.{AreJudgedValid, AreRight, IsFirstRepeated, IsJudge, IsNameUnused, IsRight}

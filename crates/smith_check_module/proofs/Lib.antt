@@ -1,3 +1,4 @@
+pub mod Common
 pub mod ExampleLemmas
 pub mod StackLemmas
 pub mod SignatureLemmas

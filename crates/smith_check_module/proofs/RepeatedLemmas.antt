@@ -1,12 +1,8 @@
 -- Names of exports, each of which is new.
-use Rattle.std.proofs.Common.{◌≡◌, ◌↔◌, ◌⊎◌, ℕ, ◌+◌, ◌<◌, Bool, true, false, cond, List, Some, length, refl}
-use Rattle.std.proofs.Common.{sym}
-use Rattle.std.proofs.Common.{ap, ◌∙◌, arith, inl, inr}
-use Rattle.std.specs.Prelude.{IsTrue, slice_get}
-use Rattle.std.specs.Str.{bytes_eq}
-use Rattle.std.proofs.lemmas.Option.{same_Some, slice_get_past}
+use Rattle.smith_check_module.proofs.Common.{ap, arith, Bool, bytes_eq, cond, ExportKind, false, inl, inr, IsTrue, length, List, refl}
+use Rattle.smith_check_module.proofs.Common.{same_Some, slice_get, slice_get_past, Some, sym, true, ℕ, ◌+◌, ◌<◌, ◌↔◌, ◌∙◌, ◌≡◌}
+use Rattle.std.proofs.Common.{◌⊎◌}
 use Rattle.std.proofs.lemmas.Slice.Eq.{bytes_eq-Decides}
-use Rattle.smith_syntax.specs.declared.entity_type.ExportKind.{ExportKind}
 use Rattle.smith_check_module.specs.Judges.{IsFirstRepeated, IsNameUnused}
 
 module _ (exports : List (List ℕ × ExportKind × ℕ)) where

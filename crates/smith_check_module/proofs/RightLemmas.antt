@@ -1,11 +1,8 @@
 -- Items at an index.
-use Rattle.std.proofs.Common.{◌≡◌, ◌↔◌, ℕ, ◌<◌, Bool, List, [], ◌∷◌, Some, length, get_or, map, refl, sym, ap, ◌∙◌, subst}
-use Rattle.std.specs.Prelude.{All, IsTrue, slice_get}
+use Rattle.smith_check_module.proofs.Common.{[], All, All-cons, All-head, All-nil, ap, Bool, get_or, IsFuncTypeIndex, IsTrue, length, List}
+use Rattle.smith_check_module.proofs.Common.{map, refl, same_Some, slice_get, Some, subst, SubType, sym, ℕ, ◌<◌, ◌↔◌, ◌∙◌, ◌∷◌, ◌≡◌}
 use Rattle.std.specs.Option.{option_map}
-use Rattle.std.proofs.lemmas.Option.{same_Some, slice_get_read, slice_get-map}
-use Rattle.std.proofs.lemmas.List.Elements.{All-nil, All-cons, All-head}
-use Rattle.smith_syntax.specs.declared.composite_type.SubType.{SubType}
-use Rattle.smith_types.specs.Entities.{IsFuncTypeIndex}
+use Rattle.std.proofs.lemmas.Option.{slice_get-map, slice_get_read}
 use Rattle.smith_validity.specs.Decided.{AreFuncsValid}
 use Rattle.smith_check_module.specs.SectionFaults.{IsRightAt}
 

@@ -1,25 +1,20 @@
 -- A module whose items are right is valid.
-use Rattle.std.proofs.Common.{◌≡◌, ℕ, zero, suc, ◌+◌, ◌<◌, List, [], ◌∷◌, Option, Some, None, length, get_or, map, refl}
-use Rattle.std.proofs.Common.{sym, ap}
-use Rattle.std.proofs.Common.{◌∙◌, subst, arith}
-use Rattle.std.specs.Prelude.{All, IfOk, IfSome, MatchOption, Result, Ok, Err, slice_get}
+use Rattle.smith_check_module.proofs.Common.{[], All, ap, arith, canonical_index, Context, EntitySpaces, EntityType, Err, Error, ExportKind}
+use Rattle.smith_check_module.proofs.Common.{Features, get_or, GlobalType, IfOk, imported_spaces, Instr, IsEntityAt, IsFuncTypeIndex}
+use Rattle.smith_check_module.proofs.Common.{IsGlobalValid, IsMemoryValid, IsTableValid, length, List, map, MatchOption, None, Ok, refl}
+use Rattle.smith_check_module.proofs.Common.{Result, same_Some, seeing, seen_by_segments, slice_get, slice_get_within, Some, subst, suc}
+use Rattle.smith_check_module.proofs.Common.{sym, ℕ, ◌+◌, ◌<◌, ◌∙◌, ◌∷◌, ◌≡◌}
+use Rattle.std.proofs.Common.{Option, zero}
+use Rattle.std.specs.Prelude.{IfSome}
 use Rattle.std.specs.Option.{option_map}
-use Rattle.std.proofs.lemmas.Option.{same_Some, slice_get-get_or, slice_get-map, slice_get_within}
-use Rattle.smith_bytes.specs.declared.error.Error.{Error}
-use Rattle.smith_syntax.specs.Features.{Features}
-use Rattle.smith_syntax.specs.declared.entity_type.EntityType.{EntityType}
-use Rattle.smith_syntax.specs.declared.entity_type.ExportKind.{ExportKind}
-use Rattle.smith_syntax.specs.declared.entity_type.GlobalType.{GlobalType}
-use Rattle.smith_instr.specs.declared.instr.Instr.{Instr}
-use Rattle.smith_types.specs.Entities.{AreCountsEnabled, IsFuncTypeIndex, IsGlobalValid, IsMemoryValid, IsTableValid}
-use Rattle.smith_types.specs.Exports.{AreExportsValid, IsEntityAt, IsStartValid}
-use Rattle.smith_types.specs.Expressions.{Context, seeing, seen_by_global, seen_by_segments, seen_by_tables}
-use Rattle.smith_types.specs.Imports.{EntitySpaces, imported_spaces}
+use Rattle.std.proofs.lemmas.Option.{slice_get-get_or, slice_get-map}
+use Rattle.smith_types.specs.Entities.{AreCountsEnabled}
+use Rattle.smith_types.specs.Exports.{AreExportsValid, IsStartValid}
+use Rattle.smith_types.specs.Expressions.{seen_by_global, seen_by_tables}
 use Rattle.smith_types.proofs.ListLemmas.{mapped_at}
 use Rattle.smith_decode.specs.Data.{Data}
 use Rattle.smith_decode.specs.Modules.{Syntax}
 use Rattle.smith_check_types.specs.Renamed.{renamed_val}
-use Rattle.smith_check_types.specs.TypeSections.{canonical_index}
 use Rattle.smith_check_types.proofs.CanonicalLemmas.{some_at}
 use Rattle.smith_check_module.specs.Contexts.{context_in, spaces_in}
 use Rattle.smith_check_module.specs.SectionFaults.{IsExportRight, IsFirstBy, IsFirstFault, IsItemRight, IsPartRight, IsRightAt, parts}

@@ -1,15 +1,9 @@
 -- Modes of segments, and their items.
-use Rattle.std.proofs.Common.{◌≡◌, ◌↔◌, ℕ, ◌<◌, Bool, List, Some, None, length, get_or, refl, sym, ◌∙◌, subst}
-use Rattle.std.specs.Prelude.{IfOk, IsTrue, Result, Ok, Err, slice_get}
-use Rattle.std.proofs.lemmas.Option.{same_Some, slice_get_read}
-use Rattle.smith_bytes.specs.declared.error.Error.{Error}
-use Rattle.smith_syntax.specs.declared.entity_type.MemoryType.{MemoryType}
-use Rattle.smith_syntax.specs.declared.entity_type.TableType.{TableType}
-use Rattle.smith_syntax.specs.declared.value_type.RefType.{RefType}
-use Rattle.smith_syntax.specs.declared.value_type.ValType.{ValType}
-use Rattle.smith_instr.specs.declared.instr.Instr.{Instr}
-use Rattle.smith_types.specs.Expressions.{Context}
-use Rattle.smith_types.specs.Imports.{EntitySpaces}
+use Rattle.smith_check_module.proofs.Common.{Bool, Context, EntitySpaces, Err, Error, get_or, IfOk, Instr, IsTrue, length, List, None, Ok}
+use Rattle.smith_check_module.proofs.Common.{refl, RefType, Result, same_Some, slice_get, Some, subst, sym, TableType, ValType, ℕ, ◌<◌, ◌↔◌}
+use Rattle.smith_check_module.proofs.Common.{◌∙◌, ◌≡◌}
+use Rattle.std.proofs.lemmas.Option.{slice_get_read}
+use Rattle.smith_types.specs.Syntax.entity_type.MemoryType.{MemoryType}
 use Rattle.smith_types.specs.Segments.{address_type}
 use Rattle.smith_types.specs.Subtyping.{IsRefBelow}
 use Rattle.smith_decode.specs.DataReadings.{mode_view as data_mode_view}

@@ -1,23 +1,16 @@
 -- The signatures of instructions of constant expressions.
-use Rattle.std.proofs.Common.{◌≡◌, ℕ, ◌<◌, ◌≤◌, Bool, true, false, List, [], ◌∷◌, ◌++◌, Some, None, cond, length}
-use Rattle.std.proofs.Common.{refl, sym, ap, subst, ◌∙◌, arith}
-use Rattle.std.specs.Prelude.{All, slice_get}
-use Rattle.std.specs.List.{AllZip}
-use Rattle.std.proofs.lemmas.List.{length-append}
-use Rattle.std.proofs.lemmas.List.Elements.{All-nil, All-cons, length_all_zip}
-use Rattle.std.proofs.lemmas.Option.{same_Some, slice_get_within, get_or_from_slice_get}
-use Rattle.smith_syntax.specs.declared.composite_type.SubType.{SubType}
-use Rattle.smith_syntax.specs.declared.const_instr.ConstInstr.{ConstInstr}
-use Rattle.smith_syntax.specs.declared.const_instr.ConstInstr.TheVariants as constant
-use Rattle.smith_syntax.specs.declared.entity_type.GlobalType.{GlobalType}
-use Rattle.smith_syntax.specs.declared.value_type.HeapType.TheVariants.{Concrete, Exact}
-use Rattle.smith_syntax.specs.declared.value_type.ValType.{ValType}
-use Rattle.smith_syntax.specs.declared.value_type.ValType.TheVariants.{I32, I64, F32, F64, V128, Ref}
-use Rattle.smith_types.specs.Expressions.{Context, HasType, created}
+use Rattle.smith_check_module.proofs.Common.{[], All, All-cons, All-nil, AllZip, ap, arith, Bool, cond, ConstInstr, Context, false}
+use Rattle.smith_check_module.proofs.Common.{GlobalType, I32, IsValBelow, IsValBelow-refl, IsValInRange, length, length-append}
+use Rattle.smith_check_module.proofs.Common.{length_all_zip, List, None, Ref, refl, same_Some, slice_get, slice_get_within, Some, subst}
+use Rattle.smith_check_module.proofs.Common.{SubType, sym, true, ValType, ℕ, ◌++◌, ◌<◌, ◌∙◌, ◌∷◌, ◌≡◌, ◌≤◌}
+use Rattle.std.proofs.lemmas.Option.{get_or_from_slice_get}
+use Rattle.smith_types.specs.Syntax.const_instr.ConstInstr.TheVariants as constant
+use Rattle.smith_types.specs.Syntax.value_type.HeapType.TheVariants.{Concrete, Exact}
+use Rattle.smith_types.specs.Syntax.value_type.ValType.TheVariants.{F32, F64, I64, V128}
+use Rattle.smith_types.specs.Expressions.{created, HasType}
 use Rattle.smith_types.specs.Expressions.{function_reference}
-use Rattle.smith_types.specs.Subtyping.{IsInRange, IsValBelow, IsValInRange}
+use Rattle.smith_types.specs.Subtyping.{IsInRange}
 use Rattle.smith_types.specs.Types.{IsOrderly}
-use Rattle.smith_types.proofs.GrowthLemmas.{IsValBelow-refl}
 use Rattle.smith_types.proofs.RangeLemmas.{above_stands}
 use Rattle.smith_check_module.specs.ConstScopes.{IsScope}
 use Rattle.smith_check_module.specs.Typings.{HasMore, HasNoType, IsBest, IsOnly, TakesNothing, fixed_signature}

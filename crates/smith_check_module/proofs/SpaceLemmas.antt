@@ -1,17 +1,11 @@
 -- Index spaces by canonical indices.
-use Rattle.std.proofs.Common.{◌≡◌, ℕ, ◌+◌, List, [], ◌∷◌, ◌++◌, map, length, refl, sym, ap, ◌∙◌}
-use Rattle.std.proofs.lemmas.List.{length-append, length-map, map-append}
-use Rattle.smith_syntax.specs.Features.{Features}
-use Rattle.smith_syntax.specs.declared.composite_type.SubType.{SubType}
-use Rattle.smith_syntax.specs.declared.entity_type.GlobalType.{GlobalType}
-use Rattle.smith_syntax.specs.declared.entity_type.TableType.{TableType}
-use Rattle.smith_instr.specs.declared.instr.Instr.{Instr}
-use Rattle.smith_types.specs.Imports.{EntitySpaces, imported_spaces}
+use Rattle.smith_check_module.proofs.Common.{[], ap, canonical_index, EntitySpaces, Features, global_pair, GlobalType, imported_spaces}
+use Rattle.smith_check_module.proofs.Common.{Instr, length, length-append, length-map, List, map, refl, SubType, sym, syntax_of, table_pair}
+use Rattle.smith_check_module.proofs.Common.{TableType, tag_index, ℕ, ◌++◌, ◌+◌, ◌∙◌, ◌∷◌, ◌≡◌}
+use Rattle.std.proofs.lemmas.List.{map-append}
 use Rattle.smith_decode.specs.declared.definitions.GlobalDefinition.{GlobalDefinition}
 use Rattle.smith_decode.specs.declared.definitions.TableDefinition.{TableDefinition}
 use Rattle.smith_decode.specs.declared.modules.Module.{Module}
-use Rattle.smith_decode.specs.Modules.{global_pair, syntax_of, table_pair, tag_index}
-use Rattle.smith_check_types.specs.TypeSections.{canonical_index}
 use Rattle.smith_check_module.specs.CanonicalModules.{renamed_global, renamed_table}
 use Rattle.smith_check_module.specs.Contexts.{context_in, spaces_in, types_in}
 use Rattle.smith_check_module.specs.Judges.{global_type, table_type}

@@ -1,11 +1,9 @@
 -- Stacks in two parts.
-use Rattle.std.proofs.Common.{◌≡◌, ℕ, Bool, true, false, ◌-◌, ◌<◌, List, [], ◌∷◌, ◌++◌, length, get_or, take, drop, refl, sym, ap, ◌∙◌}
-use Rattle.std.proofs.Common.{arith, suc}
+use Rattle.smith_check_module.proofs.Common.{[], AllZip, ap, arith, Bool, drop, false, false≢true, get_or, length, length-append, List}
+use Rattle.smith_check_module.proofs.Common.{refl, suc, sym, take, true, ℕ, ◌++◌, ◌-◌, ◌<◌, ◌∙◌, ◌∷◌, ◌≡◌}
 use Rattle.std.specs.Prelude.{◌==◌}
-use Rattle.std.proofs.lemmas.Bool.{false≢true}
 use Rattle.std.proofs.lemmas.Bool.Decides.{Decides-eqb}
-use Rattle.std.specs.List.{AllZip}
-use Rattle.std.proofs.lemmas.List.{length-append, take_all}
+use Rattle.std.proofs.lemmas.List.{take_all}
 use Rattle.std.proofs.Math.Seq.{take-append_seam, drop-append_seam, take-suc}
 
 same_length : {A : Type 0} (a c b d : List A) → a ++ b ≡ c ++ d → length b ≡ length d → length a ≡ length c

@@ -1,19 +1,15 @@
 -- Steps to the stacks of the least types.
-use Rattle.std.proofs.Common.{◌≡◌, ℕ, ◌+◌, ◌-◌, ◌<◌, List, [], ◌∷◌, ◌++◌, Some, None, length, take, drop, refl, sym, ap, ◌∙◌, subst, arith}
-use Rattle.std.specs.Prelude.{All, Bool, true, false, IfOk, MatchBool, MatchOption, Option, Result, Ok, Err}
-use Rattle.std.specs.List.{AllZip}
-use Rattle.std.proofs.lemmas.List.{take-append-drop, length-append, take_rest}
+use Rattle.smith_check_module.proofs.Common.{[], All, AllZip, ap, arith, ConstInstr, Context, drop, Err, Error, IfOk, IsValBelow}
+use Rattle.smith_check_module.proofs.Common.{IsValBelow-refl, IsValInRange, length, length-append, length_all_zip, List, MatchBool}
+use Rattle.smith_check_module.proofs.Common.{MatchOption, None, Ok, refl, Result, Some, subst, sym, take, ValType, ℕ, ◌++◌, ◌+◌, ◌-◌, ◌<◌}
+use Rattle.smith_check_module.proofs.Common.{◌∙◌, ◌∷◌, ◌≡◌}
+use Rattle.std.specs.Prelude.{Bool, false, Option, true}
+use Rattle.std.proofs.lemmas.List.{take-append-drop, take_rest}
 use Rattle.std.proofs.Math.Seq.{take-append_seam, drop-append_seam}
-use Rattle.std.proofs.lemmas.List.Elements.{All-drop, All-take, All-push, AllZip-push, length_all_zip}
-use Rattle.smith_bytes.specs.declared.error.Error.{Error}
-use Rattle.smith_syntax.specs.declared.const_instr.ConstInstr.{ConstInstr}
-use Rattle.smith_syntax.specs.declared.const_instr.ConstInstr.TheVariants as constant
-use Rattle.smith_syntax.specs.declared.value_type.AbstractHeapType.TheVariants as abstract
-use Rattle.smith_syntax.specs.declared.value_type.HeapType.{HeapType}
-use Rattle.smith_syntax.specs.declared.value_type.ValType.{ValType}
-use Rattle.smith_types.specs.Expressions.{Context}
-use Rattle.smith_types.specs.Subtyping.{IsValBelow, IsValInRange}
-use Rattle.smith_types.proofs.GrowthLemmas.{IsValBelow-refl}
+use Rattle.std.proofs.lemmas.List.Elements.{All-drop, All-push, All-take, AllZip-push}
+use Rattle.smith_types.specs.Syntax.const_instr.ConstInstr.TheVariants as constant
+use Rattle.smith_types.specs.Syntax.value_type.AbstractHeapType.TheVariants as abstract
+use Rattle.smith_types.specs.Syntax.value_type.HeapType.{HeapType}
 use Rattle.smith_check_operands.specs.Fits.{AreMatched}
 use Rattle.smith_check_module.specs.Typings.{HasMore, HasNoStep, HasNoType, IsApart, IsApplied, IsBest, IsBestConversion, IsBestStep}
 use Rattle.smith_check_module.specs.Typings.{IsOnly}

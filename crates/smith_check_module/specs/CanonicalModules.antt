@@ -2,12 +2,9 @@
 -- type: the section Validation, Conventions, of the WebAssembly Core Specification 3.0. An index
 -- above all types is unchanged.
 use Rattle.std.specs.Prelude.{ℕ, map}
-use Rattle.smith_syntax.specs.declared.const_instr.ConstInstr.{ConstInstr}
-use Rattle.smith_syntax.specs.declared.const_instr.ConstInstr.TheVariants as instr
-use Rattle.smith_syntax.specs.declared.entity_type.GlobalType.{GlobalType}
-use Rattle.smith_syntax.specs.declared.entity_type.TableType.{TableType}
-use Rattle.smith_types.specs.Imports.{EntitySpaces}
-use Rattle.smith_check_types.specs.Renamed.{renamed_heap, renamed_ref, renamed_val}
+use Rattle.smith_check_module.specs.Common.{ConstInstr, EntitySpaces, GlobalType, renamed_val, TableType}
+use Rattle.smith_types.specs.Syntax.const_instr.ConstInstr.TheVariants as instr
+use Rattle.smith_check_types.specs.Renamed.{renamed_heap, renamed_ref}
 
 -- a table type with each type index replaced by `name` (Structure, Table Types)
 abbrev pub renamed_table : (ℕ → ℕ) → TableType → TableType

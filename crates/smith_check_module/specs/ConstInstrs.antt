@@ -1,12 +1,10 @@
 -- Instructions of constant expressions among all instructions: the section Validation, Instructions,
 -- Constant Expressions, of the WebAssembly Core Specification 3.0.
 use Rattle.std.specs.Prelude.{◌≡◌, ℕ, List, Option, Some, None}
-use Rattle.smith_syntax.specs.declared.const_instr.ConstInstr.{ConstInstr}
-use Rattle.smith_syntax.specs.declared.const_instr.ConstInstr.TheVariants as constant
-use Rattle.smith_syntax.specs.declared.value_type.ValType.{ValType}
+use Rattle.smith_check_module.specs.Common.{canonical_index, ConstInstr, Context, Instr, ValType}
+use Rattle.smith_types.specs.Syntax.const_instr.ConstInstr.TheVariants as constant
 use Rattle.smith_instr.specs.declared.aggregate.AggregateInstr.{AggregateInstr}
 use Rattle.smith_instr.specs.declared.aggregate.AggregateInstr.TheVariants as aggregate
-use Rattle.smith_instr.specs.declared.instr.Instr.{Instr}
 use Rattle.smith_instr.specs.declared.instr.Instr.TheVariants as instr
 use Rattle.smith_instr.specs.declared.numeric.IntBinary.{IntBinary}
 use Rattle.smith_instr.specs.declared.numeric.IntBinary.TheVariants.{Add, Sub, Mul}
@@ -14,10 +12,8 @@ use Rattle.smith_instr.specs.declared.numeric.NumericInstr.{NumericInstr}
 use Rattle.smith_instr.specs.declared.numeric.NumericInstr.TheVariants.{I32Binary, I64Binary}
 use Rattle.smith_instr.specs.declared.reference.ReferenceInstr.{ReferenceInstr}
 use Rattle.smith_instr.specs.declared.reference.ReferenceInstr.TheVariants as reference
-use Rattle.smith_types.specs.Expressions.{Context}
 use Rattle.smith_types.specs.Flags.{IsInstrEnabled}
 use Rattle.smith_decode.specs.Constants.{as_instr}
-use Rattle.smith_check_types.specs.TypeSections.{canonical_index}
 use Rattle.smith_check_module.specs.CanonicalModules.{renamed_const}
 use Rattle.smith_check_module.specs.Typings.{IsBestStep, HasNoStep}
 

@@ -1,9 +1,7 @@
 -- The context in which constant expressions are checked.
 use Rattle.std.specs.Prelude.{ℕ, ◌<◌, List, length, All}
-use Rattle.smith_syntax.specs.FeatureBits.{features_in}
-use Rattle.smith_syntax.specs.declared.composite_type.SubType.{SubType}
-use Rattle.smith_syntax.specs.declared.entity_type.GlobalType.{GlobalType}
-use Rattle.smith_types.specs.Expressions.{Context}
+use Rattle.smith_types.specs.Syntax.FeatureBits.{features_in}
+use Rattle.smith_check_module.specs.Common.{Context, GlobalType, SubType}
 use Rattle.smith_types.specs.Subtyping.{IsValInRange}
 use Rattle.smith_types.specs.Types.{IsOrderly}
 use Rattle.smith_types.specs.ValidTypes.{values_of}

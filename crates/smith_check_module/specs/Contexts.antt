@@ -1,15 +1,9 @@
 -- The context of a module: the section Validation, Modules, of the WebAssembly Core Specification 3.0.
 use Rattle.std.specs.Prelude.{ℕ, List, ◌++◌, length, map}
-use Rattle.smith_syntax.specs.Features.{Features}
-use Rattle.smith_syntax.specs.declared.composite_type.SubType.{SubType}
-use Rattle.smith_syntax.specs.declared.entity_type.GlobalType.{GlobalType}
-use Rattle.smith_syntax.specs.declared.entity_type.TableType.{TableType}
-use Rattle.smith_instr.specs.declared.instr.Instr.{Instr}
-use Rattle.smith_types.specs.Imports.{EntitySpaces, imported_spaces}
-use Rattle.smith_types.specs.Expressions.{Context}
+use Rattle.smith_check_module.specs.Common.{canonical_index, Context, EntitySpaces, Features, GlobalType, imported_spaces, Instr, SubType}
+use Rattle.smith_check_module.specs.Common.{Syntax, TableType}
 use Rattle.smith_types.specs.Groups.{space_of}
-use Rattle.smith_decode.specs.Modules.{Syntax}
-use Rattle.smith_check_types.specs.TypeSections.{canonical_index, canonical_groups}
+use Rattle.smith_check_types.specs.TypeSections.{canonical_groups}
 use Rattle.smith_check_module.specs.CanonicalModules.{renamed_spaces}
 
 -- the index spaces of a module in terms of its own type indices: imports first, then definitions

@@ -1,9 +1,8 @@
 -- Modules of the examples.
 use Rattle.std.specs.Prelude.{List, [], ◌∷◌, Some, None, pos}
-use Rattle.smith_syntax.specs.declared.entity_type.ExportKind.TheVariants as kind
-use Rattle.smith_instr.specs.declared.instr.Instr.{Instr}
+use Rattle.smith_types.specs.Syntax.entity_type.ExportKind.TheVariants as kind
+use Rattle.smith_check_module.specs.Common.{Instr, Syntax}
 use Rattle.smith_instr.specs.declared.instr.Instr.TheVariants as instr
-use Rattle.smith_decode.specs.Modules.{Syntax}
 
 -- an empty module
 abbrev pub nothing : Syntax

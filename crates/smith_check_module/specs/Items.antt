@@ -1,12 +1,10 @@
 -- Items of element segments, one by one: the section Validation, Element Segments, of the WebAssembly
 -- Core Specification 3.0.
 use Rattle.std.specs.Prelude.{◌≡◌, ℕ, ◌⊎◌, IsTrue, List, [], ◌∷◌}
-use Rattle.smith_syntax.specs.declared.value_type.RefType.{RefType}
-use Rattle.smith_syntax.specs.declared.value_type.ValType.TheVariants.{Ref}
-use Rattle.smith_instr.specs.declared.instr.Instr.{Instr}
+use Rattle.smith_types.specs.Syntax.value_type.RefType.{RefType}
+use Rattle.smith_check_module.specs.Common.{Context, Instr, Ref}
 use Rattle.smith_instr.specs.declared.instr.Instr.TheVariants.{Reference}
 use Rattle.smith_instr.specs.declared.reference.ReferenceInstr.TheVariants.{Func}
-use Rattle.smith_types.specs.Expressions.{Context}
 use Rattle.smith_types.specs.Segments.{IsItem}
 use Rattle.smith_check_module.specs.ValidModules.{IsConstant}
 

@@ -1,3 +1,4 @@
+pub mod Common
 pub mod CanonicalModules
 pub mod Contexts
 pub mod ValidModules

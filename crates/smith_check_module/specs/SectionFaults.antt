@@ -2,19 +2,14 @@
 -- rule of this project; each item is checked as in the section Validation, Modules, of the
 -- WebAssembly Core Specification 3.0.
 use Rattle.std.specs.Prelude.{◌≡◌, ℕ, ◌+◌, ◌<◌, IsTrue, List, [], ◌∷◌, ◌++◌, Some, length, slice_get, All}
-use Rattle.smith_syntax.specs.Features.{Features}
-use Rattle.smith_syntax.specs.declared.entity_type.EntityType.{EntityType}
-use Rattle.smith_syntax.specs.declared.entity_type.ExportKind.{ExportKind}
-use Rattle.smith_syntax.specs.declared.entity_type.GlobalType.{GlobalType}
-use Rattle.smith_instr.specs.declared.instr.Instr.{Instr}
+use Rattle.smith_check_module.specs.Common.{canonical_index, Context, EntitySpaces, Features, GlobalType, imported_spaces, Instr}
+use Rattle.smith_check_module.specs.Common.{renamed_val, Syntax}
+use Rattle.smith_types.specs.Syntax.entity_type.EntityType.{EntityType}
+use Rattle.smith_types.specs.Syntax.entity_type.ExportKind.{ExportKind}
 use Rattle.smith_types.specs.Entities.{IsMemoryValid, IsTableValid, IsGlobalValid, IsFuncTypeIndex}
 use Rattle.smith_types.specs.Exports.{IsEntityAt, IsStartValid}
-use Rattle.smith_types.specs.Expressions.{Context, seeing, seen_by_tables, seen_by_global, seen_by_segments}
-use Rattle.smith_types.specs.Imports.{EntitySpaces, imported_spaces}
+use Rattle.smith_types.specs.Expressions.{seeing, seen_by_global, seen_by_segments, seen_by_tables}
 use Rattle.smith_decode.specs.Data.{Data}
-use Rattle.smith_decode.specs.Modules.{Syntax}
-use Rattle.smith_check_types.specs.Renamed.{renamed_val}
-use Rattle.smith_check_types.specs.TypeSections.{canonical_index}
 use Rattle.smith_check_module.specs.Contexts.{spaces_in, context_in}
 use Rattle.smith_check_module.specs.ValidModules.{IsConstant, IsTableInitialised, IsElementValid, IsDataModeValid}
 use Rattle.smith_check_module.specs.declared.faults.Part.{Part}

@@ -2,21 +2,14 @@
 -- of the WebAssembly Core Specification 3.0. The conditions on features, sharedness and exact types are
 -- rules of this project. Types are compared by canonical indices, so that equal types are one type.
 use Rattle.std.specs.Prelude.{◌≡◌, ℕ, ◌+◌, ◌⊎◌, false, IsTrue, List, [], ◌∷◌, Some, length, map, slice_get, All}
-use Rattle.smith_syntax.specs.Features.{Features}
-use Rattle.smith_syntax.specs.declared.const_instr.ConstInstr.{ConstInstr}
-use Rattle.smith_syntax.specs.declared.entity_type.GlobalType.{GlobalType}
-use Rattle.smith_syntax.specs.declared.entity_type.MemoryType.{MemoryType}
-use Rattle.smith_syntax.specs.declared.entity_type.TableType.{TableType}
-use Rattle.smith_syntax.specs.declared.value_type.RefType.{RefType}
-use Rattle.smith_syntax.specs.declared.value_type.ValType.{ValType}
-use Rattle.smith_syntax.specs.declared.value_type.ValType.TheVariants.{Ref}
-use Rattle.smith_syntax.specs.declared.composite_type.SubType.{SubType}
-use Rattle.smith_instr.specs.declared.instr.Instr.{Instr}
+use Rattle.smith_check_module.specs.Common.{canonical_index, ConstInstr, Context, EntitySpaces, Features, GlobalType, imported_spaces}
+use Rattle.smith_check_module.specs.Common.{Instr, Ref, renamed_val, SubType, Syntax, TableType, ValType}
+use Rattle.smith_types.specs.Syntax.entity_type.MemoryType.{MemoryType}
+use Rattle.smith_types.specs.Syntax.value_type.RefType.{RefType}
 use Rattle.smith_types.specs.Entities.{IsMemoryValid, IsTableValid, IsGlobalValid, IsFuncTypeIndex, AreCountsEnabled}
 use Rattle.smith_types.specs.Exports.{AreExportsValid, IsStartValid}
-use Rattle.smith_types.specs.Expressions.{Context, IsConstExpr, seeing, seen_by_tables, seen_by_global, seen_by_segments}
+use Rattle.smith_types.specs.Expressions.{IsConstExpr, seeing, seen_by_global, seen_by_segments, seen_by_tables}
 use Rattle.smith_types.specs.Flags.{IsElementTypeEnabled}
-use Rattle.smith_types.specs.Imports.{EntitySpaces, imported_spaces}
 use Rattle.smith_types.specs.Segments.{IsItem, address_type}
 use Rattle.smith_types.specs.Subtyping.{IsRefBelow}
 use Rattle.smith_types.specs.ValidTypes.{IsRefTypeValid, AreTypesValid}
@@ -26,10 +19,9 @@ use Rattle.smith_decode.specs.Constants.{as_expr}
 use Rattle.smith_decode.specs.Data.{Data, DataMode}
 use Rattle.smith_decode.specs.Definitions.{null_of}
 use Rattle.smith_decode.specs.Elements.{Elem, Mode, func_items}
-use Rattle.smith_decode.specs.Modules.{Syntax}
 use Rattle.smith_check_types.specs.Canonical.{AreCanonical}
-use Rattle.smith_check_types.specs.Renamed.{renamed_ref, renamed_val}
-use Rattle.smith_check_types.specs.TypeSections.{canonical_index, canonical_groups, AreGroupsInScope}
+use Rattle.smith_check_types.specs.Renamed.{renamed_ref}
+use Rattle.smith_check_types.specs.TypeSections.{AreGroupsInScope, canonical_groups}
 use Rattle.smith_check_module.specs.CanonicalModules.{renamed_const}
 use Rattle.smith_check_module.specs.Contexts.{spaces_in, context_in, types_in}
 

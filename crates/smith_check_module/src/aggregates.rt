@@ -1,5 +1,5 @@
 ghost use Rattle.std.specs.Prelude.{◌≡◌, replicate, IfOk, IfErr, MatchOption};
-ghost use Rattle.smith_syntax.specs.declared.const_instr.ConstInstr.TheVariants as constant;
+ghost use Rattle.smith_types.specs.Syntax.const_instr.ConstInstr.TheVariants as constant;
 ghost use Rattle.smith_types.specs.Expressions.{IsArrayAt, IsStructAt, field_values};
 ghost use Rattle.smith_check_module.specs.ConstScopes.{IsScope, context_of};
 ghost use Rattle.smith_check_module.specs.Typings.{HasMore, HasNoArray, HasNoStruct, HasNoType};

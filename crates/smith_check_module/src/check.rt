@@ -1,5 +1,5 @@
 ghost use Rattle.std.specs.Prelude.{◌≡◌, All, IfOk, IfErr, IfSome, MatchOption};
-ghost use Rattle.smith_syntax.specs.FeatureBits.{features_in};
+ghost use Rattle.smith_types.specs.Syntax.FeatureBits.{features_in};
 ghost use Rattle.smith_decode.specs.Modules.{syntax_of};
 ghost use Rattle.smith_check_types.specs.CheckedTypes.{AreChecked};
 ghost use Rattle.smith_check_module.specs.Judges.{AreRight, IsJudge, IsRight};

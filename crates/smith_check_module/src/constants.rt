@@ -1,5 +1,5 @@
 ghost use Rattle.std.specs.Prelude.{◌≡◌, ◌↔◌, IsTrue};
-ghost use Rattle.smith_syntax.specs.FeatureBits.{features_in};
+ghost use Rattle.smith_types.specs.Syntax.FeatureBits.{features_in};
 ghost use Rattle.smith_types.specs.Flags.{IsInstrEnabled};
 ghost use Rattle.smith_check_types.specs.TypeSections.{canonical_index};
 ghost use Rattle.smith_check_module.specs.CanonicalModules.{renamed_const};

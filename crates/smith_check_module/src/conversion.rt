@@ -1,5 +1,5 @@
 ghost use Rattle.std.specs.Prelude.{◌≡◌, Bool, All, IfOk, IfErr, MatchOption};
-ghost use Rattle.smith_syntax.specs.declared.value_type.HeapType.TheVariants.{Abstract};
+ghost use Rattle.smith_types.specs.Syntax.value_type.HeapType.TheVariants.{Abstract};
 ghost use Rattle.smith_types.specs.Subtyping.{IsBelow, IsInRange, IsValInRange};
 ghost use Rattle.smith_check_module.specs.ConstScopes.{IsScope, context_of};
 ghost use Rattle.smith_check_module.specs.Typings.{IsBestConversion, TakesNoConversion, converted};

@@ -1,7 +1,7 @@
 // Modules that are valid, and modules that are not.
 
 ghost use Rattle.std.specs.Prelude.{[]};
-ghost use Rattle.smith_syntax.specs.declared.value_type.ValType.TheVariants.{I32};
+ghost use Rattle.smith_types.specs.Syntax.value_type.ValType.TheVariants.{I32};
 ghost use Rattle.smith_types.specs.ExampleFeatures.{usual_features};
 ghost use Rattle.smith_check_module.specs.Contexts.{context_in};
 ghost use Rattle.smith_check_module.specs.ValidModules.{IsConstant, IsValidApart};

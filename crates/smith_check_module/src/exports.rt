@@ -1,5 +1,5 @@
 ghost use Rattle.std.specs.Prelude.{◌↔◌, ◌≡◌, map, IsTrue, IfOk, IfErr};
-ghost use Rattle.smith_syntax.specs.declared.entity_type.EntityType.{EntityType};
+ghost use Rattle.smith_types.specs.Syntax.entity_type.EntityType.{EntityType};
 ghost use Rattle.smith_types.specs.EntitySpaces.{spaces_in};
 ghost use Rattle.smith_types.specs.Exports.{IsEntityAt};
 ghost use Rattle.smith_validity.specs.Decided.{count_at};

@@ -1,5 +1,5 @@
 ghost use Rattle.std.specs.Prelude.{◌≡◌, ◌↔◌, ◌∷◌, [], All, IsTrue, IfOk, IfErr, MatchBool};
-ghost use Rattle.smith_syntax.specs.declared.value_type.ValType.{ValType as Value};
+ghost use Rattle.smith_types.specs.Syntax.value_type.ValType.{ValType as Value};
 ghost use Rattle.smith_types.specs.Subtyping.{IsValBelow, IsValInRange};
 ghost use Rattle.smith_check_module.specs.ConstInstrs.{Goes, Stops};
 ghost use Rattle.smith_check_module.specs.ConstScopes.{IsScope, context_of};

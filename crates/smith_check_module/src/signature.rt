@@ -1,7 +1,7 @@
 ghost use Rattle.std.specs.Prelude.{◌≡◌, false, Some, IfOk, IfErr, MatchOption};
-ghost use Rattle.smith_syntax.specs.declared.const_instr.ConstInstr.TheVariants as constant;
-ghost use Rattle.smith_syntax.specs.declared.value_type.AbstractHeapType.TheVariants as abstract;
-ghost use Rattle.smith_syntax.specs.declared.value_type.HeapType.TheVariants.{Abstract};
+ghost use Rattle.smith_types.specs.Syntax.const_instr.ConstInstr.TheVariants as constant;
+ghost use Rattle.smith_types.specs.Syntax.value_type.AbstractHeapType.TheVariants as abstract;
+ghost use Rattle.smith_types.specs.Syntax.value_type.HeapType.TheVariants.{Abstract};
 ghost use Rattle.smith_types.specs.Expressions.{created, function_reference, reference_to};
 ghost use Rattle.smith_check_module.specs.ConstScopes.{IsScope, context_of};
 ghost use Rattle.smith_check_module.specs.Typings.{HasNoType, IsOnly, fixed_signature};

@@ -1,5 +1,5 @@
 ghost use Rattle.std.specs.Prelude.{◌↔◌, ◌≡◌, [], IsTrue};
-ghost use Rattle.smith_syntax.specs.declared.composite_type.CompositeInnerType.TheVariants.{Func};
+ghost use Rattle.smith_types.specs.Syntax.composite_type.CompositeInnerType.TheVariants.{Func};
 ghost use Rattle.smith_types.specs.Entities.{IsFuncAt};
 ghost use Rattle.smith_types.specs.Exports.{IsStartValid};
 

@@ -1,10 +1,7 @@
 -- Instructions whose operands and results are known.
-use Rattle.std.proofs.Common.{◌≡◌, ℕ, Bool, true, false, MatchBool, List, ◌++◌, refl, sym, ap, ◌∙◌, subst, append_assoc}
-use Rattle.smith_syntax.specs.declared.value_type.ValType.{ValType}
-use Rattle.smith_check_rules.specs.declared.slot.Slot.{Slot}
+use Rattle.smith_check_operands.proofs.Common.{ap, append_assoc, AreBelow, BodyContext, Bool, false, IsBelow, List, MatchBool, refl, Slot}
+use Rattle.smith_check_operands.proofs.Common.{subst, sym, true, ValType, ℕ, ◌++◌, ◌∙◌, ◌≡◌}
 use Rattle.smith_instr.specs.declared.instr.Instr.{Instr}
-use Rattle.smith_check_rules.specs.Slots.{IsBelow, AreBelow}
-use Rattle.smith_instr.specs.Contexts.{BodyContext}
 use Rattle.smith_check_rules.specs.StackTypes.{HasStackType}
 use Rattle.smith_check_operands.specs.Covers.{Held, Pops, PopsNothing, Pushes}
 use Rattle.smith_check_operands.specs.Closes.{with_labels, StepsNowhere}

@@ -1,15 +1,12 @@
 -- Matching of slots is reflexive and transitive.
-use Rattle.std.proofs.Common.{List, [], ◌∷◌, refl, sym, subst}
-use Rattle.smith_syntax.specs.declared.value_type.HeapType.TheVariants.{Abstract}
-use Rattle.smith_syntax.specs.declared.value_type.ValType.{ValType}
-use Rattle.smith_syntax.specs.declared.value_type.ValType.TheVariants.{Ref}
-use Rattle.smith_syntax.specs.declared.composite_type.SubType.{SubType}
+use Rattle.smith_check_operands.proofs.Common.{[], AreBelow, Bottom, IsBelow, List, refl, Slot, subst, SubType, sym, ValType, Value, ◌∷◌}
+use Rattle.smith_types.specs.Syntax.value_type.HeapType.TheVariants.{Abstract}
+use Rattle.smith_types.specs.Syntax.value_type.ValType.TheVariants.{Ref}
 use Rattle.smith_types.specs.Expressions.{reference_to}
 use Rattle.smith_types.specs.Subtyping.{IsValBelow}
 use Rattle.smith_types.proofs.GrowthLemmas.{IsValBelow-refl, IsValBelow-trans}
-use Rattle.smith_check_rules.specs.Slots.{IsReference, IsBelow, AreBelow}
-use Rattle.smith_check_rules.specs.declared.slot.Slot.{Slot}
-use Rattle.smith_check_rules.specs.declared.slot.Slot.TheVariants.{Bottom, SomeRef, EitherRef, Value}
+use Rattle.smith_check_rules.specs.Slots.{IsReference}
+use Rattle.smith_check_rules.specs.declared.slot.Slot.TheVariants.{EitherRef, SomeRef}
 
 reference_above : (types : List SubType) (a b : ValType) → IsReference a → IsValBelow types a b → IsReference b
 reference_above types (Ref a) (Ref b) r p = tt

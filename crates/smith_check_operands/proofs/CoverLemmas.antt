@@ -1,15 +1,8 @@
 -- Operands that are popped, and results that are pushed.
-use Rattle.std.proofs.Common.{◌≡◌, ◌<◌, Bool, true, false, List, [], ◌∷◌, ◌++◌, length, refl, sym, ap, ◌∙◌, subst, inl, inr, append_assoc}
-use Rattle.std.proofs.Common.{arith}
-use Rattle.std.proofs.lemmas.List.{length-append, append-nil}
-use Rattle.std.proofs.lemmas.List.Elements.{All-nil, All-cons, All-append, length_all_zip}
-use Rattle.std.proofs.lemmas.Bool.{false≢true}
-use Rattle.smith_check_rules.specs.declared.slot.Slot.{Slot}
-use Rattle.smith_check_rules.specs.declared.slot.Slot.TheVariants.{Bottom}
-use Rattle.smith_syntax.specs.declared.composite_type.SubType.{SubType}
-use Rattle.smith_check_rules.specs.Slots.{IsBelow, AreBelow}
-use Rattle.smith_instr.specs.Contexts.{BodyContext}
-use Rattle.smith_check_rules.specs.Slots.{IsSlotValid, AreSlotsValid}
+use Rattle.smith_check_operands.proofs.Common.{[], All-append, All-cons, All-nil, ap, append-nil, append_assoc, AreBelow, AreSlotsValid}
+use Rattle.smith_check_operands.proofs.Common.{arith, BodyContext, Bool, Bottom, false, false≢true, inl, inr, IsBelow, IsSlotValid, length}
+use Rattle.smith_check_operands.proofs.Common.{length-append, List, refl, Slot, subst, SubType, sym, true, ◌++◌, ◌<◌, ◌∙◌, ◌∷◌, ◌≡◌}
+use Rattle.std.proofs.lemmas.List.Elements.{length_all_zip}
 use Rattle.smith_check_operands.specs.Covers.{holding, Pops, PopsNothing, Pushes}
 use Rattle.smith_check_operands.proofs.ListLemmas.{left_part, right_part, all_left, all_right, zip_parts, zip_split, zip_join}
 use Rattle.smith_check_operands.proofs.BelowLemmas.{below_themselves, below_all}

@@ -1,16 +1,10 @@
 -- Stacks at the end of a block.
-use Rattle.std.proofs.Common.{suc, ◌≡◌, ◌↔◌, ℕ, ◌-◌, ◌<◌, ◌≤◌, Bool, true, false, MatchBool, IsTrue, List, [], ◌∷◌, ◌++◌, length, take}
-use Rattle.std.proofs.Common.{drop, refl, sym, ap, ◌∙◌, subst, arith}
-use Rattle.std.proofs.lemmas.Bool.{false≢true}
-use Rattle.std.proofs.lemmas.List.{length-append}
+use Rattle.smith_check_operands.proofs.Common.{[], ap, AreBelow, AreSlotsValid, AreValid, arith, BodyContext, Bool, drop, false, false≢true}
+use Rattle.smith_check_operands.proofs.Common.{IsBelow, length, length-append, List, MatchBool, refl, Slot, subst, SubType, suc, sym, take}
+use Rattle.smith_check_operands.proofs.Common.{true, ValType, values, ℕ, ◌++◌, ◌-◌, ◌<◌, ◌↔◌, ◌∙◌, ◌∷◌, ◌≡◌, ◌≤◌}
+use Rattle.std.proofs.Common.{IsTrue}
 use Rattle.std.proofs.lemmas.List.Elements.{length_all_zip}
-use Rattle.smith_syntax.specs.declared.value_type.ValType.{ValType}
-use Rattle.smith_syntax.specs.declared.composite_type.SubType.{SubType}
-use Rattle.smith_check_rules.specs.declared.slot.Slot.{Slot}
-use Rattle.smith_check_rules.specs.Slots.{IsBelow, AreBelow, values}
 use Rattle.smith_check_operands.specs.Fits.{AreFit, AreMatched}
-use Rattle.smith_instr.specs.Contexts.{BodyContext, AreValid}
-use Rattle.smith_check_rules.specs.Slots.{AreSlotsValid}
 use Rattle.smith_check_rules.specs.Sequences.{CountsAs}
 use Rattle.smith_check_operands.specs.Covers.{Held, holding, Pops, PopsNothing}
 use Rattle.smith_check_operands.specs.Closes.{EndsHere}

@@ -1,15 +1,9 @@
 -- Values that fit expected types, and operands that are popped by these.
-use Rattle.std.proofs.Common.{◌≡◌, ℕ, ◌-◌, ◌<◌, ◌≤◌, Bool, true, false, List, [], ◌∷◌, ◌++◌, length, refl, sym, ap, ◌∙◌, subst, take, drop}
-use Rattle.std.proofs.Common.{suc, arith}
+use Rattle.smith_check_operands.proofs.Common.{[], ap, AreBelow, AreSlotsValid, arith, BodyContext, Bool, drop, false, length, List, refl}
+use Rattle.smith_check_operands.proofs.Common.{Slot, subst, SubType, suc, sym, take, true, ValType, Value, values, ℕ, ◌++◌, ◌-◌, ◌<◌, ◌∙◌}
+use Rattle.smith_check_operands.proofs.Common.{◌∷◌, ◌≡◌, ◌≤◌}
 use Rattle.std.proofs.lemmas.List.{take-append-drop, length-drop, take_all}
-use Rattle.smith_syntax.specs.declared.value_type.ValType.{ValType}
-use Rattle.smith_syntax.specs.declared.composite_type.SubType.{SubType}
-use Rattle.smith_check_rules.specs.declared.slot.Slot.{Slot}
-use Rattle.smith_check_rules.specs.declared.slot.Slot.TheVariants.{Value}
 use Rattle.smith_check_operands.specs.Fits.{AreFit}
-use Rattle.smith_check_rules.specs.Slots.{AreBelow, values}
-use Rattle.smith_instr.specs.Contexts.{BodyContext}
-use Rattle.smith_check_rules.specs.Slots.{AreSlotsValid}
 use Rattle.smith_check_operands.specs.Covers.{holding, Pops, PopsNothing}
 use Rattle.smith_check_operands.proofs.CoverLemmas.{pop_enough, pop_beyond, pop_apart, pop_apart_beyond, pop_short}
 

@@ -1,9 +1,9 @@
 -- The labels of open blocks.
-use Rattle.std.proofs.Common.{◌≡◌, ℕ, ◌-◌, ◌<◌, ◌≤◌, zero, suc, List, ◌∷◌, length, get_or, reverse, sym, ap, ◌∙◌, arith}
-use Rattle.std.specs.Prelude.{Some, slice_get, option_map}
+use Rattle.smith_check_operands.proofs.Common.{ap, arith, length, List, Some, suc, sym, ValType, ℕ, ◌-◌, ◌<◌, ◌∙◌, ◌∷◌, ◌≡◌, ◌≤◌}
+use Rattle.std.proofs.Common.{get_or, reverse, zero}
+use Rattle.std.specs.Prelude.{option_map, slice_get}
 use Rattle.std.proofs.lemmas.Option.{slice_get-map, slice_get-get_or}
 use Rattle.std.proofs.lemmas.List.{get_or-reverse, length-reverse}
-use Rattle.smith_syntax.specs.declared.value_type.ValType.{ValType}
 use Rattle.smith_check_operands.specs.declared.frame.Frame.{Frame}
 use Rattle.smith_check_operands.specs.Closes.{label_of, labels_of}
 

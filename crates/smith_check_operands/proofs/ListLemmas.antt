@@ -1,8 +1,7 @@
 -- Lists that are split in two.
-use Rattle.std.proofs.Common.{◌≡◌, List, [], ◌∷◌, ◌++◌, length, take, drop, refl, sym, ap, ◌∙◌, subst, arith}
-use Rattle.std.specs.Prelude.{All}
+use Rattle.smith_check_operands.proofs.Common.{[], All, ap, arith, drop, length, length-append, List, refl, subst, sym, take, ◌++◌, ◌∙◌}
+use Rattle.smith_check_operands.proofs.Common.{◌∷◌, ◌≡◌}
 use Rattle.std.specs.List.{AllZip}
-use Rattle.std.proofs.lemmas.List.{length-append}
 use Rattle.std.proofs.lemmas.List.Elements.{All-take, All-drop}
 use Rattle.std.proofs.Math.Seq.{take-append_seam, drop-append_seam}
 

@@ -1,10 +1,9 @@
 -- Function types by their indices.
-use Rattle.std.proofs.Common.{◌≡◌, ℕ, List, sym, ap, ◌∙◌, subst}
-use Rattle.std.specs.Prelude.{Option, Some, None, unwrap_or, MatchOption}
-use Rattle.smith_syntax.specs.declared.composite_type.CompositeInnerType.{CompositeInnerType}
-use Rattle.smith_syntax.specs.declared.composite_type.CompositeInnerType.TheVariants.{Func}
-use Rattle.smith_syntax.specs.declared.composite_type.FuncType.{FuncType}
-use Rattle.smith_syntax.specs.declared.composite_type.SubType.{SubType}
+use Rattle.smith_check_operands.proofs.Common.{ap, List, Some, subst, SubType, sym, ℕ, ◌∙◌, ◌≡◌}
+use Rattle.std.specs.Prelude.{MatchOption, None, Option, unwrap_or}
+use Rattle.smith_types.specs.Syntax.composite_type.CompositeInnerType.{CompositeInnerType}
+use Rattle.smith_types.specs.Syntax.composite_type.CompositeInnerType.TheVariants.{Func}
+use Rattle.smith_types.specs.Syntax.composite_type.FuncType.{FuncType}
 use Rattle.smith_types.specs.Entities.{IsFuncAt}
 
 pub some_same : {A : Type 0} (x y : A) → Some x ≡ Some y → x ≡ y

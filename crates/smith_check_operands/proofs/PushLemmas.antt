@@ -1,15 +1,10 @@
 -- Results that are pushed, and a value that is popped.
-use Rattle.std.proofs.Common.{◌≡◌, Bool, true, false, List, [], ◌∷◌, ◌++◌, length, refl, sym, ap, ◌∙◌, subst, inl, inr, append_assoc, arith}
-use Rattle.std.proofs.lemmas.Bool.{false≢true}
-use Rattle.std.proofs.lemmas.List.{same_from_push, append-nil, length-append}
-use Rattle.std.proofs.lemmas.List.Elements.{All-map, All-append, All-cons, All-nil, All-head}
-use Rattle.smith_syntax.specs.declared.value_type.ValType.{ValType}
-use Rattle.smith_syntax.specs.declared.composite_type.SubType.{SubType}
-use Rattle.smith_check_rules.specs.declared.slot.Slot.{Slot}
-use Rattle.smith_check_rules.specs.declared.slot.Slot.TheVariants.{Bottom, Value}
-use Rattle.smith_check_rules.specs.Slots.{IsBelow, AreBelow, values}
-use Rattle.smith_instr.specs.Contexts.{BodyContext, AreValid}
-use Rattle.smith_check_rules.specs.Slots.{IsSlotValid, AreSlotsValid}
+use Rattle.smith_check_operands.proofs.Common.{[], All-append, All-cons, All-nil, ap, append-nil, append_assoc, AreBelow, AreSlotsValid}
+use Rattle.smith_check_operands.proofs.Common.{AreValid, arith, BodyContext, Bool, Bottom, false, false≢true, inl, inr, IsBelow}
+use Rattle.smith_check_operands.proofs.Common.{IsSlotValid, length, length-append, List, refl, Slot, subst, SubType, sym, true, ValType}
+use Rattle.smith_check_operands.proofs.Common.{Value, values, ◌++◌, ◌∙◌, ◌∷◌, ◌≡◌}
+use Rattle.std.proofs.lemmas.List.{same_from_push}
+use Rattle.std.proofs.lemmas.List.Elements.{All-head, All-map}
 use Rattle.smith_check_operands.specs.Covers.{holding, Pushes, Tops, TopsNothing}
 use Rattle.smith_check_operands.proofs.ListLemmas.{all_left, all_right, zip_split, zip_join}
 use Rattle.smith_check_operands.proofs.CoverLemmas.{push_all}

@@ -1,14 +1,12 @@
 -- The types that valid types refer to exist.
-use Rattle.std.proofs.Common.{◌≡◌, ℕ, Bool, true, false, List, [], ◌∷◌, take, drop, sym, subst}
-use Rattle.std.specs.Prelude.{All}
-use Rattle.std.proofs.lemmas.List.Elements.{All-nil, All-cons, All-weaker, All-take, All-drop}
-use Rattle.smith_syntax.specs.declared.value_type.HeapType.{HeapType}
-use Rattle.smith_syntax.specs.declared.value_type.HeapType.TheVariants.{Abstract, Concrete, Exact}
-use Rattle.smith_syntax.specs.declared.value_type.ValType.{ValType}
-use Rattle.smith_syntax.specs.declared.value_type.ValType.TheVariants.{I32, I64, F32, F64, V128, Ref}
-use Rattle.smith_syntax.specs.declared.composite_type.SubType.{SubType}
+use Rattle.smith_check_operands.proofs.Common.{[], All, All-cons, All-nil, AreSlotsValid, AreValid, BodyContext, Bool, Bottom, drop, false}
+use Rattle.smith_check_operands.proofs.Common.{IsSlotValid, List, Slot, subst, SubType, sym, take, true, ValType, Value, ℕ, ◌∷◌, ◌≡◌}
+use Rattle.std.proofs.lemmas.List.Elements.{All-drop, All-take, All-weaker}
+use Rattle.smith_types.specs.Syntax.value_type.HeapType.{HeapType}
+use Rattle.smith_types.specs.Syntax.value_type.HeapType.TheVariants.{Abstract, Concrete, Exact}
+use Rattle.smith_types.specs.Syntax.value_type.ValType.TheVariants.{I32, I64, F32, F64, V128, Ref}
 use Rattle.smith_types.specs.Subtyping.{IsInRange, IsValInRange}
-use Rattle.smith_instr.specs.Contexts.{BodyContext, IsValid, AreValid, IsHeapValid, address}
+use Rattle.smith_instr.specs.Contexts.{address, IsHeapValid, IsValid}
 use Rattle.smith_instr.specs.NumericTypes.{conversion, saturating_conversion, sign_extension, wide_arithmetic, signature}
 use Rattle.smith_instr.specs.declared.numeric.Conversion.{Conversion}
 use Rattle.smith_instr.specs.declared.numeric.Conversion.TheVariants as convert
@@ -20,9 +18,7 @@ use Rattle.smith_instr.specs.declared.numeric.WideArithmetic.{WideArithmetic}
 use Rattle.smith_instr.specs.declared.numeric.WideArithmetic.TheVariants as wide
 use Rattle.smith_instr.specs.declared.numeric.NumericInstr.{NumericInstr}
 use Rattle.smith_instr.specs.declared.numeric.NumericInstr.TheVariants as numeric
-use Rattle.smith_check_rules.specs.Slots.{IsSlotValid, AreSlotsValid}
-use Rattle.smith_check_rules.specs.declared.slot.Slot.{Slot}
-use Rattle.smith_check_rules.specs.declared.slot.Slot.TheVariants.{Bottom, SomeRef, EitherRef, Value}
+use Rattle.smith_check_rules.specs.declared.slot.Slot.TheVariants.{EitherRef, SomeRef}
 use Rattle.smith_check_operands.specs.Fits.{IsSlotInRange}
 
 pub heap_in_range : (context : BodyContext) (heap_type : HeapType) → IsHeapValid context heap_type → IsInRange context.types heap_type

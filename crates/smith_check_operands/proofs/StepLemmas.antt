@@ -1,18 +1,13 @@
 -- Steps of instructions.
-use Rattle.std.proofs.Common.{◌≡◌, ℕ, Bool, true, false, MatchBool, List, [], ◌∷◌, ◌++◌, refl, sym, ap, ◌∙◌, subst, inl, inr}
-use Rattle.std.specs.Prelude.{Result, Ok, Err, IfOk, Option, Some, None, MatchOption, is_some, All, slice_get}
-use Rattle.std.proofs.lemmas.List.{append-nil}
-use Rattle.std.proofs.lemmas.List.Elements.{All-nil, All-cons, All-append}
+use Rattle.smith_check_operands.proofs.Common.{[], All, All-append, All-cons, All-nil, ap, append-nil, AreBelow, AreSlotsValid, AreValid}
+use Rattle.smith_check_operands.proofs.Common.{BodyContext, Bool, false, inl, inr, IsBelow, IsSlotValid, List, MatchBool, refl, Slot, Some}
+use Rattle.smith_check_operands.proofs.Common.{subst, SubType, sym, true, ValType, values, ℕ, ◌++◌, ◌∙◌, ◌∷◌, ◌≡◌}
+use Rattle.std.specs.Prelude.{Err, IfOk, is_some, MatchOption, None, Ok, Option, Result, slice_get}
 use Rattle.std.proofs.lemmas.Option.{slice_get_within, get_or_from_slice_get}
 use Rattle.smith_bytes.specs.declared.error.Error.{Error}
-use Rattle.smith_syntax.specs.declared.value_type.ValType.{ValType}
-use Rattle.smith_syntax.specs.declared.composite_type.SubType.{SubType}
-use Rattle.smith_check_rules.specs.declared.slot.Slot.{Slot}
 use Rattle.smith_instr.specs.declared.instr.Instr.{Instr}
 use Rattle.smith_instr.specs.declared.instr.Instr.TheVariants as instr
-use Rattle.smith_check_rules.specs.Slots.{IsBelow, AreBelow, values}
-use Rattle.smith_instr.specs.Contexts.{BodyContext, IsValid, AreValid}
-use Rattle.smith_check_rules.specs.Slots.{IsSlotValid, AreSlotsValid}
+use Rattle.smith_instr.specs.Contexts.{IsValid}
 use Rattle.smith_check_rules.specs.StackTypes.{HasValueType, HasStackType}
 use Rattle.smith_instr.specs.InstrTypes.{HasInstrType}
 use Rattle.smith_instr.specs.Contexts.{To}

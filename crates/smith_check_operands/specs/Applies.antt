@@ -1,6 +1,6 @@
 -- Instructions whose operands and results are known.
 use Rattle.std.specs.Prelude.{◌≡◌, ℕ, Bool, true, MatchBool, List, []}
-use Rattle.smith_syntax.specs.declared.value_type.ValType.{ValType}
+use Rattle.smith_types.specs.Syntax.value_type.ValType.{ValType}
 use Rattle.smith_check_rules.specs.declared.slot.Slot.{Slot}
 use Rattle.smith_instr.specs.declared.instr.Instr.{Instr}
 use Rattle.smith_instr.specs.Contexts.{BodyContext}

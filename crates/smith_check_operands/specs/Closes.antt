@@ -1,6 +1,6 @@
 -- The rest of a body from a point on: the instructions that close the open blocks.
 use Rattle.std.specs.Prelude.{◌≡◌, ◌⊎◌, ℕ, List, [], ◌∷◌, ◌++◌, map, take}
-use Rattle.smith_syntax.specs.declared.value_type.ValType.{ValType}
+use Rattle.smith_types.specs.Syntax.value_type.ValType.{ValType}
 use Rattle.smith_check_rules.specs.declared.slot.Slot.{Slot}
 use Rattle.smith_check_operands.specs.declared.frame.Frame.{Frame}
 use Rattle.smith_check_operands.specs.declared.frame.Shape.{Shape}

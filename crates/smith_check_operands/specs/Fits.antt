@@ -1,7 +1,7 @@
 -- Values and the types that are expected of them.
 use Rattle.std.specs.Prelude.{List, [], ◌∷◌}
-use Rattle.smith_syntax.specs.declared.value_type.ValType.{ValType}
-use Rattle.smith_syntax.specs.declared.composite_type.SubType.{SubType}
+use Rattle.smith_types.specs.Syntax.value_type.ValType.{ValType}
+use Rattle.smith_types.specs.Syntax.composite_type.SubType.{SubType}
 use Rattle.smith_types.specs.Subtyping.{IsValBelow, IsValInRange}
 use Rattle.smith_check_rules.specs.Slots.{IsBelow}
 use Rattle.smith_check_rules.specs.declared.slot.Slot.{Slot}

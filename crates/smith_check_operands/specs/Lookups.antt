@@ -1,8 +1,8 @@
 -- Indices without an item.
 use Rattle.std.specs.Prelude.{ℕ, ◌≤◌, Bool, List}
-use Rattle.smith_syntax.specs.declared.composite_type.FuncType.{FuncType}
-use Rattle.smith_syntax.specs.declared.composite_type.SubType.{SubType}
-use Rattle.smith_syntax.specs.declared.entity_type.MemoryType.{MemoryType}
+use Rattle.smith_types.specs.Syntax.composite_type.FuncType.{FuncType}
+use Rattle.smith_types.specs.Syntax.composite_type.SubType.{SubType}
+use Rattle.smith_types.specs.Syntax.entity_type.MemoryType.{MemoryType}
 use Rattle.smith_instr.specs.MemoryTypes.{IsAccess}
 use Rattle.smith_instr.specs.declared.memory.MemArg.{MemArg}
 use Rattle.smith_types.specs.Entities.{IsFuncAt}

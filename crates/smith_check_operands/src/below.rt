@@ -1,5 +1,5 @@
 ghost use Rattle.std.specs.Prelude.{◌≡◌, ◌↔◌, IsTrue, All};
-ghost use Rattle.smith_syntax.specs.declared.value_type.HeapType.TheVariants.{Abstract};
+ghost use Rattle.smith_types.specs.Syntax.value_type.HeapType.TheVariants.{Abstract};
 ghost use Rattle.smith_types.specs.Expressions.{reference_to};
 ghost use Rattle.smith_types.specs.Subtyping.{IsValInRange};
 ghost use Rattle.smith_check_rules.specs.Slots.{IsBelow};

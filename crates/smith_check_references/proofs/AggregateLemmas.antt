@@ -1,33 +1,30 @@
 -- Struct types and array types of a valid context.
-use Rattle.std.proofs.Common.{◌≡◌, ◌<◌, ℕ, Bool, true, false, List, [], ◌∷◌, length, refl, sym, ap, ◌∙◌, subst, inl, inr}
-use Rattle.std.specs.Prelude.{◌&&◌, All, IsTrue, if◌then◌else◌, slice_get, Some}
+use Rattle.smith_check_references.proofs.Common.{[], All, All-cons, All-head, All-nil, all_at, ap, BodyContext, Bool, Concrete, false}
+use Rattle.smith_check_references.proofs.Common.{field_values, FieldType, I32, in_range, inl, inr, IsDefaultable, IsElemOf, IsHeapValid}
+use Rattle.smith_check_references.proofs.Common.{IsScope, IsTrue, IsValid, length, List, Ref, refl, slice_get, Some, subst, SubType, sym}
+use Rattle.smith_check_references.proofs.Common.{true, ValType, value_of, with_labels, ℕ, ◌∙◌, ◌∷◌, ◌≡◌}
+use Rattle.std.proofs.Common.{◌<◌}
+use Rattle.std.specs.Prelude.{if◌then◌else◌, ◌&&◌}
 use Rattle.std.specs.List.{flat_map, AllByRecursion as Each}
-use Rattle.std.proofs.lemmas.List.Elements.{All-nil, All-cons, All-head, All-weaker, All-from_recursion, recursion_from_All}
+use Rattle.std.proofs.lemmas.List.Elements.{All-from_recursion, All-weaker, recursion_from_All}
 use Rattle.std.proofs.lemmas.Option.{same_Some, slice_get_within}
-use Rattle.smith_syntax.specs.declared.composite_type.ArrayType.{ArrayType}
-use Rattle.smith_syntax.specs.declared.composite_type.CompositeInnerType.{CompositeInnerType}
-use Rattle.smith_syntax.specs.declared.composite_type.CompositeInnerType.TheVariants as inner
-use Rattle.smith_syntax.specs.declared.composite_type.FieldType.{FieldType}
-use Rattle.smith_syntax.specs.declared.composite_type.StorageType.{StorageType}
-use Rattle.smith_syntax.specs.declared.composite_type.StorageType.TheVariants as storage
-use Rattle.smith_syntax.specs.declared.composite_type.StructType.{StructType}
-use Rattle.smith_syntax.specs.declared.composite_type.SubType.{SubType}
-use Rattle.smith_syntax.specs.declared.value_type.HeapType.TheVariants.{Concrete, Exact}
-use Rattle.smith_syntax.specs.declared.value_type.ValType.{ValType}
-use Rattle.smith_syntax.specs.declared.value_type.ValType.TheVariants.{I32, I64, F32, F64, V128, Ref}
-use Rattle.smith_types.specs.Expressions.{IsDefaultable, IsStructAt, IsArrayAt, unpacked, field_values}
+use Rattle.smith_types.specs.Syntax.composite_type.ArrayType.{ArrayType}
+use Rattle.smith_types.specs.Syntax.composite_type.CompositeInnerType.{CompositeInnerType}
+use Rattle.smith_types.specs.Syntax.composite_type.CompositeInnerType.TheVariants as inner
+use Rattle.smith_types.specs.Syntax.composite_type.StorageType.{StorageType}
+use Rattle.smith_types.specs.Syntax.composite_type.StorageType.TheVariants as storage
+use Rattle.smith_types.specs.Syntax.composite_type.StructType.{StructType}
+use Rattle.smith_types.specs.Syntax.value_type.HeapType.TheVariants.{Exact}
+use Rattle.smith_types.specs.Syntax.value_type.ValType.TheVariants.{F32, F64, I64, V128}
+use Rattle.smith_types.specs.Expressions.{IsArrayAt, IsStructAt, unpacked}
 use Rattle.smith_types.specs.Flags.{IsInnerEnabled, IsSubTypeEnabled}
 use Rattle.smith_types.specs.Grounded.{is_defaultable, are_defaultable}
 use Rattle.smith_types.proofs.GroundedLemmas.{defaults_each}
 use Rattle.smith_types.specs.Matching.{IsStorageInRange, IsFieldInRange}
 use Rattle.smith_types.specs.ValidTypes.{values_of, values_of_storage}
-use Rattle.smith_instr.specs.AggregateTypes.{IsElemOf, IsFieldAt, value_of}
-use Rattle.smith_instr.specs.Contexts.{BodyContext, IsValid, AreValid, IsHeapValid}
+use Rattle.smith_instr.specs.AggregateTypes.{IsFieldAt}
+use Rattle.smith_instr.specs.Contexts.{AreValid}
 use Rattle.smith_check_operands.proofs.ListLemmas.{all_left, all_right}
-use Rattle.smith_check_operands.proofs.RangeLemmas.{in_range}
-use Rattle.smith_check_operands.proofs.StepLemmas.{all_at}
-use Rattle.smith_check_operands.specs.Closes.{with_labels}
-use Rattle.smith_check_operands.specs.Scopes.{IsScope}
 use Rattle.smith_check_references.specs.Lookups.{IsAggregateAt}
 
 pub array_same : (types : List SubType) (index : ℕ) (e f : FieldType) → IsArrayAt types index e → IsArrayAt types index f → e ≡ f

@@ -1,19 +1,10 @@
 -- Tests and casts of references.
-use Rattle.std.proofs.Common.{ℕ, true, List, [], ◌∷◌, refl, sym, ap, ◌∙◌, subst}
-use Rattle.std.proofs.lemmas.Bool.{false≢true}
-use Rattle.smith_syntax.specs.declared.value_type.HeapType.{HeapType}
-use Rattle.smith_syntax.specs.declared.value_type.RefType.{RefType}
-use Rattle.smith_syntax.specs.declared.value_type.ValType.{ValType}
-use Rattle.smith_syntax.specs.declared.value_type.ValType.TheVariants.{I32, Ref}
-use Rattle.smith_types.specs.Subtyping.{IsRefBelow}
-use Rattle.smith_types.specs.Types.{IsOrderly}
-use Rattle.smith_instr.specs.Contexts.{BodyContext, IsRefValid}
+use Rattle.smith_check_references.proofs.Common.{[], ap, AreBelow, BodyContext, false≢true, HeapType, I32, IsOrderly, IsRefBelow}
+use Rattle.smith_check_references.proofs.Common.{IsRefValid, IsScope, List, Ref, refl, RefType, subst, sym, true, ValType, values}
+use Rattle.smith_check_references.proofs.Common.{with_labels, ℕ, ◌∙◌, ◌∷◌}
 use Rattle.smith_instr.specs.declared.instr.Instr.TheVariants as instr
 use Rattle.smith_instr.specs.declared.reference.ReferenceInstr.TheVariants as reference
-use Rattle.smith_check_rules.specs.Slots.{AreBelow, values}
 use Rattle.smith_check_operands.proofs.BelowLemmas.{below_themselves}
-use Rattle.smith_check_operands.specs.Closes.{with_labels}
-use Rattle.smith_check_operands.specs.Scopes.{IsScope}
 use Rattle.smith_check_references.proofs.HierarchyLemmas.{below_top, below_nullable_top, top_valid}
 use Rattle.smith_check_references.specs.Hierarchies.{IsTop, IsWidest}
 use Rattle.smith_check_references.specs.Rows.{HasWidest}

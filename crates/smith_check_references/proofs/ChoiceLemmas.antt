@@ -1,35 +1,24 @@
 -- Instructions whose operands have several types.
-use Rattle.std.proofs.Common.{◌≡◌, ℕ, Bool, false, List, [], ◌∷◌, ◌++◌, refl, sym, ap, ◌∙◌, subst, inl, inr, append_assoc}
-use Rattle.std.specs.Prelude.{not}
-use Rattle.std.proofs.lemmas.Bool.{false≢true}
-use Rattle.std.proofs.lemmas.List.Elements.{All-nil, All-cons, All-head}
-use Rattle.smith_syntax.specs.declared.value_type.AbstractHeapType.{AbstractHeapType}
-use Rattle.smith_syntax.specs.declared.value_type.AbstractHeapType.TheVariants as abstract
-use Rattle.smith_syntax.specs.declared.value_type.HeapType.{HeapType}
-use Rattle.smith_syntax.specs.declared.value_type.HeapType.TheVariants.{Abstract}
-use Rattle.smith_syntax.specs.declared.composite_type.SubType.{SubType}
-use Rattle.smith_syntax.specs.declared.value_type.RefType.{RefType}
-use Rattle.smith_syntax.specs.declared.value_type.ValType.{ValType}
-use Rattle.smith_syntax.specs.declared.value_type.ValType.TheVariants.{I32, Ref}
-use Rattle.smith_types.specs.Expressions.{reference_to}
-use Rattle.smith_types.specs.Subtyping.{itself}
+use Rattle.smith_check_references.proofs.Common.{[], Abstract, AbstractHeapType, All-cons, All-head, All-nil, ap, AreBelow, below_trans}
+use Rattle.smith_check_references.proofs.Common.{BodyContext, Bool, Bottom, EitherRef, false, false≢true, HasNonNull, HeapType, Held, I32}
+use Rattle.smith_check_references.proofs.Common.{inl, inr, IsBelow, IsHeapValid, IsSlotValid, itself, List, not, nullable_to, Ref}
+use Rattle.smith_check_references.proofs.Common.{reference_to, refl, RefType, Slot, SomeRef, subst, SubType, sym, To, ValType, Value}
+use Rattle.smith_check_references.proofs.Common.{values, with_labels, ℕ, ◌∙◌, ◌∷◌, ◌≡◌}
+use Rattle.std.proofs.Common.{append_assoc, ◌++◌}
+use Rattle.smith_types.specs.Syntax.value_type.AbstractHeapType.TheVariants as abstract
 use Rattle.smith_types.proofs.GrowthLemmas.{IsBelow-trans}
-use Rattle.smith_instr.specs.Contexts.{BodyContext, IsHeapValid, To, nullable_to}
 use Rattle.smith_instr.specs.InstrTypes.{HasInstrType}
 use Rattle.smith_instr.specs.declared.instr.Instr.{Instr}
 use Rattle.smith_instr.proofs.AmongLemmas.{true_from_not}
 use Rattle.smith_instr.specs.declared.instr.Instr.TheVariants as instr
 use Rattle.smith_instr.specs.declared.reference.ReferenceInstr.TheVariants as reference
 use Rattle.smith_check_rules.specs.Sequences.{Stacked, stacked, IsStep}
-use Rattle.smith_check_rules.specs.Slots.{IsBelow, AreBelow, IsSlotValid, values}
-use Rattle.smith_check_rules.specs.StackTypes.{HasNonNull, HasStackType, HasValueType, IsBottomRef}
-use Rattle.smith_check_rules.specs.declared.slot.Slot.{Slot}
-use Rattle.smith_check_rules.specs.declared.slot.Slot.TheVariants.{Bottom, SomeRef, EitherRef, Value}
-use Rattle.smith_check_operands.proofs.BelowLemmas.{below_refl, below_trans}
+use Rattle.smith_check_rules.specs.StackTypes.{HasStackType, HasValueType, IsBottomRef}
+use Rattle.smith_check_operands.proofs.BelowLemmas.{below_refl}
 use Rattle.smith_check_operands.proofs.RangeLemmas.{slots_in_range}
 use Rattle.smith_check_operands.specs.Applies.{IsTaken}
-use Rattle.smith_check_operands.specs.Closes.{with_labels, StepsNowhere}
-use Rattle.smith_check_operands.specs.Covers.{Held, Covers, Pushes, Tops, TopsNothing}
+use Rattle.smith_check_operands.specs.Closes.{StepsNowhere}
+use Rattle.smith_check_operands.specs.Covers.{Covers, Pushes, Tops, TopsNothing}
 use Rattle.smith_check_operands.specs.Fits.{IsSlotInRange}
 use Rattle.smith_check_references.proofs.OfferLemmas.{above_ref, must_be_nullable}
 use Rattle.smith_check_references.specs.Choices.{FitsEither, ReadsEither, ReadsAny}

@@ -1,25 +1,14 @@
 -- Conversions between internal and external references.
-use Rattle.std.proofs.Common.{◌≡◌, ℕ, Bool, false, List, refl, sym, ap, ◌∙◌, subst, inl, inr}
-use Rattle.std.proofs.lemmas.Bool.{false≢true}
-use Rattle.smith_syntax.specs.declared.value_type.AbstractHeapType.{AbstractHeapType}
-use Rattle.smith_syntax.specs.declared.value_type.AbstractHeapType.TheVariants as abstract
-use Rattle.smith_syntax.specs.declared.value_type.HeapType.{HeapType}
-use Rattle.smith_syntax.specs.declared.value_type.HeapType.TheVariants.{Abstract}
-use Rattle.smith_syntax.specs.declared.value_type.RefType.{RefType}
-use Rattle.smith_syntax.specs.declared.value_type.ValType.{ValType}
-use Rattle.smith_syntax.specs.declared.value_type.ValType.TheVariants.{Ref}
-use Rattle.smith_types.specs.Subtyping.{IsRefBelow, itself}
-use Rattle.smith_types.specs.Types.{IsOrderly}
-use Rattle.smith_instr.specs.Contexts.{BodyContext, IsValid, IsHeapValid, IsRefValid}
+use Rattle.smith_check_references.proofs.Common.{Abstract, AbstractHeapType, ap, below_trans, BodyContext, Bool, Bottom, EitherRef, false}
+use Rattle.smith_check_references.proofs.Common.{false≢true, HeapType, inl, inr, IsBelow, IsConverted, IsHeapValid, IsOrderly, IsRefBelow}
+use Rattle.smith_check_references.proofs.Common.{IsRefValid, IsSlotValid, IsValid, itself, List, Ref, refl, RefType, Slot, SomeRef, subst}
+use Rattle.smith_check_references.proofs.Common.{sym, ValType, Value, with_labels, ℕ, ◌∙◌, ◌≡◌}
+use Rattle.smith_types.specs.Syntax.value_type.AbstractHeapType.TheVariants as abstract
 use Rattle.smith_instr.specs.declared.aggregate.AggregateInstr.TheVariants as aggregate
 use Rattle.smith_instr.specs.declared.instr.Instr.TheVariants as instr
 use Rattle.smith_check_rules.proofs.ConversionLemmas.{only_itself}
-use Rattle.smith_check_rules.specs.Slots.{IsBelow, IsConvertible, IsSlotValid}
-use Rattle.smith_check_rules.specs.StackTypes.{IsConverted, referring}
-use Rattle.smith_check_rules.specs.declared.slot.Slot.{Slot}
-use Rattle.smith_check_rules.specs.declared.slot.Slot.TheVariants.{Bottom, SomeRef, EitherRef, Value}
-use Rattle.smith_check_operands.proofs.BelowLemmas.{below_trans}
-use Rattle.smith_check_operands.specs.Closes.{with_labels}
+use Rattle.smith_check_rules.specs.Slots.{IsConvertible}
+use Rattle.smith_check_rules.specs.StackTypes.{referring}
 use Rattle.smith_check_references.proofs.HierarchyLemmas.{below_top, top_above}
 use Rattle.smith_check_references.proofs.OfferLemmas.{above_ref}
 use Rattle.smith_check_references.specs.Hierarchies.{top_kind, IsTop}

@@ -1,21 +1,16 @@
 -- Operands that are the fields of a struct, or copies of one value.
-use Rattle.std.proofs.Common.{◌≡◌, ◌+◌, ◌≤◌, ◌-◌, ℕ, Bool, true, List, [], ◌∷◌, length, take, drop, refl, sym, ap, ◌∙◌, subst, arith}
-use Rattle.std.specs.Prelude.{All, replicate}
+use Rattle.smith_check_references.proofs.Common.{[], All, ap, AreFit, arith, BodyContext, Bool, drop, field_values, FieldType, IsBelow}
+use Rattle.smith_check_references.proofs.Common.{length, List, refl, replicate, Slot, subst, SubType, sym, true, ValType, Value, values, ℕ}
+use Rattle.smith_check_references.proofs.Common.{◌-◌, ◌∙◌, ◌∷◌, ◌≡◌}
+use Rattle.std.proofs.Common.{take, ◌+◌, ◌≤◌}
 use Rattle.std.specs.List.{AllByRecursion as Each}
 use Rattle.std.proofs.lemmas.List.{take-map, drop-map, length-map, take-replicate, drop-replicate, length-replicate, length-take}
 use Rattle.std.proofs.lemmas.List.{length-drop}
 use Rattle.std.proofs.lemmas.List.Elements.{All-take, All-drop}
-use Rattle.smith_syntax.specs.declared.composite_type.FieldType.{FieldType}
-use Rattle.smith_syntax.specs.declared.composite_type.SubType.{SubType}
-use Rattle.smith_syntax.specs.declared.value_type.ValType.{ValType}
-use Rattle.smith_types.specs.Expressions.{field_values, unpacked}
-use Rattle.smith_check_rules.specs.Slots.{IsBelow, AreSlotsValid, values}
-use Rattle.smith_check_rules.specs.declared.slot.Slot.{Slot}
-use Rattle.smith_check_rules.specs.declared.slot.Slot.TheVariants.{Value}
+use Rattle.smith_types.specs.Expressions.{unpacked}
+use Rattle.smith_check_rules.specs.Slots.{AreSlotsValid}
 use Rattle.smith_check_operands.specs.Covers.{holding, Pops, PopsNothing}
-use Rattle.smith_check_operands.specs.Fits.{AreFit}
 use Rattle.smith_check_operands.proofs.FitLemmas.{taken_enough, refused_enough, taken_beyond, refused_beyond}
-use Rattle.smith_instr.specs.Contexts.{BodyContext}
 
 -- the values of the last fields are the last values
 pub last_fields : (n : ℕ) (fields : List FieldType)

@@ -1,5 +1,5 @@
 -- Functions that may be named.
-use Rattle.std.proofs.Common.{◌≡◌, ℕ, List, [], ◌∷◌, refl, ap}
+use Rattle.smith_check_references.proofs.Common.{[], ap, List, refl, ℕ, ◌∷◌, ◌≡◌}
 use Rattle.std.specs.Prelude.{◌==◌, ◌||◌}
 use Rattle.std.specs.List.{list_any}
 use Rattle.smith_instr.specs.SetLocals.{is_among}

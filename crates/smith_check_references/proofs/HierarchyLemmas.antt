@@ -1,24 +1,19 @@
 -- What is above a heap type is below the top of its hierarchy.
-use Rattle.std.proofs.Common.{rules, ◌≡◌, ℕ, List, get_or, refl, sym, ap, ◌∙◌, subst, arith}
-use Rattle.std.specs.Prelude.{◌<◌, length, Bool, true, IsTrue, Some, slice_get}
+use Rattle.smith_check_references.proofs.Common.{Abstract, AbstractHeapType, all_at, ap, arith, BodyContext, Concrete, HeapType}
+use Rattle.smith_check_references.proofs.Common.{IsHeapValid, IsOrderly, IsRefBelow, IsScope, IsTrue, itself, List, refl, RefType}
+use Rattle.smith_check_references.proofs.Common.{slice_get, Some, subst, SubType, sym, ℕ, ◌∙◌, ◌≡◌}
+use Rattle.std.proofs.Common.{get_or, rules}
+use Rattle.std.specs.Prelude.{Bool, length, true, ◌<◌}
 use Rattle.std.proofs.lemmas.Option.{same_Some, slice_get_within, slice_get-get_or}
-use Rattle.smith_syntax.specs.Kinds.{kind, kind_of, bottom_of, shared}
-use Rattle.smith_syntax.specs.declared.composite_type.CompositeInnerType.{CompositeInnerType}
-use Rattle.smith_syntax.specs.declared.composite_type.CompositeInnerType.TheVariants as inner
-use Rattle.smith_syntax.specs.declared.composite_type.SubType.{SubType}
-use Rattle.smith_syntax.specs.declared.value_type.AbstractHeapType.{AbstractHeapType}
-use Rattle.smith_syntax.specs.declared.value_type.AbstractHeapType.TheVariants as abstract
-use Rattle.smith_syntax.specs.declared.value_type.HeapType.{HeapType}
-use Rattle.smith_syntax.specs.declared.value_type.HeapType.TheVariants.{Abstract, Concrete, Exact}
-use Rattle.smith_syntax.specs.declared.value_type.RefType.{RefType}
+use Rattle.smith_types.specs.Syntax.Kinds.{kind, kind_of, bottom_of, shared}
+use Rattle.smith_types.specs.Syntax.composite_type.CompositeInnerType.{CompositeInnerType}
+use Rattle.smith_types.specs.Syntax.composite_type.CompositeInnerType.TheVariants as inner
+use Rattle.smith_types.specs.Syntax.value_type.AbstractHeapType.TheVariants as abstract
+use Rattle.smith_types.specs.Syntax.value_type.HeapType.TheVariants.{Exact}
 use Rattle.smith_types.specs.Entities.{IsFuncTypeIndex}
 use Rattle.smith_types.specs.Flags.{IsAbstractEnabled, IsInnerEnabled, IsSubTypeEnabled}
-use Rattle.smith_types.specs.Subtyping.{IsStep, is_abstract_step, is_abstract_below, IsBelow, IsRefBelow, itself, by_step}
-use Rattle.smith_types.specs.Types.{IsOrderly}
+use Rattle.smith_types.specs.Subtyping.{by_step, is_abstract_below, is_abstract_step, IsBelow, IsStep}
 use Rattle.smith_types.proofs.WalkLemmas.{below_from_by_cases, concrete_not_below_exact}
-use Rattle.smith_instr.specs.Contexts.{BodyContext, IsHeapValid}
-use Rattle.smith_check_operands.proofs.StepLemmas.{all_at}
-use Rattle.smith_check_operands.specs.Scopes.{IsScope}
 use Rattle.smith_check_references.proofs.OfferLemmas.{own_heap}
 use Rattle.smith_check_references.specs.Hierarchies.{top_kind, IsTop, IsFunctionHeap}
 use Rattle.smith_check_references.specs.Offers.{IsHeapOffer}

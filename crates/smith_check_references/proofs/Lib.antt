@@ -1,3 +1,4 @@
+pub mod Common
 pub mod RowLemmas
 pub mod OfferLemmas
 pub mod HierarchyLemmas

@@ -1,19 +1,10 @@
 -- What a value counts as where its own type may not be valid.
-use Rattle.std.proofs.Common.{◌≡◌, Bool, true, false, refl, sym, ◌∙◌, subst}
-use Rattle.std.specs.Prelude.{not, IsTrue, Result, Ok, Err, IfOk}
+use Rattle.smith_check_references.proofs.Common.{BodyContext, Bool, Bottom, EitherRef, false, false≢true, HeapType, Held, IfOk, IsBelow}
+use Rattle.smith_check_references.proofs.Common.{IsHeapValid, IsRefBelow, IsRefValid, IsSlotValid, IsTrue, IsValid, itself, not, Ok, Ref}
+use Rattle.smith_check_references.proofs.Common.{reference_to, refl, RefType, Slot, SomeRef, subst, sym, true, Value, ◌∙◌, ◌≡◌}
+use Rattle.std.specs.Prelude.{Err, Result}
 use Rattle.smith_bytes.specs.declared.error.Error.{Error}
-use Rattle.std.proofs.lemmas.Bool.{false≢true}
-use Rattle.smith_syntax.specs.declared.value_type.HeapType.{HeapType}
-use Rattle.smith_syntax.specs.declared.value_type.RefType.{RefType}
-use Rattle.smith_syntax.specs.declared.value_type.ValType.TheVariants.{Ref}
-use Rattle.smith_types.specs.Expressions.{reference_to}
-use Rattle.smith_types.specs.Subtyping.{IsRefBelow, itself}
-use Rattle.smith_instr.specs.Contexts.{BodyContext, IsValid, IsHeapValid, IsRefValid}
 use Rattle.smith_instr.proofs.AmongLemmas.{true_from_not}
-use Rattle.smith_check_rules.specs.Slots.{IsBelow, IsSlotValid}
-use Rattle.smith_check_rules.specs.declared.slot.Slot.{Slot}
-use Rattle.smith_check_rules.specs.declared.slot.Slot.TheVariants.{Bottom, SomeRef, EitherRef, Value}
-use Rattle.smith_check_operands.specs.Covers.{Held}
 use Rattle.smith_check_references.proofs.RowLemmas.{given_as}
 use Rattle.smith_check_references.specs.Offers.{IsOffer, HasNoOffer, IsOnlyItself, IsHeapOffer, HasNoHeapOffer, IsGiven}
 

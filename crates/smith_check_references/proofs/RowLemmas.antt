@@ -1,23 +1,19 @@
 -- Instructions that apply, or apply to no stack.
-use Rattle.std.proofs.Common.{◌≡◌, ℕ, Bool, true, false, MatchBool, List, [], ◌∷◌, ◌++◌, refl, sym, ap, ◌∙◌, subst}
-use Rattle.std.specs.Prelude.{Result, Ok, Err, IfOk}
+use Rattle.smith_check_references.proofs.Common.{[], All-cons, All-head, All-nil, ap, AreBelow, below_trans, BodyContext, Bool, false, Held}
+use Rattle.smith_check_references.proofs.Common.{IfOk, IsBelow, IsSlotValid, List, Ok, refl, Slot, subst, SubType, sym, To, true, ValType}
+use Rattle.smith_check_references.proofs.Common.{Value, values, with_labels, ℕ, ◌∙◌, ◌∷◌, ◌≡◌}
+use Rattle.std.proofs.Common.{MatchBool, ◌++◌}
+use Rattle.std.specs.Prelude.{Err, Result}
 use Rattle.std.proofs.lemmas.List.{append-nil}
-use Rattle.std.proofs.lemmas.List.Elements.{All-head, All-cons, All-nil}
 use Rattle.smith_bytes.specs.declared.error.Error.{Error}
-use Rattle.smith_syntax.specs.declared.value_type.ValType.{ValType}
-use Rattle.smith_syntax.specs.declared.composite_type.SubType.{SubType}
-use Rattle.smith_instr.specs.Contexts.{BodyContext, To}
 use Rattle.smith_instr.specs.InstrTypes.{HasInstrType}
 use Rattle.smith_instr.specs.declared.instr.Instr.{Instr}
-use Rattle.smith_check_rules.specs.Slots.{IsBelow, AreBelow, IsSlotValid, AreSlotsValid, values}
+use Rattle.smith_check_rules.specs.Slots.{AreSlotsValid}
 use Rattle.smith_check_rules.specs.StackTypes.{HasValueType, HasStackType}
-use Rattle.smith_check_rules.specs.declared.slot.Slot.{Slot}
-use Rattle.smith_check_rules.specs.declared.slot.Slot.TheVariants.{Value}
 use Rattle.smith_check_operands.specs.Applies.{Applies, HasOnly, IsTried}
-use Rattle.smith_check_operands.specs.Closes.{with_labels}
-use Rattle.smith_check_operands.specs.Covers.{Held, holding, Covers, Pops, PopsNothing, Pushes, Tops, TopsNothing}
+use Rattle.smith_check_operands.specs.Covers.{Covers, holding, Pops, PopsNothing, Pushes, Tops, TopsNothing}
 use Rattle.smith_check_operands.proofs.ApplyLemmas.{applied}
-use Rattle.smith_check_operands.proofs.BelowLemmas.{below_refl, below_trans, below_all, below_themselves}
+use Rattle.smith_check_operands.proofs.BelowLemmas.{below_all, below_refl, below_themselves}
 use Rattle.smith_check_operands.proofs.CoverLemmas.{push_all}
 use Rattle.smith_check_operands.proofs.PushLemmas.{single}
 use Rattle.smith_check_operands.proofs.StepLemmas.{has_only, single_above}

@@ -1,16 +1,9 @@
 -- Tables and element segments of a valid context.
-use Rattle.std.proofs.Common.{◌≡◌, ℕ, Bool, true, false, List, [], ◌∷◌, sym, subst}
-use Rattle.std.specs.Prelude.{All, Some, slice_get}
-use Rattle.std.proofs.lemmas.List.Elements.{All-nil, All-cons}
-use Rattle.smith_syntax.specs.declared.composite_type.SubType.{SubType}
-use Rattle.smith_syntax.specs.declared.entity_type.TableType.{TableType}
-use Rattle.smith_syntax.specs.declared.value_type.RefType.{RefType}
-use Rattle.smith_syntax.specs.declared.value_type.ValType.{ValType}
-use Rattle.smith_types.specs.Subtyping.{IsInRange, IsValInRange}
-use Rattle.smith_instr.specs.Contexts.{BodyContext, IsRefValid}
+use Rattle.smith_check_references.proofs.Common.{[], address_in_range, All, All-cons, All-nil, all_at, BodyContext, Bool, false}
+use Rattle.smith_check_references.proofs.Common.{heap_in_range, IsRefValid, IsValInRange, List, RefType, slice_get, Some, subst, SubType}
+use Rattle.smith_check_references.proofs.Common.{sym, TableType, true, ValType, ℕ, ◌∷◌, ◌≡◌}
+use Rattle.smith_types.specs.Subtyping.{IsInRange}
 use Rattle.smith_instr.specs.ReferenceTypes.{IsTable, narrower}
-use Rattle.smith_check_operands.proofs.RangeLemmas.{address_in_range, heap_in_range}
-use Rattle.smith_check_operands.proofs.StepLemmas.{all_at}
 
 -- each type of a list that is written out is in range
 abbrev pub AreEachInRange : List SubType → List ValType → Type 0

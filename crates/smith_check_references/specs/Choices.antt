@@ -4,11 +4,11 @@ use Rattle.smith_instr.specs.Contexts.{BodyContext, IsHeapValid, nullable_to}
 use Rattle.smith_check_rules.specs.Slots.{IsBelow}
 use Rattle.smith_check_rules.specs.declared.slot.Slot.{Slot}
 use Rattle.smith_check_rules.specs.declared.slot.Slot.TheVariants.{Value}
-use Rattle.smith_syntax.specs.declared.composite_type.SubType.{SubType}
-use Rattle.smith_syntax.specs.declared.value_type.AbstractHeapType.{AbstractHeapType}
-use Rattle.smith_syntax.specs.declared.value_type.HeapType.{HeapType}
-use Rattle.smith_syntax.specs.declared.value_type.HeapType.TheVariants.{Abstract}
-use Rattle.smith_syntax.specs.declared.value_type.ValType.TheVariants.{I32}
+use Rattle.smith_types.specs.Syntax.composite_type.SubType.{SubType}
+use Rattle.smith_types.specs.Syntax.value_type.AbstractHeapType.{AbstractHeapType}
+use Rattle.smith_types.specs.Syntax.value_type.HeapType.{HeapType}
+use Rattle.smith_types.specs.Syntax.value_type.HeapType.TheVariants.{Abstract}
+use Rattle.smith_types.specs.Syntax.value_type.ValType.TheVariants.{I32}
 
 -- a nullable reference to a heap type, shared or not (own rule)
 abbrev pub IsEither : AbstractHeapType → Slot → Type 0

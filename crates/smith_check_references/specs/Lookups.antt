@@ -2,8 +2,8 @@
 use Rattle.std.specs.Prelude.{◌≡◌, ◌⊎◌, ℕ, true, List}
 use Rattle.smith_instr.specs.AggregateTypes.{IsFieldAt}
 use Rattle.smith_instr.specs.Contexts.{BodyContext}
-use Rattle.smith_syntax.specs.declared.composite_type.FieldType.{FieldType}
-use Rattle.smith_syntax.specs.declared.composite_type.SubType.{SubType}
+use Rattle.smith_types.specs.Syntax.composite_type.FieldType.{FieldType}
+use Rattle.smith_types.specs.Syntax.composite_type.SubType.{SubType}
 use Rattle.smith_types.specs.Expressions.{IsStructAt, IsArrayAt}
 
 -- there is no array type at this index (Validation, Contexts)

@@ -1,7 +1,7 @@
 -- Valid supertypes of a type that may not be valid itself.
 use Rattle.std.specs.Prelude.{Bool, MatchBool, [], ◌∷◌}
-use Rattle.smith_syntax.specs.declared.value_type.HeapType.{HeapType}
-use Rattle.smith_syntax.specs.declared.value_type.ValType.{ValType}
+use Rattle.smith_types.specs.Syntax.value_type.HeapType.{HeapType}
+use Rattle.smith_types.specs.Syntax.value_type.ValType.{ValType}
 use Rattle.smith_types.specs.Subtyping.{IsBelow as IsHeapBelow}
 use Rattle.smith_instr.specs.Contexts.{BodyContext, IsValid, IsHeapValid}
 use Rattle.smith_check_rules.specs.Slots.{IsBelow, IsSlotValid, values}

@@ -1,5 +1,5 @@
 ghost use Rattle.std.specs.Prelude.{◌≡◌, ◌↔◌, ℕ, List, IfOk, IfErr, IsTrue};
-ghost use Rattle.smith_syntax.specs.declared.value_type.ValType.{ValType};
+ghost use Rattle.smith_types.specs.Syntax.value_type.ValType.{ValType};
 ghost use Rattle.smith_types.specs.Subtyping.{IsInRange};
 ghost use Rattle.smith_types.specs.Types.{IsOrderly};
 ghost use Rattle.smith_instr.specs.Contexts.{IsRefValid};
@@ -9,7 +9,7 @@ ghost use Rattle.smith_check_rules.specs.Slots.{AreSlotsValid};
 ghost use Rattle.smith_check_operands.specs.Applies.{IsTried};
 ghost use Rattle.smith_check_operands.specs.Covers.{held};
 ghost use Rattle.smith_check_operands.specs.Scopes.{bare, IsScope};
-ghost use Rattle.smith_syntax.specs.declared.value_type.HeapType.TheVariants.{Concrete};
+ghost use Rattle.smith_types.specs.Syntax.value_type.HeapType.TheVariants.{Concrete};
 ghost use Rattle.smith_check_references.specs.Hierarchies.{IsTop, IsWidest, top_kind};
 
 use crate::offers::give;

@@ -1,5 +1,5 @@
 ghost use Rattle.std.specs.Prelude.{◌≡◌, ◌∷◌, [], IfErr, IfOk, MatchOption, All, if◌then◌else◌};
-ghost use Rattle.smith_syntax.specs.declared.value_type.HeapType.TheVariants.{Concrete, Exact};
+ghost use Rattle.smith_types.specs.Syntax.value_type.HeapType.TheVariants.{Concrete, Exact};
 ghost use Rattle.smith_types.specs.Expressions.{reference_to};
 ghost use Rattle.smith_types.specs.Subtyping.{IsValInRange};
 ghost use Rattle.smith_instr.specs.Contexts.{IsHeapValid, created_reference};

@@ -1,10 +1,10 @@
 ghost use Rattle.std.specs.Prelude.{◌≡◌, ◌↔◌, ℕ, List, IfOk, IfErr, IsTrue, MatchOption};
 ghost use Rattle.std.specs.List.{Contains};
-ghost use Rattle.smith_syntax.specs.declared.value_type.ValType.{ValType};
+ghost use Rattle.smith_types.specs.Syntax.value_type.ValType.{ValType};
 ghost use Rattle.smith_instr.specs.declared.instr.Instr.TheVariants as instr;
 ghost use Rattle.smith_instr.specs.declared.reference.ReferenceInstr.TheVariants as reference;
 ghost use Rattle.smith_instr.specs.Contexts.{BodyContext, nullable_to, reference_to_function};
-ghost use Rattle.smith_syntax.specs.declared.value_type.HeapType.TheVariants.{Abstract};
+ghost use Rattle.smith_types.specs.Syntax.value_type.HeapType.TheVariants.{Abstract};
 ghost use Rattle.smith_types.specs.Entities.{IsFuncTypeIndex};
 ghost use Rattle.smith_types.specs.Expressions.{reference_to};
 ghost use Rattle.smith_check_rules.specs.Slots.{AreSlotsValid, IsSlotValid};

@@ -1,8 +1,8 @@
 ghost use Rattle.std.specs.Prelude.{◌≡◌, ◌↔◌, ℕ, List, IfOk, IfErr, IsTrue, MatchBool, All};
-ghost use Rattle.smith_syntax.specs.declared.value_type.ValType.{ValType};
+ghost use Rattle.smith_types.specs.Syntax.value_type.ValType.{ValType};
 ghost use Rattle.smith_types.specs.Expressions.{field_values};
 ghost use Rattle.smith_types.specs.Matching.{IsFieldInRange};
-ghost use Rattle.smith_syntax.specs.declared.value_type.HeapType.TheVariants.{Concrete};
+ghost use Rattle.smith_types.specs.Syntax.value_type.HeapType.TheVariants.{Concrete};
 ghost use Rattle.smith_instr.specs.Contexts.{nullable_to};
 ghost use Rattle.smith_instr.specs.declared.instr.Instr.TheVariants as instr;
 ghost use Rattle.smith_instr.specs.declared.aggregate.AggregateInstr.TheVariants as aggregate;

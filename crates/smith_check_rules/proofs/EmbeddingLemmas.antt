@@ -1,8 +1,8 @@
 -- Bodies that are typed by the rules without bottom types.
 use Rattle.std.proofs.Common.{◌≡◌, ℕ, List, [], ◌∷◌, ◌++◌, refl, ap, ◌∙◌, inl}
 use Rattle.std.proofs.lemmas.List.Elements.{All-map, All-weaker}
-use Rattle.smith_syntax.specs.declared.value_type.ValType.{ValType}
-use Rattle.smith_syntax.specs.declared.value_type.ValType.TheVariants.{I32, I64, F32, F64, V128, Ref}
+use Rattle.smith_types.specs.Syntax.value_type.ValType.{ValType}
+use Rattle.smith_types.specs.Syntax.value_type.ValType.TheVariants.{I32, I64, F32, F64, V128, Ref}
 use Rattle.smith_instr.specs.Contexts.{BodyContext, AreValid, AreBelow as AreValuesBelow}
 use Rattle.smith_instr.specs.InstrTypes.{HasInstrType, IsNumberOrVector, IsTaken as IsValueTaken}
 use Rattle.smith_instr.specs.Sequences.{Stacked as ValueStacked, CountsAs as CountsAsValues, IsFramed as IsValueFramed}

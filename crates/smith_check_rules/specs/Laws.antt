@@ -1,8 +1,8 @@
 -- Laws of the rules of typing.
 use Rattle.std.specs.Prelude.{◌≡◌, ◌↔◌, false, List}
-use Rattle.smith_syntax.specs.declared.value_type.AbstractHeapType.{AbstractHeapType}
-use Rattle.smith_syntax.specs.declared.value_type.HeapType.TheVariants.{Abstract}
-use Rattle.smith_syntax.specs.declared.value_type.ValType.{ValType}
+use Rattle.smith_types.specs.Syntax.value_type.AbstractHeapType.{AbstractHeapType}
+use Rattle.smith_types.specs.Syntax.value_type.HeapType.TheVariants.{Abstract}
+use Rattle.smith_types.specs.Syntax.value_type.ValType.{ValType}
 use Rattle.smith_types.specs.Expressions.{reference_to}
 use Rattle.smith_instr.specs.Contexts.{BodyContext, IsValid}
 use Rattle.smith_instr.specs.Sequences.{Stacked as ValueStacked, AreTyped as AreValuesTyped, IsBodyTyped as IsBodyValueTyped}

@@ -1,8 +1,8 @@
 -- Sequences of instructions and bodies, with the bottom types: the sections Validation, Instruction
 -- Sequences, and Validation, Functions, of the WebAssembly Core Specification 3.0.
 use Rattle.std.specs.Prelude.{◌≡◌, ℕ, List, [], ◌∷◌, ◌++◌, All}
-use Rattle.smith_syntax.specs.declared.value_type.ValType.{ValType}
-use Rattle.smith_syntax.specs.declared.value_type.ValType.TheVariants.{I32}
+use Rattle.smith_types.specs.Syntax.value_type.ValType.{ValType}
+use Rattle.smith_types.specs.Syntax.value_type.ValType.TheVariants.{I32}
 use Rattle.smith_instr.specs.Contexts.{BodyContext, labelled, IsBlockType}
 use Rattle.smith_instr.specs.InstrTypes.{sets, IsCatch}
 use Rattle.smith_instr.specs.declared.control.BlockType.{BlockType}

@@ -16,7 +16,7 @@ use Rattle.std.specs.Map.{lookup}
 use Rattle.std.specs.Cmp.Lexicographic.{slice_cmp}
 use Rattle.std.specs.Ordering.{nat_cmp, is_eq}
 use Rattle.smith_types.proofs.ListLemmas.{slice_get-grown, slice_get-front, slice_get-after}
-use Rattle.smith_syntax.specs.declared.composite_type.SubType.{SubType}
+use Rattle.smith_types.specs.Syntax.composite_type.SubType.{SubType}
 use Rattle.smith_check_types.specs.Renamed.{renamed}
 use Rattle.smith_check_types.specs.Canonical.{rec_index, rolled_index, rolled, DefinedType, defined_in, defined_from, defined_types}
 use Rattle.smith_check_types.specs.Canonical.{IsFirstEqual, AreCanonical}

@@ -7,7 +7,7 @@ use Rattle.std.proofs.lemmas.Option.{slice_get_within, slice_get-get_or}
 use Rattle.std.proofs.lemmas.Bool.{ltb-true}
 use Rattle.smith_types.specs.Exports.{AreDistinct}
 use Rattle.smith_types.proofs.ListLemmas.{slice_get-after}
-use Rattle.smith_syntax.specs.declared.composite_type.SubType.{SubType}
+use Rattle.smith_types.specs.Syntax.composite_type.SubType.{SubType}
 use Rattle.smith_check_types.specs.Renamed.{renamed}
 use Rattle.smith_check_types.specs.Canonical.{rec_index, rolled_index, rolled, DefinedType, defined_in, defined_from, defined_types}
 use Rattle.smith_check_types.specs.Canonical.{IsFirstEqual, AreCanonical}

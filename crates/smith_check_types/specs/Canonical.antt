@@ -3,7 +3,7 @@
 -- Core Specification 3.0.
 use Rattle.std.specs.Prelude.{◌≡◌, ℕ, ◌+◌, ◌-◌, ◌^◌, ◌<◌, ◌≤◌, nat_lt, List, [], ◌∷◌, ◌++◌, map, length, Some, slice_get, slice_index}
 use Rattle.std.specs.Prelude.{if◌then◌else◌}
-use Rattle.smith_syntax.specs.declared.composite_type.SubType.{SubType}
+use Rattle.smith_types.specs.Syntax.composite_type.SubType.{SubType}
 use Rattle.smith_check_types.specs.Renamed.{renamed}
 
 -- the recursive type index of a position in a group, as a number above all type indices (Rolling

@@ -1,7 +1,7 @@
 -- The types of a valid module, as the check keeps them.
 use Rattle.std.specs.Prelude.{◌≡◌, List}
-use Rattle.smith_syntax.specs.Features.{Features}
-use Rattle.smith_syntax.specs.declared.composite_type.SubType.{SubType}
+use Rattle.smith_types.specs.Syntax.Features.{Features}
+use Rattle.smith_types.specs.Syntax.composite_type.SubType.{SubType}
 use Rattle.smith_types.specs.Groups.{space_of}
 use Rattle.smith_check_types.specs.Canonical.{AreCanonical}
 use Rattle.smith_check_types.specs.TypeSections.{canonical_groups, IsTypeSectionValid}

@@ -1,9 +1,9 @@
 -- Groups of the examples.
 use Rattle.std.specs.Prelude.{ℕ, List, [], ◌∷◌}
-use Rattle.smith_syntax.specs.declared.composite_type.StorageType.TheVariants.{Val}
-use Rattle.smith_syntax.specs.declared.composite_type.SubType.{SubType}
-use Rattle.smith_syntax.specs.declared.value_type.HeapType.TheVariants.{Concrete}
-use Rattle.smith_syntax.specs.declared.value_type.ValType.TheVariants.{Ref}
+use Rattle.smith_types.specs.Syntax.composite_type.StorageType.TheVariants.{Val}
+use Rattle.smith_types.specs.Syntax.composite_type.SubType.{SubType}
+use Rattle.smith_types.specs.Syntax.value_type.HeapType.TheVariants.{Concrete}
+use Rattle.smith_types.specs.Syntax.value_type.ValType.TheVariants.{Ref}
 use Rattle.smith_types.specs.ExampleTypes.{final_type, plain_func, struct, constant, nullable}
 
 -- a struct type whose only field is a reference to the type at this index

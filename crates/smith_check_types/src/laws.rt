@@ -1,6 +1,6 @@
 ghost use Rattle.std.specs.Prelude.{◌≡◌, ◌≤◌, ◌<◌, ◌↔◌, ℕ, List, Some, length, slice_get};
 ghost use Rattle.smith_types.specs.Exports.{AreDistinct};
-ghost use Rattle.smith_syntax.specs.declared.composite_type.SubType.{SubType as Sub};
+ghost use Rattle.smith_types.specs.Syntax.composite_type.SubType.{SubType as Sub};
 ghost use Rattle.smith_check_types.specs.Canonical.{AreCanonical, defined_types};
 
 /// States that a canonical index is at most the index, and that two types have the same canonical

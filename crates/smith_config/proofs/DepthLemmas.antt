@@ -1,7 +1,7 @@
 -- The depth of a type is unique.
 use Rattle.std.proofs.Common.{◌≡◌, ℕ, suc, ◌<◌, List, length, refl, ap, sym, ◌∙◌, subst}
 use Rattle.std.proofs.lemmas.Option.{same_Some, slice_get_within}
-use Rattle.smith_syntax.specs.declared.composite_type.SubType.{SubType}
+use Rattle.smith_types.specs.Syntax.composite_type.SubType.{SubType}
 use Rattle.smith_types.specs.GroupedTypes.{HasDepth, root, deeper}
 
 pub depth_stands : (types : List SubType) {index depth : ℕ} → HasDepth types index depth → index < length types

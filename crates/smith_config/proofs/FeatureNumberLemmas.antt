@@ -5,8 +5,8 @@ use Rattle.std.specs.Int.Bits.{or_add_and}
 use Rattle.std.proofs.lemmas.Nat.{and_or_apart}
 use Rattle.std.proofs.lemmas.Bool.{eqb-true}
 use Rattle.std.proofs.lemmas.List.Sums.{sum_by-cons}
-use Rattle.smith_syntax.specs.Features.{Features}
-use Rattle.smith_syntax.specs.FeatureBits.{joined, feature_rows}
+use Rattle.smith_types.specs.Syntax.Features.{Features}
+use Rattle.smith_types.specs.Syntax.FeatureBits.{joined, feature_rows}
 use Rattle.smith_syntax.proofs.FeatureBitLemmas.{joined_all}
 use Rattle.smith_config.specs.Features.{bit_of, number_of}
 

@@ -6,12 +6,12 @@ use Rattle.smith_bytes.specs.declared.error.Which.{Which}
 use Rattle.smith_bytes.specs.declared.error.Which.TheVariants.{AvailableImports, Exports, ModuleShape}
 use Rattle.smith_bytes.specs.declared.error.ShapeFault.{ShapeFault}
 use Rattle.smith_bytes.specs.declared.error.ShapeFault.TheVariants as fault
-use Rattle.smith_syntax.specs.Features.{every_feature}
+use Rattle.smith_types.specs.Syntax.Features.{every_feature}
 use Rattle.smith_types.specs.GroupedTypes.{GroupedTypes}
 use Rattle.smith_types.specs.Imports.{EntitySpaces}
 use Rattle.smith_types.specs.Exports.{AreDistinct}
 use Rattle.smith_types.specs.Groups.{AreFollowing}
-use Rattle.smith_syntax.specs.declared.entity_type.ExportKind.{ExportKind}
+use Rattle.smith_types.specs.Syntax.entity_type.ExportKind.{ExportKind}
 use Rattle.smith_types.proofs.GroupsAddedLemmas.{valid_following}
 use Rattle.smith_config.specs.declared.config.Config.{Config}
 use Rattle.smith_config.specs.declared.shape.Shape.{Shape}

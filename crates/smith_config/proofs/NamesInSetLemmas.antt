@@ -7,7 +7,7 @@ use Rattle.std.proofs.Math.Seq.{split_at, take-suc}
 use Rattle.std.proofs.lemmas.Option.{slice_get_within}
 use Rattle.std.proofs.lemmas.Slice.Eq.{bytes_eq-Decides}
 use Rattle.smith_types.specs.Exports.{AreDistinct}
-use Rattle.smith_syntax.specs.declared.entity_type.ExportKind.{ExportKind}
+use Rattle.smith_types.specs.Syntax.entity_type.ExportKind.{ExportKind}
 use Rattle.smith_types.proofs.ListLemmas.{slice_get-push, slice_get-grown}
 
 -- whether a name is among these

@@ -1,8 +1,8 @@
 -- The configuration drawn from bytes. Rules of this project.
 use Rattle.std.specs.Prelude.{ℕ, ◌^◌, Bool, false, List, [], ◌∷◌}
 use Rattle.smith_bytes.specs.Draws.{range_at, bool_at}
-use Rattle.smith_syntax.specs.Instructions.{no_kind, with_kind}
-use Rattle.smith_syntax.specs.declared.instruction_kind.InstructionKind.TheVariants.{
+use Rattle.smith_types.specs.Syntax.Instructions.{no_kind, with_kind}
+use Rattle.smith_types.specs.Syntax.instruction_kind.InstructionKind.TheVariants.{
   NumericInt,
   Numeric,
   VectorInt,

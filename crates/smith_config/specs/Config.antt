@@ -1,6 +1,6 @@
 -- The default configuration. Rules of this project.
 use Rattle.std.specs.Prelude.{true, false, ◌^◌, None}
-use Rattle.smith_syntax.specs.Instructions.{every_kind}
+use Rattle.smith_types.specs.Syntax.Instructions.{every_kind}
 use Rattle.smith_config.specs.OffsetChoices.{default_choices}
 use Rattle.smith_config.specs.declared.config.Config.{Config}
 

@@ -1,8 +1,8 @@
 -- The bounds of a configuration on drawn entities. Rules of this project.
 use Rattle.std.specs.Prelude.{ℕ, ◌*◌, ◌^◌, ◌≤◌, ◌⊎◌, Bool, IsTrue, IsSome, IfSome, if◌then◌else◌}
 use Rattle.smith_types.specs.Entities.{page_log2}
-use Rattle.smith_syntax.specs.declared.entity_type.MemoryType.{MemoryType}
-use Rattle.smith_syntax.specs.declared.entity_type.TableType.{TableType}
+use Rattle.smith_types.specs.Syntax.entity_type.MemoryType.{MemoryType}
+use Rattle.smith_types.specs.Syntax.entity_type.TableType.{TableType}
 use Rattle.smith_config.specs.declared.config.Config.{Config}
 
 -- the configured maximum size of a memory in bytes, by the width of its addresses

@@ -1,6 +1,6 @@
 -- Configurations used by the examples.
 use Rattle.std.specs.Prelude.{ℕ, true, false, List, [], ◌∷◌}
-use Rattle.smith_syntax.specs.Instructions.{no_kind}
+use Rattle.smith_types.specs.Syntax.Instructions.{no_kind}
 use Rattle.smith_config.specs.Config.{default_config}
 use Rattle.smith_config.specs.declared.config.Config.{Config}
 

@@ -1,7 +1,7 @@
 -- The features that a configuration enables. Rules of this project.
 use Rattle.std.specs.Prelude.{ℕ, Bool, true, sum_by, nat_lt, if◌then◌else◌}
-use Rattle.smith_syntax.specs.Features.{Features}
-use Rattle.smith_syntax.specs.FeatureBits.{feature_rows}
+use Rattle.smith_types.specs.Syntax.Features.{Features}
+use Rattle.smith_types.specs.Syntax.FeatureBits.{feature_rows}
 use Rattle.smith_config.specs.declared.config.Config.{Config}
 
 -- the features that a configuration enables: always mutable globals and version 1.0 of the

@@ -1,7 +1,7 @@
 -- The weights for offsets of memory accesses, and their text form. Rules of this project.
 use Rattle.std.specs.Prelude.{◌≡◌, ℕ, ◌<◌, ◌≢◌, List, [], ◌∷◌, length, take, Result, Ok, Err, slice_get, Some}
 use Rattle.std.specs.List.{AllZip}
-use Rattle.smith_syntax.specs.SplitTexts.{split_at_commas}
+use Rattle.smith_types.specs.Syntax.SplitTexts.{split_at_commas}
 use Rattle.std.specs.Str.Parse.{ParsesUnsigned}
 use Rattle.smith_config.specs.declared.offset_choices.MemoryOffsetChoices.{MemoryOffsetChoices}
 use Rattle.smith_config.specs.declared.offset_choices.OffsetChoicesFault.{OffsetChoicesFault}

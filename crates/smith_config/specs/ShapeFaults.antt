@@ -6,7 +6,7 @@ use Rattle.smith_bytes.specs.declared.error.ShapeFault.{ShapeFault}
 use Rattle.smith_bytes.specs.declared.error.ShapeFault.TheVariants as fault
 use Rattle.smith_bytes.specs.declared.error.Error.{Error}
 use Rattle.smith_bytes.specs.declared.error.Error.TheVariants as error
-use Rattle.smith_syntax.specs.Features.{Features, every_feature}
+use Rattle.smith_types.specs.Syntax.Features.{Features, every_feature}
 use Rattle.smith_types.specs.GroupedTypes.{GroupedTypes}
 use Rattle.smith_types.specs.Imports.{EntitySpaces}
 use Rattle.smith_types.specs.HeldValues.{values_in}
@@ -14,10 +14,10 @@ use Rattle.smith_types.specs.ValidTypes.{AreTypesValid, IsValTypeValid, IsSharea
 use Rattle.smith_types.specs.Entities.{AreLimitsValid, most_elements, IsTagValid, IsFuncTypeIndex, IsTableValid, IsMemoryValid}
 use Rattle.smith_types.specs.Entities.{IsGlobalValid}
 use Rattle.smith_types.specs.Exports.{AreDistinct, AreExportsStanding}
-use Rattle.smith_syntax.specs.declared.value_type.ValType.TheVariants.{Ref}
-use Rattle.smith_syntax.specs.declared.entity_type.ExportKind.{ExportKind}
-use Rattle.smith_syntax.specs.declared.entity_type.GlobalType.{GlobalType}
-use Rattle.smith_syntax.specs.declared.entity_type.TableType.{TableType}
+use Rattle.smith_types.specs.Syntax.value_type.ValType.TheVariants.{Ref}
+use Rattle.smith_types.specs.Syntax.entity_type.ExportKind.{ExportKind}
+use Rattle.smith_types.specs.Syntax.entity_type.GlobalType.{GlobalType}
+use Rattle.smith_types.specs.Syntax.entity_type.TableType.{TableType}
 use Rattle.smith_config.specs.declared.config.Config.{Config}
 use Rattle.smith_config.specs.declared.shape.Shape.{Shape}
 use Rattle.smith_config.specs.Features.{features_of}

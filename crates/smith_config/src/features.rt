@@ -1,5 +1,5 @@
 ghost use Rattle.std.specs.Prelude.{◌≡◌};
-ghost use Rattle.smith_syntax.specs.FeatureBits.{bits_of, features_in};
+ghost use Rattle.smith_types.specs.Syntax.FeatureBits.{bits_of, features_in};
 ghost use Rattle.smith_config.specs.Features.{features_of, number_of};
 
 use crate::Config;

@@ -31,20 +31,20 @@ pub use Rattle.smith_types.specs.ExampleEntities.{constant_global, memory, table
 pub use Rattle.smith_types.specs.ExampleTypes.{anyref, constant, empty_struct, final_type, func, giving, nullable, open_type, plain}
 pub use Rattle.smith_types.specs.ExampleTypes.{plain_func, range, referring_type, shared_type, struct, taking}
 pub use Rattle.smith_types.specs.Exports.{AreDistinct, AreExportsStanding, AreExportsValid, IsEntityAt}
-pub use Rattle.smith_syntax.specs.Features.{every_feature, Features}
+pub use Rattle.smith_types.specs.Syntax.Features.{every_feature, Features}
 pub use Rattle.smith_types.specs.Flags.{funcref}
 pub use Rattle.smith_types.specs.GroupedTypes.{deeper, HasDepth, root}
 pub use Rattle.smith_types.specs.Imports.{EntitySpaces}
-unfoldable pub use Rattle.smith_syntax.specs.Instructions.{with_kind}
+unfoldable pub use Rattle.smith_types.specs.Syntax.Instructions.{with_kind}
 pub use Rattle.smith_types.specs.Types.{IsAlike, IsOrderly}
 pub use Rattle.smith_types.specs.ValidTypes.{AreTypesValid, IsGroupValid, IsShareable, IsTypeValid, IsValTypeValid}
-pub use Rattle.smith_syntax.specs.declared.composite_type.CompositeInnerType.TheVariants.{Func}
-pub use Rattle.smith_syntax.specs.declared.composite_type.StorageType.TheVariants.{Val}
-pub use Rattle.smith_syntax.specs.declared.composite_type.SubType.{SubType}
-pub use Rattle.smith_syntax.specs.declared.entity_type.EntityType.{EntityType}
-pub use Rattle.smith_syntax.specs.declared.entity_type.ExportKind.{ExportKind}
-pub use Rattle.smith_syntax.specs.declared.entity_type.GlobalType.{GlobalType}
-pub use Rattle.smith_syntax.specs.declared.entity_type.MemoryType.{MemoryType}
-pub use Rattle.smith_syntax.specs.declared.entity_type.TableType.{TableType}
-pub use Rattle.smith_syntax.specs.declared.value_type.ValType.TheVariants.{F32, I32, I64, V128}
+pub use Rattle.smith_types.specs.Syntax.composite_type.CompositeInnerType.TheVariants.{Func}
+pub use Rattle.smith_types.specs.Syntax.composite_type.StorageType.TheVariants.{Val}
+pub use Rattle.smith_types.specs.Syntax.composite_type.SubType.{SubType}
+pub use Rattle.smith_types.specs.Syntax.entity_type.EntityType.{EntityType}
+pub use Rattle.smith_types.specs.Syntax.entity_type.ExportKind.{ExportKind}
+pub use Rattle.smith_types.specs.Syntax.entity_type.GlobalType.{GlobalType}
+pub use Rattle.smith_types.specs.Syntax.entity_type.MemoryType.{MemoryType}
+pub use Rattle.smith_types.specs.Syntax.entity_type.TableType.{TableType}
+pub use Rattle.smith_types.specs.Syntax.value_type.ValType.TheVariants.{F32, I32, I64, V128}
 pub use Rattle.smith_types_examples.proofs.TypeExamples.{referring_after}

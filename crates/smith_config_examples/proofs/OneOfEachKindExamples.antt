@@ -5,8 +5,8 @@ use Rattle.smith_config_examples.proofs.Common.{IsEntityAt, AreExportsStanding, 
 use Rattle.smith_config_examples.proofs.Common.{I64, F32, final_type, taking, func, plain, nullable, range, memory, table, constant_global}
 use Rattle.smith_config_examples.proofs.Common.{AreTypesValid-single, no_types, default_config, features_of, IsConsistent, shape_spaces}
 use Rattle.smith_config_examples.proofs.Common.{one_of_each_kind}
-use Rattle.smith_syntax.specs.declared.entity_type.EntityType.TheVariants as entity
-use Rattle.smith_syntax.specs.declared.value_type.AbstractHeapType.TheVariants as heap
+use Rattle.smith_types.specs.Syntax.entity_type.EntityType.TheVariants as entity
+use Rattle.smith_types.specs.Syntax.value_type.AbstractHeapType.TheVariants as heap
 use Rattle.smith_config_examples.proofs.ChainExamples.{shallow_if_few}
 
 abbrev features : Features

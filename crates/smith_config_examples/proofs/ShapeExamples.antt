@@ -3,8 +3,8 @@ use Rattle.smith_config_examples.proofs.Common.{rules, ℕ, List, [], ◌∷◌,
 use Rattle.smith_config_examples.proofs.Common.{IsTypeValid, AreTypesValid, EntitySpaces, IsFuncTypeIndex, AreEntitiesValid, IsEntityAt}
 use Rattle.smith_config_examples.proofs.Common.{AreExportsStanding, AreExportsValid, SubType, EntityType, ExportKind, final_type}
 use Rattle.smith_config_examples.proofs.Common.{plain_func, range, AreTypesValid-single, no_types, IsShallow}
-use Rattle.smith_syntax.specs.declared.entity_type.EntityType.TheVariants as entity
-use Rattle.smith_syntax.specs.declared.entity_type.ExportKind.TheVariants as kind
+use Rattle.smith_types.specs.Syntax.entity_type.EntityType.TheVariants as entity
+use Rattle.smith_types.specs.Syntax.entity_type.ExportKind.TheVariants as kind
 use Rattle.smith_config_examples.proofs.ChainExamples.{shallow_if_few}
 
 -- the type of the imported function that is exported

@@ -3,7 +3,7 @@ use Rattle.smith_config_examples.proofs.Common.{◌≡◌, ◌<◌, true, false,
 use Rattle.smith_config_examples.proofs.Common.{same_Some, Features, IsAlike, IsTypeValid, IsGroupValid, AreTypesValid, IsShareable, Val}
 use Rattle.smith_config_examples.proofs.Common.{SubType, open_type, final_type, shared_type, struct, empty_struct, plain_func, constant}
 use Rattle.smith_config_examples.proofs.Common.{range, anyref, referring_type, referring_after, space_of}
-use Rattle.smith_syntax.specs.declared.value_type.AbstractHeapType.TheVariants as heap
+use Rattle.smith_types.specs.Syntax.value_type.AbstractHeapType.TheVariants as heap
 
 module _ (features : Features) where
   pub below_itself : ¬ AreTypesValid features (space_of ((open_type (Some 0) empty_struct ∷ []) ∷ []))

@@ -6,7 +6,7 @@ ghost use Rattle.std.specs.Prelude.{Bool, ◌≡◌, ◌+◌, ◌^◌, true, fal
 ghost use Rattle.smith_bytes.specs.declared.error.Count.TheVariants as counts;
 ghost use Rattle.smith_bytes.specs.declared.error.ConfigFault.TheVariants.{MinAboveMax, MaxTooLarge, Memory32Bytes, Memory64Bytes};
 ghost use Rattle.smith_config.specs.Config.{default_config};
-ghost use Rattle.smith_syntax.specs.Features.{every_feature};
+ghost use Rattle.smith_types.specs.Syntax.Features.{every_feature};
 ghost use Rattle.smith_types.specs.ExampleFeatures.{no_features};
 ghost use Rattle.smith_config.specs.Arbitrary.{config_at};
 ghost use Rattle.smith_config.specs.ExampleConfigs.{least_config, counting_bytes, counting_config};

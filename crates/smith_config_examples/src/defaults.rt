@@ -1,7 +1,7 @@
 // Every field of the default configuration.
 
 ghost use Rattle.std.specs.Prelude.{◌≡◌, ◌^◌, [], ◌∷◌, true, false, None, replicate, All};
-ghost use Rattle.smith_syntax.specs.Instructions.{every_kind};
+ghost use Rattle.smith_types.specs.Syntax.Instructions.{every_kind};
 ghost use Rattle.smith_config.specs.Config.{default_config};
 
 fn counts()

@@ -4,10 +4,10 @@ ghost use Rattle.std.specs.Prelude.{◌≡◌, ℕ, ◌+◌, ◌^◌, List, [], 
 ghost use Rattle.smith_bytes.specs.declared.error.Which.TheVariants.{AvailableImports, Exports, ModuleShape};
 ghost use Rattle.smith_bytes.specs.declared.error.ShapeFault.TheVariants.{TooLong, BadType, Index, Limit, Feature, DuplicateExport};
 ghost use Rattle.smith_bytes.specs.declared.error.ShapeFault.TheVariants.{NotPlain, LeftOut};
-ghost use Rattle.smith_syntax.specs.declared.value_type.HeapType.TheVariants.{Concrete, Exact};
-ghost use Rattle.smith_syntax.specs.declared.value_type.ValType.TheVariants.{I32, V128, Ref};
-ghost use Rattle.smith_syntax.specs.declared.entity_type.ExportKind.TheVariants as kind;
-ghost use Rattle.smith_syntax.specs.declared.composite_type.StorageType.TheVariants.{Val};
+ghost use Rattle.smith_types.specs.Syntax.value_type.HeapType.TheVariants.{Concrete, Exact};
+ghost use Rattle.smith_types.specs.Syntax.value_type.ValType.TheVariants.{I32, V128, Ref};
+ghost use Rattle.smith_types.specs.Syntax.entity_type.ExportKind.TheVariants as kind;
+ghost use Rattle.smith_types.specs.Syntax.composite_type.StorageType.TheVariants.{Val};
 ghost use Rattle.smith_types.specs.ExampleTypes.{open_type, final_type, shared_type, struct, empty_struct, plain_func, giving, constant};
 ghost use Rattle.smith_types.specs.ExampleTypes.{nullable, anyref, referring_type};
 ghost use Rattle.smith_types.specs.Flags.{funcref};

@@ -5,10 +5,10 @@ use Rattle.std.specs.List.{list_all}
 use Rattle.std.specs.Char.{is_ascii_digit}
 use Rattle.std.specs.Str.Parse.{digits_value}
 use Rattle.json.specs.Token.{Token, begin_object, end_object, begin_array, end_array, key, string, number, boolean, null, bad}
-use Rattle.smith_syntax.specs.Instructions.{kinds_bits, no_kind, with_kind, IsReadKind, AreReadKinds}
-use Rattle.smith_syntax.specs.declared.instruction_kind.InstructionKind.{InstructionKind}
-use Rattle.smith_syntax.specs.declared.instruction_kind.InstructionKinds.{InstructionKinds}
-use Rattle.smith_syntax.specs.declared.instruction_kind.UnknownKind.{UnknownKind}
+use Rattle.smith_types.specs.Syntax.Instructions.{kinds_bits, no_kind, with_kind, IsReadKind, AreReadKinds}
+use Rattle.smith_types.specs.Syntax.instruction_kind.InstructionKind.{InstructionKind}
+use Rattle.smith_types.specs.Syntax.instruction_kind.InstructionKinds.{InstructionKinds}
+use Rattle.smith_types.specs.Syntax.instruction_kind.UnknownKind.{UnknownKind}
 use Rattle.smith_config.specs.declared.offset_choices.MemoryOffsetChoices.{MemoryOffsetChoices}
 use Rattle.smith_config_json.specs.declared.fault.Fault.{Fault}
 use Rattle.smith_config_json.specs.declared.fault.Fault.TheVariants.{NotAnObject, WrongType, OutOfRange}

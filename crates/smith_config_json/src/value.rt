@@ -2,7 +2,7 @@ ghost use Rattle.std.specs.Prelude.{◌≡◌, ◌≤◌, length, drop, Some, If
 ghost use Rattle.std.specs.List.{list_all};
 ghost use Rattle.std.specs.Char.{is_ascii_digit};
 ghost use Rattle.json.specs.Reads.{token_of};
-ghost use Rattle.smith_syntax.specs.Instructions.{no_kind};
+ghost use Rattle.smith_types.specs.Syntax.Instructions.{no_kind};
 ghost use Rattle.smith_config_json.specs.Fields.{field_named};
 ghost use Rattle.smith_config_json.specs.Places.{field_of, most_of, with_number};
 ghost use Rattle.smith_config_json.specs.Values.{

@@ -1,12 +1,10 @@
 -- Constant expressions and what holds them: they are spelled as expressions of any instructions are.
-use Rattle.std.proofs.Common.{◌≡◌, ℕ, Bool, List, [], ◌∷◌, map, Some, refl, ap, ◌∙◌, false}
-use Rattle.smith_binary.specs.Pieces.{Joined}
-use Rattle.smith_syntax.specs.declared.const_instr.ConstInstr.{ConstInstr}
-use Rattle.smith_syntax.specs.declared.const_instr.ConstInstr.TheVariants as constant
-use Rattle.smith_syntax.specs.declared.entity_type.GlobalType.{GlobalType}
-use Rattle.smith_syntax.specs.declared.entity_type.TableType.{TableType}
+use Rattle.smith_decode.proofs.Common.{[], ap, Bool, false, first_memory, Instr, IsNestedExpr, Joined, List, map, named_memory, no_memory}
+use Rattle.smith_decode.proofs.Common.{refl, Some, TableType, ℕ, ◌∙◌, ◌∷◌, ◌≡◌}
+use Rattle.smith_types.specs.Syntax.const_instr.ConstInstr.{ConstInstr}
+use Rattle.smith_types.specs.Syntax.const_instr.ConstInstr.TheVariants as constant
+use Rattle.smith_types.specs.Syntax.entity_type.GlobalType.{GlobalType}
 use Rattle.smith_binary_sections.specs.Data.{DataForm, Data as ConstData, IsInDataForm as IsInConstForm, IsData as IsConstData}
-use Rattle.smith_binary_sections.specs.Data.DataForm.{first_memory, no_memory, named_memory}
 use Rattle.smith_binary_sections.specs.Definitions.{IsTable as IsConstTable, IsGlobal as IsConstGlobal}
 use Rattle.smith_binary_sections.specs.Elements.{Form, Elem as ConstElem, IsElem as IsConstElem, IsInForm as IsInConstElemForm, func_ref}
 use Rattle.smith_binary_sections.specs.Elements.{func_items as const_func_items, IsItems as AreConstItems}
@@ -14,12 +12,10 @@ use Rattle.smith_binary_sections.specs.Elements.Form.{first_funcs, passive_funcs
 use Rattle.smith_binary_sections.specs.Elements.Form.{first_items, passive_items, table_items, declared_items}
 use Rattle.smith_binary_sections.specs.Instructions.{IsInstr as IsConstInstr, IsExpression}
 use Rattle.smith_binary_read.proofs.ViewLemmas.{each_forth, list_forth}
-use Rattle.smith_instr.specs.declared.instr.Instr.{Instr}
 use Rattle.smith_instr.specs.declared.instr.Instr.TheVariants.{Reference}
 use Rattle.smith_instr.specs.declared.reference.ReferenceInstr.TheVariants.{Func}
 use Rattle.smith_binary_instr.specs.Instructions.{IsInstr}
 use Rattle.smith_binary_instr.specs.Nesting.{blocks_after, AreNested}
-use Rattle.smith_binary_read_instr.specs.Expressions.{IsNestedExpr}
 use Rattle.smith_decode.specs.Constants.{as_instr, as_expr, as_table, as_global, as_elem, as_data_mode, as_data}
 use Rattle.smith_decode.specs.Data.{IsInDataForm, IsData}
 use Rattle.smith_decode.specs.Definitions.{IsTable, IsGlobal}

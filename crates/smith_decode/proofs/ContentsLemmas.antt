@@ -1,27 +1,19 @@
 -- Decoded modules in the abstract syntax, as a whole.
-use Rattle.std.proofs.Common.{◌≡◌, ℕ, Bool, true, false, ◌||◌, eqb, List, [], ◌∷◌, length, map, Option, Some, None, Result, Ok, Err, refl}
-use Rattle.std.proofs.Common.{sym, ap, subst, ◌∙◌}
-use Rattle.std.specs.List.{list_any}
+use Rattle.smith_decode.proofs.Common.{[], ap, Bool, eq-eqb, eqb, eqb-true, Err, false, Features, Instr, IsIndex, IsList, IsMemoryType}
+use Rattle.smith_decode.proofs.Common.{IsRecGroup, length, List, list_any, map, None, Ok, Option, refl, Result, Some, subst, sym, TableType}
+use Rattle.smith_decode.proofs.Common.{true, ValType, Viewed, ℕ, ◌||◌, ◌∙◌, ◌∷◌, ◌≡◌}
 use Rattle.std.specs.Prelude.{IfOk, IfSome}
-use Rattle.std.proofs.lemmas.Bool.{eqb-true, eq-eqb, and_parts}
+use Rattle.std.proofs.lemmas.Bool.{and_parts}
 use Rattle.std.proofs.lemmas.List.{length-map}
-use Rattle.smith_binary.specs.Pieces.{IsList}
-use Rattle.smith_syntax.specs.Features.{Features}
-use Rattle.smith_syntax.specs.declared.composite_type.SubType.{SubType}
-use Rattle.smith_syntax.specs.declared.entity_type.ExportKind.{ExportKind}
-use Rattle.smith_syntax.specs.declared.entity_type.GlobalType.{GlobalType}
-use Rattle.smith_syntax.specs.declared.entity_type.MemoryType.{MemoryType}
-use Rattle.smith_syntax.specs.declared.entity_type.TableType.{TableType}
-use Rattle.smith_syntax.specs.declared.imports.Import.{Import}
-use Rattle.smith_syntax.specs.declared.value_type.ValType.{ValType}
+use Rattle.smith_types.specs.Syntax.composite_type.SubType.{SubType}
+use Rattle.smith_types.specs.Syntax.entity_type.ExportKind.{ExportKind}
+use Rattle.smith_types.specs.Syntax.entity_type.GlobalType.{GlobalType}
+use Rattle.smith_types.specs.Syntax.entity_type.MemoryType.{MemoryType}
+use Rattle.smith_types.specs.Syntax.imports.Import.{Import}
 use Rattle.smith_types.specs.Imports.{flattened}
-use Rattle.smith_binary_sections.specs.Types.{IsRecGroup}
-use Rattle.smith_binary_sections.specs.Instructions.{IsIndex}
-use Rattle.smith_binary_sections.specs.Entities.{IsMemoryType, IsTagType}
+use Rattle.smith_binary_sections.specs.Entities.{IsTagType}
 use Rattle.smith_binary_sections.specs.Imports.{IsImports}
 use Rattle.smith_binary_sections.specs.Exports.{IsExport}
-use Rattle.smith_instr.specs.declared.instr.Instr.{Instr}
-use Rattle.smith_binary_read.specs.Views.{Viewed}
 use Rattle.smith_binary_read.proofs.ViewLemmas.{list_viewed}
 use Rattle.smith_decode.specs.declared.error.DecodeError.{DecodeError}
 use Rattle.smith_decode.specs.declared.error.DecodeError.TheVariants.{Memory, Malformed, FeatureOff}

@@ -1,19 +1,17 @@
 -- Sections in order, with custom sections between them: readings that are sound and complete.
-use Rattle.std.proofs.Common.{◌≡◌, ℕ, zero, suc, ◌≤◌, Bool, true, false, cond, eqb, ◌||◌, List, [], ◌∷◌, ◌++◌, length, drop}
-use Rattle.std.proofs.Common.{Result, Ok, Err, refl, sym, ap, subst, ◌∙◌, append_assoc, append-nil, arith}
-use Rattle.std.proofs.lemmas.Bool.{eqb-true, eq-eqb, ne_eqb, or_parts}
-use Rattle.std.proofs.lemmas.List.{length-append, nil_from_length}
-use Rattle.smith_binary.specs.Pieces.{Joined, Each, IsSized, IsSection}
-use Rattle.smith_binary_sections.specs.Sections.{IsOptionalSection}
-use Rattle.smith_binary_read.specs.declared.error.Fault.{Fault}
+use Rattle.smith_decode.proofs.Common.{[], ap, append-nil, append_assoc, arith, Bool, branch, Decodes, DecodesWhole, drop, Each, eq-eqb}
+use Rattle.smith_decode.proofs.Common.{eqb, eqb-true, Err, false, Fault, Front, IsOptionalSection, IsSection, Joined, length, length-append}
+use Rattle.smith_decode.proofs.Common.{List, name_at, ne_eqb, nil_from_length, Ok, refl, Result, sized_at, step, subst, suc, sym}
+use Rattle.smith_decode.proofs.Common.{tagged_read, test_passed, true, ℕ, ◌++◌, ◌||◌, ◌∙◌, ◌∷◌, ◌≡◌, ◌≤◌}
+use Rattle.std.proofs.Common.{cond, zero}
+use Rattle.std.proofs.lemmas.Bool.{or_parts}
+use Rattle.smith_binary.specs.Pieces.{IsSized}
 use Rattle.smith_binary_read.specs.Readings.{◌>>=◌, starts_with}
-use Rattle.smith_binary_read.specs.Contents.{name_at, sized_at}
-use Rattle.smith_binary_read.specs.Decodes.{Front, Decodes, DecodesWhole}
-use Rattle.smith_binary_read.proofs.ReadLemmas.{step, branch, test_passed, item_is}
+use Rattle.smith_binary_read.proofs.ReadLemmas.{item_is}
 use Rattle.smith_binary_read.proofs.ContentLemmas.{name_decodes, sized_decodes}
 use Rattle.smith_decode.specs.Customs.{IsNamed, IsCustom, AreCustoms, IsThen}
 use Rattle.smith_decode.specs.CustomReadings.{custom_whole, skip_customs, customs_at, section_at, end_at, more_at}
-use Rattle.smith_binary_read.proofs.ChoiceLemmas.{tagged_read, starts_is}
+use Rattle.smith_binary_read.proofs.ChoiceLemmas.{starts_is}
 
 -- the same step before two ways to go on
 bind_same : {A B : Type 0} (r : Result A Fault) (f g : A → Result B Fault) → ((x : A) → r ≡ Ok x → f x ≡ g x) → (r >>= f) ≡ (r >>= g)

@@ -1,16 +1,11 @@
 -- Data segments that are read: the reading is sound and complete.
-use Rattle.std.proofs.Common.{◌≡◌, ℕ, List, ◌++◌, Ok, refl, sym, ap, ◌∙◌}
-use Rattle.smith_binary.specs.Numbers.{IsUnsigned}
-use Rattle.smith_binary.specs.Pieces.{IsByte, Joined, IsList}
+use Rattle.smith_decode.proofs.Common.{ap, branch, Decodes, expr_decodes, first_memory, Front, Instr, IsByte, IsList, IsUnsigned, Joined}
+use Rattle.smith_decode.proofs.Common.{joined_decodes, List, named_memory, no_memory, Ok, refl, step, sym, test_passed, unsigned_decodes, ℕ}
+use Rattle.smith_decode.proofs.Common.{◌++◌, ◌∙◌, ◌≡◌}
 use Rattle.smith_binary_sections.specs.Data.{DataForm}
-use Rattle.smith_binary_sections.specs.Data.DataForm.{first_memory, no_memory, named_memory}
-use Rattle.smith_binary_read.specs.Decodes.{Front, Decodes}
-use Rattle.smith_binary_read.proofs.ReadLemmas.{step, branch, test_passed, joined_decodes, first_read}
-use Rattle.smith_binary_read.proofs.IntegerLemmas.{unsigned_decodes}
+use Rattle.smith_binary_read.proofs.ReadLemmas.{first_read}
 use Rattle.smith_binary_read.proofs.ContentLemmas.{bytes_decodes}
 use Rattle.smith_binary_read.proofs.ChoiceLemmas.{counted_sound}
-use Rattle.smith_instr.specs.declared.instr.Instr.{Instr}
-use Rattle.smith_binary_read_instr.proofs.NestedLemmas.{expr_decodes}
 use Rattle.smith_decode.specs.declared.data.DataMode.{DataMode}
 use Rattle.smith_decode.specs.declared.data.DataMode.TheVariants.{Passive, Active}
 use Rattle.smith_decode.specs.declared.data.DataSegment.{DataSegment}

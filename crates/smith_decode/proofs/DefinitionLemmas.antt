@@ -1,16 +1,12 @@
 -- Definitions of tables and globals that are read: the readings are sound and complete.
-use Rattle.std.proofs.Common.{◌≡◌, ℕ, ◌≤◌, List, [], ◌∷◌, ◌++◌, Ok, refl, sym, ap, ◌∙◌, arith}
-use Rattle.std.proofs.lemmas.Bool.{ne_eqb}
-use Rattle.smith_binary.specs.Pieces.{Is, IsByte, Joined}
-use Rattle.smith_syntax.specs.declared.entity_type.TableType.{TableType}
+use Rattle.smith_decode.proofs.Common.{[], ap, arith, branch, Decodes, expr_decodes, Front, front_joined, Instr, Is, IsByte, Joined}
+use Rattle.smith_decode.proofs.Common.{joined_decodes, List, ne_eqb, Ok, refl, step, sym, TableType, test_passed, ℕ, ◌++◌, ◌∙◌, ◌∷◌, ◌≡◌}
+use Rattle.smith_decode.proofs.Common.{◌≤◌}
 use Rattle.smith_binary_sections.specs.Entities.{IsTableType}
-use Rattle.smith_binary_read.specs.Decodes.{Front, Decodes}
-use Rattle.smith_binary_read.proofs.ReadLemmas.{step, branch, test_passed, front_as, front_joined, joined_decodes}
+use Rattle.smith_binary_read.proofs.ReadLemmas.{front_as}
 use Rattle.smith_binary_read.proofs.ChoiceLemmas.{Begins, joined_begins, mapped_sound, tag_front}
 use Rattle.smith_binary_read.proofs.TypeLemmas.{ref_begins, head_is}
 use Rattle.smith_binary_read.proofs.EntityLemmas.{global_decodes, table_decodes}
-use Rattle.smith_instr.specs.declared.instr.Instr.{Instr}
-use Rattle.smith_binary_read_instr.proofs.NestedLemmas.{expr_decodes}
 use Rattle.smith_decode.specs.declared.definitions.TableDefinition.{TableDefinition}
 use Rattle.smith_decode.specs.Definitions.{null_of, IsTypedTable, IsTable}
 use Rattle.smith_decode.specs.DefinitionReadings.{IsGlobalDefinition, global_of, global_at, IsTableDefinition, table_of}

@@ -1,20 +1,15 @@
 -- Element segments that are read: the reading is sound and complete.
-use Rattle.std.proofs.Common.{◌≡◌, ℕ, List, ◌++◌, Ok, refl, sym, ap, ◌∙◌}
-use Rattle.smith_binary.specs.Pieces.{Joined}
-use Rattle.smith_syntax.specs.declared.value_type.RefType.{RefType}
+use Rattle.smith_decode.proofs.Common.{ap, branch, Decodes, expr_decodes, Front, front_joined, Instr, Joined, joined_decodes, List, Ok}
+use Rattle.smith_decode.proofs.Common.{Reading, refl, step, sym, tagged_read, test_passed, unsigned_decodes, Viewed, ℕ, ◌++◌, ◌∙◌, ◌≡◌}
+use Rattle.smith_types.specs.Syntax.value_type.RefType.{RefType}
 use Rattle.smith_binary_sections.specs.Elements.{Form, IsFuncs, IsKindFuncs}
 use Rattle.smith_binary_sections.specs.Elements.Form.{first_funcs, passive_funcs, table_funcs, declared_funcs}
 use Rattle.smith_binary_sections.specs.Elements.Form.{first_items, passive_items, table_items, declared_items}
-use Rattle.smith_binary_read.specs.Readings.{Reading}
-use Rattle.smith_binary_read.specs.Decodes.{Front, Decodes}
-use Rattle.smith_binary_read.specs.Views.{Viewed, From}
-use Rattle.smith_binary_read.proofs.ReadLemmas.{step, branch, test_passed, front_joined, joined_decodes, first_read}
-use Rattle.smith_binary_read.proofs.IntegerLemmas.{unsigned_decodes}
+use Rattle.smith_binary_read.specs.Views.{From}
+use Rattle.smith_binary_read.proofs.ReadLemmas.{first_read}
 use Rattle.smith_binary_read.proofs.ContentLemmas.{list_decodes}
-use Rattle.smith_binary_read.proofs.ChoiceLemmas.{tagged_read, tag_front, counted_sound}
+use Rattle.smith_binary_read.proofs.ChoiceLemmas.{counted_sound, tag_front}
 use Rattle.smith_binary_read.proofs.TypeLemmas.{ref_decodes}
-use Rattle.smith_instr.specs.declared.instr.Instr.{Instr}
-use Rattle.smith_binary_read_instr.proofs.NestedLemmas.{expr_decodes}
 use Rattle.smith_decode.specs.declared.elements.ElementItems.TheVariants.{Expressions}
 use Rattle.smith_decode.specs.declared.elements.ElementMode.TheVariants.{Passive, Declared, Active}
 use Rattle.smith_decode.specs.declared.elements.ElementSegment.{ElementSegment}

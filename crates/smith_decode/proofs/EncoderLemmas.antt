@@ -1,23 +1,16 @@
 -- Modules without custom sections, as an encoder writes them, and what the reading says of modules.
-use Rattle.std.proofs.Common.{◌≡◌, ℕ, suc, Bool, true, false, List, [], ◌∷◌, ◌++◌, length, map, Option, Some, None, Err}
-use Rattle.std.proofs.Common.{refl, sym, ap, subst, ◌∙◌, arith}
-use Rattle.std.proofs.lemmas.List.{length-map, nil_from_length}
-use Rattle.std.proofs.Common.{append-nil}
-use Rattle.std.specs.List.{list_any}
+use Rattle.smith_decode.proofs.Common.{[], ap, append-nil, arith, Bool, Each, Err, false, Fault, Instr, IsList, IsNestedExpr}
+use Rattle.smith_decode.proofs.Common.{IsOptionalSection, IsSection, IsUnsigned, Joined, length, List, list_any, map, nil_from_length, None}
+use Rattle.smith_decode.proofs.Common.{Option, refl, Some, subst, suc, sym, true, ValType, ℕ, ◌++◌, ◌∙◌, ◌∷◌, ◌≡◌}
+use Rattle.std.proofs.lemmas.List.{length-map}
 use Rattle.std.specs.Prelude.{IfSome}
-use Rattle.smith_binary.specs.Pieces.{Joined, Each, IsList, IsSection}
-use Rattle.smith_binary.specs.Numbers.{IsUnsigned}
-use Rattle.smith_syntax.specs.declared.value_type.ValType.{ValType}
-use Rattle.smith_instr.specs.declared.instr.Instr.{Instr}
 use Rattle.smith_binary_sections.specs.Codes.{IsBody, IsLocals}
 use Rattle.smith_binary_sections.specs.Data.{IsData as IsConstData}
 use Rattle.smith_binary_sections.specs.Definitions.{IsTable as IsConstTable, IsGlobal as IsConstGlobal}
 use Rattle.smith_binary_sections.specs.Elements.{IsElem as IsConstElem}
 use Rattle.smith_binary_sections.specs.Modules.{Contents, IsModule, IsStartSection}
-use Rattle.smith_binary_sections.specs.Sections.{IsOptionalSection, IsListSection}
-use Rattle.smith_binary_read.specs.declared.error.Fault.{Fault}
+use Rattle.smith_binary_sections.specs.Sections.{IsListSection}
 use Rattle.smith_binary_read.proofs.ViewLemmas.{list_forth}
-use Rattle.smith_binary_read_instr.specs.Expressions.{IsNestedExpr}
 use Rattle.smith_decode.specs.Constants.{as_table, as_global, as_elem, as_data, with_bodies, IsPresent, StatesCount}
 use Rattle.smith_decode.specs.Customs.{AreCustoms, IsThen}
 use Rattle.smith_decode.specs.Data.{IsData}

@@ -1,5 +1,6 @@
 -- Forms of features that are on, and the first that is of none.
-use Rattle.std.proofs.Common.{◌≡◌, ℕ, Bool, true, false, ◌&&◌, ◌||◌, List, [], ◌∷◌, ◌++◌, refl, subst}
+use Rattle.smith_decode.proofs.Common.{[], Bool, false, Features, Instr, List, refl, subst, true, ℕ, ◌++◌, ◌||◌, ◌∷◌, ◌≡◌}
+use Rattle.std.proofs.Common.{◌&&◌}
 use Rattle.std.specs.Prelude.{All}
 use Rattle.std.proofs.lemmas.List.Elements.{All-get_or}
 use Rattle.std.proofs.lemmas.Option.{get_or_from_slice_get, slice_get_within}
@@ -7,12 +8,10 @@ use Rattle.smith_decode.specs.declared.locations.Place.{Place}
 use Rattle.smith_decode.specs.declared.locations.Place.TheVariants as place
 use Rattle.smith_decode.specs.declared.modules.Module.{Module}
 use Rattle.smith_decode.specs.Forms.{AreFormsEnabled, Each, IsFirstOff, IsOffAt}
-use Rattle.smith_syntax.specs.Features.{Features}
-use Rattle.smith_syntax.specs.Instructions.{every_kind}
-use Rattle.smith_syntax.specs.declared.instruction_kind.InstructionKind.{InstructionKind}
-use Rattle.smith_syntax.specs.declared.instruction_kind.InstructionKind.TheVariants as kind
+use Rattle.smith_types.specs.Syntax.Instructions.{every_kind}
+use Rattle.smith_types.specs.Syntax.instruction_kind.InstructionKind.{InstructionKind}
+use Rattle.smith_types.specs.Syntax.instruction_kind.InstructionKind.TheVariants as kind
 use Rattle.smith_instr.specs.Enabled.{has_features, instr_kind, is_allowed, is_always_allowed, is_enabled}
-use Rattle.smith_instr.specs.declared.instr.Instr.{Instr}
 
 -- every kind is among all kinds
 kind_allowed : (k : InstructionKind) → is_allowed every_kind k ≡ true

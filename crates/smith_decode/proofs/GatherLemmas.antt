@@ -1,10 +1,8 @@
 -- Custom sections gathered one after the other, as a loop does.
-use Rattle.std.proofs.Common.{◌≡◌, ℕ, suc, ◌-◌, ◌+◌, ◌≤◌, ◌<◌, true, false, eqb, List, length, Option, Result, Ok, Err, refl, sym, ◌∙◌}
-use Rattle.std.proofs.Common.{arith}
-use Rattle.smith_binary_read.specs.declared.error.Fault.{Fault}
-use Rattle.smith_binary_read.specs.declared.error.ReadError.{ReadError}
+use Rattle.smith_decode.proofs.Common.{arith, eqb, Err, Fails, false, Fault, length, List, Ok, Option, ReadError, refl, Result, suc, sym}
+use Rattle.smith_decode.proofs.Common.{true, ℕ, ◌+◌, ◌-◌, ◌<◌, ◌∙◌, ◌≡◌, ◌≤◌}
 use Rattle.smith_binary_read.specs.declared.error.ReadError.TheVariants as error
-use Rattle.smith_binary_read.specs.Readings.{Fails, at_end}
+use Rattle.smith_binary_read.specs.Readings.{at_end}
 use Rattle.smith_decode.specs.declared.customs.Custom.{Custom}
 use Rattle.smith_decode.specs.CustomReadings.{next_section_at, gathered_at}
 

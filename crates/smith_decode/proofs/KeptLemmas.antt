@@ -1,16 +1,14 @@
 -- Custom sections that are kept: the reading is sound and complete.
-use Rattle.std.proofs.Common.{◌≡◌, ℕ, zero, suc, ◌≤◌, ◌<◌, true, false, eqb, List, [], ◌∷◌, ◌++◌, length, Option, Some, None, Ok}
-use Rattle.std.proofs.Common.{refl, sym, ap, subst, ◌∙◌, append_assoc, append-nil, arith}
-use Rattle.std.proofs.lemmas.Bool.{eqb-true, eq-eqb, ne_eqb, lt-ltb}
-use Rattle.std.proofs.lemmas.List.{length-append, nil_from_length}
-use Rattle.smith_binary.specs.Pieces.{Is, Joined, Each, IsSized}
-use Rattle.smith_binary_sections.specs.Sections.{IsOptionalSection}
+use Rattle.smith_decode.proofs.Common.{[], ap, append-nil, append_assoc, arith, branch, content_at, DecodesWhole, Each, eq-eqb, eqb}
+use Rattle.smith_decode.proofs.Common.{eqb-true, false, Front, front_joined, Is, IsOptionalSection, Joined, length, length-append, List}
+use Rattle.smith_decode.proofs.Common.{name_at, ne_eqb, nil_from_length, None, Ok, Option, refl, Some, step, subst, suc, sym, tagged_read}
+use Rattle.smith_decode.proofs.Common.{test_passed, true, ℕ, ◌++◌, ◌<◌, ◌∙◌, ◌∷◌, ◌≡◌, ◌≤◌}
+use Rattle.std.proofs.Common.{zero}
+use Rattle.std.proofs.lemmas.Bool.{lt-ltb}
+use Rattle.smith_binary.specs.Pieces.{IsSized}
 use Rattle.smith_binary_read.specs.Readings.{byte_at}
-use Rattle.smith_binary_read.specs.Contents.{content_at, name_at}
-use Rattle.smith_binary_read.specs.Decodes.{Front, DecodesWhole}
-use Rattle.smith_binary_read.proofs.ReadLemmas.{step, branch, test_passed, byte_sound, front_as, front_joined}
+use Rattle.smith_binary_read.proofs.ReadLemmas.{byte_sound, front_as}
 use Rattle.smith_binary_read.proofs.ContentLemmas.{IsContent, content_decodes, name_decodes}
-use Rattle.smith_binary_read.proofs.ChoiceLemmas.{tagged_read}
 use Rattle.smith_decode.specs.declared.customs.Custom.{Custom}
 use Rattle.smith_decode.specs.Customs.{IsAnySection, IsCustomAfter, IsNext, AreAmong, HasCustoms}
 use Rattle.smith_decode.specs.CustomReadings.{custom, custom_at, next_section_at, gathered_at, kept_at}

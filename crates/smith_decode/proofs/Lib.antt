@@ -1,3 +1,4 @@
+pub mod Common
 pub mod FormLemmas
 pub mod LocationLemmas
 pub mod DefinitionLemmas

@@ -1,11 +1,10 @@
 -- Items and sections passed one after the other, as a loop does.
-use Rattle.std.proofs.Common.{◌≡◌, ℕ, suc, ◌-◌, ◌+◌, ◌≤◌, ◌<◌, ◌==◌, true, false, List, Result, Ok, Err, refl, sym, ◌∙◌, arith}
-use Rattle.smith_binary_read.specs.declared.error.Fault.{Fault}
-use Rattle.smith_binary_read.specs.declared.error.ReadError.{ReadError}
+use Rattle.smith_decode.proofs.Common.{arith, content_at, Err, Fails, false, Fault, List, Ok, ReadError, Reading, refl, Result, suc, sym}
+use Rattle.smith_decode.proofs.Common.{true, ℕ, ◌+◌, ◌-◌, ◌<◌, ◌∙◌, ◌≡◌, ◌≤◌}
+use Rattle.std.proofs.Common.{◌==◌}
 use Rattle.smith_binary_read.specs.declared.error.ReadError.TheVariants as error
 use Rattle.smith_binary_read.specs.declared.error.Reason.TheVariants.{UnexpectedEnd}
-use Rattle.smith_binary_read.specs.Readings.{Reading, Fails, byte_at, fault_at}
-use Rattle.smith_binary_read.specs.Contents.{content_at}
+use Rattle.smith_binary_read.specs.Readings.{byte_at, fault_at}
 use Rattle.smith_decode.specs.Locations.{after_each_at, section_content_at}
 
 -- items

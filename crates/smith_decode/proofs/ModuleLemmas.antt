@@ -1,30 +1,19 @@
 -- Modules that are read: the reading is sound and complete for sections of the items that are decoded.
-use Rattle.std.proofs.Common.{◌≡◌, ℕ, ◌<◌, ◌^◌, true, List, [], ◌∷◌, ◌++◌, Option, Some, None, Ok}
-use Rattle.std.proofs.Common.{refl}
-use Rattle.std.proofs.Common.{sym, ap, subst, ◌∙◌, arith}
+use Rattle.smith_decode.proofs.Common.{[], ap, arith, Decodes, DecodesWhole, eq-eqb, eqb-true, expr_decodes, IsExportItem, IsImportGroup}
+use Rattle.smith_decode.proofs.Common.{IsIndex, IsList, IsMemoryType, IsRecGroup, IsTagDefinition, Joined, joined_decodes, List, list_at}
+use Rattle.smith_decode.proofs.Common.{None, Ok, Option, refl, Some, step, subst, sym, test_passed, true, unsigned_at, unsigned_decodes, ℕ}
+use Rattle.smith_decode.proofs.Common.{◌++◌, ◌<◌, ◌^◌, ◌∙◌, ◌∷◌, ◌≡◌}
 use Rattle.std.specs.List.{AllByRecursion}
-use Rattle.std.proofs.lemmas.Bool.{eqb-true, eq-eqb, lt-ltb, ltb-true}
-use Rattle.smith_binary.specs.Pieces.{Joined, IsList}
-use Rattle.smith_binary_sections.specs.Types.{IsRecGroup}
-use Rattle.smith_binary_sections.specs.Instructions.{IsIndex}
-use Rattle.smith_binary_sections.specs.Entities.{IsMemoryType}
-use Rattle.smith_binary_sections.specs.Imports.{IsImportGroup}
+use Rattle.std.proofs.lemmas.Bool.{lt-ltb, ltb-true}
 use Rattle.smith_binary_sections.specs.Modules.{IsPreamble}
 use Rattle.smith_binary_read.specs.Readings.{◌>>=◌, mapped_at}
-use Rattle.smith_binary_read.specs.Numbers.{unsigned_at}
-use Rattle.smith_binary_read.specs.Contents.{list_at}
-use Rattle.smith_binary_read.specs.Decodes.{Decodes, DecodesWhole}
-use Rattle.smith_binary_read.specs.TagReadings.{IsTagDefinition}
-use Rattle.smith_binary_read.specs.EntityReadings.{IsExportItem}
-use Rattle.smith_binary_read.proofs.ReadLemmas.{step, test_passed, joined_decodes, byte_sound, whole_decodes}
-use Rattle.smith_binary_read.proofs.IntegerLemmas.{unsigned_decodes}
+use Rattle.smith_binary_read.proofs.ReadLemmas.{byte_sound, whole_decodes}
 use Rattle.smith_binary_read.proofs.ContentLemmas.{list_decodes, sized_decodes}
 use Rattle.smith_binary_read.proofs.ChoiceLemmas.{mapped_sound}
 use Rattle.smith_binary_read.proofs.TypeLemmas.{val_decodes, group_decodes}
 use Rattle.smith_binary_read.proofs.EntityLemmas.{memory_decodes, export_decodes}
 use Rattle.smith_binary_read.proofs.ImportLemmas.{import_group_decodes}
 use Rattle.smith_binary_read.proofs.TagLemmas.{tag_def_decodes}
-use Rattle.smith_binary_read_instr.proofs.NestedLemmas.{expr_decodes}
 use Rattle.smith_decode.specs.declared.bodies.Body.{Body}
 use Rattle.smith_decode.specs.declared.modules.Module.{Module}
 use Rattle.smith_decode.specs.BodyReadings.{IsLocalRun, total, IsRunContent, IsRunBody, local_run, run_at, body_of, body_whole, body_at}

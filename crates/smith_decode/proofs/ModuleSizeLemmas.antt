@@ -1,21 +1,12 @@
 -- The items of a module take a byte each in it.
-use Rattle.std.proofs.Common.{◌≡◌, ℕ, ◌+◌, ◌≤◌, Bool, true, false, eqb, cond, List, [], ◌∷◌, ◌++◌, length, drop, Option, None}
-use Rattle.std.proofs.Common.{Result, Ok, Err, IfOk, refl, sym, ap, subst, ◌∙◌, append_assoc, arith}
-use Rattle.std.proofs.lemmas.Bool.{eq-eqb, ne_eqb}
-use Rattle.std.proofs.lemmas.List.{length-append}
-use Rattle.smith_binary.specs.Pieces.{Is, Each, IsList, IsSection}
-use Rattle.smith_binary_sections.specs.Types.{IsRecGroup}
-use Rattle.smith_binary_sections.specs.Instructions.{IsIndex}
-use Rattle.smith_binary_sections.specs.Entities.{IsMemoryType}
-use Rattle.smith_binary_sections.specs.Imports.{IsImportGroup}
-use Rattle.smith_binary_read.specs.EntityReadings.{IsExportItem}
-use Rattle.smith_binary_read.specs.TagReadings.{IsTagDefinition}
-use Rattle.smith_binary_sections.specs.Sections.{IsOptionalSection}
-use Rattle.smith_syntax.specs.Features.{Features}
-use Rattle.smith_binary_read.specs.Contents.{content_at}
+use Rattle.smith_decode.proofs.Common.{[], ap, append_assoc, arith, Bool, content_at, drop, Each, eq-eqb, eqb, Err, false, Features, Is}
+use Rattle.smith_decode.proofs.Common.{IsExportItem, IsImportGroup, IsIndex, IsList, IsMemoryType, IsOptionalSection, IsRecGroup, IsSection}
+use Rattle.smith_decode.proofs.Common.{IsTagDefinition, length, length-append, List, ne_eqb, None, Ok, Option, refl, Result, subst, sym}
+use Rattle.smith_decode.proofs.Common.{tagged_read, true, ℕ, ◌++◌, ◌+◌, ◌∙◌, ◌∷◌, ◌≡◌, ◌≤◌}
+use Rattle.std.proofs.Common.{cond}
+use Rattle.std.proofs.Common.{IfOk}
 use Rattle.smith_binary_read.proofs.ReadLemmas.{item_is}
 use Rattle.smith_binary_read.proofs.ContentLemmas.{content_decodes}
-use Rattle.smith_binary_read.proofs.ChoiceLemmas.{tagged_read}
 use Rattle.smith_decode.specs.declared.customs.Custom.{Custom}
 use Rattle.smith_decode.specs.declared.error.DecodeError.{DecodeError}
 use Rattle.smith_decode.specs.declared.modules.Module.{Module}

@@ -1,17 +1,10 @@
 -- The items of segments, definitions, bodies and custom sections take a byte each in what spells them.
-use Rattle.std.proofs.Common.{◌≡◌, ℕ, ◌+◌, ◌≤◌, List, length, Option}
-use Rattle.std.proofs.Common.{refl, ap, arith}
-use Rattle.smith_binary.specs.Pieces.{Joined}
+use Rattle.smith_decode.proofs.Common.{ap, arith, first_memory, Instr, IsIndex, IsMemoryType, IsNestedExpr, IsTagDefinition, Joined, length}
+use Rattle.smith_decode.proofs.Common.{List, named_memory, no_memory, Option, refl, ℕ, ◌+◌, ◌≡◌, ◌≤◌}
 use Rattle.smith_binary_sections.specs.Data.{DataForm, data_number}
-use Rattle.smith_binary_sections.specs.Data.DataForm.{first_memory, no_memory, named_memory}
 use Rattle.smith_binary_sections.specs.Elements.{IsFuncs, IsKindFuncs}
-use Rattle.smith_syntax.specs.declared.entity_type.MemoryType.{MemoryType}
-use Rattle.smith_binary_sections.specs.Entities.{IsMemoryType}
+use Rattle.smith_types.specs.Syntax.entity_type.MemoryType.{MemoryType}
 use Rattle.smith_binary_read.specs.declared.tags.TagDefinition.{TagDefinition}
-use Rattle.smith_binary_read.specs.TagReadings.{IsTagDefinition}
-use Rattle.smith_instr.specs.declared.instr.Instr.{Instr}
-use Rattle.smith_binary_sections.specs.Instructions.{IsIndex}
-use Rattle.smith_binary_read_instr.specs.Expressions.{IsNestedExpr}
 use Rattle.smith_decode.specs.declared.bodies.Body.{Body}
 use Rattle.smith_decode.specs.declared.bodies.LocalRun.{LocalRun}
 use Rattle.smith_decode.specs.declared.customs.Custom.{Custom}

@@ -1,40 +1,27 @@
 -- The items of each production take a byte each in what spells it.
-use Rattle.std.proofs.Common.{◌≡◌, ℕ, ◌+◌, ◌≤◌, List, [], ◌∷◌, length, Err}
-use Rattle.std.proofs.Common.{refl, sym, ap, ◌∙◌, arith}
-use Rattle.std.proofs.lemmas.List.{length-append}
-use Rattle.smith_binary.specs.Numbers.{IsUnsigned}
-use Rattle.smith_binary.specs.Pieces.{IsByte, Joined, Each, IsList, IsName}
-use Rattle.smith_syntax.specs.declared.value_type.ValType.{ValType}
-use Rattle.smith_syntax.specs.declared.composite_type.CompositeInnerType.{CompositeInnerType}
-use Rattle.smith_syntax.specs.declared.composite_type.CompositeInnerType.TheVariants as inner
-use Rattle.smith_syntax.specs.declared.composite_type.FieldType.{FieldType}
-use Rattle.smith_syntax.specs.declared.composite_type.SubType.{SubType}
-use Rattle.smith_syntax.specs.declared.entity_type.TableType.{TableType}
-use Rattle.smith_syntax.specs.declared.imports.ImportItem.{ImportItem}
-use Rattle.smith_syntax.specs.declared.imports.Imports.{Imports}
-use Rattle.smith_syntax.specs.declared.imports.Imports.TheVariants.{Single, Compact1, Compact2}
-use Rattle.smith_binary_sections.specs.Types.{IsValType, IsFieldType, IsInnerType, IsSubType, IsRecGroup}
-use Rattle.smith_binary_sections.specs.Instructions.{IsIndex}
+use Rattle.smith_decode.proofs.Common.{[], ap, arith, Decodes, Each, Err, Fault, Instr, instr_at, IsByte, IsExportItem, IsImportGroup}
+use Rattle.smith_decode.proofs.Common.{IsIndex, IsList, IsNestedExpr, IsRecGroup, IsUnsigned, Joined, length, length-append, List, Reading}
+use Rattle.smith_decode.proofs.Common.{refl, sym, TableType, unsigned_at, unsigned_decodes, ValType, ℕ, ◌+◌, ◌∙◌, ◌∷◌, ◌≡◌, ◌≤◌}
+use Rattle.smith_binary.specs.Pieces.{IsName}
+use Rattle.smith_types.specs.Syntax.composite_type.CompositeInnerType.{CompositeInnerType}
+use Rattle.smith_types.specs.Syntax.composite_type.CompositeInnerType.TheVariants as inner
+use Rattle.smith_types.specs.Syntax.composite_type.FieldType.{FieldType}
+use Rattle.smith_types.specs.Syntax.composite_type.SubType.{SubType}
+use Rattle.smith_types.specs.Syntax.imports.ImportItem.{ImportItem}
+use Rattle.smith_types.specs.Syntax.imports.Imports.{Imports}
+use Rattle.smith_types.specs.Syntax.imports.Imports.TheVariants.{Single, Compact1, Compact2}
+use Rattle.smith_binary_sections.specs.Types.{IsFieldType, IsInnerType, IsSubType, IsValType}
 use Rattle.smith_binary_sections.specs.Entities.{IsTableType}
-use Rattle.smith_binary_sections.specs.Imports.{IsImportItem, IsImportGroup}
-use Rattle.smith_binary_read.specs.declared.error.Fault.{Fault}
+use Rattle.smith_binary_sections.specs.Imports.{IsImportItem}
 use Rattle.smith_binary_read.specs.declared.error.Reason.TheVariants.{UnexpectedEnd}
-use Rattle.smith_binary_read.specs.Readings.{Reading}
-use Rattle.smith_binary_read.specs.Numbers.{unsigned_at}
 use Rattle.smith_binary_read.specs.TypeReadings.{val_type_at}
-use Rattle.smith_binary_read.specs.EntityReadings.{IsExportItem}
 use Rattle.smith_binary_read.specs.declared.exports.Export.{Export}
-use Rattle.smith_binary_read.specs.Decodes.{Decodes}
-use Rattle.smith_binary_read.proofs.IntegerLemmas.{unsigned_decodes}
 use Rattle.smith_binary_read.proofs.TypeLemmas.{val_decodes}
 use Rattle.smith_instr.specs.declared.control.Catch.{Catch}
 use Rattle.smith_instr.specs.declared.control.Catch.TheVariants as catch
-use Rattle.smith_instr.specs.declared.instr.Instr.{Instr}
 use Rattle.smith_instr.specs.declared.instr.Instr.TheVariants.{BrTable, SelectTyped, TryTable}
 use Rattle.smith_binary_instr.specs.Control.{IsCatch}
 use Rattle.smith_binary_instr.specs.Instructions.{IsInstr}
-use Rattle.smith_binary_read_instr.specs.Expressions.{IsNestedExpr}
-use Rattle.smith_binary_read_instr.specs.InstrReadings.{instr_at}
 use Rattle.smith_binary_read_instr.proofs.InstrLemmas.{instr_decodes}
 use Rattle.smith_decode.specs.Sizes.{all_items, inner_items, sub_type_items, import_items, instr_items, expr_items, export_items}
 

@@ -1,10 +1,8 @@
 -- Custom sections skipped one after the other, as a loop does.
-use Rattle.std.proofs.Common.{◌≡◌, ℕ, suc, ◌-◌, ◌+◌, ◌≤◌, ◌<◌, true, false, List, drop, Result, Ok, Err, refl, sym, ◌∙◌, arith}
-use Rattle.smith_binary_read.specs.declared.error.Fault.{Fault}
-use Rattle.smith_binary_read.specs.declared.error.ReadError.{ReadError}
+use Rattle.smith_decode.proofs.Common.{arith, drop, Err, Fails, false, Fault, List, Ok, ReadError, refl, Result, sized_at, suc, sym, true}
+use Rattle.smith_decode.proofs.Common.{ℕ, ◌+◌, ◌-◌, ◌<◌, ◌∙◌, ◌≡◌, ◌≤◌}
 use Rattle.smith_binary_read.specs.declared.error.ReadError.TheVariants as error
-use Rattle.smith_binary_read.specs.Readings.{Fails, starts_with}
-use Rattle.smith_binary_read.specs.Contents.{sized_at}
+use Rattle.smith_binary_read.specs.Readings.{starts_with}
 use Rattle.smith_decode.specs.CustomReadings.{custom_whole, skip_customs}
 
 pub skip_goes_on : (most i : ℕ) (bytes : List ℕ) (custom : Unit {0}) (after : List ℕ) (total : Result (List ℕ) Fault) → i < most

@@ -1,22 +1,16 @@
 -- Decoded modules in the abstract syntax: bytes spell one exactly if they spell a module that is decoded to it.
-use Rattle.std.proofs.Common.{◌≡◌, ℕ, ◌<◌, ◌^◌, List, [], ◌∷◌, length, map, refl, sym, ap, subst, ◌∙◌}
-use Rattle.std.proofs.Common.{arith}
-use Rattle.std.proofs.lemmas.List.{length-append, length-replicate}
+use Rattle.smith_decode.proofs.Common.{[], ap, arith, Instr, IsExportItem, IsImportGroup, IsList, IsNestedExpr, IsOptionalSection}
+use Rattle.smith_decode.proofs.Common.{IsTagDefinition, Joined, length, length-append, List, map, refl, subst, sym, ValType, Viewed, ℕ, ◌<◌}
+use Rattle.smith_decode.proofs.Common.{◌^◌, ◌∙◌, ◌∷◌, ◌≡◌}
+use Rattle.std.proofs.lemmas.List.{length-replicate}
 use Rattle.std.specs.Prelude.{replicate}
-use Rattle.smith_binary.specs.Pieces.{Joined, IsList}
-use Rattle.smith_syntax.specs.declared.value_type.ValType.{ValType}
 use Rattle.smith_types.specs.Imports.{flattened}
 use Rattle.smith_binary_sections.specs.Codes.{IsRun, locals_of, IsLocals}
 use Rattle.smith_binary_sections.specs.Entities.{IsTagType}
 use Rattle.smith_binary_sections.specs.Exports.{IsExport}
-use Rattle.smith_binary_sections.specs.Imports.{IsImportGroup, IsImports}
-use Rattle.smith_binary_sections.specs.Sections.{IsOptionalSection}
-use Rattle.smith_binary_read.specs.TagReadings.{IsTagDefinition}
-use Rattle.smith_binary_read.specs.EntityReadings.{IsExportItem}
-use Rattle.smith_binary_read.specs.Views.{From, Viewed}
+use Rattle.smith_binary_sections.specs.Imports.{IsImports}
+use Rattle.smith_binary_read.specs.Views.{From}
 use Rattle.smith_binary_read.proofs.ViewLemmas.{list_viewed, sized_viewed}
-use Rattle.smith_instr.specs.declared.instr.Instr.{Instr}
-use Rattle.smith_binary_read_instr.specs.Expressions.{IsNestedExpr}
 use Rattle.smith_decode.specs.declared.bodies.Body.{Body}
 use Rattle.smith_decode.specs.declared.bodies.LocalRun.{LocalRun}
 use Rattle.smith_decode.specs.declared.data.DataMode.{DataMode}

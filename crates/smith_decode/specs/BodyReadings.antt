@@ -2,19 +2,15 @@
 -- of the WebAssembly Core Specification 3.0.
 use Rattle.std.specs.Prelude.{ℕ, Bool, ◌+◌, ◌^◌, ◌<◌, nat_lt, if◌then◌else◌, List, [], ◌∷◌, map, Result, Ok}
 use Rattle.std.specs.List.{list_any}
-use Rattle.smith_binary.specs.Pieces.{Joined, IsList, IsSized}
-use Rattle.smith_syntax.specs.declared.value_type.ValType.{ValType}
+use Rattle.smith_decode.specs.Common.{expr_at, Fault, fault_at, Instr, IsList, IsNestedExpr, Joined, joined_at, list_at, Reading}
+use Rattle.smith_decode.specs.Common.{unsigned_at, ValType, ◌>>=◌}
+use Rattle.smith_binary.specs.Pieces.{IsSized}
 use Rattle.smith_binary_sections.specs.Codes.{IsRun, locals_of}
-use Rattle.smith_binary_read.specs.declared.error.Fault.{Fault}
 use Rattle.smith_binary_read.specs.declared.error.Reason.TheVariants.{ManyLocals}
-use Rattle.smith_binary_read.specs.Readings.{Reading, ◌>>=◌, fault_at, joined_at, whole_at}
-use Rattle.smith_binary_read.specs.Numbers.{unsigned_at}
-use Rattle.smith_binary_read.specs.Contents.{list_at, sized_at}
+use Rattle.smith_binary_read.specs.Readings.{whole_at}
+use Rattle.smith_binary_read.specs.Contents.{sized_at}
 use Rattle.smith_binary_read.specs.TypeReadings.{val_type_at}
 use Rattle.smith_instr.specs.Enabled.{names_data}
-use Rattle.smith_instr.specs.declared.instr.Instr.{Instr}
-use Rattle.smith_binary_read_instr.specs.Expressions.{IsNestedExpr}
-use Rattle.smith_binary_read_instr.specs.ExpressionReadings.{expr_at}
 use Rattle.smith_decode.specs.declared.bodies.Body.{Body}
 use Rattle.smith_decode.specs.declared.bodies.LocalRun.{LocalRun}
 

@@ -2,17 +2,14 @@
 -- expressions: the sections Structure, Modules and Expressions, of the WebAssembly Core
 -- Specification 3.0.
 use Rattle.std.specs.Prelude.{ℕ, List, [], map}
-use Rattle.smith_syntax.specs.declared.const_instr.ConstInstr.{ConstInstr}
-use Rattle.smith_syntax.specs.declared.const_instr.ConstInstr.TheVariants as constant
-use Rattle.smith_syntax.specs.declared.entity_type.GlobalType.{GlobalType}
-use Rattle.smith_syntax.specs.declared.entity_type.TableType.{TableType}
-use Rattle.smith_syntax.specs.declared.value_type.ValType.{ValType}
+use Rattle.smith_types.specs.Syntax.const_instr.ConstInstr.{ConstInstr}
+use Rattle.smith_types.specs.Syntax.const_instr.ConstInstr.TheVariants as constant
+use Rattle.smith_decode.specs.Common.{GlobalType, Instr, TableType, ValType}
 use Rattle.smith_binary_sections.specs.Data.{Data as ConstData, DataMode as ConstDataMode}
 use Rattle.smith_binary_sections.specs.Elements.{Elem as ConstElem, Mode as ConstMode}
 use Rattle.smith_binary_sections.specs.Modules.{Contents, IsModule}
 use Rattle.smith_binary_sections.specs.Sections.{IsOptionalSection}
 use Rattle.smith_instr.specs.declared.aggregate.AggregateInstr.TheVariants as aggregate
-use Rattle.smith_instr.specs.declared.instr.Instr.{Instr}
 use Rattle.smith_instr.specs.declared.instr.Instr.TheVariants as instr
 use Rattle.smith_instr.specs.declared.numeric.IntBinary.TheVariants.{Add, Sub, Mul}
 use Rattle.smith_instr.specs.declared.numeric.NumericInstr.TheVariants.{I32Binary, I64Binary}

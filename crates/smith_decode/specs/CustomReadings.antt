@@ -1,11 +1,11 @@
 -- Readings of custom sections, and of other sections with the custom sections after them.
 use Rattle.std.specs.Prelude.{◌≡◌, ℕ, zero, suc, ◌==◌, List, [], ◌∷◌, ◌++◌, length, drop, Option, Some, None}
 use Rattle.std.specs.Prelude.{Result, Ok, Err, if◌then◌else◌}
-use Rattle.smith_binary_read.specs.declared.error.Fault.{Fault}
+use Rattle.smith_decode.specs.Common.{byte_at, content_at, Fault, fault_at, Reading, ◌>>=◌}
 use Rattle.smith_binary_read.specs.declared.error.ReadError.{ReadError}
 use Rattle.smith_binary_read.specs.declared.error.Reason.TheVariants.{SectionOrder}
-use Rattle.smith_binary_read.specs.Readings.{Reading, ◌>>=◌, Fails, starts_with, fault_at, byte_at, at_end}
-use Rattle.smith_binary_read.specs.Contents.{content_at, name_at, sized_at}
+use Rattle.smith_binary_read.specs.Readings.{at_end, Fails, starts_with}
+use Rattle.smith_binary_read.specs.Contents.{name_at, sized_at}
 use Rattle.smith_decode.specs.declared.customs.Custom.{Custom}
 
 -- reads the content of a custom section

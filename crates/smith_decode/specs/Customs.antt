@@ -1,7 +1,8 @@
 -- Custom sections, and the sections between them: the section Binary Format, Modules, Sections and
 -- Custom Section, of the WebAssembly Core Specification 3.0.
 use Rattle.std.specs.Prelude.{◌≡◌, ℕ, ◌<◌, Option, Some, None, List, [], ◌∷◌}
-use Rattle.smith_binary.specs.Pieces.{Is, Joined, Each, IsName, IsSection}
+use Rattle.smith_decode.specs.Common.{Joined}
+use Rattle.smith_binary.specs.Pieces.{Each, Is, IsName, IsSection}
 use Rattle.smith_binary_sections.specs.Sections.{IsOptionalSection}
 use Rattle.smith_decode.specs.declared.customs.Custom.{Custom}
 

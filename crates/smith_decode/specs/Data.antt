@@ -1,13 +1,10 @@
 -- Data segments whose offset is any expression: the section Binary Format, Modules, Data Section,
 -- of the WebAssembly Core Specification 3.0.
 use Rattle.std.specs.Prelude.{◌≡◌, ℕ, List}
-use Rattle.smith_binary.specs.Numbers.{IsUnsigned}
-use Rattle.smith_binary.specs.Pieces.{IsByte, Joined, IsList}
+use Rattle.smith_decode.specs.Common.{Instr, IsIndex, IsList, IsNestedExpr, IsUnsigned, Joined}
+use Rattle.smith_binary.specs.Pieces.{IsByte}
 use Rattle.smith_binary_sections.specs.Data.{DataForm, data_number}
 use Rattle.smith_binary_sections.specs.Data.DataForm.{first_memory, no_memory, named_memory}
-use Rattle.smith_binary_sections.specs.Instructions.{IsIndex}
-use Rattle.smith_instr.specs.declared.instr.Instr.{Instr}
-use Rattle.smith_binary_read_instr.specs.Expressions.{IsNestedExpr}
 
 -- the mode of a data segment (Structure, Data Segments)
 pub data DataMode : Type 0 where

@@ -1,12 +1,7 @@
 -- Readings of data segments: the section Binary Format, Modules, Data Section, of the WebAssembly
 -- Core Specification 3.0.
 use Rattle.std.specs.Prelude.{ℕ, ◌==◌, if◌then◌else◌, List}
-use Rattle.smith_binary_read.specs.declared.error.Reason.TheVariants.{UnknownByte}
-use Rattle.smith_binary_read.specs.Readings.{Reading, ◌>>=◌, fault_at, joined_at, mapped_at}
-use Rattle.smith_binary_read.specs.Numbers.{unsigned_at}
-use Rattle.smith_binary_read.specs.Contents.{content_at}
-use Rattle.smith_instr.specs.declared.instr.Instr.{Instr}
-use Rattle.smith_binary_read_instr.specs.ExpressionReadings.{expr_at}
+use Rattle.smith_decode.specs.Common.{content_at, expr_at, fault_at, Instr, joined_at, mapped_at, Reading, UnknownByte, unsigned_at, ◌>>=◌}
 use Rattle.smith_decode.specs.declared.data.DataMode.{DataMode}
 use Rattle.smith_decode.specs.declared.data.DataMode.TheVariants.{Passive, Active}
 use Rattle.smith_decode.specs.declared.data.DataSegment.{DataSegment}

@@ -1,13 +1,9 @@
 -- Readings of definitions of tables and globals: the section Binary Format, Modules, Table Section and
 -- Global Section, of the WebAssembly Core Specification 3.0.
 use Rattle.std.specs.Prelude.{ℕ, ◌==◌, if◌then◌else◌, List}
-use Rattle.smith_syntax.specs.declared.entity_type.GlobalType.{GlobalType}
-use Rattle.smith_syntax.specs.declared.entity_type.TableType.{TableType}
-use Rattle.smith_binary_read.specs.declared.error.Reason.TheVariants.{UnknownByte}
-use Rattle.smith_binary_read.specs.Readings.{Reading, ◌>>=◌, fault_at, byte_at, joined_at, mapped_at}
+use Rattle.smith_decode.specs.Common.{byte_at, expr_at, fault_at, GlobalType, Instr, joined_at, mapped_at, Reading, TableType, UnknownByte}
+use Rattle.smith_decode.specs.Common.{◌>>=◌}
 use Rattle.smith_binary_read.specs.EntityReadings.{global_type_at, table_type_at}
-use Rattle.smith_instr.specs.declared.instr.Instr.{Instr}
-use Rattle.smith_binary_read_instr.specs.ExpressionReadings.{expr_at}
 use Rattle.smith_decode.specs.declared.definitions.GlobalDefinition.{GlobalDefinition}
 use Rattle.smith_decode.specs.declared.definitions.TableDefinition.{TableDefinition}
 use Rattle.smith_decode.specs.Definitions.{null_of, IsTable, IsGlobal}

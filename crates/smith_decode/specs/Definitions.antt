@@ -1,16 +1,12 @@
 -- Definitions of tables and globals whose initialiser is any expression: the section Binary Format,
 -- Modules, Table Section and Global Section, of the WebAssembly Core Specification 3.0.
 use Rattle.std.specs.Prelude.{◌≡◌, ℕ, Option, Some, None, List, [], ◌∷◌}
-use Rattle.smith_binary.specs.Pieces.{Is, Joined}
-use Rattle.smith_syntax.specs.declared.entity_type.GlobalType.{GlobalType}
-use Rattle.smith_syntax.specs.declared.entity_type.TableType.{TableType}
-use Rattle.smith_syntax.specs.declared.value_type.HeapType.{HeapType}
-use Rattle.smith_syntax.specs.declared.value_type.RefType.{RefType}
+use Rattle.smith_decode.specs.Common.{GlobalType, Instr, IsNestedExpr, Joined, RefType, TableType}
+use Rattle.smith_binary.specs.Pieces.{Is}
+use Rattle.smith_types.specs.Syntax.value_type.HeapType.{HeapType}
 use Rattle.smith_binary_sections.specs.Entities.{IsGlobalType, IsTableType}
-use Rattle.smith_instr.specs.declared.instr.Instr.{Instr}
 use Rattle.smith_instr.specs.declared.instr.Instr.TheVariants.{Reference}
 use Rattle.smith_instr.specs.declared.reference.ReferenceInstr.TheVariants.{Null}
-use Rattle.smith_binary_read_instr.specs.Expressions.{IsNestedExpr}
 
 -- the expression `ref.null` of a reference type (Table Section)
 abbrev pub null_of : RefType → List Instr

@@ -1,17 +1,10 @@
 -- Element segments in their eight forms, and their readings: the section Binary Format, Modules,
 -- Element Section, of the WebAssembly Core Specification 3.0.
 use Rattle.std.specs.Prelude.{◌≡◌, ℕ, ◌==◌, if◌then◌else◌, false, true, List}
-use Rattle.smith_binary.specs.Numbers.{IsUnsigned}
-use Rattle.smith_binary.specs.Pieces.{Joined}
-use Rattle.smith_syntax.specs.declared.value_type.RefType.{RefType}
-use Rattle.smith_binary_read.specs.declared.error.Reason.TheVariants.{UnknownByte}
-use Rattle.smith_binary_read.specs.Readings.{Reading, ◌>>=◌, fault_at, byte_at, joined_at, mapped_at}
-use Rattle.smith_binary_read.specs.Numbers.{unsigned_at}
-use Rattle.smith_binary_read.specs.Contents.{list_at}
+use Rattle.smith_decode.specs.Common.{byte_at, expr_at, fault_at, Instr, IsUnsigned, Joined, joined_at, list_at, mapped_at, Reading}
+use Rattle.smith_decode.specs.Common.{RefType, UnknownByte, unsigned_at, ◌>>=◌}
 use Rattle.smith_binary_read.specs.TypeReadings.{ref_type_at}
 use Rattle.smith_binary_sections.specs.Elements.{func_ref, IsKindFuncs}
-use Rattle.smith_instr.specs.declared.instr.Instr.{Instr}
-use Rattle.smith_binary_read_instr.specs.ExpressionReadings.{expr_at}
 use Rattle.smith_decode.specs.declared.elements.ElementItems.{ElementItems}
 use Rattle.smith_decode.specs.declared.elements.ElementItems.TheVariants.{Functions, Expressions}
 use Rattle.smith_decode.specs.declared.elements.ElementMode.{ElementMode}

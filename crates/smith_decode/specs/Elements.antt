@@ -1,18 +1,13 @@
 -- Element segments whose offset and items are any expressions: the section Binary Format, Modules,
 -- Element Section, of the WebAssembly Core Specification 3.0.
 use Rattle.std.specs.Prelude.{◌≡◌, ℕ, false, true, List, [], ◌∷◌, map}
-use Rattle.smith_binary.specs.Numbers.{IsUnsigned}
-use Rattle.smith_binary.specs.Pieces.{Joined, IsList}
-use Rattle.smith_syntax.specs.declared.value_type.RefType.{RefType}
+use Rattle.smith_decode.specs.Common.{Instr, IsIndex, IsList, IsNestedExpr, IsUnsigned, Joined, RefType}
 use Rattle.smith_binary_sections.specs.Types.{IsRefType}
-use Rattle.smith_binary_sections.specs.Instructions.{IsIndex}
 use Rattle.smith_binary_sections.specs.Elements.{func_ref, Form, form_number, IsFuncs, IsKindFuncs}
 use Rattle.smith_binary_sections.specs.Elements.Form.{first_funcs, passive_funcs, table_funcs, declared_funcs}
 use Rattle.smith_binary_sections.specs.Elements.Form.{first_items, passive_items, table_items, declared_items}
-use Rattle.smith_instr.specs.declared.instr.Instr.{Instr}
 use Rattle.smith_instr.specs.declared.instr.Instr.TheVariants.{Reference}
 use Rattle.smith_instr.specs.declared.reference.ReferenceInstr.TheVariants.{Func}
-use Rattle.smith_binary_read_instr.specs.Expressions.{IsNestedExpr}
 
 -- the mode of an element segment (Structure, Element Segments)
 pub data Mode : Type 0 where

@@ -1,7 +1,6 @@
 -- Modules of the examples.
 use Rattle.std.specs.Prelude.{List, [], ◌∷◌, ℕ, true, false, Some, None, pos}
-use Rattle.smith_syntax.specs.declared.entity_type.MemoryType.{MemoryType}
-use Rattle.smith_instr.specs.declared.instr.Instr.{Instr}
+use Rattle.smith_decode.specs.Common.{Instr, MemoryType}
 use Rattle.smith_instr.specs.declared.instr.Instr.TheVariants as instr
 use Rattle.smith_instr.specs.declared.memory.MemoryInstr.TheVariants.{DataDrop}
 use Rattle.smith_instr.specs.declared.numeric.IntUnary.TheVariants.{Ctz}

@@ -2,16 +2,14 @@
 -- segments. By a rule of this project, a module may have a form only if its features are enabled;
 -- the standard defines one language.
 use Rattle.std.specs.Prelude.{◌≡◌, ◌≤◌, ◌^◌, ℕ, ◌⊎◌, IsTrue, IsSome, Option, Some, List, [], ◌∷◌, All, slice_get, take}
-use Rattle.smith_syntax.specs.Features.{Features}
-use Rattle.smith_syntax.specs.declared.entity_type.ExportKind.{ExportKind}
-use Rattle.smith_syntax.specs.declared.entity_type.ExportKind.TheVariants as kind
-use Rattle.smith_syntax.specs.declared.value_type.RefType.{RefType}
+use Rattle.smith_decode.specs.Common.{Export, Features, Instr, RefType, TagDefinition}
+use Rattle.smith_types.specs.Syntax.entity_type.ExportKind.{ExportKind}
+use Rattle.smith_types.specs.Syntax.entity_type.ExportKind.TheVariants as kind
 use Rattle.smith_types.specs.Flags.{IsHeapTypeEnabled}
 use Rattle.smith_instr.specs.Enabled.{has_features}
 use Rattle.smith_instr.specs.declared.control.BlockType.{BlockType}
 use Rattle.smith_instr.specs.declared.control.BlockType.TheVariants as block
 use Rattle.smith_instr.specs.declared.control.BranchCast.{BranchCast}
-use Rattle.smith_instr.specs.declared.instr.Instr.{Instr}
 use Rattle.smith_instr.specs.declared.instr.Instr.TheVariants as instr
 use Rattle.smith_instr.specs.declared.memory.MemArg.{MemArg}
 use Rattle.smith_instr.specs.declared.memory.MemoryInstr.{MemoryInstr}
@@ -20,8 +18,6 @@ use Rattle.smith_instr.specs.declared.reference.ReferenceInstr.{ReferenceInstr}
 use Rattle.smith_instr.specs.declared.reference.ReferenceInstr.TheVariants as reference
 use Rattle.smith_instr.specs.declared.table.TableInstr.{TableInstr}
 use Rattle.smith_instr.specs.declared.table.TableInstr.TheVariants as table
-use Rattle.smith_binary_read.specs.declared.exports.Export.{Export}
-use Rattle.smith_binary_read.specs.declared.tags.TagDefinition.{TagDefinition}
 use Rattle.smith_decode.specs.declared.bodies.Body.{Body}
 use Rattle.smith_decode.specs.declared.bodies.LocalRun.{LocalRun}
 use Rattle.smith_decode.specs.declared.data.DataMode.{DataMode}

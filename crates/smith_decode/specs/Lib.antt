@@ -1,3 +1,4 @@
+pub mod Common
 pub mod Definitions
 pub mod Elements
 pub mod Data

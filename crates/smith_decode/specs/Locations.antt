@@ -1,11 +1,8 @@
 -- The offset at which each item of a module begins, which is the end of the item before it. The
 -- section Binary Format, Modules, of the WebAssembly Core Specification 3.0.
 use Rattle.std.specs.Prelude.{ℕ, zero, suc, ◌-◌, ◌==◌, nat_lt, if◌then◌else◌, List, length, Option, Some, None, Result, Ok, Err}
-use Rattle.smith_binary_read.specs.declared.error.Fault.{Fault}
+use Rattle.smith_decode.specs.Common.{byte_at, content_at, Fault, fault_at, list_at, Reading, unsigned_at, ◌>>=◌}
 use Rattle.smith_binary_read.specs.declared.error.Reason.TheVariants.{UnexpectedEnd}
-use Rattle.smith_binary_read.specs.Readings.{Reading, ◌>>=◌, fault_at, byte_at}
-use Rattle.smith_binary_read.specs.Numbers.{unsigned_at}
-use Rattle.smith_binary_read.specs.Contents.{content_at, list_at}
 use Rattle.smith_binary_read.specs.TypeReadings.{group_at}
 use Rattle.smith_binary_read.specs.EntityReadings.{memory_type_at, global_type_at, export_at}
 use Rattle.smith_binary_read.specs.ImportReadings.{import_group_at}

@@ -1,16 +1,10 @@
 -- Readings of modules: the section Binary Format, Modules, of the WebAssembly Core Specification 3.0.
 use Rattle.std.specs.Prelude.{◌==◌, ◌&&◌, ℕ, Bool, true, not, if◌then◌else◌, List, [], ◌∷◌, length, Option, Some, None}
 use Rattle.std.specs.Prelude.{Result, Ok, Err}
-use Rattle.smith_syntax.specs.declared.composite_type.SubType.{SubType}
-use Rattle.smith_syntax.specs.declared.entity_type.MemoryType.{MemoryType}
-use Rattle.smith_syntax.specs.declared.imports.Imports.{Imports}
-use Rattle.smith_binary_read.specs.declared.error.Fault.{Fault}
-use Rattle.smith_binary_read.specs.declared.error.Reason.TheVariants.{UnknownByte, CountMismatch, DataCountMissing}
-use Rattle.smith_binary_read.specs.declared.exports.Export.{Export}
-use Rattle.smith_binary_read.specs.declared.tags.TagDefinition.{TagDefinition}
-use Rattle.smith_binary_read.specs.Readings.{◌>>=◌, fault_at, byte_at, mapped_at, whole_at}
-use Rattle.smith_binary_read.specs.Numbers.{unsigned_at}
-use Rattle.smith_binary_read.specs.Contents.{list_at}
+use Rattle.smith_decode.specs.Common.{byte_at, Export, Fault, fault_at, Imports, list_at, mapped_at, MemoryType, SubType, TagDefinition}
+use Rattle.smith_decode.specs.Common.{UnknownByte, unsigned_at, ◌>>=◌}
+use Rattle.smith_binary_read.specs.declared.error.Reason.TheVariants.{CountMismatch, DataCountMissing}
+use Rattle.smith_binary_read.specs.Readings.{whole_at}
 use Rattle.smith_binary_read.specs.TypeReadings.{group_at}
 use Rattle.smith_binary_read.specs.EntityReadings.{memory_type_at, export_at}
 use Rattle.smith_binary_read.specs.ImportReadings.{import_group_at}

@@ -1,7 +1,6 @@
 -- The results of the decoder.
 use Rattle.std.specs.Prelude.{◌≡◌, ◌-◌, ℕ, List, length, unwrap_or, Result, Ok, Err}
-use Rattle.smith_syntax.specs.Features.{Features}
-use Rattle.smith_binary_read.specs.declared.error.Fault.{Fault}
+use Rattle.smith_decode.specs.Common.{Fault, Features}
 use Rattle.smith_decode.specs.declared.error.DecodeError.{DecodeError}
 use Rattle.smith_decode.specs.declared.error.DecodeError.TheVariants.{Memory, Malformed, FeatureOff}
 use Rattle.smith_decode.specs.declared.locations.Place.{Place}

@@ -2,15 +2,12 @@
 -- the bytes of names, data segments and custom sections (own rule). In a file, each item has at
 -- least one byte.
 use Rattle.std.specs.Prelude.{ℕ, ◌+◌, List, [], ◌∷◌, length}
-use Rattle.smith_syntax.specs.declared.composite_type.CompositeInnerType.{CompositeInnerType}
-use Rattle.smith_syntax.specs.declared.composite_type.CompositeInnerType.TheVariants.{Array, Struct, Func}
-use Rattle.smith_syntax.specs.declared.composite_type.SubType.{SubType}
-use Rattle.smith_syntax.specs.declared.imports.ImportItem.{ImportItem}
-use Rattle.smith_syntax.specs.declared.imports.Imports.{Imports}
-use Rattle.smith_syntax.specs.declared.imports.Imports.TheVariants.{Single, Compact1, Compact2}
-use Rattle.smith_instr.specs.declared.instr.Instr.{Instr}
+use Rattle.smith_types.specs.Syntax.composite_type.CompositeInnerType.{CompositeInnerType}
+use Rattle.smith_types.specs.Syntax.composite_type.CompositeInnerType.TheVariants.{Array, Struct, Func}
+use Rattle.smith_decode.specs.Common.{Export, Imports, Instr, SubType}
+use Rattle.smith_types.specs.Syntax.imports.ImportItem.{ImportItem}
+use Rattle.smith_types.specs.Syntax.imports.Imports.TheVariants.{Single, Compact1, Compact2}
 use Rattle.smith_instr.specs.declared.instr.Instr.TheVariants.{BrTable, SelectTyped, TryTable}
-use Rattle.smith_binary_read.specs.declared.exports.Export.{Export}
 use Rattle.smith_decode.specs.declared.bodies.Body.{Body}
 use Rattle.smith_decode.specs.declared.customs.Custom.{Custom}
 use Rattle.smith_decode.specs.declared.data.DataMode.{DataMode}

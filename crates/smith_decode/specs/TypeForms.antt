@@ -1,19 +1,12 @@
 -- The features that the forms of types require. By a rule of this project, a module may have a form
 -- only if its features are enabled; the standard defines one language.
 use Rattle.std.specs.Prelude.{◌≡◌, false, IsTrue, IsSome, List, length, All}
-use Rattle.smith_syntax.specs.Features.{Features}
-use Rattle.smith_syntax.specs.declared.value_type.RefType.{RefType}
-use Rattle.smith_syntax.specs.declared.value_type.ValType.{ValType}
-use Rattle.smith_syntax.specs.declared.value_type.ValType.TheVariants.{V128, Ref}
-use Rattle.smith_syntax.specs.declared.composite_type.SubType.{SubType}
-use Rattle.smith_syntax.specs.declared.entity_type.EntityType.{EntityType}
-use Rattle.smith_syntax.specs.declared.entity_type.EntityType.TheVariants as entity
-use Rattle.smith_syntax.specs.declared.entity_type.GlobalType.{GlobalType}
-use Rattle.smith_syntax.specs.declared.entity_type.MemoryType.{MemoryType}
-use Rattle.smith_syntax.specs.declared.entity_type.TableType.{TableType}
-use Rattle.smith_syntax.specs.declared.imports.Imports.{Imports}
-use Rattle.smith_syntax.specs.declared.imports.Imports.TheVariants.{Single, Compact1, Compact2}
-use Rattle.smith_syntax.specs.declared.imports.ImportItem.{ImportItem}
+use Rattle.smith_decode.specs.Common.{Features, GlobalType, Imports, MemoryType, RefType, SubType, TableType, ValType}
+use Rattle.smith_types.specs.Syntax.value_type.ValType.TheVariants.{V128, Ref}
+use Rattle.smith_types.specs.Syntax.entity_type.EntityType.{EntityType}
+use Rattle.smith_types.specs.Syntax.entity_type.EntityType.TheVariants as entity
+use Rattle.smith_types.specs.Syntax.imports.Imports.TheVariants.{Single, Compact1, Compact2}
+use Rattle.smith_types.specs.Syntax.imports.ImportItem.{ImportItem}
 use Rattle.smith_types.specs.Flags.{IsElementTypeEnabled, IsHeapTypeEnabled, IsImportsEnabled, IsSubTypeEnabled}
 use Rattle.smith_types.specs.ValidTypes.{values_of}
 

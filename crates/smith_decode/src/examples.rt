@@ -1,6 +1,6 @@
 ghost use Rattle.std.specs.Prelude.{◌≡◌, false, Some, None, Ok, Err, [], ◌∷◌, pos};
-ghost use Rattle.smith_syntax.specs.Features.{Features, every_feature};
-ghost use Rattle.smith_syntax.specs.declared.value_type.ValType.TheVariants.{I32, V128};
+ghost use Rattle.smith_types.specs.Syntax.Features.{Features, every_feature};
+ghost use Rattle.smith_types.specs.Syntax.value_type.ValType.TheVariants.{I32, V128};
 ghost use Rattle.smith_instr.specs.declared.instr.Instr.TheVariants as instr;
 ghost use Rattle.smith_instr.specs.declared.numeric.IntBinary.TheVariants.{Add};
 ghost use Rattle.smith_instr.specs.declared.numeric.NumericInstr.TheVariants.{I32Binary};

@@ -1,5 +1,5 @@
 ghost use Rattle.std.specs.Prelude.{◌≡◌, ◌↔◌, IsTrue, All, MatchOption, take};
-ghost use Rattle.smith_syntax.specs.FeatureBits.{features_in};
+ghost use Rattle.smith_types.specs.Syntax.FeatureBits.{features_in};
 ghost use Rattle.smith_instr.specs.Enabled.{has_features};
 ghost use Rattle.smith_decode.specs.Definitions.{null_of, null_type};
 ghost use Rattle.smith_decode.specs.Forms.{
@@ -51,7 +51,7 @@ struct EnabledConstant {
 
 impl Predicate<Instr> for EnabledForm {
     ghost use Rattle.smith_decode.specs.Forms.{IsInstrEnabled};
-    ghost use Rattle.smith_syntax.specs.FeatureBits.{features_in};
+    ghost use Rattle.smith_types.specs.Syntax.FeatureBits.{features_in};
 
     ghost meaning = { λ form instruction. IsInstrEnabled (features_in form.features) instruction };
 
@@ -64,7 +64,7 @@ impl Predicate<Instr> for EnabledForm {
 
 impl Predicate<Instr> for EnabledConstant {
     ghost use Rattle.smith_decode.specs.Forms.{IsConstantEnabled};
-    ghost use Rattle.smith_syntax.specs.FeatureBits.{features_in};
+    ghost use Rattle.smith_types.specs.Syntax.FeatureBits.{features_in};
 
     ghost meaning = { λ form instruction. IsConstantEnabled (features_in form.features) instruction };
 
@@ -78,7 +78,7 @@ impl Predicate<Instr> for EnabledConstant {
 
 impl Predicate<Items<Instr>> for EnabledForm {
     ghost use Rattle.smith_decode.specs.Forms.{IsExprEnabled};
-    ghost use Rattle.smith_syntax.specs.FeatureBits.{features_in};
+    ghost use Rattle.smith_types.specs.Syntax.FeatureBits.{features_in};
 
     ghost meaning = { λ form expression. IsExprEnabled (features_in form.features) expression };
 
@@ -89,7 +89,7 @@ impl Predicate<Items<Instr>> for EnabledForm {
 
 impl Predicate<TableDefinition> for EnabledForm {
     ghost use Rattle.smith_decode.specs.Forms.{IsTableEnabled};
-    ghost use Rattle.smith_syntax.specs.FeatureBits.{features_in};
+    ghost use Rattle.smith_types.specs.Syntax.FeatureBits.{features_in};
 
     ghost meaning = { λ form table. IsTableEnabled (features_in form.features) table };
 
@@ -103,7 +103,7 @@ impl Predicate<TableDefinition> for EnabledForm {
 
 impl Predicate<TagDefinition> for EnabledForm {
     ghost use Rattle.smith_decode.specs.Forms.{IsTagEnabled};
-    ghost use Rattle.smith_syntax.specs.FeatureBits.{features_in};
+    ghost use Rattle.smith_types.specs.Syntax.FeatureBits.{features_in};
 
     ghost meaning = { λ form tag. IsTagEnabled (features_in form.features) tag };
 
@@ -114,7 +114,7 @@ impl Predicate<TagDefinition> for EnabledForm {
 
 impl Predicate<GlobalDefinition> for EnabledForm {
     ghost use Rattle.smith_decode.specs.Forms.{IsGlobalEnabled};
-    ghost use Rattle.smith_syntax.specs.FeatureBits.{features_in};
+    ghost use Rattle.smith_types.specs.Syntax.FeatureBits.{features_in};
 
     ghost meaning = { λ form global. IsGlobalEnabled (features_in form.features) global };
 
@@ -126,7 +126,7 @@ impl Predicate<GlobalDefinition> for EnabledForm {
 
 impl Predicate<Export> for EnabledForm {
     ghost use Rattle.smith_decode.specs.Forms.{IsExportEnabled};
-    ghost use Rattle.smith_syntax.specs.FeatureBits.{features_in};
+    ghost use Rattle.smith_types.specs.Syntax.FeatureBits.{features_in};
 
     ghost meaning = { λ form item. IsExportEnabled (features_in form.features) item };
 
@@ -137,7 +137,7 @@ impl Predicate<Export> for EnabledForm {
 
 impl Predicate<ElementSegment> for EnabledForm {
     ghost use Rattle.smith_decode.specs.Forms.{IsElementEnabled};
-    ghost use Rattle.smith_syntax.specs.FeatureBits.{features_in};
+    ghost use Rattle.smith_types.specs.Syntax.FeatureBits.{features_in};
 
     ghost meaning = { λ form segment. IsElementEnabled (features_in form.features) segment };
 
@@ -149,7 +149,7 @@ impl Predicate<ElementSegment> for EnabledForm {
 
 impl Predicate<DataSegment> for EnabledForm {
     ghost use Rattle.smith_decode.specs.Forms.{IsDataEnabled};
-    ghost use Rattle.smith_syntax.specs.FeatureBits.{features_in};
+    ghost use Rattle.smith_types.specs.Syntax.FeatureBits.{features_in};
 
     ghost meaning = { λ form segment. IsDataEnabled (features_in form.features) segment };
 
@@ -160,7 +160,7 @@ impl Predicate<DataSegment> for EnabledForm {
 
 impl Predicate<LocalRun> for EnabledForm {
     ghost use Rattle.smith_decode.specs.TypeForms.{IsValTypeEnabled};
-    ghost use Rattle.smith_syntax.specs.FeatureBits.{features_in};
+    ghost use Rattle.smith_types.specs.Syntax.FeatureBits.{features_in};
 
     ghost meaning = { λ form run. IsValTypeEnabled (features_in form.features) run.ty };
 
@@ -171,7 +171,7 @@ impl Predicate<LocalRun> for EnabledForm {
 
 impl Predicate<Body> for EnabledForm {
     ghost use Rattle.smith_decode.specs.Forms.{IsBodyEnabled};
-    ghost use Rattle.smith_syntax.specs.FeatureBits.{features_in};
+    ghost use Rattle.smith_types.specs.Syntax.FeatureBits.{features_in};
 
     ghost meaning = { λ form body. IsBodyEnabled (features_in form.features) body };
 

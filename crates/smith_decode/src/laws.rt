@@ -1,6 +1,6 @@
 ghost use Rattle.std.specs.Prelude.{◌≡◌, ℕ, true, List};
 ghost use Rattle.std.specs.List.{list_any};
-ghost use Rattle.smith_syntax.specs.declared.value_type.ValType.{ValType};
+ghost use Rattle.smith_types.specs.Syntax.value_type.ValType.{ValType};
 ghost use Rattle.smith_instr.specs.declared.instr.Instr.{Instr};
 ghost use Rattle.smith_binary_sections.specs.Modules.{Contents, IsModule};
 ghost use Rattle.smith_binary_read.specs.Decodes.{Decodes};

@@ -11,7 +11,7 @@ ghost use Rattle.smith_decode.specs.Forms.{AreFormsEnabled};
 ghost use Rattle.smith_decode.specs.Locations.{located};
 ghost use Rattle.smith_decode.specs.Results.{Locates, Returns, offset_in};
 ghost use Rattle.smith_decode.specs.Sizes.{items_in};
-ghost use Rattle.smith_syntax.specs.FeatureBits.{features_in};
+ghost use Rattle.smith_types.specs.Syntax.FeatureBits.{features_in};
 
 use crate::bodies::{Body, name_data};
 use crate::customs::{Custom, read_customs};

@@ -1,5 +1,5 @@
 ghost use Rattle.std.specs.Prelude.{◌≡◌, ◌↔◌, IsTrue, All, false, length};
-ghost use Rattle.smith_syntax.specs.FeatureBits.{features_in};
+ghost use Rattle.smith_types.specs.Syntax.FeatureBits.{features_in};
 ghost use Rattle.smith_types.specs.Flags.{
   IsAbstractEnabled,
   IsElementTypeEnabled,
@@ -35,7 +35,7 @@ pub(crate) struct EnabledForm {
 
 impl Predicate<ValType> for EnabledForm {
     ghost use Rattle.smith_decode.specs.TypeForms.{IsValTypeEnabled};
-    ghost use Rattle.smith_syntax.specs.FeatureBits.{features_in};
+    ghost use Rattle.smith_types.specs.Syntax.FeatureBits.{features_in};
 
     ghost meaning = { λ form value. IsValTypeEnabled (features_in form.features) value };
 
@@ -46,7 +46,7 @@ impl Predicate<ValType> for EnabledForm {
 
 impl Predicate<SubType> for EnabledForm {
     ghost use Rattle.smith_decode.specs.TypeForms.{IsTypeEnabled};
-    ghost use Rattle.smith_syntax.specs.FeatureBits.{features_in};
+    ghost use Rattle.smith_types.specs.Syntax.FeatureBits.{features_in};
 
     ghost meaning = { λ form ty. IsTypeEnabled (features_in form.features) ty };
 
@@ -58,7 +58,7 @@ impl Predicate<SubType> for EnabledForm {
 
 impl Predicate<Items<SubType>> for EnabledForm {
     ghost use Rattle.smith_decode.specs.TypeForms.{IsGroupEnabled};
-    ghost use Rattle.smith_syntax.specs.FeatureBits.{features_in};
+    ghost use Rattle.smith_types.specs.Syntax.FeatureBits.{features_in};
 
     ghost meaning = { λ form group. IsGroupEnabled (features_in form.features) group };
 
@@ -69,7 +69,7 @@ impl Predicate<Items<SubType>> for EnabledForm {
 
 impl Predicate<ImportItem> for EnabledForm {
     ghost use Rattle.smith_decode.specs.TypeForms.{IsEntityTypeEnabled};
-    ghost use Rattle.smith_syntax.specs.FeatureBits.{features_in};
+    ghost use Rattle.smith_types.specs.Syntax.FeatureBits.{features_in};
 
     ghost meaning = { λ form item. IsEntityTypeEnabled (features_in form.features) item.entity_type };
 
@@ -80,7 +80,7 @@ impl Predicate<ImportItem> for EnabledForm {
 
 impl Predicate<Imports> for EnabledForm {
     ghost use Rattle.smith_decode.specs.TypeForms.{IsImportGroupEnabled};
-    ghost use Rattle.smith_syntax.specs.FeatureBits.{features_in};
+    ghost use Rattle.smith_types.specs.Syntax.FeatureBits.{features_in};
 
     ghost meaning = { λ form group. IsImportGroupEnabled (features_in form.features) group };
 
@@ -91,7 +91,7 @@ impl Predicate<Imports> for EnabledForm {
 
 impl Predicate<MemoryType> for EnabledForm {
     ghost use Rattle.smith_decode.specs.TypeForms.{IsMemoryTypeEnabled};
-    ghost use Rattle.smith_syntax.specs.FeatureBits.{features_in};
+    ghost use Rattle.smith_types.specs.Syntax.FeatureBits.{features_in};
 
     ghost meaning = { λ form memory. IsMemoryTypeEnabled (features_in form.features) memory };
 

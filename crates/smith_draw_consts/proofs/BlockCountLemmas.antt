@@ -1,8 +1,8 @@
 -- Counts of what is offered: among all items read, and before each block of them.
-use Rattle.std.proofs.Common.{◌≡◌, ◌≢◌, ◌⊎◌, inl, inr, ℕ, ◌+◌, ◌*◌, ◌/◌, ◌%◌, ◌<◌, ◌≤◌, min, List, [], ◌∷◌, ◌++◌, get_or, map, length, sym}
-use Rattle.std.proofs.Common.{ap, ◌∙◌, arith}
+use Rattle.smith_draw_consts.proofs.Common.{[], ap, arith, cases_lt, get_or, inl, inr, length, List, map, sym, ℕ, ◌%◌, ◌*◌, ◌++◌, ◌+◌, ◌<◌}
+use Rattle.smith_draw_consts.proofs.Common.{◌∙◌, ◌∷◌, ◌≡◌, ◌≤◌, ◌⊎◌}
+use Rattle.std.proofs.Common.{min, ◌/◌, ◌≢◌}
 use Rattle.std.specs.List.{range_with_len}
-use Rattle.std.proofs.lemmas.Bool.{cases_lt}
 use Rattle.std.proofs.lemmas.List.FromFn.{fill_by_all, get_or-map-range_with_len, length-map-range_with_len, map-range_with_len_more}
 use Rattle.smith_draw_consts.specs.KeptOffers.{IsCounted}
 use Rattle.smith_draw_consts.specs.declared.block_counts.BlockCounts.{BlockCounts}

@@ -1,20 +1,13 @@
 -- The classes of the items read, and the flags of classes.
-use Rattle.std.proofs.Common.{◌≡◌, inl, inr, ℕ, ◌+◌, ◌<◌, Bool, true, false, List, [], ◌∷◌, ◌++◌, get_or, length, refl, sym, ap, ◌∙◌, subst}
-use Rattle.std.proofs.Common.{arith}
-use Rattle.std.specs.Prelude.{All, Option, None, Some, IfSome, not, ◌&&◌, slice_get, slice_index, if◌then◌else◌}
-use Rattle.std.proofs.lemmas.Bool.{cases_lt}
+use Rattle.smith_draw_consts.proofs.Common.{[], All, All-nil, All-push, ap, arith, Bool, cases_lt, Context, false, function_reference}
+use Rattle.smith_draw_consts.proofs.Common.{get_or, get_or_from_slice_get, GlobalType, I32, IfSome, if◌then◌else◌, inl, inr, is_val_below}
+use Rattle.smith_draw_consts.proofs.Common.{IsValInRange, length, List, None, not, Option, refl, slice_get, slice_get-get_or}
+use Rattle.smith_draw_consts.proofs.Common.{slice_get_within, slice_index, Some, subst, SubType, sym, true, ValType, ℕ, ◌&&◌, ◌++◌, ◌+◌}
+use Rattle.smith_draw_consts.proofs.Common.{◌<◌, ◌∙◌, ◌∷◌, ◌≡◌}
 use Rattle.std.proofs.lemmas.List.{length-append}
-use Rattle.std.proofs.lemmas.List.Elements.{All-nil, All-push, All-weaker}
-use Rattle.std.proofs.lemmas.Option.{get_or_from_slice_get, slice_get-get_or, slice_get_within}
+use Rattle.std.proofs.lemmas.List.Elements.{All-weaker}
 use Rattle.std.proofs.Math.ListN.{get_or-append}
 use Rattle.std.proofs.Math.Seq.{get_or-append_seam}
-use Rattle.smith_types.specs.Expressions.{Context, function_reference}
-use Rattle.smith_types.specs.Subtyping.{IsValInRange}
-use Rattle.smith_syntax.specs.declared.composite_type.SubType.{SubType}
-use Rattle.smith_syntax.specs.declared.entity_type.GlobalType.{GlobalType}
-use Rattle.smith_syntax.specs.declared.value_type.ValType.{ValType}
-use Rattle.smith_syntax.specs.declared.value_type.ValType.TheVariants.{I32}
-use Rattle.smith_draw_types.specs.Below.{is_val_below}
 use Rattle.smith_draw_consts.specs.ConstOffers.{offered_if, global_offers, function_offers}
 use Rattle.smith_draw_consts.specs.KeptOffers.{AreClasses, AreFlags, IsEntry, IsNoted, IsTally, is_offered, offered_before, readable}
 use Rattle.smith_draw_consts.specs.declared.classes.Classes.{Classes}

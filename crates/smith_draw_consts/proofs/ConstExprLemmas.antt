@@ -1,15 +1,9 @@
 -- The definition of a constant expression, after each kind of choice.
-use Rattle.std.proofs.Common.{◌≡◌, ◌⊎◌, inl, inr, ℕ, zero, suc, ◌-◌, ◌<◌, true, false, List, [], ◌∷◌, ◌++◌, Option, Some, None, length}
-use Rattle.std.proofs.Common.{refl, sym, subst, ap, ◌∙◌, arith}
-use Rattle.std.specs.Prelude.{Result, Ok, Err, IsErrAnd}
-use Rattle.std.specs.Option.{option_map}
-use Rattle.smith_bytes.specs.declared.error.Error.{Error}
+use Rattle.smith_draw_consts.proofs.Common.{[], ap, arith, choose_at, Config, ConstInstr, Context, Err, Error, false, inl, inr, IsErrAnd}
+use Rattle.smith_draw_consts.proofs.Common.{length, List, Ok, option_map, refl, Result, subst, suc, sym, true, ValType, zero, ℕ, ◌++◌, ◌-◌}
+use Rattle.smith_draw_consts.proofs.Common.{◌<◌, ◌∙◌, ◌∷◌, ◌≡◌, ◌⊎◌}
+use Rattle.std.proofs.Common.{None, Option, Some}
 use Rattle.smith_bytes.specs.declared.error.Error.TheVariants as errors
-use Rattle.smith_bytes.specs.Draws.{choose_at}
-use Rattle.smith_types.specs.Expressions.{Context}
-use Rattle.smith_syntax.specs.declared.value_type.ValType.{ValType}
-use Rattle.smith_syntax.specs.declared.const_instr.ConstInstr.{ConstInstr}
-use Rattle.smith_config.specs.declared.config.Config.{Config}
 use Rattle.smith_draw_consts.specs.Constants.{extended_at}
 use Rattle.smith_draw_consts.specs.ConstOffers.{offers}
 use Rattle.smith_draw_consts.specs.ConstNodes.{is_extended, node_at}

@@ -1,33 +1,24 @@
 -- No drawn constant expression has a float constant if the wanted type is not a float and no
 -- existing type contains one.
-use Rattle.std.proofs.Common.{◌≡◌, ℕ, zero, suc, Bool, true, false, List, [], ◌∷◌, ◌++◌, Option, Some, None, map, length, ◌-◌, refl, subst}
-use Rattle.std.proofs.Common.{ap}
-use Rattle.std.specs.Prelude.{slice_get, All, IfSome, option_and_then}
+use Rattle.smith_draw_consts.proofs.Common.{[], All, All-from_recursion, All-nil, All-push, ap, Bool, choose_at, CompositeInnerType, Config}
+use Rattle.smith_draw_consts.proofs.Common.{ConstInstr, Context, F32, F64, false, field_values, fields_of, FieldType, I32, I64, IfSome}
+use Rattle.smith_draw_consts.proofs.Common.{length, List, map, option_map, range_at, recursion_from_All, Ref, refl, same_Some, slice_get}
+use Rattle.smith_draw_consts.proofs.Common.{subst, SubType, suc, true, unpacked, V128, ValType, zero, ℕ, ◌++◌, ◌-◌, ◌∷◌, ◌≡◌}
+use Rattle.std.proofs.Common.{None, Option, Some}
+use Rattle.std.specs.Prelude.{option_and_then}
 use Rattle.std.specs.List.{AllByRecursion as Each}
 use Rattle.std.specs.Int.{cast_signed, w32}
-use Rattle.std.specs.Option.{option_map}
-use Rattle.std.proofs.lemmas.List.Elements.{All-nil, All-append, All-push, All-from_recursion, recursion_from_All}
-use Rattle.std.proofs.lemmas.Option.{same_Some}
-use Rattle.smith_bytes.specs.Draws.{range_at, choose_at}
+use Rattle.std.proofs.lemmas.List.Elements.{All-append}
 use Rattle.smith_bytes.proofs.GrownLemmas.{cond_both}
-use Rattle.smith_types.specs.Expressions.{Context, field_values, unpacked}
 use Rattle.smith_types.specs.Floats.{IsNoFloat, HasNoFloat, GivesNoFloat}
 use Rattle.smith_types.specs.ValidTypes.{values_of, values_of_storage}
-use Rattle.smith_syntax.specs.declared.value_type.AbstractHeapType.{AbstractHeapType}
-use Rattle.smith_syntax.specs.declared.value_type.AbstractHeapType.TheVariants as heap
-use Rattle.smith_syntax.specs.declared.value_type.ValType.{ValType}
-use Rattle.smith_syntax.specs.declared.value_type.ValType.TheVariants.{I32, I64, F32, F64, V128, Ref}
-use Rattle.smith_syntax.specs.declared.composite_type.StorageType.{StorageType}
-use Rattle.smith_syntax.specs.declared.composite_type.StorageType.TheVariants.{I8, I16, Val}
-use Rattle.smith_syntax.specs.declared.composite_type.FieldType.{FieldType}
-use Rattle.smith_syntax.specs.declared.composite_type.CompositeInnerType.{CompositeInnerType}
-use Rattle.smith_syntax.specs.declared.composite_type.CompositeInnerType.TheVariants.{Array, Func, Struct}
-use Rattle.smith_syntax.specs.declared.composite_type.SubType.{SubType}
-use Rattle.smith_syntax.specs.declared.const_instr.ConstInstr.{ConstInstr}
-use Rattle.smith_syntax.specs.declared.const_instr.ConstInstr.TheVariants as instr
-use Rattle.smith_config.specs.declared.config.Config.{Config}
+use Rattle.smith_types.specs.Syntax.value_type.AbstractHeapType.{AbstractHeapType}
+use Rattle.smith_types.specs.Syntax.value_type.AbstractHeapType.TheVariants as heap
+use Rattle.smith_types.specs.Syntax.composite_type.StorageType.{StorageType}
+use Rattle.smith_types.specs.Syntax.composite_type.StorageType.TheVariants.{I8, I16, Val}
+use Rattle.smith_types.specs.Syntax.composite_type.CompositeInnerType.TheVariants.{Array, Func, Struct}
+use Rattle.smith_types.specs.Syntax.const_instr.ConstInstr.TheVariants as instr
 use Rattle.smith_draw_consts.specs.Constants.{constant_at, is_wide, operation, operator_at, extended_by, extended_within, extended_at}
-use Rattle.smith_draw_types.specs.HeldFields.{fields_of}
 use Rattle.smith_draw_consts.specs.ConstOffers.{offers}
 use Rattle.smith_draw_consts.specs.ConstNodes.{fields_there, field_operands, repeated, converted, is_extended, node_at}
 use Rattle.smith_draw_consts.specs.ConstExprs.{State, state_of, add_instruction, length_at, operand_at, operands_at, after_choice}

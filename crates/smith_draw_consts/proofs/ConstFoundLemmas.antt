@@ -1,21 +1,14 @@
 -- Searching and counting in lists of choices.
-use Rattle.std.proofs.Common.{rules, ◌≡◌, ℕ, zero, suc, ◌+◌, ◌*◌, ◌-◌, ◌<◌, ◌≤◌, ◌^◌, Bool, true, false, cond, List, [], ◌∷◌, ◌++◌, Some}
-use Rattle.std.proofs.Common.{length, get_or, drop, take, refl, sym, ap, ◌∙◌, arith, length-append}
-use Rattle.std.specs.Prelude.{Result, Ok, Err, IsErrAnd, slice_get, nat_lt, ◌&&◌, ◌||◌, not}
+use Rattle.smith_draw_consts.proofs.Common.{[], Abstract, ap, arith, Bool, choose_at, CompositeInnerType, cond, Config, Context, drop, Err}
+use Rattle.smith_draw_consts.proofs.Common.{F32, F64, false, function_reference, get_or, HeapType, I32, I64, is_val_below, IsErrAnd, length}
+use Rattle.smith_draw_consts.proofs.Common.{length-append, List, nat_lt, not, Ok, range_at, Ref, refl, Result, slice_get, SubType, suc, sym}
+use Rattle.smith_draw_consts.proofs.Common.{take, true, V128, ValType, zero, ℕ, ◌&&◌, ◌*◌, ◌++◌, ◌+◌, ◌-◌, ◌<◌, ◌||◌, ◌∙◌, ◌∷◌, ◌≡◌, ◌≤◌}
+use Rattle.std.proofs.Common.{rules, Some, ◌^◌}
 use Rattle.std.proofs.lemmas.List.{drop_more}
 use Rattle.std.specs.Result.{result_unwrap_or}
-use Rattle.smith_bytes.specs.Draws.{range_at, choose_at}
-use Rattle.smith_types.specs.Expressions.{Context, reference_to, function_reference}
-use Rattle.smith_syntax.specs.declared.value_type.AbstractHeapType.TheVariants as heap
-use Rattle.smith_syntax.specs.declared.value_type.HeapType.TheVariants.{Abstract}
-use Rattle.smith_config.specs.declared.config.Config.{Config}
-use Rattle.smith_draw_types.specs.Below.{is_val_below}
-use Rattle.smith_syntax.specs.declared.value_type.HeapType.{HeapType}
-use Rattle.smith_syntax.specs.declared.value_type.RefType.{RefType}
-use Rattle.smith_syntax.specs.declared.value_type.ValType.{ValType}
-use Rattle.smith_syntax.specs.declared.value_type.ValType.TheVariants.{I32, I64, F32, F64, V128, Ref}
-use Rattle.smith_syntax.specs.declared.composite_type.CompositeInnerType.{CompositeInnerType}
-use Rattle.smith_syntax.specs.declared.composite_type.SubType.{SubType}
+use Rattle.smith_types.specs.Expressions.{reference_to}
+use Rattle.smith_types.specs.Syntax.value_type.AbstractHeapType.TheVariants as heap
+use Rattle.smith_types.specs.Syntax.value_type.RefType.{RefType}
 use Rattle.smith_draw_consts.specs.ConstScopes.{IsScope}
 use Rattle.smith_draw_consts.specs.ConstOffers.{past, each_from, offered_if, is_integer, global_offers, function_offers, type_offers}
 use Rattle.smith_draw_consts.specs.ConstOffers.{types_offers, conversions_to, conversions, other_offers, created_offers, reference_offers}

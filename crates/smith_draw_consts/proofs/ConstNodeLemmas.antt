@@ -1,5 +1,5 @@
 -- The nodes of choices.
-use Rattle.std.proofs.Common.{◌≡◌, ℕ, suc, ◌+◌, ◌-◌, ◌<◌, List, ◌++◌, refl, sym, ap, ◌∙◌, arith, append_assoc}
+use Rattle.smith_draw_consts.proofs.Common.{ap, append_assoc, arith, List, refl, suc, sym, ℕ, ◌++◌, ◌+◌, ◌-◌, ◌<◌, ◌∙◌, ◌≡◌}
 use Rattle.smith_draw_consts.specs.ConstNodes.{repeated}
 
 -- one more copy

@@ -1,38 +1,26 @@
 -- Each choice that is offered makes a node that fits.
-use Rattle.std.proofs.Common.{◌≡◌, ◌⊎◌, inl, inr, ℕ, zero, suc, ◌+◌, ◌-◌, ◌<◌, ◌≤◌, Bool, true, false, cond, List, [], ◌∷◌, ◌++◌, Option}
-use Rattle.std.proofs.Common.{Some, length, take, map, refl, sym, subst, ap, ◌∙◌, arith, length-append}
-use Rattle.std.specs.Prelude.{slice_get, IsTrue, ◌&&◌, ◌||◌, ◌==◌, not, nat_lt, replicate}
+use Rattle.smith_draw_consts.proofs.Common.{[], Abstract, All-from_recursion, All-nil, ap, arith, Bool, choose_at, CompositeInnerType, cond}
+use Rattle.smith_draw_consts.proofs.Common.{Config, ConstInstr, Context, created, Error, F32, F64, false, field_values, fields_of}
+use Rattle.smith_draw_consts.proofs.Common.{FieldType, function_reference, get_or_from_slice_get, GlobalType, HasType, HeapType, I32, I64}
+use Rattle.smith_draw_consts.proofs.Common.{inl, inr, is_val_below, IsInstrEnabled, IsTrue, IsValBelow, IsValTypeValid, length}
+use Rattle.smith_draw_consts.proofs.Common.{length-append, List, map, nat_lt, not, range_at, recursion_from_All, Ref, refl, same_Some}
+use Rattle.smith_draw_consts.proofs.Common.{slice_get, slice_get_within, subst, SubType, suc, sym, take, true, unpacked, V128, val_decides}
+use Rattle.smith_draw_consts.proofs.Common.{ValType, zero, ℕ, ◌&&◌, ◌++◌, ◌+◌, ◌-◌, ◌<◌, ◌==◌, ◌||◌, ◌∙◌, ◌∷◌, ◌≡◌, ◌≤◌, ◌⊎◌}
+use Rattle.std.proofs.Common.{Option}
+use Rattle.std.proofs.Common.{Some}
+use Rattle.std.specs.Prelude.{replicate}
 use Rattle.std.specs.List.{AllByRecursion as Each}
 use Rattle.std.proofs.lemmas.Bool.Decides.{nat_tests}
-use Rattle.std.proofs.lemmas.List.Elements.{All-nil, All-from_recursion, recursion_from_All}
-use Rattle.std.proofs.lemmas.Option.{same_Some}
-use Rattle.smith_bytes.specs.Draws.{range_at, choose_at}
-use Rattle.smith_bytes.specs.declared.error.Error.{Error}
 use Rattle.smith_bytes.specs.declared.error.Error.TheVariants.{EmptyChoose}
 use Rattle.smith_bytes.proofs.DrawnLemmas.{range_within}
-use Rattle.smith_types.specs.Expressions.{Context, HasType, IsDefaultable, created, reference_to, function_reference, unpacked}
-use Rattle.smith_types.specs.Expressions.{field_values}
-use Rattle.smith_types.specs.Flags.{IsInstrEnabled}
-use Rattle.smith_types.specs.Subtyping.{IsValBelow}
-use Rattle.smith_types.specs.ValidTypes.{IsValTypeValid}
-use Rattle.smith_syntax.specs.declared.value_type.AbstractHeapType.TheVariants as heap
-use Rattle.smith_syntax.specs.declared.value_type.HeapType.{HeapType}
-use Rattle.smith_syntax.specs.declared.value_type.HeapType.TheVariants.{Abstract}
-use Rattle.smith_syntax.specs.declared.value_type.RefType.{RefType}
-use Rattle.smith_syntax.specs.declared.value_type.ValType.{ValType}
-use Rattle.smith_syntax.specs.declared.value_type.ValType.TheVariants.{I32, I64, F32, F64, V128, Ref}
-use Rattle.smith_syntax.specs.declared.composite_type.CompositeInnerType.{CompositeInnerType}
-use Rattle.smith_syntax.specs.declared.composite_type.CompositeInnerType.TheVariants as inner
-use Rattle.smith_syntax.specs.declared.composite_type.FieldType.{FieldType}
-use Rattle.smith_syntax.specs.declared.composite_type.SubType.{SubType}
-use Rattle.smith_syntax.specs.declared.entity_type.GlobalType.{GlobalType}
-use Rattle.smith_syntax.specs.declared.const_instr.ConstInstr.{ConstInstr}
-use Rattle.smith_syntax.specs.declared.const_instr.ConstInstr.TheVariants as instr
-use Rattle.smith_config.specs.declared.config.Config.{Config}
+use Rattle.smith_types.specs.Expressions.{IsDefaultable, reference_to}
+use Rattle.smith_types.specs.Syntax.value_type.AbstractHeapType.TheVariants as heap
+use Rattle.smith_types.specs.Syntax.value_type.RefType.{RefType}
+use Rattle.smith_types.specs.Syntax.composite_type.CompositeInnerType.TheVariants as inner
+use Rattle.smith_types.specs.Syntax.const_instr.ConstInstr.TheVariants as instr
 use Rattle.smith_draw_consts.specs.Constants.{constant_at}
-use Rattle.smith_draw_types.specs.Below.{is_heap_below, is_val_below}
+use Rattle.smith_draw_types.specs.Below.{is_heap_below}
 use Rattle.smith_draw_consts.specs.ConstScopes.{IsScope}
-use Rattle.smith_draw_types.specs.HeldFields.{fields_of}
 use Rattle.smith_draw_consts.specs.ConstOffers.{each_from, offered_if, is_integer, global_offers, function_offers, struct_ways, array_ways}
 use Rattle.smith_draw_consts.specs.ConstOffers.{type_offers, types_offers, conversions_to, conversions, other_offers, created_offers}
 use Rattle.smith_draw_consts.specs.ConstOffers.{reference_offers, constant_offers, offers}
@@ -47,10 +35,8 @@ use Rattle.smith_draw_consts.specs.declared.node_choice.Choice.TheVariants as ch
 use Rattle.smith_draw_consts.specs.declared.node.Operand.{Operand}
 use Rattle.smith_draw_consts.specs.declared.node.Operand.TheVariants.{Value, Length}
 use Rattle.smith_draw_consts.proofs.PuttingLemmas.{below_itself}
-use Rattle.smith_draw_types.proofs.BelowLemmas.{val_decides}
 use Rattle.smith_draw_consts.proofs.ConstStepLemmas.{length_map}
 use Rattle.std.specs.List.{Any}
-use Rattle.std.proofs.lemmas.Option.{slice_get_within, get_or_from_slice_get}
 
 -- an item of a list with a property is among those with it
 any_at : {A : Type 0} (P : A → Type 0) (xs : List A) (k : ℕ) (x : A) → slice_get xs k ≡ Some x → P x → Any P xs

@@ -1,34 +1,26 @@
 -- The context of a draw, if the spaces are valid.
-use Rattle.std.proofs.Common.{◌≡◌, ℕ, ◌+◌, ◌*◌, ◌<◌, ◌≤◌, ◌^◌, if◌then◌else◌, Bool, true, false, List, [], ◌∷◌, ◌++◌, Some, length, subst}
-use Rattle.std.proofs.Common.{arith}
-use Rattle.std.specs.Prelude.{All, IsTrue, slice_get, ◌&&◌}
+use Rattle.smith_draw_consts.proofs.Common.{[], All, All-from_recursion, arith, Bool, CompositeInnerType, Config, ConstInstr, Context}
+use Rattle.smith_draw_consts.proofs.Common.{false, field_values, fields_of, FieldType, GlobalType, IsOrderly, IsTrue, IsValTypeValid}
+use Rattle.smith_draw_consts.proofs.Common.{length, List, recursion_from_All, slice_get, slice_get_within, subst, SubType, true, unpacked}
+use Rattle.smith_draw_consts.proofs.Common.{ValType, ℕ, ◌&&◌, ◌*◌, ◌++◌, ◌+◌, ◌<◌, ◌∷◌, ◌≡◌, ◌≤◌}
+use Rattle.std.proofs.Common.{if◌then◌else◌, Some, ◌^◌}
 use Rattle.std.specs.List.{AllByRecursion as Each, flat_map}
 use Rattle.std.specs.declared.ops.Range.{Range}
-use Rattle.std.proofs.lemmas.List.Elements.{All-from_recursion, recursion_from_All, All-weaker}
-use Rattle.std.proofs.lemmas.Option.{slice_get_within}
-use Rattle.smith_types.specs.Expressions.{Context, IsConstExpr, IsStructAt, unpacked, field_values}
-use Rattle.smith_syntax.specs.Features.{Features}
+use Rattle.std.proofs.lemmas.List.Elements.{All-weaker}
+use Rattle.smith_types.specs.Expressions.{IsConstExpr, IsStructAt}
+use Rattle.smith_types.specs.Syntax.Features.{Features}
 use Rattle.smith_types.specs.Flags.{IsInnerEnabled}
 use Rattle.smith_types.specs.GroupedTypes.{GroupedTypes}
-use Rattle.smith_types.specs.Types.{IsOrderly}
-use Rattle.smith_types.specs.ValidTypes.{IsValTypeValid, IsTypeValid, IsGroupValid, AreTypesValid, values_of, values_of_storage}
+use Rattle.smith_types.specs.ValidTypes.{AreTypesValid, IsGroupValid, IsTypeValid, values_of, values_of_storage}
 use Rattle.smith_types.specs.Entities.{IsFuncTypeIndex, IsGlobalValid}
-use Rattle.smith_syntax.specs.declared.value_type.ValType.{ValType}
-use Rattle.smith_syntax.specs.declared.composite_type.StorageType.{StorageType}
-use Rattle.smith_syntax.specs.declared.composite_type.StorageType.TheVariants.{I8, I16, Val}
-use Rattle.smith_syntax.specs.declared.composite_type.CompositeInnerType.{CompositeInnerType}
-use Rattle.smith_syntax.specs.declared.composite_type.CompositeInnerType.TheVariants.{Array, Func, Struct}
-use Rattle.smith_syntax.specs.declared.composite_type.FieldType.{FieldType}
-use Rattle.smith_syntax.specs.declared.composite_type.SubType.{SubType}
-use Rattle.smith_syntax.specs.declared.entity_type.GlobalType.{GlobalType}
-use Rattle.smith_syntax.specs.declared.const_instr.ConstInstr.{ConstInstr}
+use Rattle.smith_types.specs.Syntax.composite_type.StorageType.{StorageType}
+use Rattle.smith_types.specs.Syntax.composite_type.StorageType.TheVariants.{I8, I16, Val}
+use Rattle.smith_types.specs.Syntax.composite_type.CompositeInnerType.TheVariants.{Array, Func, Struct}
 use Rattle.smith_types.proofs.ValidityLemmas.{ends_within, group_at}
 use Rattle.smith_types.proofs.EntityGrowthLemmas.{IsValTypeValid-later}
-use Rattle.smith_config.specs.declared.config.Config.{Config}
 use Rattle.smith_config.specs.Features.{features_of}
 use Rattle.smith_draw_types.specs.declared.spaces.Spaces.{Spaces}
 use Rattle.smith_draw_consts.specs.ConstScopes.{IsScope, seen_by, AreSpacesValid}
-use Rattle.smith_draw_types.specs.HeldFields.{fields_of}
 use Rattle.smith_draw_consts.specs.ConstBounds.{widest}
 use Rattle.smith_draw_consts.specs.ConstSteps.{IsDrawn}
 use Rattle.smith_draw_consts.proofs.PuttingLemmas.{expression_of}

@@ -1,15 +1,10 @@
 -- Values appended one after another: their instructions, length, fuel and errors.
-use Rattle.std.proofs.Common.{◌≡◌, ℕ, ℤ, zero, suc, ◌+◌, ◌-◌, ◌*◌, ◌<◌, ◌≤◌, List, [], ◌∷◌, ◌++◌, length, map, refl, sym, subst, ap, arith}
-use Rattle.std.proofs.Common.{length-append}
-use Rattle.std.specs.Prelude.{Result, Ok, Err, OnOk, IfErr, IsErrAnd}
-use Rattle.smith_bytes.specs.declared.error.Error.{Error}
-use Rattle.smith_types.specs.Expressions.{Context}
-use Rattle.smith_syntax.specs.declared.value_type.ValType.{ValType}
-use Rattle.smith_syntax.specs.declared.value_type.ValType.TheVariants.{I32}
-use Rattle.smith_syntax.specs.declared.composite_type.SubType.{SubType}
-use Rattle.smith_syntax.specs.declared.const_instr.ConstInstr.{ConstInstr}
-use Rattle.smith_syntax.specs.declared.const_instr.ConstInstr.TheVariants as instr
-use Rattle.smith_config.specs.declared.config.Config.{Config}
+use Rattle.smith_draw_consts.proofs.Common.{[], ap, arith, Config, ConstInstr, Context, Err, Error, I32, IsErrAnd, length, length-append}
+use Rattle.smith_draw_consts.proofs.Common.{List, map, Ok, OnOk, refl, Result, subst, SubType, suc, sym, ValType, zero, ℕ, ◌*◌, ◌++◌, ◌+◌}
+use Rattle.smith_draw_consts.proofs.Common.{◌-◌, ◌<◌, ◌∷◌, ◌≡◌, ◌≤◌}
+use Rattle.std.proofs.Common.{ℤ}
+use Rattle.std.specs.Prelude.{IfErr}
+use Rattle.smith_types.specs.Syntax.const_instr.ConstInstr.TheVariants as instr
 use Rattle.smith_draw_consts.specs.Putting.{Puts}
 use Rattle.smith_draw_consts.specs.ConstBounds.{widest}
 use Rattle.smith_draw_consts.specs.ConstSteps.{operand_type, IsDrawn, IsNode, IsFit}

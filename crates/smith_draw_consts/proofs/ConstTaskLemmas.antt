@@ -1,20 +1,15 @@
 -- Lists of tasks, the next one first: their outcome, their amount of work, and the effect of each
 -- step.
-use Rattle.std.proofs.Common.{◌≡◌, ◌⊎◌, inl, inr, ℕ, zero, suc, ◌+◌, ◌*◌, ◌-◌, ◌<◌, ◌≤◌, Bool, true, false, List, [], ◌∷◌, ◌++◌, Option}
-use Rattle.std.proofs.Common.{Some, None, length, map, get_or, drop, refl, subst, ap, ◌∙◌, arith}
-use Rattle.std.specs.Prelude.{IsTrue, ◌↔◌, Result, Ok, Err, OnOk, IfSome, IsErrAnd, slice_get, reverse, option_and_then}
-use Rattle.std.specs.Option.{option_map}
+use Rattle.smith_draw_consts.proofs.Common.{[], ap, arith, Bool, choose_at, Config, Context, drop, Err, Error, false, get_or, I32, IfSome}
+use Rattle.smith_draw_consts.proofs.Common.{inl, inr, IsErrAnd, IsTrue, IsValTypeValid, length, List, map, Ok, OnOk, option_map}
+use Rattle.smith_draw_consts.proofs.Common.{recursion_from_All, refl, Result, reverse, slice_get, subst, suc, true, ValType, zero, ℕ, ◌*◌}
+use Rattle.smith_draw_consts.proofs.Common.{◌++◌, ◌+◌, ◌-◌, ◌<◌, ◌∙◌, ◌∷◌, ◌≡◌, ◌≤◌, ◌⊎◌}
+use Rattle.std.proofs.Common.{Option}
+use Rattle.std.proofs.Common.{None, Some}
+use Rattle.std.specs.Prelude.{option_and_then, ◌↔◌}
 use Rattle.std.specs.List.{AllByRecursion as Each}
 use Rattle.std.proofs.lemmas.List.{reverse-append, length-reverse, drop_more}
-use Rattle.std.proofs.lemmas.List.Elements.{recursion_from_All}
-use Rattle.smith_bytes.specs.declared.error.Error.{Error}
 use Rattle.smith_bytes.specs.declared.error.Error.TheVariants as errors
-use Rattle.smith_types.specs.Expressions.{Context}
-use Rattle.smith_types.specs.ValidTypes.{IsValTypeValid}
-use Rattle.smith_syntax.specs.declared.value_type.ValType.{ValType}
-use Rattle.smith_syntax.specs.declared.value_type.ValType.TheVariants.{I32}
-use Rattle.smith_bytes.specs.Draws.{choose_at}
-use Rattle.smith_config.specs.declared.config.Config.{Config}
 use Rattle.smith_draw_consts.specs.Putting.{Puts}
 use Rattle.smith_draw_consts.specs.Constants.{extended_at}
 use Rattle.smith_draw_consts.specs.ConstOffers.{offers}

@@ -1,18 +1,14 @@
 -- Extended constants, drawn from the last instruction to the first.
-use Rattle.std.proofs.Common.{rules, ◌≡◌, ◌⊎◌, inl, inr, Bool, ℕ, zero, suc, ◌+◌, ◌-◌, ◌≤◌, ◌<◌, List, [], ◌∷◌, ◌++◌, length, refl, sym}
-use Rattle.std.proofs.Common.{subst, ap, ◌∙◌, arith, append_assoc, length-append}
-use Rattle.std.specs.Prelude.{All, replicate, reverse, IsTrue}
-use Rattle.std.proofs.lemmas.List.{append-nil, replicate_more, reverse-append, length-reverse}
-use Rattle.std.proofs.lemmas.List.Elements.{All-nil, All-cons}
-use Rattle.smith_bytes.specs.Source.{KeepsPieces}
-use Rattle.smith_types.specs.Expressions.{Context, HasType, AreStackSteps}
-use Rattle.smith_types.specs.Flags.{IsInstrEnabled}
-use Rattle.smith_syntax.specs.declared.value_type.ValType.{ValType}
-use Rattle.smith_syntax.specs.declared.value_type.ValType.TheVariants.{I32, I64}
-use Rattle.smith_syntax.specs.declared.const_instr.ConstInstr.{ConstInstr}
+use Rattle.smith_draw_consts.proofs.Common.{[], All, All-nil, ap, append-nil, append_assoc, arith, Bool, ConstInstr, Context, HasType, I32}
+use Rattle.smith_draw_consts.proofs.Common.{I64, inl, inr, IsInstrEnabled, IsTrue, KeepsPieces, length, length-append, List, None, refl}
+use Rattle.smith_draw_consts.proofs.Common.{reverse, Some, subst, suc, sym, ValType, zero, ℕ, ◌++◌, ◌+◌, ◌-◌, ◌<◌, ◌∙◌, ◌∷◌, ◌≡◌, ◌≤◌, ◌⊎◌}
+use Rattle.std.proofs.Common.{rules}
+use Rattle.std.specs.Prelude.{replicate}
+use Rattle.std.proofs.lemmas.List.{length-reverse, replicate_more, reverse-append}
+use Rattle.std.proofs.lemmas.List.Elements.{All-cons}
+use Rattle.smith_types.specs.Expressions.{AreStackSteps}
 use Rattle.smith_types.proofs.ConstStepLemmas.{one_step}
 use Rattle.smith_types.proofs.ValidityLemmas.{before_or_not}
-use Rattle.std.specs.Prelude.{Some, None}
 use Rattle.smith_draw_consts.specs.Constants.{constant_at, is_wide, operation, operator_at, extended_within, extended_at}
 use Rattle.smith_draw_consts.specs.declared.extended_constant.Operator.{Operator}
 use Rattle.smith_draw_consts.specs.Putting.{Adds}

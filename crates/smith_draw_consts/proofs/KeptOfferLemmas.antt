@@ -1,15 +1,10 @@
 -- The record of globals and functions that are offered, as they are read in turn.
-use Rattle.std.proofs.Common.{◌≡◌, inl, inr, ℕ, zero, suc, ◌+◌, ◌<◌, ◌≤◌, Bool, true, false, cond, List, [], ◌∷◌, ◌++◌, take, drop, get_or}
-use Rattle.std.proofs.Common.{set, length, refl, sym, ap, ◌∙◌, subst, arith}
-use Rattle.std.specs.Prelude.{All, Some, Ok, not, slice_get, ◌&&◌}
-use Rattle.std.proofs.lemmas.List.{append-nil, append_assoc, get_or-set_other, get_or-set_same, length-append, length-set, length-take-le}
+use Rattle.smith_draw_consts.proofs.Common.{[], All, All-set, ap, append-nil, arith, Bool, cond, Context, drop, eqb_tells, false}
+use Rattle.smith_draw_consts.proofs.Common.{function_reference, get_or, get_or_from_slice_get, inl, inr, is_val_below, length}
+use Rattle.smith_draw_consts.proofs.Common.{length-take-le, List, not, Ok, refl, set, slice_get, slice_get-get_or, slice_get_within, Some}
+use Rattle.smith_draw_consts.proofs.Common.{subst, suc, sym, take, true, ValType, zero, ℕ, ◌&&◌, ◌++◌, ◌+◌, ◌<◌, ◌∙◌, ◌∷◌, ◌≡◌, ◌≤◌}
+use Rattle.std.proofs.lemmas.List.{append_assoc, get_or-set_other, get_or-set_same, length-append, length-set}
 use Rattle.std.proofs.lemmas.List.{take-append-drop, take-take}
-use Rattle.std.proofs.lemmas.List.Elements.{All-set}
-use Rattle.std.proofs.lemmas.Bool.Decides.{eqb_tells}
-use Rattle.std.proofs.lemmas.Option.{get_or_from_slice_get, slice_get-get_or, slice_get_within}
-use Rattle.smith_types.specs.Expressions.{Context, function_reference}
-use Rattle.smith_syntax.specs.declared.value_type.ValType.{ValType}
-use Rattle.smith_draw_types.specs.Below.{is_val_below}
 use Rattle.smith_draw_consts.specs.ConstOffers.{each_from, offered_if, past, global_offers, function_offers}
 use Rattle.smith_draw_consts.specs.KeptOffers.{IsEntry, IsFor, IsKeptAt, IsKeptOffer, IsWhole, IsWholeAt, offered_before}
 use Rattle.smith_draw_consts.specs.declared.kept_offers.KeptOffer.{KeptOffer}

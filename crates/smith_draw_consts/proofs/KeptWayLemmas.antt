@@ -1,16 +1,12 @@
 -- The ways to create values, counted by the types that are read in turn.
-use Rattle.std.proofs.Common.{◌≡◌, ℕ, ◌+◌, ◌*◌, ◌<◌, ◌≤◌, Bool, true, false, List, [], ◌∷◌, ◌++◌, take, get_or, set, length, refl, sym, ap}
-use Rattle.std.proofs.Common.{◌∙◌, subst, arith}
-use Rattle.std.specs.Prelude.{Some, nat_lt, slice_get, ◌&&◌, ◌||◌, ◌==◌, if◌then◌else◌}
+use Rattle.smith_draw_consts.proofs.Common.{[], ap, arith, Bool, CompositeInnerType, Context, created, false, get_or, get_or_from_slice_get}
+use Rattle.smith_draw_consts.proofs.Common.{if◌then◌else◌, is_val_below, length, length-take-le, List, nat_lt, refl, set, slice_get}
+use Rattle.smith_draw_consts.proofs.Common.{slice_get-get_or, slice_get_within, Some, subst, sym, take, true, ValType, ℕ, ◌&&◌, ◌*◌, ◌++◌}
+use Rattle.smith_draw_consts.proofs.Common.{◌+◌, ◌<◌, ◌==◌, ◌||◌, ◌∙◌, ◌∷◌, ◌≡◌, ◌≤◌}
 use Rattle.std.proofs.lemmas.Bool.{lt-ltb}
-use Rattle.std.proofs.lemmas.List.{get_or-set_same, length-set, length-take-le}
-use Rattle.std.proofs.lemmas.Option.{get_or_from_slice_get, slice_get-get_or, slice_get_within}
-use Rattle.smith_types.specs.Expressions.{Context, created}
+use Rattle.std.proofs.lemmas.List.{get_or-set_same, length-set}
 use Rattle.smith_types.specs.Grounded.{are_defaultable}
-use Rattle.smith_syntax.specs.declared.composite_type.CompositeInnerType.{CompositeInnerType}
-use Rattle.smith_syntax.specs.declared.composite_type.CompositeInnerType.TheVariants as inner
-use Rattle.smith_syntax.specs.declared.value_type.ValType.{ValType}
-use Rattle.smith_draw_types.specs.Below.{is_val_below}
+use Rattle.smith_types.specs.Syntax.composite_type.CompositeInnerType.TheVariants as inner
 use Rattle.smith_draw_consts.specs.ConstOffers.{array_ways, each_from, offered_if, type_offers, types_offers, ways_by}
 use Rattle.smith_draw_consts.specs.KeptOffers.{AreAllCounted, AreWaysFor, HasReadAll, IsFewWhole, offered_before}
 use Rattle.smith_draw_consts.specs.declared.block_counts.BlockCounts.{BlockCounts}

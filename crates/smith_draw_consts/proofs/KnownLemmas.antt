@@ -1,17 +1,12 @@
 -- The globals and functions whose types have been read.
-use Rattle.std.proofs.Common.{◌≡◌, inl, inr, ℕ, Bor, ◌+◌, ◌<◌, ◌≤◌, Bool, List, [], ◌∷◌, ◌++◌, get_or, take, length, sym, ap, ◌∙◌, subst}
-use Rattle.std.proofs.Common.{arith}
-use Rattle.std.specs.Prelude.{Option, Some, IfSome, slice_get, slice_index, nat_le}
-use Rattle.std.proofs.lemmas.Bool.{cases_lt}
+use Rattle.smith_draw_consts.proofs.Common.{[], ap, arith, Bool, cases_lt, Context, function_reference, get_or, GlobalType, IfSome, inl}
+use Rattle.smith_draw_consts.proofs.Common.{inr, IsValInRange, IsValTypeValid, length, List, Option, slice_get, slice_get-get_or}
+use Rattle.smith_draw_consts.proofs.Common.{slice_get_within, slice_index, Some, subst, SubType, sym, take, ValType, ℕ, ◌++◌, ◌+◌, ◌<◌, ◌∙◌}
+use Rattle.smith_draw_consts.proofs.Common.{◌∷◌, ◌≡◌, ◌≤◌}
+use Rattle.std.proofs.Common.{Bor}
+use Rattle.std.specs.Prelude.{nat_le}
 use Rattle.std.proofs.lemmas.List.{get_or-take, length-append}
 use Rattle.std.proofs.lemmas.List.Elements.{All-get_or}
-use Rattle.std.proofs.lemmas.Option.{slice_get-get_or, slice_get_within}
-use Rattle.smith_types.specs.Expressions.{Context, function_reference}
-use Rattle.smith_types.specs.Subtyping.{IsValInRange}
-use Rattle.smith_types.specs.ValidTypes.{IsValTypeValid}
-use Rattle.smith_syntax.specs.declared.composite_type.SubType.{SubType}
-use Rattle.smith_syntax.specs.declared.entity_type.GlobalType.{GlobalType}
-use Rattle.smith_syntax.specs.declared.value_type.ValType.{ValType}
 use Rattle.smith_validity.proofs.ReferredTypeLemmas.{value_in_range}
 use Rattle.smith_draw_consts.specs.ConstOffers.{offered_if, global_offers, function_offers}
 use Rattle.smith_draw_consts.specs.ConstScopes.{IsScope}

@@ -1,3 +1,4 @@
+pub mod Common
 pub mod BlockCountLemmas
 pub mod KeptOfferLemmas
 pub mod ClassLemmas

@@ -1,23 +1,16 @@
 -- The types whose created values are below a type without subtypes: that type alone.
-use Rattle.std.proofs.Common.{◌≡◌, inl, inr, ℕ, zero, suc, ◌+◌, ◌<◌, Bool, true, false, List, [], ◌∷◌, ◌++◌, Some, get_or, length, refl}
-use Rattle.std.proofs.Common.{sym, ap, ◌∙◌, arith}
-use Rattle.std.specs.Prelude.{Result, slice_get, nat_lt, ◌&&◌, ◌||◌, ◌==◌, if◌then◌else◌}
+use Rattle.smith_draw_consts.proofs.Common.{[], Abstract, ap, append-nil, arith, Bool, CompositeInnerType, Context, created, eqb_tells}
+use Rattle.smith_draw_consts.proofs.Common.{false, get_or, HeapType, if◌then◌else◌, inl, inr, is_val_below, IsValInRange, length, List}
+use Rattle.smith_draw_consts.proofs.Common.{nat_lt, Ref, refl, Result, same_Some, slice_get, SubType, suc, sym, true, ValType, zero, ℕ}
+use Rattle.smith_draw_consts.proofs.Common.{◌&&◌, ◌++◌, ◌+◌, ◌<◌, ◌==◌, ◌||◌, ◌∙◌, ◌∷◌, ◌≡◌}
+use Rattle.std.proofs.Common.{Some}
 use Rattle.std.specs.List.{AllByRecursion as ByRecursion}
-use Rattle.std.proofs.lemmas.Bool.Decides.{eqb_tells}
-use Rattle.std.proofs.lemmas.List.{append-nil, nil_from_length}
-use Rattle.std.proofs.lemmas.Option.{same_Some}
-use Rattle.smith_types.specs.Expressions.{Context, created}
+use Rattle.std.proofs.lemmas.List.{nil_from_length}
 use Rattle.smith_types.specs.Families.{direct_subtypes, is_directly_below, is_index}
 use Rattle.smith_types.specs.KindCounts.{indices_from}
-use Rattle.smith_types.specs.Subtyping.{IsValInRange}
-use Rattle.smith_syntax.specs.declared.composite_type.CompositeInnerType.{CompositeInnerType}
-use Rattle.smith_syntax.specs.declared.composite_type.CompositeInnerType.TheVariants as inner
-use Rattle.smith_syntax.specs.declared.composite_type.SubType.{SubType}
-use Rattle.smith_syntax.specs.declared.value_type.HeapType.{HeapType}
-use Rattle.smith_syntax.specs.declared.value_type.HeapType.TheVariants.{Abstract, Concrete, Exact}
-use Rattle.smith_syntax.specs.declared.value_type.ValType.{ValType}
-use Rattle.smith_syntax.specs.declared.value_type.ValType.TheVariants.{Ref}
-use Rattle.smith_draw_types.specs.Below.{is_heap_below, is_val_below, names}
+use Rattle.smith_types.specs.Syntax.composite_type.CompositeInnerType.TheVariants as inner
+use Rattle.smith_types.specs.Syntax.value_type.HeapType.TheVariants.{Concrete, Exact}
+use Rattle.smith_draw_types.specs.Below.{is_heap_below, names}
 use Rattle.smith_draw_types.specs.Offered.{ancestors, supertype_at}
 use Rattle.smith_draw_types.proofs.AncestorLemmas.{ancestors_each, stands}
 use Rattle.smith_draw_consts.specs.ConstOffers.{each_from, past, type_offers, types_offers, ways_by}

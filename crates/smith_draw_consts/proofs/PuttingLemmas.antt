@@ -1,15 +1,11 @@
 -- Concatenated instructions, and the values that they leave.
-use Rattle.std.proofs.Common.{◌≡◌, List, [], ◌∷◌, ◌++◌, refl, sym, subst, ap, append_assoc}
-use Rattle.std.specs.Prelude.{All}
+use Rattle.smith_draw_consts.proofs.Common.{[], All, All-nil, All-push, ap, append-nil, append_assoc, ConstInstr, Context, F32, F64}
+use Rattle.smith_draw_consts.proofs.Common.{HasType, I32, I64, IsInstrEnabled, IsValBelow, List, Ref, refl, subst, sym, V128, ValType, ◌++◌}
+use Rattle.smith_draw_consts.proofs.Common.{◌∷◌, ◌≡◌}
 use Rattle.std.specs.List.{AllZip}
-use Rattle.std.proofs.lemmas.List.{append-nil}
-use Rattle.std.proofs.lemmas.List.Elements.{All-nil, All-append, All-push}
-use Rattle.smith_types.specs.Expressions.{Context, HasType, IsStackStep, AreStackSteps, IsConstExpr}
-use Rattle.smith_types.specs.Flags.{IsInstrEnabled}
-use Rattle.smith_types.specs.Subtyping.{IsValBelow, itself}
-use Rattle.smith_syntax.specs.declared.value_type.ValType.{ValType}
-use Rattle.smith_syntax.specs.declared.value_type.ValType.TheVariants.{I32, I64, F32, F64, V128, Ref}
-use Rattle.smith_syntax.specs.declared.const_instr.ConstInstr.{ConstInstr}
+use Rattle.std.proofs.lemmas.List.Elements.{All-append}
+use Rattle.smith_types.specs.Expressions.{AreStackSteps, IsConstExpr, IsStackStep}
+use Rattle.smith_types.specs.Subtyping.{itself}
 use Rattle.smith_types.proofs.ConstStepLemmas.{one_step}
 use Rattle.smith_draw_consts.specs.Putting.{Puts, Adds}
 

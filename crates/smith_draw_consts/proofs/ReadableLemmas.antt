@@ -1,21 +1,15 @@
 -- The globals that an expression may read are those that are listed.
-use Rattle.std.proofs.Common.{◌≡◌, ◌⊎◌, inl, inr, ℕ, zero, suc, ◌+◌, ◌<◌, ◌≤◌, Bool, true, false, List, [], ◌∷◌, ◌++◌, Some, length, take}
-use Rattle.std.proofs.Common.{drop, refl, sym, ◌∙◌, subst, arith}
-use Rattle.std.proofs.lemmas.List.{append-nil, at_drop_all}
-use Rattle.std.specs.Prelude.{◌↔◌, ◌&&◌, not, slice_get}
+use Rattle.smith_draw_consts.proofs.Common.{[], append-nil, arith, Bool, Context, drop, false, GlobalType, inl, inr, is_val_below}
+use Rattle.smith_draw_consts.proofs.Common.{IsOrderly, IsValBelow, length, List, not, refl, same_Some, slice_get, subst, suc, sym, take}
+use Rattle.smith_draw_consts.proofs.Common.{true, val_decides, ValType, zero, ℕ, ◌&&◌, ◌++◌, ◌+◌, ◌<◌, ◌∙◌, ◌∷◌, ◌≡◌, ◌≤◌, ◌⊎◌}
+use Rattle.std.proofs.Common.{Some}
+use Rattle.std.proofs.lemmas.List.{at_drop_all}
+use Rattle.std.specs.Prelude.{◌↔◌}
 use Rattle.std.specs.List.{Contains}
 use Rattle.std.specs.Bool.{Decides}
 use Rattle.std.proofs.lemmas.Bool.Decides.{Decides-and}
-use Rattle.std.proofs.lemmas.Option.{same_Some}
-use Rattle.smith_types.specs.Types.{IsOrderly}
-use Rattle.smith_types.specs.Subtyping.{IsValBelow}
-use Rattle.smith_types.specs.Expressions.{Context}
-use Rattle.smith_syntax.specs.declared.value_type.ValType.{ValType}
-use Rattle.smith_syntax.specs.declared.entity_type.GlobalType.{GlobalType}
-use Rattle.smith_draw_types.specs.Below.{is_val_below}
 use Rattle.smith_draw_consts.specs.ConstOffers.{each_from, offered_if, readable_globals}
 use Rattle.smith_draw_consts.specs.ConstScopes.{IsReadable}
-use Rattle.smith_draw_types.proofs.BelowLemmas.{val_decides}
 
 -- an item of a list, by recursion
 abbrev Among : {A : Type 0} → A → List A → Type 0

@@ -1,28 +1,21 @@
 -- A constant is drawn from a source that starts with its spelling.
-use Rattle.std.proofs.Common.{◌≡◌, ℕ, zero, suc, ◌+◌, Bool, true, false, List, [], ◌∷◌, ◌++◌, Some, length, take, drop, refl, sym, ap, ◌∙◌}
-use Rattle.std.proofs.lemmas.Option.{same_Some}
+use Rattle.smith_draw_consts.proofs.Common.{[], ap, Bool, choose_at, Config, ConstInstr, Context, digit_count, drop, false, GlobalType, I32}
+use Rattle.smith_draw_consts.proofs.Common.{is_val_below, length, List, not, range_at, recursion_from_All, refl, same_Some, suc, sym, take}
+use Rattle.smith_draw_consts.proofs.Common.{true, ValType, zero, ℕ, ◌&&◌, ◌++◌, ◌+◌, ◌∙◌, ◌∷◌, ◌≡◌}
+use Rattle.std.proofs.Common.{Some}
 use Rattle.std.proofs.Math.Seq.{take-append_seam}
-use Rattle.smith_bytes.specs.Draws.{whole_at, range_at, digit_count, choose_at, little_endian}
+use Rattle.smith_bytes.specs.Draws.{little_endian, whole_at}
 use Rattle.smith_bytes.specs.Spelling.{SpellsNumber, Where}
 use Rattle.smith_bytes.specs.Takes.{Takes}
 use Rattle.smith_bytes.proofs.SpelledLemmas.{joined_parts, number_read}
-use Rattle.smith_types.specs.Expressions.{Context}
-use Rattle.smith_syntax.specs.declared.value_type.ValType.TheVariants.{I32}
-use Rattle.smith_syntax.specs.declared.entity_type.GlobalType.{GlobalType}
-use Rattle.smith_syntax.specs.declared.const_instr.ConstInstr.{ConstInstr}
-use Rattle.smith_config.specs.declared.config.Config.{Config}
 use Rattle.smith_draw_consts.specs.Constants.{constant_at}
 use Rattle.smith_draw_consts.specs.ConstOffers.{each_from, offered_if, global_offers, readable_globals, offers}
 use Rattle.smith_draw_consts.specs.ConstNodes.{node_at}
 use Rattle.smith_draw_consts.specs.ConstExprs.{expression_at, expression_alone_at}
 use Rattle.smith_draw_types.specs.SpelledConstants.{SpellsConstExpr}
-use Rattle.smith_draw_types.specs.Below.{is_val_below}
-use Rattle.std.specs.Prelude.{◌&&◌, not}
 use Rattle.std.specs.List.{AllByRecursion as Each}
-use Rattle.std.proofs.lemmas.List.Elements.{recursion_from_All}
 use Rattle.smith_draw_consts.specs.ExampleConstExprs.{MutableGlobalsAreNotRead}
 use Rattle.smith_draw_consts.specs.declared.node_choice.Choice.{Choice}
-use Rattle.smith_syntax.specs.declared.value_type.ValType.{ValType}
 use Rattle.smith_draw_consts.specs.declared.node_choice.Choice.TheVariants as choice
 
 -- if no global may be read, none is offered

@@ -1,11 +1,12 @@
 -- Properties of a list that is grown by draws that may be refused, for every draw.
-use Rattle.std.proofs.Common.{◌≡◌, ℕ, zero, suc, ◌+◌, ◌≤◌, Bool, true, false, List, [], ◌∷◌, ◌++◌, length, ltb, refl, arith, length-append}
+use Rattle.smith_draw_consts.proofs.Common.{[], arith, Bool, Error, false, length, length-append, List, refl, suc, true, zero, ℕ, ◌++◌, ◌+◌}
+use Rattle.smith_draw_consts.proofs.Common.{◌∷◌, ◌≡◌, ◌≤◌}
+use Rattle.std.proofs.Common.{ltb}
 use Rattle.std.proofs.Common.{Result, Ok}
 use Rattle.std.specs.Prelude.{IfOk}
 use Rattle.std.proofs.lemmas.Bool.{cond_both, ltb-false, lt-ltb}
 use Rattle.smith_bytes.specs.Growth.{goes_at}
 use Rattle.smith_bytes.specs.Spelling.{SpellsBool, SpellsNone}
-use Rattle.smith_bytes.specs.declared.error.Error.{Error}
 use Rattle.smith_bytes.proofs.SpelledLemmas.{bool_read}
 use Rattle.smith_draw_consts.specs.TriedLists.{try_grow_at}
 use Rattle.smith_draw_consts.proofs.TriedStepLemmas.{following}

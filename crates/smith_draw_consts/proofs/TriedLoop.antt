@@ -1,10 +1,10 @@
 -- One turn of a loop that grows a list by draws that may be refused, for every draw.
-use Rattle.std.proofs.Common.{◌≡◌, ◌∙◌, ℕ, suc, ◌+◌, ◌-◌, ◌≤◌, ◌<◌, Bool, true, false, List, [], ◌∷◌, ◌++◌, length, nat_lt, refl, sym}
-use Rattle.std.proofs.Common.{arith, length-append, Result, Ok, Err}
+use Rattle.smith_draw_consts.proofs.Common.{[], arith, Bool, Error, false, KeepsPieces, length, length-append, List, refl, suc, sym, true}
+use Rattle.smith_draw_consts.proofs.Common.{ℕ, ◌++◌, ◌+◌, ◌-◌, ◌<◌, ◌∙◌, ◌∷◌, ◌≡◌, ◌≤◌}
+use Rattle.std.proofs.Common.{nat_lt}
+use Rattle.std.proofs.Common.{Err, Ok, Result}
 use Rattle.smith_bytes.specs.Growth.{goes_at}
-use Rattle.smith_bytes.specs.Source.{KeepsPieces}
 use Rattle.smith_bytes.specs.Steps.{◌>>=◌}
-use Rattle.smith_bytes.specs.declared.error.Error.{Error}
 use Rattle.smith_draw_consts.specs.TriedLists.{try_grow_at}
 
 -- the list has n items, and the remaining draws lead to the whole

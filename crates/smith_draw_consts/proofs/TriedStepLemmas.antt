@@ -1,10 +1,11 @@
 -- The result of a step that may be refused for lack of something to choose from, and the bytes that
 -- it takes of a source.
-use Rattle.std.proofs.Common.{◌≡◌, ◌∙◌, refl, ℕ, List, ◌++◌, sym, ap, subst, Result, Ok, Err, inl, inr}
-use Rattle.std.specs.Prelude.{Option, Some, None, ok_or, IfOk, IfErr, OnOk, IsErrAnd, ◌⊎◌}
+use Rattle.smith_draw_consts.proofs.Common.{ap, Error, inl, inr, IsErrAnd, List, None, OnOk, Option, refl, Some, subst, sym, ℕ, ◌++◌, ◌∙◌}
+use Rattle.smith_draw_consts.proofs.Common.{◌≡◌}
+use Rattle.std.proofs.Common.{Err, Ok, Result}
+use Rattle.std.specs.Prelude.{IfErr, IfOk, ok_or, ◌⊎◌}
 use Rattle.smith_bytes.specs.Takes.{Takes}
 use Rattle.smith_bytes.specs.Steps.{◌>>=◌, Returns, is_memory}
-use Rattle.smith_bytes.specs.declared.error.Error.{Error}
 use Rattle.smith_bytes.specs.declared.error.Error.TheVariants as errors
 
 -- a property that the next step has for every result of a step holds after both

@@ -1,19 +1,13 @@
 -- Globals that are not offered for a wider type are not offered.
-use Rattle.std.proofs.Common.{◌≡◌, ℕ, zero, suc, ◌+◌, ◌-◌, ◌<◌, ◌≤◌, Bool, true, false, Option, None, Bor, length, get_or, refl, sym, subst}
-use Rattle.std.proofs.Common.{List, arith}
-use Rattle.std.specs.Prelude.{Some, IfSome, not, ◌&&◌}
-use Rattle.smith_types.specs.Types.{IsOrderly}
-use Rattle.smith_types.specs.Expressions.{Context}
-use Rattle.smith_syntax.specs.declared.entity_type.GlobalType.{GlobalType}
-use Rattle.smith_syntax.specs.declared.composite_type.SubType.{SubType}
-use Rattle.smith_syntax.specs.declared.value_type.ValType.{ValType}
+use Rattle.smith_draw_consts.proofs.Common.{arith, Bool, Context, false, get_or, GlobalType, IfSome, is_val_below, IsOrderly, length, List}
+use Rattle.smith_draw_consts.proofs.Common.{not, refl, Some, subst, SubType, suc, sym, true, val_decides, ValType, zero, ℕ, ◌&&◌, ◌+◌, ◌-◌}
+use Rattle.smith_draw_consts.proofs.Common.{◌<◌, ◌≡◌, ◌≤◌}
+use Rattle.std.proofs.Common.{Bor, None, Option}
 use Rattle.smith_types.proofs.GrowthLemmas.{IsValBelow-trans}
-use Rattle.smith_draw_types.specs.Below.{is_val_below}
 use Rattle.smith_draw_consts.specs.ConstOffers.{global_offers, offered_if}
 use Rattle.smith_draw_consts.specs.KeptOffers.{IsCounted, IsWiderOffer, offered_before}
 use Rattle.smith_draw_consts.specs.declared.kept_offers.KeptOffer.{KeptOffer}
 use Rattle.smith_draw_consts.specs.declared.node_choice.Choice.TheVariants as choice
-use Rattle.smith_draw_types.proofs.BelowLemmas.{val_decides}
 use Rattle.smith_draw_consts.proofs.KeptOfferLemmas.{offered_more, offered_rising}
 
 below_wider : (types : List SubType) → IsOrderly types → (a b c : ValType) → is_val_below types b c ≡ true → is_val_below types a b ≡ true

@@ -2,14 +2,10 @@
 use Rattle.std.specs.Prelude.{ℕ, zero, suc, ◌-◌, false, not, List, [], ◌∷◌, ◌++◌, Option, Some, None, option_and_then, if◌then◌else◌}
 use Rattle.std.specs.Option.{option_map}
 use Rattle.std.specs.Int.{cast_signed, w32}
-use Rattle.smith_bytes.specs.Draws.{bool_at, range_at, choose_at}
-use Rattle.smith_types.specs.Expressions.{Context}
-use Rattle.smith_syntax.specs.declared.value_type.ValType.{ValType}
-use Rattle.smith_syntax.specs.declared.value_type.ValType.TheVariants.{I32, Ref}
-use Rattle.smith_syntax.specs.declared.const_instr.ConstInstr.{ConstInstr}
-use Rattle.smith_syntax.specs.declared.const_instr.ConstInstr.TheVariants as instr
-use Rattle.smith_syntax.specs.declared.value_type.RefType.{RefType}
-use Rattle.smith_config.specs.declared.config.Config.{Config}
+use Rattle.smith_draw_consts.specs.Common.{Config, ConstInstr, Context, I32, range_at, Ref, ValType}
+use Rattle.smith_bytes.specs.Draws.{bool_at, choose_at}
+use Rattle.smith_types.specs.Syntax.const_instr.ConstInstr.TheVariants as instr
+use Rattle.smith_types.specs.Syntax.value_type.RefType.{RefType}
 use Rattle.smith_draw_consts.specs.Constants.{extended_at}
 use Rattle.smith_draw_consts.specs.ConstOffers.{offers}
 use Rattle.smith_draw_consts.specs.ConstNodes.{is_extended, node_at}

@@ -1,19 +1,14 @@
 -- The context in which constant expressions are drawn.
 use Rattle.std.specs.Prelude.{◌≡◌, ℕ, ◌<◌, ◌≤◌, ◌^◌, Bool, false, IsTrue, ◌&&◌, if◌then◌else◌, List, [], ◌∷◌, Some, length, slice_get, All}
-use Rattle.smith_types.specs.Expressions.{Context, IsVisible}
-use Rattle.smith_types.specs.Subtyping.{IsValBelow}
-use Rattle.smith_syntax.specs.declared.value_type.ValType.{ValType}
+use Rattle.smith_draw_consts.specs.Common.{CompositeInnerType, Config, Context, field_values, FieldType, GlobalType, IsValBelow}
+use Rattle.smith_draw_consts.specs.Common.{IsValTypeValid, SubType, ValType}
+use Rattle.smith_types.specs.Expressions.{IsVisible}
 use Rattle.smith_types.specs.Types.{IsOrderly}
-use Rattle.smith_types.specs.ValidTypes.{IsValTypeValid, AreTypesValid}
+use Rattle.smith_types.specs.ValidTypes.{AreTypesValid}
 use Rattle.smith_types.specs.Entities.{IsFuncTypeIndex, IsGlobalValid}
-use Rattle.smith_config.specs.declared.config.Config.{Config}
 use Rattle.smith_draw_types.specs.declared.spaces.Spaces.{Spaces}
-use Rattle.smith_syntax.specs.declared.composite_type.CompositeInnerType.{CompositeInnerType}
-use Rattle.smith_syntax.specs.declared.composite_type.CompositeInnerType.TheVariants.{Array, Func, Struct}
-use Rattle.smith_syntax.specs.declared.composite_type.FieldType.{FieldType}
-use Rattle.smith_syntax.specs.declared.composite_type.SubType.{SubType}
-use Rattle.smith_syntax.specs.declared.entity_type.GlobalType.{GlobalType}
-use Rattle.smith_types.specs.Expressions.{IsStructAt, field_values}
+use Rattle.smith_types.specs.Syntax.composite_type.CompositeInnerType.TheVariants.{Array, Func, Struct}
+use Rattle.smith_types.specs.Expressions.{IsStructAt}
 use Rattle.smith_config.specs.Features.{features_of}
 use Rattle.smith_draw_types.specs.HeldFields.{fields_of}
 use Rattle.smith_draw_consts.specs.declared.scope.Scope.{Scope}

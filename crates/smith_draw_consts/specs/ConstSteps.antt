@@ -1,16 +1,10 @@
 -- The instructions that each step of drawing a constant expression adds.
 use Rattle.std.specs.Prelude.{◌≡◌, ◌⊎◌, ℕ, ◌+◌, ◌*◌, ◌≤◌, ◌<◌, true, IsTrue, Option, List, Some, None, Result, Ok, Err, length, map}
 use Rattle.std.specs.Prelude.{slice_get, All}
-use Rattle.smith_types.specs.Expressions.{Context, HasType}
+use Rattle.smith_draw_consts.specs.Common.{Config, ConstInstr, Context, Error, I32, I64, IsValBelow, IsValTypeValid, ValType}
+use Rattle.smith_types.specs.Expressions.{HasType}
 use Rattle.smith_types.specs.Flags.{IsInstrEnabled}
-use Rattle.smith_types.specs.Subtyping.{IsValBelow}
-use Rattle.smith_types.specs.ValidTypes.{IsValTypeValid}
-use Rattle.smith_syntax.specs.declared.value_type.ValType.{ValType}
-use Rattle.smith_syntax.specs.declared.value_type.ValType.TheVariants.{I32, I64}
-use Rattle.smith_syntax.specs.declared.const_instr.ConstInstr.{ConstInstr}
-use Rattle.smith_bytes.specs.declared.error.Error.{Error}
 use Rattle.smith_bytes.specs.declared.error.Error.TheVariants as errors
-use Rattle.smith_config.specs.declared.config.Config.{Config}
 use Rattle.smith_draw_consts.specs.Putting.{Puts}
 use Rattle.smith_draw_consts.specs.ConstBounds.{widest, MayLack}
 use Rattle.smith_draw_consts.specs.ConstNodes.{is_extended, node_at}

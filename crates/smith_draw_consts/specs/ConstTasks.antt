@@ -2,11 +2,8 @@
 -- task.
 use Rattle.std.specs.Prelude.{◌≡◌, ◌⊎◌, ℕ, ◌+◌, ◌-◌, ◌<◌, ◌≤◌, List, [], ◌∷◌, ◌++◌, Some, None, map, length}
 use Rattle.std.specs.Option.{option_map}
-use Rattle.smith_types.specs.Expressions.{Context}
-use Rattle.smith_types.specs.ValidTypes.{IsValTypeValid}
-use Rattle.smith_bytes.specs.declared.error.Error.{Error}
+use Rattle.smith_draw_consts.specs.Common.{Config, Context, Error, IsValTypeValid}
 use Rattle.smith_bytes.specs.declared.error.Error.TheVariants as errors
-use Rattle.smith_config.specs.declared.config.Config.{Config}
 use Rattle.smith_draw_consts.specs.ConstBounds.{widest, MayLack}
 use Rattle.smith_draw_consts.specs.ConstExprs.{State, state_of, add_instruction, operand_at, operands_at, expression_at}
 use Rattle.smith_draw_consts.specs.ConstSteps.{operand_type, IsDrawn, IsNode}

@@ -1,11 +1,10 @@
 -- Constants, and extended constants: constant expressions with add, sub and mul.
 use Rattle.std.specs.Prelude.{ℕ, zero, suc, ◌||◌, Bool, true, false, nat_lt, ◌==◌, Option, Some, None, List, [], ◌∷◌, length, if◌then◌else◌}
 use Rattle.std.specs.Int.{cast_signed, w32, w64, w128}
-use Rattle.smith_bytes.specs.Draws.{whole_at, range_at}
-use Rattle.smith_syntax.specs.declared.value_type.ValType.{ValType}
-use Rattle.smith_syntax.specs.declared.value_type.ValType.TheVariants.{I32, I64, F32, F64, V128, Ref}
-use Rattle.smith_syntax.specs.declared.const_instr.ConstInstr.{ConstInstr}
-use Rattle.smith_syntax.specs.declared.const_instr.ConstInstr.TheVariants as instr
+use Rattle.smith_draw_consts.specs.Common.{ConstInstr, I32, I64, range_at, Ref, ValType}
+use Rattle.smith_bytes.specs.Draws.{whole_at}
+use Rattle.smith_types.specs.Syntax.value_type.ValType.TheVariants.{F32, F64, V128}
+use Rattle.smith_types.specs.Syntax.const_instr.ConstInstr.TheVariants as instr
 use Rattle.smith_draw_consts.specs.declared.extended_constant.Operator.{Operator}
 use Rattle.smith_draw_consts.specs.declared.extended_constant.Operator.TheVariants.{Add, Sub, Mul}
 

@@ -1,15 +1,11 @@
 -- Contexts of constant expressions, and laws about them, used by the examples.
 use Rattle.std.specs.Prelude.{◌≡◌, true, false, List, [], ◌∷◌, All}
-use Rattle.smith_types.specs.Expressions.{Context}
-use Rattle.smith_syntax.specs.declared.value_type.ValType.{ValType}
-use Rattle.smith_syntax.specs.declared.composite_type.StorageType.TheVariants.{I8}
-use Rattle.smith_syntax.specs.declared.composite_type.SubType.{SubType}
-use Rattle.smith_syntax.specs.declared.entity_type.GlobalType.{GlobalType}
+use Rattle.smith_draw_consts.specs.Common.{Config, Context, GlobalType, SubType, ValType}
+use Rattle.smith_types.specs.Syntax.composite_type.StorageType.TheVariants.{I8}
 use Rattle.smith_types.specs.ExampleFeatures.{usual_features}
 use Rattle.smith_types.specs.ExampleTypes.{final_type, struct, array, constant}
-use Rattle.smith_syntax.specs.declared.value_type.ValType.TheVariants.{V128}
+use Rattle.smith_types.specs.Syntax.value_type.ValType.TheVariants.{V128}
 use Rattle.smith_types.specs.ExampleEntities.{constant_global}
-use Rattle.smith_config.specs.declared.config.Config.{Config}
 use Rattle.smith_draw_types.specs.declared.spaces.Spaces.{Spaces}
 use Rattle.smith_draw_consts.specs.ConstScopes.{AreSpacesValid}
 use Rattle.smith_draw_consts.specs.ConstOffers.{readable_globals}

@@ -4,10 +4,8 @@ use Rattle.std.specs.Prelude.{[], ◌∷◌, ◌++◌, map, take, length, slice_
 use Rattle.std.specs.Borrow.{Bor}
 use Rattle.std.specs.List.{range_with_len}
 use Rattle.smith_types.specs.Subtyping.{IsValInRange}
-use Rattle.smith_types.specs.Expressions.{Context, created, function_reference}
-use Rattle.smith_syntax.specs.declared.composite_type.SubType.{SubType}
-use Rattle.smith_syntax.specs.declared.entity_type.GlobalType.{GlobalType}
-use Rattle.smith_syntax.specs.declared.value_type.ValType.{ValType}
+use Rattle.smith_draw_consts.specs.Common.{Context, GlobalType, SubType, ValType}
+use Rattle.smith_types.specs.Expressions.{created, function_reference}
 use Rattle.smith_draw_types.specs.Below.{is_val_below}
 use Rattle.smith_draw_consts.specs.ConstOffers.{each_from, global_offers, function_offers, ways_by}
 use Rattle.smith_draw_consts.specs.declared.block_counts.BlockCounts.{BlockCounts}

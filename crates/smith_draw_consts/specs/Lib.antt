@@ -1,3 +1,4 @@
+pub mod Common
 pub mod KeptOffers
 pub mod ConstScopes
 pub mod ConstOffers

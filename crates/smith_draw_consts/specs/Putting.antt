@@ -1,11 +1,9 @@
 -- Instructions that are appended, and the values that they push.
 use Rattle.std.specs.Prelude.{List, [], ◌∷◌, ◌++◌, All}
 use Rattle.std.specs.List.{AllZip}
-use Rattle.smith_types.specs.Expressions.{Context, AreStackSteps}
+use Rattle.smith_draw_consts.specs.Common.{ConstInstr, Context, IsValBelow, ValType}
+use Rattle.smith_types.specs.Expressions.{AreStackSteps}
 use Rattle.smith_types.specs.Flags.{IsInstrEnabled}
-use Rattle.smith_types.specs.Subtyping.{IsValBelow}
-use Rattle.smith_syntax.specs.declared.value_type.ValType.{ValType}
-use Rattle.smith_syntax.specs.declared.const_instr.ConstInstr.{ConstInstr}
 
 -- the instructions push values of subtypes of these types, the last on top
 pub record Leaves (context : Context) (wanted : List ValType) (instructions : List ConstInstr) : Type 0 where

@@ -4,7 +4,7 @@ ghost use Rattle.std.specs.List.{Contains};
 ghost use Rattle.smith_bytes.specs.Source.{KeepsPieces};
 ghost use Rattle.smith_bytes.specs.Takes.{Takes};
 ghost use Rattle.smith_types.specs.ValidTypes.{IsRefTypeValid, IsValTypeValid};
-ghost use Rattle.smith_syntax.specs.declared.value_type.ValType.TheVariants.{I32, Ref};
+ghost use Rattle.smith_types.specs.Syntax.value_type.ValType.TheVariants.{I32, Ref};
 ghost use Rattle.smith_types.specs.Expressions.{IsConstExpr};
 ghost use Rattle.smith_types.specs.Floats.{IsNoFloat, HasNoFloat, GivesNoFloat};
 ghost use Rattle.smith_config.specs.Features.{features_of};

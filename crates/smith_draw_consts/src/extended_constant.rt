@@ -1,9 +1,9 @@
 ghost use Rattle.std.specs.Prelude.{None, ◌≡◌, ◌≤◌, ◌<◌, ◌⊎◌, ◌++◌, ◌+◌, [], ◌∷◌, IsTrue, IfOk};
 ghost use Rattle.std.specs.Prelude.{IfErr, OnOk, length, reverse, List};
-ghost use Rattle.smith_syntax.specs.declared.const_instr.ConstInstr.{ConstInstr};
+ghost use Rattle.smith_types.specs.Syntax.const_instr.ConstInstr.{ConstInstr};
 ghost use Rattle.smith_bytes.specs.Source.{KeepsPieces};
 ghost use Rattle.smith_types.specs.Expressions.{Context};
-ghost use Rattle.smith_syntax.specs.declared.value_type.ValType.TheVariants.{I32, I64};
+ghost use Rattle.smith_types.specs.Syntax.value_type.ValType.TheVariants.{I32, I64};
 ghost use Rattle.smith_draw_types.specs.Drawing.{AlwaysDraws};
 ghost use Rattle.smith_draw_consts.specs.Constants.{is_wide, operation, operator_of, operator_at};
 ghost use Rattle.smith_draw_consts.specs.Constants.{extended_at};

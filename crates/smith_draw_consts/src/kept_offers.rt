@@ -3,7 +3,7 @@ ghost use Rattle.std.specs.Prelude.{IfNone, IfOk, IfErr, OnOk, All, length, max,
 ghost use Rattle.smith_types.specs.Expressions.{Context};
 ghost use Rattle.smith_types.specs.Subtyping.{IsValInRange};
 ghost use Rattle.smith_types.specs.Types.{IsOrderly};
-ghost use Rattle.smith_syntax.specs.declared.value_type.ValType.{ValType as Wanted};
+ghost use Rattle.smith_types.specs.Syntax.value_type.ValType.{ValType as Wanted};
 ghost use Rattle.smith_draw_consts.specs.ConstOffers.{function_offers, global_offers};
 ghost use Rattle.smith_draw_consts.specs.ConstScopes.{context_of, IsScope};
 ghost use Rattle.smith_draw_consts.specs.KeptOffers.{AreAllRead, AreFewRead, AreFlags, AreItemsRead};

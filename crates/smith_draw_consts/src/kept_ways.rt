@@ -1,7 +1,7 @@
 ghost use Rattle.std.specs.Prelude.{◌≡◌, ◌+◌, ◌<◌, ◌≤◌, IsTrue, IfOk, IfErr, OnOk, All, length};
 ghost use Rattle.smith_types.specs.Expressions.{Context};
 ghost use Rattle.smith_types.specs.Subtyping.{IsValInRange};
-ghost use Rattle.smith_syntax.specs.declared.value_type.ValType.{ValType as Wanted};
+ghost use Rattle.smith_types.specs.Syntax.value_type.ValType.{ValType as Wanted};
 ghost use Rattle.smith_draw_consts.specs.ConstOffers.{type_offers, ways_by};
 ghost use Rattle.smith_draw_consts.specs.ConstScopes.{context_of, IsScope};
 ghost use Rattle.smith_draw_consts.specs.KeptOffers.{AreAllCounted, AreWaysCounted, AreWaysFor};

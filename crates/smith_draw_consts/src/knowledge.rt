@@ -1,5 +1,5 @@
 ghost use Rattle.std.specs.Prelude.{◌≡◌, ◌<◌, ℕ, Some, length, slice_get};
-ghost use Rattle.smith_syntax.specs.declared.entity_type.GlobalType.{GlobalType};
+ghost use Rattle.smith_types.specs.Syntax.entity_type.GlobalType.{GlobalType};
 ghost use Rattle.smith_types.specs.Expressions.{function_reference};
 ghost use Rattle.smith_draw_consts.specs.ConstScopes.{context_of, IsScope};
 ghost use Rattle.smith_draw_consts.specs.KeptOffers.{counts_of, IsKnown, readable};

@@ -5,7 +5,7 @@ ghost use Rattle.smith_draw_consts.specs.ConstNodes.{fields_there, field_operand
 ghost use Rattle.smith_draw_consts.specs.ConstNodes.{is_shared_heap, converted, node_of, node_at};
 ghost use Rattle.smith_draw_types.specs.HeldFields.{fields_of};
 ghost use Rattle.smith_types.specs.Expressions.{field_values};
-ghost use Rattle.smith_syntax.specs.declared.value_type.ValType.TheVariants.{I32};
+ghost use Rattle.smith_types.specs.Syntax.value_type.ValType.TheVariants.{I32};
 ghost use Rattle.smith_draw_consts.specs.declared.node.Operand.TheVariants.{Value};
 
 use crate::constant::draw_constant;

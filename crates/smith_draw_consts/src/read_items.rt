@@ -1,7 +1,7 @@
 ghost use Rattle.std.specs.Prelude.{◌≡◌, ◌≤◌, OnOk, IfErr, List, Bool, Some, length};
 ghost use Rattle.smith_types.specs.Expressions.{Context, function_reference};
-ghost use Rattle.smith_syntax.specs.declared.composite_type.SubType.{SubType};
-ghost use Rattle.smith_syntax.specs.declared.value_type.ValType.{ValType as Wanted};
+ghost use Rattle.smith_types.specs.Syntax.composite_type.SubType.{SubType};
+ghost use Rattle.smith_types.specs.Syntax.value_type.ValType.{ValType as Wanted};
 ghost use Rattle.smith_draw_consts.specs.ConstScopes.{context_of, IsScope};
 ghost use Rattle.smith_draw_consts.specs.KeptOffers.{AreAllRead, AreClasses, AreFewRead, AreFlags};
 ghost use Rattle.smith_draw_consts.specs.KeptOffers.{AreItemsRead, readable};

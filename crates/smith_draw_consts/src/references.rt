@@ -1,9 +1,9 @@
 ghost use Rattle.std.specs.Prelude.{◌≡◌, ◌<◌, List, IsTrue, IfSome, length};
 ghost use Rattle.smith_types.specs.Subtyping.{IsValInRange};
 ghost use Rattle.smith_types.specs.Expressions.{reference_to, created, function_reference};
-ghost use Rattle.smith_syntax.specs.declared.value_type.HeapType.TheVariants.{Abstract};
-ghost use Rattle.smith_syntax.specs.declared.value_type.AbstractHeapType.TheVariants as heap;
-ghost use Rattle.smith_syntax.specs.declared.composite_type.SubType.{SubType};
+ghost use Rattle.smith_types.specs.Syntax.value_type.HeapType.TheVariants.{Abstract};
+ghost use Rattle.smith_types.specs.Syntax.value_type.AbstractHeapType.TheVariants as heap;
+ghost use Rattle.smith_types.specs.Syntax.composite_type.SubType.{SubType};
 ghost use Rattle.smith_draw_types.specs.Below.{is_val_below};
 ghost use Rattle.smith_draw_consts.specs.ConstScopes.{context_of};
 ghost use Rattle.smith_draw_consts.specs.KeptOffers.{IsOnlyType, is_offered, readable};

@@ -1,14 +1,13 @@
 -- The items of index spaces, all of which may be exported.
-use Rattle.std.proofs.Common.{◌≡◌, ℕ, zero, suc, ◌+◌, ◌<◌, List, [], ◌∷◌, ◌++◌, length, refl, arith, length-append, get_or, ◌∙◌}
-use Rattle.std.specs.Prelude.{All, slice_get, Some}
-use Rattle.std.proofs.lemmas.List.Elements.{All-nil, All-cons, All-append}
-use Rattle.std.proofs.lemmas.Option.{slice_get-get_or}
+use Rattle.smith_draw_contents.proofs.Common.{[], All, All-cons, All-nil, arith, EntitySpaces, every_item, ExportKind, get_or, IsStanding}
+use Rattle.smith_draw_contents.proofs.Common.{length, length-append, List, refl, slice_get, slice_get-get_or, suc, zero, ℕ, ◌++◌, ◌+◌, ◌<◌}
+use Rattle.smith_draw_contents.proofs.Common.{◌∙◌, ◌∷◌, ◌≡◌}
+use Rattle.std.specs.Prelude.{Some}
+use Rattle.std.proofs.lemmas.List.Elements.{All-append}
 use Rattle.smith_types.proofs.ListLemmas.{slice_get-grown, slice_get-after}
-use Rattle.smith_types.specs.Imports.{EntitySpaces}
-use Rattle.smith_syntax.specs.declared.entity_type.EntityType.TheVariants as entity
-use Rattle.smith_syntax.specs.declared.entity_type.ExportKind.{ExportKind}
-use Rattle.smith_syntax.specs.declared.entity_type.ExportKind.TheVariants as kind
-use Rattle.smith_module_rules.specs.ExportedItems.{IsStanding, Item, numbered_from, every_item}
+use Rattle.smith_types.specs.Syntax.entity_type.EntityType.TheVariants as entity
+use Rattle.smith_types.specs.Syntax.entity_type.ExportKind.TheVariants as kind
+use Rattle.smith_module_rules.specs.ExportedItems.{Item, numbered_from}
 
 length-numbered : (of_kind : ExportKind) (start count : ℕ) → length (numbered_from of_kind start count) ≡ count
 length-numbered of_kind start zero = refl

@@ -1,19 +1,16 @@
 -- One iteration of the loop that exports every item.
-use Rattle.std.proofs.Common.{◌≡◌, ℕ, ◌+◌, ◌-◌, ◌<◌, ◌≤◌, true, false, List, [], ◌∷◌, ◌++◌, length, drop, map, refl, sym, ap, arith}
-use Rattle.std.proofs.Common.{length-append, append-nil, append_assoc, nat_lt, lt-ltb, le-ltb, subst, ◌∙◌}
-use Rattle.std.specs.Prelude.{Ok, Err, Some, All, slice_get}
-use Rattle.std.specs.HashSet.{HashSet, IsEmpty}
-use Rattle.std.specs.declared.string.String.{String}
-use Rattle.std.specs.declared.alloc.Global.{Global}
-use Rattle.std.proofs.lemmas.List.{map-append, drop_all, drop_more}
-use Rattle.std.proofs.lemmas.Option.{slice_get_within, get_or_from_slice_get}
+use Rattle.smith_draw_contents.proofs.Common.{[], All, ap, append-nil, append_assoc, arith, Config, drop, EntitySpaces, Err, Export}
+use Rattle.smith_draw_contents.proofs.Common.{exported_size, false, get_or_from_slice_get, Global, HashSet, IsStanding, item_size}
+use Rattle.smith_draw_contents.proofs.Common.{KeepsPieces, length, length-append, List, lt-ltb, map, map-append, nat_lt, Ok, refl}
+use Rattle.smith_draw_contents.proofs.Common.{slice_get, slice_get_within, String, subst, SubType, sym, true, ℕ, ◌++◌, ◌+◌, ◌-◌, ◌<◌, ◌∙◌}
+use Rattle.smith_draw_contents.proofs.Common.{◌∷◌, ◌≡◌, ◌≤◌}
+use Rattle.std.proofs.Common.{le-ltb}
+use Rattle.std.specs.Prelude.{Some}
+use Rattle.std.specs.HashSet.{IsEmpty}
+use Rattle.std.proofs.lemmas.List.{drop_all, drop_more}
 use Rattle.std.proofs.lemmas.List.Sums.{sum_by-append}
 use Rattle.smith_bytes.specs.declared.error.Why.TheVariants.{TypeSize}
-use Rattle.smith_bytes.specs.Source.{KeepsPieces}
-use Rattle.smith_types.specs.Imports.{EntitySpaces}
-use Rattle.smith_syntax.specs.declared.composite_type.SubType.{SubType}
-use Rattle.smith_config.specs.declared.config.Config.{Config}
-use Rattle.smith_module_rules.specs.ExportedItems.{Item, item_of, Export, item_size, exported_size, IsStanding}
+use Rattle.smith_module_rules.specs.ExportedItems.{Item, item_of}
 use Rattle.smith_draw_contents.specs.AllExports.{exports_of_items}
 use Rattle.smith_draw_contents.specs.Exporting.{is_exported, export_name_at, HasNames}
 use Rattle.smith_draw_contents.specs.Exported.{AreExportsFit}

@@ -1,23 +1,16 @@
 -- The items that may be exported, if much of the type size is left and if little is.
-use Rattle.std.proofs.Common.{◌≡◌, ℕ, zero, suc, ◌+◌, ◌<◌, ◌^◌, Bool, true, false, List, [], ◌∷◌, length, refl, sym, ap, subst, arith, ◌∙◌}
-use Rattle.std.proofs.Common.{nat_lt, lt-ltb, get_or}
-use Rattle.std.specs.Prelude.{All, IsTrue, slice_get, Some, if◌then◌else◌}
+use Rattle.smith_draw_contents.proofs.Common.{[], All, All-nil, All-weaker, ap, arith, Bool, chosen_at, chosen_of, EntitySpaces, ExportKind}
+use Rattle.smith_draw_contents.proofs.Common.{false, get_or, get_or_from_slice_get, if◌then◌else◌, IsPassing, IsTrue, length, List, lt-ltb}
+use Rattle.smith_draw_contents.proofs.Common.{ltb-true, nat_lt, places_from, places_pass, refl, slice_get, slice_get-get_or}
+use Rattle.smith_draw_contents.proofs.Common.{slice_get_within, subst, SubType, suc, sym, true, zero, ℕ, ◌+◌, ◌<◌, ◌^◌, ◌∙◌, ◌∷◌, ◌≡◌}
+use Rattle.std.specs.Prelude.{Some}
 use Rattle.std.specs.List.{AllByRecursion as ByRecursion}
-use Rattle.std.proofs.lemmas.Bool.{ltb-true}
-use Rattle.std.proofs.lemmas.Option.{slice_get_within, get_or_from_slice_get, slice_get-get_or}
-use Rattle.std.proofs.lemmas.List.Elements.{All-nil, All-weaker, All-from_recursion}
+use Rattle.std.proofs.lemmas.List.Elements.{All-from_recursion}
 use Rattle.smith_types.specs.Entities.{IsFuncTypeIndex}
-use Rattle.smith_types.specs.Imports.{EntitySpaces}
 use Rattle.smith_types.specs.Sizes.{size_in}
-use Rattle.smith_syntax.specs.declared.composite_type.SubType.{SubType}
-use Rattle.smith_syntax.specs.declared.entity_type.EntityType.TheVariants as entity
-use Rattle.smith_syntax.specs.declared.entity_type.ExportKind.{ExportKind}
-use Rattle.smith_syntax.specs.declared.entity_type.ExportKind.TheVariants as kind
-use Rattle.smith_draw_types.specs.Choices.{chosen_at}
-use Rattle.smith_draw_types.specs.TypeUses.{places_from}
+use Rattle.smith_types.specs.Syntax.entity_type.EntityType.TheVariants as entity
+use Rattle.smith_types.specs.Syntax.entity_type.ExportKind.TheVariants as kind
 use Rattle.smith_draw_types.proofs.EnabledLemmas.{enabled_all}
-use Rattle.smith_draw_types.proofs.SupertypeLemmas.{chosen_of}
-use Rattle.smith_draw_types.proofs.TypeUseLemmas.{IsPassing, places_pass}
 use Rattle.smith_draw_contents.specs.Exporting.{is_func_below, candidates, candidate_rows, offered_kinds}
 use Rattle.smith_draw_contents.specs.Exported.{HasSizeIn32Bits, IsFuncWithin, MayExport, IsCandidate}
 

@@ -1,27 +1,20 @@
 -- Drawn data segments fit into a module: they are valid, and with `disallow_traps` the bytes that
 -- they copy fit.
-use Rattle.std.proofs.Common.{◌≡◌, ◌⊎◌, inl, inr, ℕ, ◌<◌, ◌≤◌, Bool, true, false, cond, List, [], length, refl, subst, arith}
-use Rattle.std.specs.Prelude.{◌↔◌, All, IsTrue, IfSome, Option, Some, None}
+use Rattle.smith_draw_contents.proofs.Common.{[], address_type, All, All-weaker, arith, Bool, chosen_at, chosen_of, cond, Config, Context}
+use Rattle.smith_draw_contents.proofs.Common.{drawn_is, false, grow_least, grow_most, inl, inr, IsOffsetInside, IsTrue, IsVisible, length}
+use Rattle.smith_draw_contents.proofs.Common.{List, MemoryType, Offset, Ref, refl, subst, SubType, true, ValType, ℕ, ◌<◌, ◌≡◌, ◌≤◌}
+use Rattle.std.proofs.Common.{◌⊎◌}
+use Rattle.std.specs.Prelude.{IfSome, None, Option, Some, ◌↔◌}
 use Rattle.std.specs.List.{Contains}
-use Rattle.std.proofs.lemmas.List.Elements.{All-contains_itself, All-weaker}
-use Rattle.smith_bytes.proofs.GrownLemmas.{grow_most, grow_least}
+use Rattle.std.proofs.lemmas.List.Elements.{All-contains_itself}
 use Rattle.smith_types.specs.Entities.{IsMemoryValid, page_log2}
-use Rattle.smith_types.specs.Expressions.{Context, IsVisible}
-use Rattle.smith_syntax.specs.Features.{Features}
-use Rattle.smith_types.specs.Segments.{IsOffsetValid, IsOffsetInside, address_type}
+use Rattle.smith_types.specs.Syntax.Features.{Features}
+use Rattle.smith_types.specs.Segments.{IsOffsetValid}
 use Rattle.smith_types.specs.Subtyping.{IsValBelow}
-use Rattle.smith_syntax.specs.declared.composite_type.SubType.{SubType}
-use Rattle.smith_syntax.specs.declared.entity_type.MemoryType.{MemoryType}
-use Rattle.smith_syntax.specs.declared.segments.DataSegmentKind.TheVariants.{Passive, Active}
-use Rattle.smith_syntax.specs.declared.segments.Offset.{Offset}
-use Rattle.smith_syntax.specs.declared.value_type.ValType.{ValType}
-use Rattle.smith_syntax.specs.declared.value_type.ValType.TheVariants.{I32, I64, F32, F64, V128, Ref}
-use Rattle.smith_config.specs.declared.config.Config.{Config}
-use Rattle.smith_draw_types.specs.Choices.{chosen_at}
+use Rattle.smith_types.specs.Syntax.segments.DataSegmentKind.TheVariants.{Passive, Active}
+use Rattle.smith_types.specs.Syntax.value_type.ValType.TheVariants.{F32, F64, I32, I64, V128}
 use Rattle.smith_draw_consts.specs.ConstScopes.{IsReadable}
 use Rattle.smith_draw_types.proofs.FloatLemmas.{stands_in}
-use Rattle.smith_draw_types.proofs.SupertypeLemmas.{chosen_of}
-use Rattle.smith_draw_types.proofs.ValueTypeLemmas.{drawn_is}
 use Rattle.smith_draw_contents.specs.DataSegments.{Targets, Indexed, HasPages, no_memory, least_bytes, data_segment_at, data_segments_at}
 use Rattle.smith_draw_contents.specs.DataTargets.{StandsIn, TellOffsets, IsDataFit}
 

@@ -1,16 +1,12 @@
 -- One iteration of the loop over the memories that count, and the memory that is chosen.
-use Rattle.std.proofs.Common.{◌≡◌, ℕ, ◌+◌, ◌-◌, ◌<◌, ◌≤◌, Bool, true, false, List, [], ◌∷◌, ◌++◌, Some, length, get_or, drop, refl, sym}
-use Rattle.std.proofs.Common.{◌∙◌, ap, arith}
-use Rattle.std.specs.Prelude.{All}
-use Rattle.std.proofs.lemmas.List.{append-nil, at_drop_more, at_drop_all, map-append, length-map, get_or-map}
-use Rattle.std.proofs.lemmas.List.Elements.{All-nil, All-push, All-map, All-weaker}
-use Rattle.std.proofs.lemmas.Option.{slice_get-get_or, get_or_from_slice_get}
+use Rattle.smith_draw_contents.proofs.Common.{[], All, All-nil, All-push, All-weaker, ap, arith, at_drop_all, at_drop_more, Bool, chosen_at}
+use Rattle.smith_draw_contents.proofs.Common.{drop, false, get_or, get_or_from_slice_get, KeepsPieces, length, List, map-append, MemoryType}
+use Rattle.smith_draw_contents.proofs.Common.{refl, slice_get-get_or, Some, sym, true, ℕ, ◌++◌, ◌+◌, ◌-◌, ◌<◌, ◌∙◌, ◌∷◌, ◌≡◌, ◌≤◌}
+use Rattle.std.proofs.lemmas.List.{append-nil, get_or-map, length-map}
+use Rattle.std.proofs.lemmas.List.Elements.{All-map}
 use Rattle.smith_bytes.proofs.DrawnLemmas.{range_within}
 use Rattle.smith_bytes.specs.Draws.{range_at}
-use Rattle.smith_bytes.specs.Source.{KeepsPieces}
-use Rattle.smith_draw_types.specs.Choices.{chosen_at}
 use Rattle.smith_draw_contents.specs.OfferedIndices.{Indices}
-use Rattle.smith_syntax.specs.declared.entity_type.MemoryType.{MemoryType}
 use Rattle.smith_draw_consts.specs.ConstOffers.{offered_if}
 use Rattle.smith_draw_contents.specs.DataSegments.{Indexed, no_memory, may_hold_data_at, counting_at}
 use Rattle.smith_draw_contents.specs.DataTargets.{StandsIn, indexed}

@@ -1,22 +1,17 @@
 -- Drawn bodies are valid, and raw bytes only if that is allowed. No local is a float without
 -- floats, and none is a non-nullable reference that is not grounded.
-use Rattle.std.proofs.Common.{◌≡◌, ℕ, Bool, true, false, cond, List, [], length, refl, subst, arith}
-use Rattle.std.specs.Prelude.{IsTrue, All}
+use Rattle.smith_draw_contents.proofs.Common.{[], All, All-nil, arith, Bool, cond, cond_both, Config, Context, false, features_of}
+use Rattle.smith_draw_contents.proofs.Common.{grow_least, grow_most, IsOrderly, IsTrue, length, List, recursion_from_All, refl, subst, true}
+use Rattle.smith_draw_contents.proofs.Common.{ℕ, ◌≡◌}
 use Rattle.std.specs.List.{Any, flat_map}
-use Rattle.std.proofs.lemmas.Bool.{cond_both}
-use Rattle.std.proofs.lemmas.List.Elements.{All-nil, recursion_from_All}
 use Rattle.smith_bytes.specs.Draws.{bool_at}
-use Rattle.smith_bytes.proofs.GrownLemmas.{grow_most, grow_least, grow_all}
+use Rattle.smith_bytes.proofs.GrownLemmas.{grow_all}
 use Rattle.smith_types.specs.Bodies.{AreInstructionsValid, IsBodyValid}
 use Rattle.smith_types.specs.Floats.{IsNoFloat}
-use Rattle.smith_types.specs.Expressions.{Context}
-use Rattle.smith_types.specs.Types.{IsOrderly}
-use Rattle.smith_syntax.specs.declared.code.Code.{Code}
-use Rattle.smith_syntax.specs.declared.code.Instructions.{Instructions}
-use Rattle.smith_syntax.specs.declared.code.Instructions.TheVariants.{Unreachable, Arbitrary}
+use Rattle.smith_types.specs.Syntax.code.Code.{Code}
+use Rattle.smith_types.specs.Syntax.code.Instructions.{Instructions}
+use Rattle.smith_types.specs.Syntax.code.Instructions.TheVariants.{Unreachable, Arbitrary}
 use Rattle.smith_validity.proofs.HeldValueLemmas.{all_of_parts}
-use Rattle.smith_config.specs.declared.config.Config.{Config}
-use Rattle.smith_config.specs.Features.{features_of}
 use Rattle.smith_config.specs.Sanitized.{IsSanitized}
 use Rattle.smith_config.specs.Granted.{IsGranted}
 use Rattle.smith_draw_types.proofs.GrantedLemmas.{locals_granted}

@@ -1,26 +1,20 @@
 -- The number of element segments: at least the minimum, and none from a piece that spells none.
-use Rattle.std.proofs.Common.{◌≡◌, ℕ, zero, suc, ◌+◌, ◌≤◌, Bool, true, false, cond, List, [], ◌∷◌, ◌++◌, length, ltb, eqb, refl, arith}
-use Rattle.std.proofs.Common.{length-append}
-use Rattle.std.specs.Prelude.{◌==◌, Result, Ok, Err, IfOk, if◌then◌else◌}
-use Rattle.std.proofs.lemmas.Bool.{cond_both, eqb-true, ltb-false, lt-ltb}
+use Rattle.smith_draw_contents.proofs.Common.{[], arith, Bool, bool_read, cond, cond_both, Config, Context, ElementSegment, eqb-true, Err}
+use Rattle.smith_draw_contents.proofs.Common.{Error, false, goes_at, IfOk, if◌then◌else◌, length, length-append, List, ltb-false, Ok, refl}
+use Rattle.smith_draw_contents.proofs.Common.{Result, returned, SpellsBool, suc, TableType, Takes, true, zero, ℕ, ◌++◌, ◌+◌, ◌==◌, ◌∷◌, ◌≡◌}
+use Rattle.smith_draw_contents.proofs.Common.{◌≤◌}
+use Rattle.std.proofs.Common.{eqb, ltb}
+use Rattle.std.proofs.lemmas.Bool.{lt-ltb}
 use Rattle.smith_bytes.specs.declared.error.Count.TheVariants as counts
 use Rattle.smith_bytes.specs.declared.error.Why.TheVariants.{Unmet}
-use Rattle.smith_bytes.specs.declared.error.Error.{Error}
 use Rattle.smith_bytes.specs.declared.error.Error.TheVariants.{IncorrectFormat}
-use Rattle.smith_bytes.specs.Growth.{goes_at}
-use Rattle.smith_bytes.specs.Spelling.{SpellsBool, SpellsNone}
-use Rattle.smith_bytes.specs.Takes.{Takes}
-use Rattle.smith_bytes.proofs.SpelledLemmas.{bool_read}
-use Rattle.smith_types.specs.Expressions.{Context}
-use Rattle.smith_syntax.specs.declared.entity_type.TableType.{TableType}
-use Rattle.smith_syntax.specs.declared.segments.ElementSegment.{ElementSegment}
-use Rattle.smith_config.specs.declared.config.Config.{Config}
+use Rattle.smith_bytes.specs.Spelling.{SpellsNone}
 use Rattle.smith_bytes.specs.Spelling.{SpellsEmpty}
 use Rattle.smith_draw_contents.specs.ElementSegments.{KindChoice, table_kinds_at, element_kinds_at, element_segments_at}
 use Rattle.smith_draw_contents.specs.ElementSegments.{all_element_segments_at}
 use Rattle.smith_bytes.specs.Steps.{Returns, is_memory}
 use Rattle.smith_draw_contents.specs.declared.element_kinds.KindChoice.TheVariants.{Passive, Declared}
-use Rattle.smith_draw_consts.proofs.TriedStepLemmas.{following, returned, takes_if_read}
+use Rattle.smith_draw_consts.proofs.TriedStepLemmas.{following, takes_if_read}
 use Rattle.smith_draw_consts.proofs.TriedListLemmas.{stops_by}
 
 segments_least : (config : Config) (context : Context) (kinds : List KindChoice) (most : ℕ) (made : List ElementSegment) (bytes : List ℕ)

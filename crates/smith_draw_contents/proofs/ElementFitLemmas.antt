@@ -1,32 +1,21 @@
 -- Drawn element segments fit into a module: they are valid, and with `disallow_traps` the items
 -- that they copy fit.
-use Rattle.std.proofs.Common.{ℕ, ◌≤◌, true, Option, Some, None, List, [], length, inl, refl, subst, arith}
-use Rattle.std.specs.Prelude.{All, IsTrue, IsSomeAnd, IfOk, Result, Ok, Err}
+use Rattle.smith_draw_contents.proofs.Common.{[], All, All-weaker, arith, Config, ConstInstr, Context, Elements, ElementSegment, Err, Error}
+use Rattle.smith_draw_contents.proofs.Common.{GivesNoFloat, IfOk, inl, IsConstExpr, IsOffsetInside, IsTrue, IsUngrounded, length, List}
+use Rattle.smith_draw_contents.proofs.Common.{None, Offset, Ok, Option, recursion_from_All, Ref, refl, RefType, Result, seen_by, Some}
+use Rattle.smith_draw_contents.proofs.Common.{standing_in, subst, TableType, true, ℕ, ◌≤◌}
+use Rattle.std.specs.Prelude.{IsSomeAnd}
 use Rattle.std.specs.List.{flat_map}
-use Rattle.std.proofs.lemmas.List.Elements.{All-weaker, recursion_from_All}
-use Rattle.smith_bytes.specs.declared.error.Error.{Error}
 use Rattle.smith_bytes.specs.Steps.{Returns, is_memory}
 use Rattle.smith_draw_consts.proofs.TriedListLemmas.{try_grow_least}
-use Rattle.smith_types.specs.Expressions.{Context, IsConstExpr}
-use Rattle.smith_types.specs.Floats.{HasNoFloat, GivesNoFloat}
-use Rattle.smith_types.specs.Segments.{item_count, IsOffsetInside, IsElementKindValid, AreElementsInside}
+use Rattle.smith_types.specs.Floats.{HasNoFloat}
+use Rattle.smith_types.specs.Segments.{AreElementsInside, IsElementKindValid, item_count}
 use Rattle.smith_types.specs.Subtyping.{IsRefBelow}
-use Rattle.smith_syntax.specs.declared.const_instr.ConstInstr.{ConstInstr}
-use Rattle.smith_syntax.specs.declared.entity_type.TableType.{TableType}
-use Rattle.smith_syntax.specs.declared.segments.ElementKind.{ElementKind}
-use Rattle.smith_syntax.specs.declared.segments.ElementKind.TheVariants as element_kind
-use Rattle.smith_syntax.specs.declared.segments.Elements.{Elements}
-use Rattle.smith_syntax.specs.declared.segments.Elements.TheVariants.{Expressions}
-use Rattle.smith_syntax.specs.declared.segments.ElementSegment.{ElementSegment}
-use Rattle.smith_syntax.specs.declared.segments.Offset.{Offset}
-use Rattle.smith_syntax.specs.declared.segments.Offset.TheVariants.{Const32, Const64, Global}
-use Rattle.smith_syntax.specs.declared.value_type.RefType.{RefType}
-use Rattle.smith_syntax.specs.declared.value_type.ValType.TheVariants.{Ref}
+use Rattle.smith_types.specs.Syntax.segments.ElementKind.{ElementKind}
+use Rattle.smith_types.specs.Syntax.segments.ElementKind.TheVariants as element_kind
+use Rattle.smith_types.specs.Syntax.segments.Elements.TheVariants.{Expressions}
+use Rattle.smith_types.specs.Syntax.segments.Offset.TheVariants.{Const32, Const64, Global}
 use Rattle.smith_validity.proofs.HeldValueLemmas.{all_of_parts}
-use Rattle.smith_config.specs.declared.config.Config.{Config}
-use Rattle.smith_config.specs.Granted.{IsUngrounded}
-use Rattle.smith_draw_consts.specs.ConstScopes.{seen_by}
-use Rattle.smith_draw_types.specs.Grounding.{standing_in}
 use Rattle.smith_draw_types.specs.declared.spaces.Spaces.{Spaces}
 use Rattle.smith_draw_contents.specs.DrawnElements.{HasUngroundedElements, IsTarget, IsKindOffered, IsPlaced, IsKindDrawn, FitsTable}
 use Rattle.smith_draw_contents.specs.DrawnElements.{MayHoldItems, AreItemsFit, IsElementFit}

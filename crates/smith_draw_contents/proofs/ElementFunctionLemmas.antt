@@ -1,35 +1,26 @@
 -- Unshared functions may be items of element segments.
-use Rattle.std.proofs.Common.{◌≡◌, ◌∙◌, ℕ, suc, Bool, true, false, ◌&&◌, cond, Some, List, [], ◌∷◌, length, eqb, ltb, inl, inr, refl, sym}
-use Rattle.std.proofs.Common.{ap, subst, arith}
-use Rattle.std.specs.Prelude.{All, IsTrue, IfOk, Result, not, nat_le, slice_get}
+use Rattle.smith_draw_contents.proofs.Common.{[], All, All-nil, All-weaker, ap, arith, Bool, chosen_at, chosen_of, cond, cond_both, Config}
+use Rattle.smith_draw_contents.proofs.Common.{Context, eqb-true, Error, false, features_of, GivesNoFloat, grow_least, IfOk, inl, inr}
+use Rattle.smith_draw_contents.proofs.Common.{IsPassing, IsTrue, length, List, ltb-false, nat_le, not, places_from, places_pass}
+use Rattle.smith_draw_contents.proofs.Common.{recursion_from_All, Ref, refl, RefType, Result, slice_get, Some, subst, SubType, suc, sym}
+use Rattle.smith_draw_contents.proofs.Common.{true, ValType, ℕ, ◌&&◌, ◌∙◌, ◌∷◌, ◌≡◌}
+use Rattle.std.proofs.Common.{eqb, ltb}
 use Rattle.std.specs.List.{AllByRecursion as Each}
 use Rattle.std.proofs.Math.Bool.{or-false}
-use Rattle.std.proofs.lemmas.Bool.{cond_both, eqb-true, eqb-false, ltb-false, not-false}
-use Rattle.std.proofs.lemmas.List.Elements.{All-nil, All-weaker, All-from_recursion, recursion_from_All}
-use Rattle.smith_bytes.specs.declared.error.Error.{Error}
-use Rattle.smith_bytes.proofs.GrownLemmas.{grow_all, grow_least}
+use Rattle.std.proofs.lemmas.Bool.{eqb-false, not-false}
+use Rattle.std.proofs.lemmas.List.Elements.{All-from_recursion}
+use Rattle.smith_bytes.proofs.GrownLemmas.{grow_all}
 use Rattle.smith_types.specs.Entities.{IsFuncTypeIndex}
-use Rattle.smith_types.specs.Expressions.{Context, created, reference_to, function_reference}
+use Rattle.smith_types.specs.Expressions.{created, function_reference, reference_to}
 use Rattle.smith_types.specs.Flags.{IsElementTypeEnabled, funcref}
-use Rattle.smith_syntax.specs.Kinds.{kind_of, shared}
+use Rattle.smith_types.specs.Syntax.Kinds.{kind_of, shared}
 use Rattle.smith_types.specs.Segments.{IsItem}
 use Rattle.smith_types.specs.Subtyping.{IsBelow, itself, by_step, IsValBelow}
-use Rattle.smith_syntax.specs.declared.composite_type.SubType.{SubType}
-use Rattle.smith_syntax.specs.declared.segments.Elements.TheVariants.{Functions}
-use Rattle.smith_syntax.specs.declared.value_type.AbstractHeapType.TheVariants as heap
-use Rattle.smith_syntax.specs.declared.value_type.HeapType.{HeapType}
-use Rattle.smith_syntax.specs.declared.value_type.HeapType.TheVariants.{Abstract, Concrete, Exact}
-use Rattle.smith_syntax.specs.declared.value_type.RefType.{RefType}
-use Rattle.smith_syntax.specs.declared.value_type.ValType.{ValType}
-use Rattle.smith_syntax.specs.declared.value_type.ValType.TheVariants.{Ref}
-use Rattle.smith_config.specs.declared.config.Config.{Config}
-use Rattle.smith_config.specs.Features.{features_of}
-use Rattle.smith_draw_types.specs.Choices.{chosen_at}
-use Rattle.smith_types.specs.Floats.{GivesNoFloat}
-use Rattle.smith_draw_types.specs.TypeUses.{places_from}
+use Rattle.smith_types.specs.Syntax.segments.Elements.TheVariants.{Functions}
+use Rattle.smith_types.specs.Syntax.value_type.AbstractHeapType.TheVariants as heap
+use Rattle.smith_types.specs.Syntax.value_type.HeapType.{HeapType}
+use Rattle.smith_types.specs.Syntax.value_type.HeapType.TheVariants.{Abstract, Concrete, Exact}
 use Rattle.smith_draw_types.proofs.FloatLemmas.{stands_in}
-use Rattle.smith_draw_types.proofs.SupertypeLemmas.{chosen_of}
-use Rattle.smith_draw_types.proofs.TypeUseLemmas.{IsPassing, places_pass}
 use Rattle.smith_draw_contents.specs.DrawnElements.{AreItemsFit}
 use Rattle.smith_draw_contents.specs.ElementSegments.{is_plain_func, is_funcref, is_unshared_type, unshared_funcs, are_functions_at}
 use Rattle.smith_draw_contents.specs.ElementSegments.{chosen_functions_at, functions_at}

@@ -1,29 +1,19 @@
 -- Properties of the items of element segments.
-use Rattle.std.proofs.Common.{◌≡◌, ◌∙◌, ℕ, ◌≤◌, Bool, true, false, List, [], length, refl, ap, inl, inr, arith}
-use Rattle.std.specs.Prelude.{All, IfOk, slice_index_or}
-use Rattle.std.proofs.lemmas.Option.{slice_get-get_or, slice_get_within, get_or_from_slice_get}
-use Rattle.smith_bytes.specs.declared.error.Error.{Error}
-use Rattle.smith_bytes.proofs.GrownLemmas.{grow_most}
-use Rattle.smith_types.specs.Expressions.{Context}
+use Rattle.smith_draw_contents.proofs.Common.{[], All, ap, arith, Bool, chosen_at, Config, Context, Error, false, features_of}
+use Rattle.smith_draw_contents.proofs.Common.{get_or_from_slice_get, grow_most, IfOk, inl, inr, IsOrderly, IsUngrounded, length, List, Ref}
+use Rattle.smith_draw_contents.proofs.Common.{refl, RefType, slice_get-get_or, slice_get_within, standing_in, TableType, true, ℕ, ◌∙◌, ◌≡◌}
+use Rattle.smith_draw_contents.proofs.Common.{◌≤◌}
+use Rattle.std.specs.Prelude.{slice_index_or}
 use Rattle.smith_types.specs.Flags.{IsElementTypeEnabled}
 use Rattle.smith_types.specs.Segments.{table_index}
-use Rattle.smith_syntax.specs.declared.entity_type.TableType.{TableType}
-use Rattle.smith_types.specs.Types.{IsOrderly}
-use Rattle.smith_syntax.specs.declared.value_type.ValType.TheVariants.{Ref}
-use Rattle.smith_syntax.specs.declared.value_type.RefType.{RefType}
 use Rattle.smith_types.proofs.GroupGrowthLemmas.{AreTypesOpen-at, AreTypesOpen-start}
-use Rattle.smith_config.specs.declared.config.Config.{Config}
-use Rattle.smith_config.specs.Features.{features_of}
 use Rattle.smith_config.specs.Sanitized.{IsSanitized}
 use Rattle.smith_draw_consts.proofs.TriedListLemmas.{try_grow_most}
-use Rattle.smith_draw_types.specs.Choices.{chosen_at}
 use Rattle.smith_draw_types.specs.Kept.{IsSharingEnabled}
 use Rattle.smith_draw_types.specs.MatchingTypes.{matching_ref_type_at}
 use Rattle.smith_draw_types.specs.declared.spaces.Spaces.{Spaces}
 use Rattle.smith_draw_types.proofs.ChosenLemmas.{references_without_gc}
 use Rattle.smith_draw_types.proofs.FilledLemmas.{ref_type_filled, matching_ref_ungrounded}
-use Rattle.smith_config.specs.Granted.{IsUngrounded}
-use Rattle.smith_draw_types.specs.Grounding.{standing_in}
 use Rattle.smith_draw_types.proofs.MatchingLemmas.{matching_ref_below, matching_ref_valid}
 use Rattle.smith_draw_types.proofs.TableTypeLemmas.{element_enabled}
 use Rattle.smith_draw_types.proofs.ValueTypeLemmas.{ref_type_drawn}

@@ -1,14 +1,10 @@
 -- The kinds of element segments that are offered.
-use Rattle.std.proofs.Common.{◌≡◌, ℕ, suc, ◌+◌, ◌≤◌, Bool, true, false, ◌&&◌, cond, List, [], ◌∷◌, ◌++◌, length, refl, sym, subst, arith}
-use Rattle.std.proofs.Common.{length-append}
-use Rattle.std.specs.Prelude.{◌==◌, Some, None, All, slice_get}
-use Rattle.std.proofs.lemmas.Bool.{cond_both, eqb-true}
-use Rattle.std.proofs.lemmas.List.Elements.{All-nil, All-cons, All-push, All-head, All-tail}
+use Rattle.smith_draw_contents.proofs.Common.{[], All, All-cons, All-head, All-nil, All-push, arith, Bool, cond, cond_both, Config}
+use Rattle.smith_draw_contents.proofs.Common.{eqb-true, false, features_of, length, length-append, List, refl, slice_get, subst, SubType}
+use Rattle.smith_draw_contents.proofs.Common.{suc, sym, TableType, true, ℕ, ◌&&◌, ◌++◌, ◌+◌, ◌==◌, ◌∷◌, ◌≡◌, ◌≤◌}
+use Rattle.std.specs.Prelude.{None, Some}
+use Rattle.std.proofs.lemmas.List.Elements.{All-tail}
 use Rattle.smith_types.specs.Entities.{IsTableValid}
-use Rattle.smith_syntax.specs.declared.composite_type.SubType.{SubType}
-use Rattle.smith_syntax.specs.declared.entity_type.TableType.{TableType}
-use Rattle.smith_config.specs.declared.config.Config.{Config}
-use Rattle.smith_config.specs.Features.{features_of}
 use Rattle.smith_draw_contents.specs.DrawnElements.{IsKindOffered}
 use Rattle.smith_draw_contents.specs.ElementSegments.{KindChoice, is_funcref, is_offered_at, with_unnamed, with_named, table_kinds_at}
 use Rattle.smith_draw_contents.specs.ElementSegments.{kept_kinds, element_kinds_at}

@@ -1,16 +1,10 @@
 -- Offsets of element segments have the address type of their table, and with `disallow_traps` a
 -- limit.
-use Rattle.std.proofs.Common.{◌≡◌, ℕ, ◌+◌, ◌-◌, ◌<◌, ◌≤◌, Option, Some, None, List, [], length, refl, ap, arith}
-use Rattle.std.specs.Prelude.{IsTrue}
-use Rattle.smith_types.specs.Expressions.{Context, IsVisible}
-use Rattle.smith_types.specs.Segments.{address_type, IsOffsetValid, IsOffsetInside}
-use Rattle.smith_syntax.specs.declared.entity_type.TableType.{TableType}
-use Rattle.smith_syntax.specs.declared.segments.Offset.{Offset}
-use Rattle.smith_syntax.specs.declared.segments.Offset.TheVariants.{Global}
-use Rattle.smith_config.specs.declared.config.Config.{Config}
-use Rattle.smith_draw_types.specs.Choices.{chosen_at}
-use Rattle.smith_draw_types.proofs.SupertypeLemmas.{chosen_of}
-use Rattle.smith_draw_types.proofs.ValueTypeLemmas.{drawn_is}
+use Rattle.smith_draw_contents.proofs.Common.{[], address_type, ap, arith, chosen_at, chosen_of, Config, Context, drawn_is, IsOffsetInside}
+use Rattle.smith_draw_contents.proofs.Common.{IsTrue, IsVisible, length, List, None, Offset, Option, refl, Some, TableType, ℕ, ◌+◌, ◌-◌}
+use Rattle.smith_draw_contents.proofs.Common.{◌<◌, ◌≡◌, ◌≤◌}
+use Rattle.smith_types.specs.Segments.{IsOffsetValid}
+use Rattle.smith_types.specs.Syntax.segments.Offset.TheVariants.{Global}
 use Rattle.smith_draw_contents.specs.DataTargets.{TellOffsets}
 use Rattle.smith_draw_contents.specs.DrawnElements.{IsPlaced}
 use Rattle.smith_draw_contents.specs.ElementSegments.{most_offset}

@@ -1,19 +1,12 @@
 -- One iteration of the loop that draws element segments.
-use Rattle.std.proofs.Common.{◌≡◌, ◌∙◌, ℕ, suc, ◌+◌, ◌-◌, ◌≤◌, ◌<◌, Bool, true, false, Result, Ok, Err, List, [], ◌∷◌, ◌++◌, length, nat_lt}
-use Rattle.std.proofs.Common.{Option, refl, sym, ap, arith, length-append}
+use Rattle.smith_draw_contents.proofs.Common.{[], ap, arith, Bool, chosen_at, Config, Context, Elements, ElementSegment, Error, false}
+use Rattle.smith_draw_contents.proofs.Common.{goes_at, KeepsPieces, length, length-append, List, nat_lt, Option, refl, RefType, suc, sym}
+use Rattle.smith_draw_contents.proofs.Common.{true, ℕ, ◌++◌, ◌+◌, ◌-◌, ◌<◌, ◌∙◌, ◌∷◌, ◌≡◌, ◌≤◌}
+use Rattle.std.proofs.Common.{Err, Ok, Result}
 use Rattle.std.proofs.lemmas.List.Sums.{sum_by_push}
-use Rattle.smith_bytes.specs.declared.error.Error.{Error}
-use Rattle.smith_bytes.specs.Growth.{goes_at}
-use Rattle.smith_bytes.specs.Source.{KeepsPieces}
-use Rattle.smith_types.specs.Expressions.{Context}
 use Rattle.smith_types.specs.Segments.{item_count}
-use Rattle.smith_syntax.specs.declared.segments.ElementKind.{ElementKind}
-use Rattle.smith_syntax.specs.declared.segments.Elements.{Elements}
-use Rattle.smith_syntax.specs.declared.segments.ElementSegment.{ElementSegment}
-use Rattle.smith_syntax.specs.declared.value_type.RefType.{RefType}
-use Rattle.smith_config.specs.declared.config.Config.{Config}
+use Rattle.smith_types.specs.Syntax.segments.ElementKind.{ElementKind}
 use Rattle.smith_bytes.specs.Steps.{◌>>=◌}
-use Rattle.smith_draw_types.specs.Choices.{chosen_at}
 use Rattle.smith_draw_types.specs.Grounding.{without_globals}
 use Rattle.smith_draw_contents.specs.declared.element_kinds.KindChoice.TheVariants as choice
 use Rattle.smith_draw_contents.specs.ElementSegments.{KindChoice, most_items, items_in, element_kind_at, item_type_at, items_at}

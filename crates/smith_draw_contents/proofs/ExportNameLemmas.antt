@@ -1,17 +1,14 @@
 -- The names of exports: a new name after them, and a set that has them.
-use Rattle.std.proofs.Common.{◌≡◌, ℕ, ◌≤◌, ◌<◌, ◌^◌, Bool, true, false, List, [], ◌∷◌, ◌++◌, length, refl, sym, ap, ◌||◌, ◌∙◌, arith}
-use Rattle.std.proofs.Common.{length-append}
-use Rattle.std.specs.Prelude.{if◌then◌else◌}
+use Rattle.smith_draw_contents.proofs.Common.{[], ap, arith, Bool, Export, false, Global, HashSet, if◌then◌else◌, length, length-append}
+use Rattle.smith_draw_contents.proofs.Common.{List, refl, String, sym, true, ℕ, ◌++◌, ◌<◌, ◌^◌, ◌∙◌, ◌∷◌, ◌≡◌, ◌≤◌}
+use Rattle.std.proofs.Common.{◌||◌}
 use Rattle.std.specs.Str.{bytes_eq}
 use Rattle.std.specs.Fmt.{decimal}
-use Rattle.std.specs.HashSet.{HashSet, contains_text}
-use Rattle.std.specs.declared.string.String.{String}
-use Rattle.std.specs.declared.alloc.Global.{Global}
+use Rattle.std.specs.HashSet.{contains_text}
 use Rattle.std.proofs.lemmas.Fmt.{decimal_nonempty}
 use Rattle.std.proofs.lemmas.Slice.Eq.{bytes_eq-Decides}
 use Rattle.std.proofs.lemmas.List.Folds.{list_any-append}
 use Rattle.smith_bytes.specs.Names.{text_at, IsMadeNew, AddsName, IsNewName}
-use Rattle.smith_module_rules.specs.ExportedItems.{Export}
 use Rattle.smith_draw_contents.specs.Exporting.{is_exported, longest_export, export_name_at, HasNames}
 use Rattle.smith_bytes.proofs.NewNameLemmas.{new_name_is, new_by}
 

@@ -1,28 +1,21 @@
 -- The end of exports, their refusals, and the bytes that no export takes.
-use Rattle.std.proofs.Common.{◌≡◌, ℕ, zero, suc, ◌+◌, ◌*◌, ◌-◌, ◌<◌, ◌≤◌, Bool, true, false, List, [], ◌∷◌, ◌++◌, length, refl, ap, arith}
-use Rattle.std.proofs.Common.{nat_lt, lt-ltb, inl, inr, ◌∙◌}
-use Rattle.std.specs.Prelude.{Result, Ok, IfOk, All, Option, Some, None, slice_get, if◌then◌else◌}
+use Rattle.smith_draw_contents.proofs.Common.{[], All, ap, arith, Bool, bool_read, Config, EntitySpaces, Error, Export, exported_size}
+use Rattle.smith_draw_contents.proofs.Common.{ExportKind, false, IfOk, if◌then◌else◌, inl, inr, item_size, length, List, lt-ltb, ltb-false}
+use Rattle.smith_draw_contents.proofs.Common.{ltb-true, nat_lt, Ok, places_from, refl, Result, slice_get, SpellsBool, SubType, suc, Takes}
+use Rattle.smith_draw_contents.proofs.Common.{true, zero, ℕ, ◌++◌, ◌+◌, ◌-◌, ◌<◌, ◌∙◌, ◌∷◌, ◌≡◌, ◌≤◌}
+use Rattle.std.proofs.Common.{◌*◌}
+use Rattle.std.specs.Prelude.{None, Option, Some}
 use Rattle.std.specs.Option.{option_map, unwrap_or}
-use Rattle.std.proofs.lemmas.Bool.{ltb-true, ltb-false}
 use Rattle.std.proofs.lemmas.List.Sums.{sum_by-cons}
-use Rattle.smith_bytes.specs.Spelling.{SpellsBool, SpellsNone}
-use Rattle.smith_bytes.specs.Takes.{Takes}
-use Rattle.smith_bytes.specs.declared.error.Error.{Error}
-use Rattle.smith_bytes.proofs.SpelledLemmas.{bool_read}
-use Rattle.smith_types.specs.Imports.{EntitySpaces}
+use Rattle.smith_bytes.specs.Spelling.{SpellsNone}
 use Rattle.smith_types.specs.Sizes.{size_in}
-use Rattle.smith_syntax.specs.declared.composite_type.SubType.{SubType}
-use Rattle.smith_syntax.specs.declared.entity_type.EntityType.TheVariants as entity
-use Rattle.smith_syntax.specs.declared.entity_type.ExportKind.{ExportKind}
-use Rattle.smith_syntax.specs.declared.entity_type.ExportKind.TheVariants as kind
-use Rattle.smith_config.specs.declared.config.Config.{Config}
+use Rattle.smith_types.specs.Syntax.entity_type.EntityType.TheVariants as entity
+use Rattle.smith_types.specs.Syntax.entity_type.ExportKind.TheVariants as kind
 use Rattle.smith_config.specs.InUse.{HasNoShapes}
 use Rattle.smith_draw_types.specs.FuncSizes.{IsSmall}
 use Rattle.smith_draw_types.specs.Choices.{enabled}
-use Rattle.smith_draw_types.specs.TypeUses.{places_from}
 use Rattle.smith_bytes.specs.Steps.{ReturnsWhy}
 use Rattle.smith_bytes.specs.Spelling.{SpellsEmpty}
-use Rattle.smith_module_rules.specs.ExportedItems.{Export, item_size, exported_size}
 use Rattle.smith_draw_contents.specs.Exporting.{candidates, candidate_row, offered_kinds, exports_from, free_exports_at}
 use Rattle.smith_draw_contents.specs.Exported.{MayExportFreely, AreExported, MayRunOut}
 use Rattle.smith_draw_contents.specs.AllExports.{everything_at, exports_at}

@@ -1,17 +1,13 @@
 -- Exports that fit, with one more.
-use Rattle.std.proofs.Common.{◌≡◌, ℕ, ◌+◌, ◌≤◌, true, false, List, [], ◌∷◌, ◌++◌, map, sym, arith, ◌∙◌}
-use Rattle.std.specs.Prelude.{slice_get, Some}
+use Rattle.smith_draw_contents.proofs.Common.{[], All-cons, All-nil, arith, Config, EntitySpaces, Export, false, IsStanding, item_size}
+use Rattle.smith_draw_contents.proofs.Common.{List, map, map-append, slice_get, SubType, sym, true, ℕ, ◌++◌, ◌+◌, ◌∙◌, ◌∷◌, ◌≡◌, ◌≤◌}
+use Rattle.std.specs.Prelude.{Some}
 use Rattle.std.specs.Str.{bytes_eq}
-use Rattle.std.proofs.lemmas.List.{map-append}
-use Rattle.std.proofs.lemmas.List.Elements.{All-nil, All-cons, All-append}
+use Rattle.std.proofs.lemmas.List.Elements.{All-append}
 use Rattle.std.proofs.lemmas.List.Sums.{sum_by-append}
 use Rattle.std.proofs.lemmas.Map.Keys.{any_passes_from_place}
 use Rattle.std.proofs.lemmas.Slice.Eq.{bytes_eq-Decides}
 use Rattle.smith_types.specs.Exports.{AreExportsValid}
-use Rattle.smith_types.specs.Imports.{EntitySpaces}
-use Rattle.smith_syntax.specs.declared.composite_type.SubType.{SubType}
-use Rattle.smith_config.specs.declared.config.Config.{Config}
-use Rattle.smith_module_rules.specs.ExportedItems.{Export, item_size, IsStanding}
 use Rattle.smith_draw_contents.specs.Exporting.{is_exported}
 use Rattle.smith_draw_contents.specs.Exported.{AreExportsFit}
 use Rattle.smith_types.proofs.ListLemmas.{mapped_at}

@@ -1,15 +1,8 @@
 -- One iteration of the loop that draws exports.
-use Rattle.std.proofs.Common.{◌≡◌, ℕ, suc, ◌+◌, ◌-◌, ◌<◌, ◌≤◌, Bool, true, false, List, [], ◌∷◌, ◌++◌, length, refl, sym, ap, arith}
-use Rattle.std.proofs.Common.{length-append, nat_lt, ◌∙◌}
-use Rattle.std.specs.HashSet.{HashSet, IsEmpty}
-use Rattle.std.specs.declared.string.String.{String}
-use Rattle.std.specs.declared.alloc.Global.{Global}
-use Rattle.smith_bytes.specs.Growth.{goes_at}
-use Rattle.smith_bytes.specs.Source.{KeepsPieces}
-use Rattle.smith_types.specs.Imports.{EntitySpaces}
-use Rattle.smith_syntax.specs.declared.composite_type.SubType.{SubType}
-use Rattle.smith_config.specs.declared.config.Config.{Config}
-use Rattle.smith_module_rules.specs.ExportedItems.{Export, item_size, exported_size}
+use Rattle.smith_draw_contents.proofs.Common.{[], ap, arith, Bool, Config, EntitySpaces, Export, exported_size, false, Global, goes_at}
+use Rattle.smith_draw_contents.proofs.Common.{HashSet, item_size, KeepsPieces, length, length-append, List, nat_lt, refl, String, SubType}
+use Rattle.smith_draw_contents.proofs.Common.{suc, sym, true, ℕ, ◌++◌, ◌+◌, ◌-◌, ◌<◌, ◌∙◌, ◌∷◌, ◌≡◌, ◌≤◌}
+use Rattle.std.specs.HashSet.{IsEmpty}
 use Rattle.smith_draw_contents.specs.Exporting.{is_exported, HasNames, offered_kinds, export_at, exports_from}
 use Rattle.smith_draw_contents.specs.Exported.{IsCandidate, AreExported}
 use Rattle.smith_draw_contents.proofs.ExportsFitLemmas.{none_fit, fit_push}

@@ -1,3 +1,4 @@
+pub mod Common
 pub mod SizedLemmas
 pub mod AllExportsLemmas
 pub mod AllExportsLoop

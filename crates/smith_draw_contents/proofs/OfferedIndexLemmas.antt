@@ -1,13 +1,14 @@
 -- Offered indices, as more are offered or left out.
-use Rattle.std.proofs.Common.{◌≡◌, ℕ, zero, suc, ◌+◌, ◌<◌, ◌≤◌, ◌⊎◌, true, false, List, [], ◌∷◌, ◌++◌, Some, length, get_or, refl, sym}
-use Rattle.std.proofs.Common.{subst, arith, length-append, inl, inr, add-one}
-use Rattle.std.specs.Prelude.{All, slice_get, nat_le}
+use Rattle.smith_draw_contents.proofs.Common.{[], All, All-head, arith, false, get_or, get_or_from_slice_get, inl, inr, length}
+use Rattle.smith_draw_contents.proofs.Common.{length-append, List, nat_le, refl, slice_get, Some, subst, suc, sym, true, zero, ℕ, ◌++◌, ◌+◌}
+use Rattle.smith_draw_contents.proofs.Common.{◌<◌, ◌∷◌, ◌≡◌, ◌≤◌}
+use Rattle.std.proofs.Common.{◌⊎◌}
+use Rattle.std.proofs.Common.{add-one}
 use Rattle.std.specs.List.{AllWithin}
 use Rattle.std.specs.List.Sorted.{IsPartitionPoint}
 use Rattle.std.proofs.lemmas.Bool.{le-leb}
 use Rattle.std.proofs.lemmas.Bool.Decides.{leb_tells}
-use Rattle.std.proofs.lemmas.List.Elements.{All-head, All-tail}
-use Rattle.std.proofs.lemmas.Option.{get_or_from_slice_get}
+use Rattle.std.proofs.lemmas.List.Elements.{All-tail}
 use Rattle.smith_types.proofs.ListLemmas.{slice_get-last, slice_get-grown}
 use Rattle.smith_draw_contents.specs.OfferedIndices.{count_up_to, first_offered, indices_beside, AreSkipped}
 

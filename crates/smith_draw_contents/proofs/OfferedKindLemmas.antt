@@ -1,16 +1,13 @@
 -- The kinds of element segments over the offered tables: as more tables are offered, and the kind
 -- at a place.
-use Rattle.std.proofs.Common.{◌≡◌, ◌∙◌, ℕ, zero, suc, ◌+◌, ◌-◌, ◌<◌, ◌≤◌, Bool, true, false, ◌&&◌, cond, List, [], ◌∷◌, ◌++◌, Some, None}
-use Rattle.std.proofs.Common.{length, map, get_or, drop, refl, sym, ap, arith, add-one, append_assoc, append-nil, length-append}
-use Rattle.std.specs.Prelude.{All}
+use Rattle.smith_draw_contents.proofs.Common.{[], All, All-head, All-nil, All-push, ap, append-nil, append_assoc, arith, at_drop_all}
+use Rattle.smith_draw_contents.proofs.Common.{at_drop_more, Bool, cond, Config, drop, false, get_or, get_or_from_slice_get, KeepsPieces}
+use Rattle.smith_draw_contents.proofs.Common.{length, length-append, List, map, map-append, None, refl, slice_get-get_or, Some, suc, sym}
+use Rattle.smith_draw_contents.proofs.Common.{TableType, true, zero, ℕ, ◌&&◌, ◌++◌, ◌+◌, ◌-◌, ◌<◌, ◌∙◌, ◌∷◌, ◌≡◌, ◌≤◌}
+use Rattle.std.proofs.Common.{add-one}
 use Rattle.std.proofs.Math.ListN.{get_or-append}
 use Rattle.std.proofs.lemmas.Bool.{ne_eqb}
-use Rattle.std.proofs.lemmas.List.{map-append, length-map, get_or-map, get_or-append-add, at_drop_more, at_drop_all}
-use Rattle.std.proofs.lemmas.List.Elements.{All-nil, All-head, All-push}
-use Rattle.std.proofs.lemmas.Option.{get_or_from_slice_get, slice_get-get_or}
-use Rattle.smith_bytes.specs.Source.{KeepsPieces}
-use Rattle.smith_syntax.specs.declared.entity_type.TableType.{TableType}
-use Rattle.smith_config.specs.declared.config.Config.{Config}
+use Rattle.std.proofs.lemmas.List.{get_or-append-add, get_or-map, length-map}
 use Rattle.smith_draw_contents.specs.ElementSegments.{KindChoice, is_funcref, is_offered_at, with_unnamed, with_named, table_kinds_at}
 use Rattle.smith_draw_contents.specs.ElementSegments.{kept_kinds, element_kinds_at}
 use Rattle.smith_draw_contents.specs.OfferedIndices.{Indices}

@@ -1,18 +1,11 @@
 -- The globals that an offset may be read from: those that are counted and found are those that an
 -- expression may read.
-use Rattle.std.proofs.Common.{◌≡◌, ℕ, zero, suc, ◌+◌, ◌-◌, ◌<◌, ◌≤◌, Bool, true, false, List, [], ◌∷◌, ◌++◌, cond, length, get_or, take}
-use Rattle.std.proofs.Common.{drop, refl, sym, ap, ◌∙◌, arith}
-use Rattle.std.specs.Prelude.{◌&&◌, not}
-use Rattle.std.proofs.lemmas.List.{at_drop_more, at_drop_all}
-use Rattle.std.proofs.lemmas.List.Elements.{All-nil}
-use Rattle.smith_types.specs.Expressions.{Context, IsVisible}
-use Rattle.smith_types.specs.Segments.{address_type}
-use Rattle.smith_types.specs.Types.{IsOrderly}
-use Rattle.smith_syntax.specs.declared.composite_type.SubType.{SubType}
-use Rattle.smith_syntax.specs.declared.entity_type.GlobalType.{GlobalType}
-use Rattle.smith_syntax.specs.declared.value_type.ValType.{ValType}
-use Rattle.smith_syntax.specs.declared.value_type.ValType.TheVariants.{I32, I64, F32, F64, V128, Ref}
-use Rattle.smith_config.specs.declared.config.Config.{Config}
+use Rattle.smith_draw_contents.proofs.Common.{[], address_type, All-nil, ap, arith, at_drop_all, at_drop_more, Bool, cond, Config, Context}
+use Rattle.smith_draw_contents.proofs.Common.{drop, false, get_or, IsOrderly, IsVisible, length, List, not, Ref, refl, SubType, suc, sym}
+use Rattle.smith_draw_contents.proofs.Common.{take, true, ValType, zero, ℕ, ◌++◌, ◌+◌, ◌-◌, ◌<◌, ◌∙◌, ◌∷◌, ◌≡◌, ◌≤◌}
+use Rattle.std.specs.Prelude.{◌&&◌}
+use Rattle.smith_types.specs.Syntax.entity_type.GlobalType.{GlobalType}
+use Rattle.smith_types.specs.Syntax.value_type.ValType.TheVariants.{F32, F64, I32, I64, V128}
 use Rattle.smith_draw_types.specs.Below.{is_val_below}
 use Rattle.smith_draw_consts.specs.ConstOffers.{each_from, offered_if, readable_globals}
 use Rattle.smith_draw_consts.proofs.ReadableLemmas.{readable_listed}

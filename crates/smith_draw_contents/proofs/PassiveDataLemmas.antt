@@ -1,20 +1,17 @@
 -- From a source that begins with the spelling of passive data segments, these are drawn if there is
 -- no memory.
-use Rattle.std.proofs.Common.{◌≡◌, ℕ, zero, suc, ◌+◌, ◌*◌, ◌≤◌, Bool, true, false, cond, List, [], ◌∷◌, ◌++◌, length, map, refl, ap, ◌∙◌}
-use Rattle.std.proofs.Common.{arith, append_assoc, append-nil, length-append}
-use Rattle.std.specs.Prelude.{Result, Ok, IfOk, not, ◌&&◌, if◌then◌else◌}
+use Rattle.smith_draw_contents.proofs.Common.{[], ap, append-nil, append_assoc, arith, Bool, bool_read, cond, Config, Context, Error, false}
+use Rattle.smith_draw_contents.proofs.Common.{IfOk, if◌then◌else◌, length, length-append, List, map, MemoryType, not, Ok, refl, Result}
+use Rattle.smith_draw_contents.proofs.Common.{SpellsBool, suc, Takes, true, zero, ℕ, ◌++◌, ◌+◌, ◌∙◌, ◌∷◌, ◌≡◌, ◌≤◌}
+use Rattle.std.proofs.Common.{◌*◌}
+use Rattle.std.specs.Prelude.{◌&&◌}
 use Rattle.std.proofs.lemmas.Bool.{le-ltb}
 use Rattle.smith_bytes.specs.ByteLists.{byte_list_at}
 use Rattle.smith_bytes.specs.Draws.{whole_at}
 use Rattle.smith_bytes.specs.Growth.{grow_at}
-use Rattle.smith_bytes.specs.Spelling.{SpellsBool, Listed}
-use Rattle.smith_bytes.specs.Takes.{Takes}
-use Rattle.smith_bytes.specs.declared.error.Error.{Error}
-use Rattle.smith_bytes.proofs.SpelledLemmas.{joined_parts, bool_read}
-use Rattle.smith_types.specs.Expressions.{Context}
-use Rattle.smith_syntax.specs.declared.entity_type.MemoryType.{MemoryType}
-use Rattle.smith_syntax.specs.declared.segments.DataSegment.{DataSegment}
-use Rattle.smith_config.specs.declared.config.Config.{Config}
+use Rattle.smith_bytes.specs.Spelling.{Listed}
+use Rattle.smith_bytes.proofs.SpelledLemmas.{joined_parts}
+use Rattle.smith_types.specs.Syntax.segments.DataSegment.{DataSegment}
 use Rattle.smith_bytes.specs.Steps.{ReturnsWhy}
 use Rattle.smith_draw_contents.specs.DataSegments.{Targets, counting_at, targets_of, passive_at, data_segment_at, data_segments_at, data_at}
 use Rattle.smith_draw_contents.specs.PassiveData.{passive_data, SpellsPassive}

@@ -1,11 +1,8 @@
 -- Types whose functions have a size of 32 bits: small ones, and those of shapes.
-use Rattle.std.proofs.Common.{◌+◌, ◌<◌, ◌^◌, List, arith}
-use Rattle.std.specs.Prelude.{All}
-use Rattle.std.proofs.lemmas.List.Elements.{All-weaker}
+use Rattle.smith_draw_contents.proofs.Common.{All, All-weaker, arith, List, SubType, ◌+◌, ◌<◌, ◌^◌}
 use Rattle.smith_types.specs.Sizes.{value_count}
-use Rattle.smith_syntax.specs.declared.composite_type.CompositeInnerType.{CompositeInnerType}
-use Rattle.smith_syntax.specs.declared.composite_type.CompositeInnerType.TheVariants as inners
-use Rattle.smith_syntax.specs.declared.composite_type.SubType.{SubType}
+use Rattle.smith_types.specs.Syntax.composite_type.CompositeInnerType.{CompositeInnerType}
+use Rattle.smith_types.specs.Syntax.composite_type.CompositeInnerType.TheVariants as inners
 use Rattle.smith_config.specs.Shapes.{most_listed}
 use Rattle.smith_draw_types.specs.FuncSizes.{HasFewValues, IsInnerWithin, IsSmall, IsSmallInner}
 use Rattle.smith_draw_contents.specs.Exported.{HasSizeIn32Bits}

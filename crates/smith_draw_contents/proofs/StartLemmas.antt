@@ -1,28 +1,25 @@
 -- A drawn start function has no parameters and no results, and there is none if none is allowed, or
 -- from a piece that spells none.
-use Rattle.std.proofs.Common.{◌≡◌, ◌∙◌, ℕ, Bool, true, false, ◌&&◌, cond, nat_lt, List, [], ◌++◌, length, Option, Some, None, refl, ap}
-use Rattle.std.specs.Prelude.{◌==◌, All, slice_get, option_to_list}
+use Rattle.smith_draw_contents.proofs.Common.{[], All, All-weaker, ap, Bool, bool_read, chosen_at, chosen_of, cond, cond_both, Config}
+use Rattle.smith_draw_contents.proofs.Common.{eqb-true, false, is_start_type, IsPassing, length, List, ltb-true, nat_lt, None, Option}
+use Rattle.smith_draw_contents.proofs.Common.{places_pass, refl, slice_get, Some, SpellsBool, SubType, Takes, true, ℕ, ◌&&◌, ◌++◌, ◌==◌}
+use Rattle.smith_draw_contents.proofs.Common.{◌∙◌, ◌≡◌}
+use Rattle.std.specs.Prelude.{option_to_list}
 use Rattle.std.specs.List.{list_any}
-use Rattle.std.proofs.lemmas.Bool.{cond_both, eqb-true, ltb-true}
 use Rattle.std.proofs.lemmas.List.{nil_from_length}
-use Rattle.std.proofs.lemmas.List.Elements.{All-weaker}
 use Rattle.std.proofs.Math.Bool.{or-false}
 use Rattle.smith_bytes.specs.Draws.{bool_at}
-use Rattle.smith_bytes.specs.Spelling.{SpellsBool, Where}
-use Rattle.smith_bytes.specs.Takes.{Takes, SpellsSuch}
-use Rattle.smith_bytes.proofs.SpelledLemmas.{bool_read, takes_by}
+use Rattle.smith_bytes.specs.Spelling.{Where}
+use Rattle.smith_bytes.specs.Takes.{SpellsSuch}
+use Rattle.smith_bytes.proofs.SpelledLemmas.{takes_by}
 use Rattle.smith_types.specs.Entities.{IsFuncAt}
 use Rattle.smith_types.specs.Exports.{IsStartValid}
-use Rattle.smith_syntax.specs.declared.composite_type.CompositeInnerType.{CompositeInnerType}
-use Rattle.smith_syntax.specs.declared.composite_type.CompositeInnerType.TheVariants.{Array, Func, Struct}
-use Rattle.smith_syntax.specs.declared.composite_type.FuncType.{FuncType}
-use Rattle.smith_syntax.specs.declared.composite_type.SubType.{SubType}
-use Rattle.smith_config.specs.declared.config.Config.{Config}
-use Rattle.smith_draw_types.specs.Choices.{chosen_at}
-use Rattle.smith_draw_types.proofs.SupertypeLemmas.{chosen_of}
-use Rattle.smith_draw_types.proofs.TypeUseLemmas.{IsPassing, places_pass, places_any}
+use Rattle.smith_types.specs.Syntax.composite_type.CompositeInnerType.{CompositeInnerType}
+use Rattle.smith_types.specs.Syntax.composite_type.CompositeInnerType.TheVariants.{Array, Func, Struct}
+use Rattle.smith_types.specs.Syntax.composite_type.FuncType.{FuncType}
+use Rattle.smith_draw_types.proofs.TypeUseLemmas.{places_any}
 use Rattle.smith_draw_types.proofs.ValueTypeLemmas.{wanted_by}
-use Rattle.smith_draw_types.specs.TypeUses.{takes_and_gives_nothing, is_start_type}
+use Rattle.smith_draw_types.specs.TypeUses.{takes_and_gives_nothing}
 use Rattle.smith_draw_types.specs.SpelledParts.{SpellsNoStart}
 use Rattle.smith_draw_contents.specs.Start.{start_funcs, start_wanted_at, start_at}
 

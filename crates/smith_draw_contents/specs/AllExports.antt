@@ -1,11 +1,8 @@
 -- The exports that are drawn if everything is exported. Rules of this project.
 use Rattle.std.specs.Prelude.{ℕ, ◌+◌, nat_lt, List, [], ◌∷◌, ◌++◌, Result, Ok, Err, if◌then◌else◌}
-use Rattle.smith_bytes.specs.declared.error.Why.{Why}
+use Rattle.smith_draw_contents.specs.Common.{Config, EntitySpaces, Export, exported_size, SubType, Why}
 use Rattle.smith_bytes.specs.declared.error.Why.TheVariants.{TypeSize}
-use Rattle.smith_types.specs.Imports.{EntitySpaces}
-use Rattle.smith_syntax.specs.declared.composite_type.SubType.{SubType}
-use Rattle.smith_config.specs.declared.config.Config.{Config}
-use Rattle.smith_module_rules.specs.ExportedItems.{Export, exported_size, Item, every_item}
+use Rattle.smith_module_rules.specs.ExportedItems.{every_item, Item}
 use Rattle.smith_draw_contents.specs.Exporting.{export_name_at, free_exports_at}
 
 -- exports of these items after others, each with a name; an error if imports and exports together

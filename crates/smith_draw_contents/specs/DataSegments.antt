@@ -3,21 +3,13 @@ use Rattle.std.specs.Prelude.{ℕ, ◌+◌, ◌-◌, ◌*◌, ◌^◌, ◌≤◌
 use Rattle.std.specs.Prelude.{length, take, slice_index, Result, Ok, Err, if◌then◌else◌}
 use Rattle.std.specs.Int.{cast_signed, w32, w64}
 use Rattle.smith_bytes.specs.declared.error.Count.TheVariants as counts
-use Rattle.smith_bytes.specs.declared.error.Why.{Why}
-use Rattle.smith_bytes.specs.declared.error.Why.TheVariants.{Unmet}
+use Rattle.smith_draw_contents.specs.Common.{address_type, bool_at, chosen_at, Config, Context, DataSegment, grow_at, Offset, Unmet, Why}
 use Rattle.smith_bytes.specs.ByteLists.{byte_list_at}
-use Rattle.smith_bytes.specs.Draws.{bool_at, range_at}
-use Rattle.smith_bytes.specs.Growth.{grow_at}
+use Rattle.smith_bytes.specs.Draws.{range_at}
 use Rattle.smith_types.specs.Entities.{page_log2, addresses}
-use Rattle.smith_types.specs.Expressions.{Context}
-use Rattle.smith_types.specs.Segments.{address_type}
-use Rattle.smith_syntax.specs.declared.entity_type.MemoryType.{MemoryType}
-use Rattle.smith_syntax.specs.declared.segments.DataSegment.{DataSegment}
-use Rattle.smith_syntax.specs.declared.segments.DataSegmentKind.TheVariants.{Passive, Active}
-use Rattle.smith_syntax.specs.declared.segments.Offset.{Offset}
-use Rattle.smith_syntax.specs.declared.segments.Offset.TheVariants.{Const32, Const64, Global}
-use Rattle.smith_config.specs.declared.config.Config.{Config}
-use Rattle.smith_draw_types.specs.Choices.{chosen_at}
+use Rattle.smith_types.specs.Syntax.entity_type.MemoryType.{MemoryType}
+use Rattle.smith_types.specs.Syntax.segments.DataSegmentKind.TheVariants.{Passive, Active}
+use Rattle.smith_types.specs.Syntax.segments.Offset.TheVariants.{Const32, Const64, Global}
 use Rattle.smith_draw_consts.specs.ConstOffers.{offered_if, readable_globals}
 use Rattle.smith_draw_types.specs.Offsets.{offset_at}
 

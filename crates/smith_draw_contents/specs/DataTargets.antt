@@ -1,14 +1,11 @@
 -- The target memories of data segments, and properties of the segments. Rules of this project.
 use Rattle.std.specs.Prelude.{◌≡◌, ℕ, ◌<◌, Bool, false, IsTrue, List, [], Some, map, slice_get, slice_index_or, All}
-use Rattle.smith_bytes.specs.declared.error.Error.{Error}
-use Rattle.smith_bytes.specs.declared.error.Error.TheVariants.{IncorrectFormat, Memory}
-use Rattle.smith_bytes.specs.declared.error.Why.TheVariants.{Unmet}
+use Rattle.smith_draw_contents.specs.Common.{address_type, Config, Context, DataSegment, Error, IncorrectFormat, Unmet}
+use Rattle.smith_bytes.specs.declared.error.Error.TheVariants.{Memory}
 use Rattle.smith_bytes.specs.declared.error.Count.TheVariants.{DataSegments}
-use Rattle.smith_types.specs.Expressions.{Context, IsVisible}
-use Rattle.smith_types.specs.Segments.{IsDataValid, IsDataInside, address_type}
-use Rattle.smith_syntax.specs.declared.entity_type.MemoryType.{MemoryType}
-use Rattle.smith_syntax.specs.declared.segments.DataSegment.{DataSegment}
-use Rattle.smith_config.specs.declared.config.Config.{Config}
+use Rattle.smith_types.specs.Expressions.{IsVisible}
+use Rattle.smith_types.specs.Segments.{IsDataInside, IsDataValid}
+use Rattle.smith_types.specs.Syntax.entity_type.MemoryType.{MemoryType}
 use Rattle.smith_draw_contents.specs.DataSegments.{Indexed, Targets, globals_for, no_memory}
 
 -- the memories of these indices, each with its index

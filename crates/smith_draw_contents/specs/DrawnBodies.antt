@@ -1,12 +1,10 @@
 -- The bodies that the bytes give. Rules of this project.
 use Rattle.std.specs.Prelude.{ℕ, Bool, false, List, [], take, drop, if◌then◌else◌}
-use Rattle.smith_bytes.specs.Draws.{bool_at, len_at}
-use Rattle.smith_bytes.specs.Growth.{grow_at}
-use Rattle.smith_types.specs.Expressions.{Context}
-use Rattle.smith_syntax.specs.declared.code.Code.{Code}
-use Rattle.smith_syntax.specs.declared.code.Instructions.{Instructions}
-use Rattle.smith_syntax.specs.declared.code.Instructions.TheVariants.{Unreachable, Arbitrary}
-use Rattle.smith_config.specs.declared.config.Config.{Config}
+use Rattle.smith_draw_contents.specs.Common.{bool_at, Config, Context, grow_at}
+use Rattle.smith_bytes.specs.Draws.{len_at}
+use Rattle.smith_types.specs.Syntax.code.Code.{Code}
+use Rattle.smith_types.specs.Syntax.code.Instructions.{Instructions}
+use Rattle.smith_types.specs.Syntax.code.Instructions.TheVariants.{Unreachable, Arbitrary}
 use Rattle.smith_draw_types.specs.Locals.{locals_at}
 
 -- a length, then that number of raw bytes

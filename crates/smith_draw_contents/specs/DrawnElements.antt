@@ -2,26 +2,20 @@
 use Rattle.std.specs.Prelude.{◌≡◌, ◌⊎◌, ℕ, ◌<◌, ◌≤◌, ◌^◌, false, IsTrue, IsSome, IsSomeAnd, Option, Some, List, length, slice_get, All}
 use Rattle.std.specs.List.{Any}
 use Rattle.smith_bytes.specs.declared.error.Count.TheVariants as counts
-use Rattle.smith_bytes.specs.declared.error.Error.{Error}
-use Rattle.smith_bytes.specs.declared.error.Error.TheVariants.{EmptyChoose, IncorrectFormat, Memory}
-use Rattle.smith_bytes.specs.declared.error.Why.TheVariants.{Unmet}
+use Rattle.smith_draw_contents.specs.Common.{Config, Context, Error, IncorrectFormat, Offset, SubType, TableType, Unmet}
+use Rattle.smith_bytes.specs.declared.error.Error.TheVariants.{EmptyChoose, Memory}
 use Rattle.smith_types.specs.Entities.{IsTableValid, most_elements}
-use Rattle.smith_types.specs.Expressions.{Context}
 use Rattle.smith_types.specs.Flags.{IsElementTypeEnabled}
 use Rattle.smith_types.specs.Floats.{HasNoFloat, GivesNoFloat}
 use Rattle.smith_types.specs.Segments.{table_index, AreItemsValid, IsOffsetValid, IsOffsetInside, IsElementSegmentValid, IsElementInside}
 use Rattle.smith_types.specs.Subtyping.{IsRefBelow}
 use Rattle.smith_types.specs.ValidTypes.{IsRefTypeValid}
-use Rattle.smith_syntax.specs.declared.composite_type.SubType.{SubType}
-use Rattle.smith_syntax.specs.declared.entity_type.TableType.{TableType}
-use Rattle.smith_syntax.specs.declared.segments.ElementKind.{ElementKind}
-use Rattle.smith_syntax.specs.declared.segments.ElementKind.TheVariants as element_kind
-use Rattle.smith_syntax.specs.declared.segments.Elements.{Elements}
-use Rattle.smith_syntax.specs.declared.segments.ElementSegment.{ElementSegment}
-use Rattle.smith_syntax.specs.declared.segments.Offset.{Offset}
-use Rattle.smith_syntax.specs.declared.value_type.RefType.{RefType}
-use Rattle.smith_syntax.specs.declared.value_type.ValType.TheVariants.{Ref}
-use Rattle.smith_config.specs.declared.config.Config.{Config}
+use Rattle.smith_types.specs.Syntax.segments.ElementKind.{ElementKind}
+use Rattle.smith_types.specs.Syntax.segments.ElementKind.TheVariants as element_kind
+use Rattle.smith_types.specs.Syntax.segments.Elements.{Elements}
+use Rattle.smith_types.specs.Syntax.segments.ElementSegment.{ElementSegment}
+use Rattle.smith_types.specs.Syntax.value_type.RefType.{RefType}
+use Rattle.smith_types.specs.Syntax.value_type.ValType.TheVariants.{Ref}
 use Rattle.smith_config.specs.Faults.{Passes}
 use Rattle.smith_config.specs.Features.{features_of}
 use Rattle.smith_config.specs.Sanitized.{IsSanitized}

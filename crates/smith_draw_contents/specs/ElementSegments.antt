@@ -4,38 +4,31 @@ use Rattle.std.specs.Prelude.{unwrap_or, List, [], ◌∷◌, ◌++◌, length, 
 use Rattle.std.specs.Int.{cast_signed, w32, w64}
 use Rattle.std.specs.List.{list_any}
 use Rattle.smith_bytes.specs.declared.error.Count.TheVariants as counts
-use Rattle.smith_bytes.specs.declared.error.Error.{Error}
-use Rattle.smith_bytes.specs.declared.error.Error.TheVariants.{EmptyChoose, IncorrectFormat}
-use Rattle.smith_bytes.specs.declared.error.Why.TheVariants.{Unmet}
-use Rattle.smith_bytes.specs.Draws.{bool_at, range_at}
-use Rattle.smith_bytes.specs.Growth.{goes_at, grow_at}
+use Rattle.smith_draw_contents.specs.Common.{address_type, bool_at, chosen_at, Config, Context, Error, grow_at, IncorrectFormat, Offset}
+use Rattle.smith_draw_contents.specs.Common.{places_from, SubType, TableType, Unmet}
+use Rattle.smith_bytes.specs.declared.error.Error.TheVariants.{EmptyChoose}
+use Rattle.smith_bytes.specs.Draws.{range_at}
+use Rattle.smith_bytes.specs.Growth.{goes_at}
 use Rattle.smith_types.specs.Entities.{most_elements}
-use Rattle.smith_types.specs.Expressions.{Context}
-use Rattle.smith_types.specs.Segments.{address_type, item_count}
-use Rattle.smith_syntax.specs.declared.composite_type.SubType.{SubType}
-use Rattle.smith_syntax.specs.declared.const_instr.ConstInstr.{ConstInstr}
-use Rattle.smith_syntax.specs.declared.entity_type.TableType.{TableType}
-use Rattle.smith_syntax.specs.declared.segments.ElementKind.{ElementKind}
-use Rattle.smith_syntax.specs.declared.segments.ElementKind.TheVariants as element_kind
-use Rattle.smith_syntax.specs.declared.segments.Elements.{Elements}
-use Rattle.smith_syntax.specs.declared.segments.Elements.TheVariants.{Functions, Expressions}
-use Rattle.smith_syntax.specs.declared.segments.ElementSegment.{ElementSegment}
-use Rattle.smith_syntax.specs.declared.segments.Offset.{Offset}
-use Rattle.smith_syntax.specs.declared.segments.Offset.TheVariants.{Const32, Const64, Global}
-use Rattle.smith_syntax.specs.declared.value_type.AbstractHeapType.TheVariants as heap
-use Rattle.smith_syntax.specs.declared.value_type.HeapType.{HeapType}
-use Rattle.smith_syntax.specs.declared.value_type.HeapType.TheVariants.{Abstract}
-use Rattle.smith_syntax.specs.declared.value_type.RefType.{RefType}
-use Rattle.smith_syntax.specs.declared.value_type.ValType.TheVariants.{Ref}
-use Rattle.smith_config.specs.declared.config.Config.{Config}
-use Rattle.smith_draw_types.specs.Choices.{chosen_at}
+use Rattle.smith_types.specs.Segments.{item_count}
+use Rattle.smith_types.specs.Syntax.const_instr.ConstInstr.{ConstInstr}
+use Rattle.smith_types.specs.Syntax.segments.ElementKind.{ElementKind}
+use Rattle.smith_types.specs.Syntax.segments.ElementKind.TheVariants as element_kind
+use Rattle.smith_types.specs.Syntax.segments.Elements.{Elements}
+use Rattle.smith_types.specs.Syntax.segments.Elements.TheVariants.{Functions, Expressions}
+use Rattle.smith_types.specs.Syntax.segments.ElementSegment.{ElementSegment}
+use Rattle.smith_types.specs.Syntax.segments.Offset.TheVariants.{Const32, Const64, Global}
+use Rattle.smith_types.specs.Syntax.value_type.AbstractHeapType.TheVariants as heap
+use Rattle.smith_types.specs.Syntax.value_type.HeapType.{HeapType}
+use Rattle.smith_types.specs.Syntax.value_type.HeapType.TheVariants.{Abstract}
+use Rattle.smith_types.specs.Syntax.value_type.RefType.{RefType}
+use Rattle.smith_types.specs.Syntax.value_type.ValType.TheVariants.{Ref}
 use Rattle.smith_draw_consts.specs.ConstExprs.{const_expr_at}
 use Rattle.smith_draw_consts.specs.ConstOffers.{readable_globals}
 use Rattle.smith_draw_consts.specs.TriedLists.{try_grow_at}
 use Rattle.smith_draw_types.specs.Grounding.{without_globals}
 use Rattle.smith_draw_types.specs.MatchingTypes.{matching_ref_type_at}
 use Rattle.smith_draw_types.specs.Offsets.{offset_at}
-use Rattle.smith_draw_types.specs.TypeUses.{places_from}
 use Rattle.smith_draw_types.specs.ValueTypes.{ref_type_at}
 use Rattle.smith_bytes.specs.Steps.{◌>>=◌}
 pub use Rattle.smith_draw_contents.specs.declared.element_kinds.KindChoice.{KindChoice}

@@ -1,20 +1,17 @@
 -- Preconditions, invariants and errors of the step of exports. Rules of this project.
 use Rattle.std.specs.Prelude.{◌≡◌, true, false, ℕ, ◌+◌, ◌*◌, ◌^◌, ◌<◌, ◌≤◌, ◌⊎◌, List, length, All}
-use Rattle.smith_bytes.specs.declared.error.Error.{Error}
+use Rattle.smith_draw_contents.specs.Common.{Config, EntitySpaces, Error, Export, exported_size, SubType, Unmet}
 use Rattle.smith_bytes.specs.declared.error.Error.TheVariants as errors
-use Rattle.smith_bytes.specs.declared.error.Why.TheVariants.{Unmet, TypeSize}
+use Rattle.smith_bytes.specs.declared.error.Why.TheVariants.{TypeSize}
 use Rattle.smith_bytes.specs.declared.error.Count.TheVariants as counts
 use Rattle.smith_types.specs.Entities.{IsFuncTypeIndex}
 use Rattle.smith_types.specs.Exports.{AreExportsValid}
-use Rattle.smith_types.specs.Imports.{EntitySpaces}
 use Rattle.smith_types.specs.Sizes.{size_in, value_count}
-use Rattle.smith_syntax.specs.declared.composite_type.SubType.{SubType}
-use Rattle.smith_syntax.specs.declared.entity_type.EntityType.TheVariants as entity
-use Rattle.smith_syntax.specs.declared.entity_type.ExportKind.{ExportKind}
-use Rattle.smith_config.specs.declared.config.Config.{Config}
+use Rattle.smith_types.specs.Syntax.entity_type.EntityType.TheVariants as entity
+use Rattle.smith_types.specs.Syntax.entity_type.ExportKind.{ExportKind}
 use Rattle.smith_config.specs.InUse.{FixesExports, HasNoShapes}
 use Rattle.smith_draw_types.specs.FuncSizes.{IsSmall}
-use Rattle.smith_module_rules.specs.ExportedItems.{Export, item_size, exported_size, IsStanding}
+use Rattle.smith_module_rules.specs.ExportedItems.{IsStanding, item_size}
 use Rattle.smith_module_rules.specs.Refusals.{MayHaveNoExports}
 
 -- the indices of all items of index spaces have 32 bits

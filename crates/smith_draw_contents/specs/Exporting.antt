@@ -8,20 +8,14 @@ use Rattle.std.specs.Str.{bytes_eq}
 use Rattle.std.specs.declared.alloc.Global.{Global}
 use Rattle.std.specs.declared.string.String.{String}
 use Rattle.smith_bytes.specs.declared.error.Count.TheVariants as counts
-use Rattle.smith_bytes.specs.declared.error.Why.{Why}
-use Rattle.smith_bytes.specs.declared.error.Why.TheVariants.{Unmet}
+use Rattle.smith_draw_contents.specs.Common.{chosen_at, Config, EntitySpaces, Export, exported_size, places_from, SubType, Unmet, Why}
 use Rattle.smith_bytes.specs.Growth.{goes_at}
 use Rattle.smith_bytes.specs.Names.{text_at, new_name}
-use Rattle.smith_types.specs.Imports.{EntitySpaces}
 use Rattle.smith_types.specs.Sizes.{size_in}
-use Rattle.smith_syntax.specs.declared.composite_type.SubType.{SubType}
-use Rattle.smith_syntax.specs.declared.entity_type.EntityType.TheVariants as entity
-use Rattle.smith_syntax.specs.declared.entity_type.ExportKind.{ExportKind}
-use Rattle.smith_syntax.specs.declared.entity_type.ExportKind.TheVariants as kind
-use Rattle.smith_config.specs.declared.config.Config.{Config}
-use Rattle.smith_module_rules.specs.ExportedItems.{Export, exported_size}
-use Rattle.smith_draw_types.specs.Choices.{enabled, chosen_at}
-use Rattle.smith_draw_types.specs.TypeUses.{places_from}
+use Rattle.smith_types.specs.Syntax.entity_type.EntityType.TheVariants as entity
+use Rattle.smith_types.specs.Syntax.entity_type.ExportKind.{ExportKind}
+use Rattle.smith_types.specs.Syntax.entity_type.ExportKind.TheVariants as kind
+use Rattle.smith_draw_types.specs.Choices.{enabled}
 
 -- whether an export has this name
 abbrev pub is_exported : List Export → List ℕ → Bool

@@ -1,3 +1,4 @@
+pub mod Common
 pub mod Exporting
 pub mod AllExports
 pub mod Exported

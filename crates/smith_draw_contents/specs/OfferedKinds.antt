@@ -2,8 +2,7 @@
 -- project.
 use Rattle.std.specs.Prelude.{ℕ, zero, Bool, true, false, ◌&&◌, Some, None, List, [], ◌∷◌, ◌++◌, map, slice_index_or, if◌then◌else◌}
 use Rattle.smith_types.specs.Flags.{funcref}
-use Rattle.smith_syntax.specs.declared.entity_type.TableType.{TableType}
-use Rattle.smith_config.specs.declared.config.Config.{Config}
+use Rattle.smith_draw_contents.specs.Common.{Config, TableType}
 use Rattle.smith_draw_contents.specs.ElementSegments.{KindChoice, is_funcref, kept_kinds}
 use Rattle.smith_draw_contents.specs.declared.element_kinds.KindChoice.TheVariants as choice
 

@@ -1,9 +1,8 @@
 -- The bytes that spell passive data segments. Rules of this project.
 use Rattle.std.specs.Prelude.{◌≡◌, ℕ, List, map, if◌then◌else◌}
 use Rattle.smith_bytes.specs.Spelling.{Listed}
-use Rattle.smith_syntax.specs.declared.segments.DataSegment.{DataSegment}
-use Rattle.smith_syntax.specs.declared.segments.DataSegmentKind.TheVariants.{Passive}
-use Rattle.smith_config.specs.declared.config.Config.{Config}
+use Rattle.smith_draw_contents.specs.Common.{Config, DataSegment}
+use Rattle.smith_types.specs.Syntax.segments.DataSegmentKind.TheVariants.{Passive}
 use Rattle.smith_draw_types.specs.SpelledParts.{SpellsBytes}
 
 -- a passive segment

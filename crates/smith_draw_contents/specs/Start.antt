@@ -1,10 +1,7 @@
 -- The start function. Rules of this project.
 use Rattle.std.specs.Prelude.{ℕ, Bool, false, ◌&&◌, nat_lt, List, length, Option, Some, None, if◌then◌else◌}
-use Rattle.smith_bytes.specs.Draws.{bool_at}
-use Rattle.smith_syntax.specs.declared.composite_type.SubType.{SubType}
-use Rattle.smith_config.specs.declared.config.Config.{Config}
-use Rattle.smith_draw_types.specs.Choices.{chosen_at}
-use Rattle.smith_draw_types.specs.TypeUses.{places_from, is_start_type}
+use Rattle.smith_draw_contents.specs.Common.{bool_at, chosen_at, Config, places_from, SubType}
+use Rattle.smith_draw_types.specs.TypeUses.{is_start_type}
 
 -- the indices of the possible start functions, imported or defined: functions without parameters
 -- and results

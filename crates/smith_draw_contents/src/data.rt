@@ -7,7 +7,7 @@ ghost use Rattle.smith_types.specs.Entities.{IsMemoryValid, page_log2};
 ghost use Rattle.smith_types.specs.Expressions.{Context};
 ghost use Rattle.smith_types.specs.Segments.{IsDataValid, IsDataInside, IsOffsetValid};
 ghost use Rattle.smith_types.specs.Segments.{IsOffsetInside};
-ghost use Rattle.smith_syntax.specs.declared.entity_type.MemoryType.{MemoryType};
+ghost use Rattle.smith_types.specs.Syntax.entity_type.MemoryType.{MemoryType};
 ghost use Rattle.smith_config.specs.Faults.{Passes};
 ghost use Rattle.smith_config.specs.Features.{features_of};
 ghost use Rattle.smith_draw_consts.specs.ConstScopes.{AreSpacesValid, seen_by};

@@ -5,7 +5,7 @@ ghost use Rattle.smith_bytes.specs.Source.{KeepsPieces};
 ghost use Rattle.smith_bytes.specs.Takes.{Takes};
 ghost use Rattle.smith_types.specs.Floats.{HasNoFloat, GivesNoFloat};
 ghost use Rattle.smith_types.specs.Segments.{item_count, IsElementSegmentValid, IsElementInside};
-ghost use Rattle.smith_syntax.specs.declared.segments.ElementSegment.{ElementSegment};
+ghost use Rattle.smith_types.specs.Syntax.segments.ElementSegment.{ElementSegment};
 ghost use Rattle.smith_draw_types.specs.Grounding.{standing_in};
 ghost use Rattle.smith_draw_types.specs.KeptGrounds.{AreKeptGrounds};
 ghost use Rattle.smith_draw_consts.specs.ConstScopes.{seen_by};

@@ -1,14 +1,12 @@
 -- The test of subtyping has the same result for existing types over more types.
-use Rattle.std.proofs.Common.{rules, ◌≡◌, ℕ, zero, suc, ◌+◌, ◌<◌, Bool, List, ◌∷◌, ◌++◌, Option, Some, None, length, refl, ap, ◌∙◌, arith}
+use Rattle.smith_draw_definitions.proofs.Common.{ap, arith, Bool, Concrete, Exact, IsOrderly, length, List, Ref, refl, rules, SubType, suc}
+use Rattle.smith_draw_definitions.proofs.Common.{ValType, zero, ℕ, ◌++◌, ◌+◌, ◌<◌, ◌∙◌, ◌∷◌, ◌≡◌}
+use Rattle.std.proofs.Common.{None, Option, Some}
 use Rattle.std.specs.Prelude.{not, ◌&&◌, ◌||◌, ◌==◌}
 use Rattle.std.proofs.lemmas.List.{length-append}
-use Rattle.smith_types.specs.Types.{IsOrderly}
 use Rattle.smith_types.specs.Subtyping.{IsInRange, IsValInRange}
-use Rattle.smith_syntax.specs.declared.value_type.HeapType.{HeapType}
-use Rattle.smith_syntax.specs.declared.value_type.HeapType.TheVariants.{Abstract, Concrete, Exact}
-use Rattle.smith_syntax.specs.declared.value_type.ValType.{ValType}
-use Rattle.smith_syntax.specs.declared.value_type.ValType.TheVariants.{Ref}
-use Rattle.smith_syntax.specs.declared.composite_type.SubType.{SubType}
+use Rattle.smith_types.specs.Syntax.value_type.HeapType.{HeapType}
+use Rattle.smith_types.specs.Syntax.value_type.HeapType.TheVariants.{Abstract}
 use Rattle.smith_draw_types.specs.Offered.{supertype_of, supertype_at, ancestors_within, ancestors}
 use Rattle.smith_draw_types.specs.Below.{names, is_under, is_bottom_of, is_heap_below, is_val_below}
 use Rattle.smith_draw_types.proofs.AncestorLemmas.{supertype_before, within_enough}

@@ -1,23 +1,16 @@
 -- Definitions after existing items are, together with those, definitions after the same imports.
-use Rattle.std.proofs.Common.{◌≡◌, ◌∙◌, ℕ, zero, suc, ◌+◌, ◌-◌, ◌<◌, ◌≤◌, ◌^◌, List, [], ◌∷◌, ◌++◌, map, length, inl, inr, refl, sym, ap}
-use Rattle.std.proofs.Common.{subst, arith, append_assoc, length-append}
-use Rattle.std.specs.Prelude.{◌⊎◌, Option, Some, slice_get, take, All}
+use Rattle.smith_draw_definitions.proofs.Common.{[], All, All-nil, All-weaker, ap, append_assoc, AreEntitiesValid, AreSpacesGrown, arith}
+use Rattle.smith_draw_definitions.proofs.Common.{Config, ConstInstr, Context, EntitySpaces, Extends, features_of, GlobalType, GroupedTypes}
+use Rattle.smith_draw_definitions.proofs.Common.{inl, inr, IsContextGrown, IsSanitized, length, length-append, length-map, List, map}
+use Rattle.smith_draw_definitions.proofs.Common.{Option, refl, slice_get, Some, subst, SubType, suc, sym, TableType, zero, ℕ, ◌++◌, ◌+◌}
+use Rattle.smith_draw_definitions.proofs.Common.{◌-◌, ◌<◌, ◌∙◌, ◌∷◌, ◌≡◌, ◌≤◌}
+use Rattle.std.proofs.Common.{◌^◌}
+use Rattle.std.specs.Prelude.{take, ◌⊎◌}
 use Rattle.std.proofs.Math.Seq.{take-append_seam}
-use Rattle.std.proofs.lemmas.List.{length-map}
-use Rattle.std.proofs.lemmas.List.Elements.{All-nil, All-weaker, recursion_from_All}
-use Rattle.smith_types.specs.Entities.{AreEntitiesValid, AreCountsEnabled}
-use Rattle.smith_types.specs.Grown.{Extends, IsContextGrown, AreSpacesGrown}
-use Rattle.smith_types.specs.Expressions.{Context}
-use Rattle.smith_types.specs.Imports.{EntitySpaces, Defines}
-use Rattle.smith_types.specs.GroupedTypes.{GroupedTypes}
-use Rattle.smith_syntax.specs.declared.composite_type.SubType.{SubType}
-use Rattle.smith_syntax.specs.declared.const_instr.ConstInstr.{ConstInstr}
-use Rattle.smith_syntax.specs.declared.entity_type.GlobalType.{GlobalType}
-use Rattle.smith_syntax.specs.declared.entity_type.TableType.{TableType}
-use Rattle.smith_config.specs.declared.config.Config.{Config}
+use Rattle.std.proofs.lemmas.List.Elements.{recursion_from_All}
+use Rattle.smith_types.specs.Entities.{AreCountsEnabled}
+use Rattle.smith_types.specs.Imports.{Defines}
 use Rattle.smith_config.specs.Faults.{Passes}
-use Rattle.smith_config.specs.Features.{features_of}
-use Rattle.smith_config.specs.Sanitized.{IsSanitized}
 use Rattle.smith_types.proofs.ListLemmas.{slice_get-after}
 use Rattle.smith_types.specs.Floats.{HasNoFloatValue}
 use Rattle.smith_config.specs.Granted.{HasGroundedElements, HasGroundedValue}

@@ -1,21 +1,17 @@
 -- Properties of items that are defined after imported ones, and the bytes that they take, for every
 -- draw.
-use Rattle.std.proofs.Common.{◌≡◌, ℕ, zero, suc, ◌+◌, ◌-◌, ◌<◌, ◌≤◌, Bool, true, false, ◌&&◌, nat_lt, nat_le, max, ◌∷◌, List, [], ◌++◌, map}
-use Rattle.std.proofs.Common.{length, refl, arith, length-append, append_assoc, ap, lt-ltb, ◌∙◌}
-use Rattle.std.specs.Prelude.{All, Result, Ok, IfOk}
-use Rattle.std.proofs.lemmas.List.{append-nil, length-map}
-use Rattle.std.proofs.lemmas.List.Elements.{All-nil, All-append, All-push, All-weaker}
-use Rattle.smith_bytes.specs.Draws.{bool_at}
+use Rattle.smith_draw_definitions.proofs.Common.{[], All, All-append, All-nil, All-push, All-weaker, ap, append-nil, append_assoc, arith}
+use Rattle.smith_draw_definitions.proofs.Common.{Bool, bool_at, Error, false, following_so, IfOk, length, length-append, length-map, List}
+use Rattle.smith_draw_definitions.proofs.Common.{Listed, lt-ltb, map, nat_le, nat_lt, Ok, refl, Result, SpellsNone, suc, true, try_grow_at}
+use Rattle.smith_draw_definitions.proofs.Common.{zero, ℕ, ◌&&◌, ◌++◌, ◌+◌, ◌-◌, ◌<◌, ◌∙◌, ◌∷◌, ◌≡◌, ◌≤◌}
+use Rattle.std.proofs.Common.{max}
 use Rattle.smith_bytes.specs.Growth.{grow_at}
 use Rattle.smith_bytes.specs.ReadLaws.{ReadsEach}
-use Rattle.smith_bytes.specs.Spelling.{Listed, SpellsNone}
 use Rattle.smith_bytes.proofs.GrownLemmas.{cond_both, grow_most, grow_least, grow_all}
 use Rattle.smith_bytes.proofs.SpelledLemmas.{listed_read}
-use Rattle.smith_bytes.specs.declared.error.Error.{Error}
 use Rattle.smith_draw_definitions.specs.Defined.{IsFilled, AreAdded}
-use Rattle.smith_draw_consts.specs.TriedLists.{try_grow_at}
 use Rattle.smith_draw_consts.proofs.TriedListLemmas.{try_grow_most, try_grow_least, try_grow_none}
-use Rattle.smith_draw_consts.proofs.TriedStepLemmas.{following_so, both_ok, then_ok}
+use Rattle.smith_draw_consts.proofs.TriedStepLemmas.{both_ok, then_ok}
 use Rattle.smith_draw_definitions.specs.Definitions.{items_defined_at, items_tried_at, past_maximum_at}
 
 defined_items : {A : Type 0} (draw : List A → List ℕ → A × List ℕ) (least most imported : ℕ) (bytes : List ℕ)

@@ -1,16 +1,11 @@
 -- The iterations of a loop that defines items after imported ones, for every draw.
-use Rattle.std.proofs.Common.{◌≡◌, ℕ, ◌+◌, ◌-◌, ◌<◌, ◌≤◌, Bool, true, false, ◌&&◌, cond, nat_lt, nat_le, List, [], ◌∷◌, ◌++◌, length, refl}
-use Rattle.std.proofs.Common.{ap, ◌∙◌, subst, arith, append_assoc}
-use Rattle.std.specs.Prelude.{Result, Ok, Err, IfOk, if◌then◌else◌}
-use Rattle.std.proofs.lemmas.Bool.{and_right, le-leb, lt-leb}
-use Rattle.std.proofs.lemmas.List.{append-nil}
-use Rattle.smith_bytes.specs.Draws.{bool_at}
-use Rattle.smith_bytes.specs.Growth.{goes_at, grow_at}
-use Rattle.smith_bytes.specs.Source.{KeepsPieces}
-use Rattle.smith_bytes.specs.declared.error.Error.{Error}
+use Rattle.smith_draw_definitions.proofs.Common.{[], and_right, ap, append-nil, append_assoc, arith, Bool, bool_at, cond, Err, Error, false}
+use Rattle.smith_draw_definitions.proofs.Common.{goes_at, IfOk, if◌then◌else◌, KeepsPieces, length, List, nat_le, nat_lt, Ok, refl, Result}
+use Rattle.smith_draw_definitions.proofs.Common.{subst, true, try_grow_at, ℕ, ◌&&◌, ◌++◌, ◌+◌, ◌-◌, ◌<◌, ◌∙◌, ◌∷◌, ◌≡◌, ◌≤◌}
+use Rattle.std.proofs.lemmas.Bool.{le-leb, lt-leb}
+use Rattle.smith_bytes.specs.Growth.{grow_at}
 use Rattle.smith_bytes.proofs.GrowingLoop.{IsGrowing, grow_go, grow_stop, grow_full}
 use Rattle.smith_bytes.proofs.GrownLemmas.{grow_most}
-use Rattle.smith_draw_consts.specs.TriedLists.{try_grow_at}
 use Rattle.smith_draw_consts.proofs.TriedListLemmas.{try_grow_most}
 use Rattle.smith_draw_consts.proofs.TriedLoop.{IsTrying, try_start, try_go, try_refused, try_stop, try_full}
 use Rattle.smith_draw_definitions.specs.Definitions.{items_defined_at, items_tried_at, appended_to}

@@ -1,13 +1,9 @@
 -- The number of memories after the step that defines them, and the bytes that no memory takes.
-use Rattle.std.proofs.Common.{◌≡◌, ℕ, ◌≤◌, ◌<◌, true, nat_lt, List, [], ◌++◌, length, refl}
+use Rattle.smith_draw_definitions.proofs.Common.{[], Config, length, List, MemoryType, memtype_at, nat_lt, refl, SpellsEmpty, SpellsNone}
+use Rattle.smith_draw_definitions.proofs.Common.{true, ℕ, ◌++◌, ◌<◌, ◌≡◌, ◌≤◌}
 use Rattle.std.proofs.lemmas.Bool.{ltb-false}
-use Rattle.smith_syntax.specs.declared.entity_type.MemoryType.{MemoryType}
-use Rattle.smith_config.specs.declared.config.Config.{Config}
-use Rattle.smith_draw_types.specs.Memories.{memtype_at}
-use Rattle.smith_bytes.specs.Spelling.{SpellsEmpty}
 use Rattle.smith_draw_definitions.specs.Defined.{IsFilled}
 use Rattle.smith_draw_definitions.specs.Definitions.{memories_at}
-use Rattle.smith_bytes.specs.Spelling.{SpellsNone}
 use Rattle.smith_draw_definitions.proofs.DefinedLemmas.{several_so, defined_filled, defined_none}
 
 pub memories_filled : (config : Config) (imported : List MemoryType) (bytes : List ℕ) → config.min_memories ≤ config.max_memories

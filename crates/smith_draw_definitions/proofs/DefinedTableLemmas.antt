@@ -1,40 +1,27 @@
 -- Properties of tables after imported ones, with their initialisers.
-use Rattle.std.proofs.Common.{◌≡◌, ℕ, zero, suc, ◌<◌, ◌≤◌, Bool, true, false, ◌&&◌, cond, List, [], ◌∷◌, ◌++◌, map, length, refl, ap, subst}
-use Rattle.std.proofs.Common.{arith}
-use Rattle.std.specs.Prelude.{Option, Some, None, Result, Ok, Err, All, IfOk, IfSome, IsSome, IsTrue, slice_get}
+use Rattle.smith_draw_definitions.proofs.Common.{[], All, All-append, All-cons, All-nil, All-weaker, and_right, ap, append-nil, arith, Bool}
+use Rattle.smith_draw_definitions.proofs.Common.{cond, Config, ConstInstr, EmptyChoose, Err, Error, false, features_of, following_so, IfOk}
+use Rattle.smith_draw_definitions.proofs.Common.{IsConstExpr, IsSanitized, IsTableValid, IsTrue, length, List, map, None, Ok, Option, Ref}
+use Rattle.smith_draw_definitions.proofs.Common.{refl, Result, seen_by, slice_get, Some, SpellsEmpty, SpellsNone, subst, suc, TableType}
+use Rattle.smith_draw_definitions.proofs.Common.{takes_if_read, true, zero, ℕ, ◌&&◌, ◌++◌, ◌<◌, ◌>>=◌, ◌∷◌, ◌≡◌, ◌≤◌}
+use Rattle.std.specs.Prelude.{IfSome, IsSome}
 use Rattle.std.specs.List.{flat_map, AllByRecursion as Each}
-use Rattle.std.proofs.lemmas.Bool.{and_right}
-use Rattle.std.proofs.lemmas.List.{append-nil}
 use Rattle.std.proofs.lemmas.Grind.{flat_map-append}
-use Rattle.std.proofs.lemmas.List.Elements.{All-nil, All-cons, All-append, All-map, All-weaker, recursion_from_All}
+use Rattle.std.proofs.lemmas.List.Elements.{All-map, recursion_from_All}
 use Rattle.smith_bytes.specs.Takes.{Takes}
-use Rattle.smith_bytes.specs.Steps.{◌>>=◌}
-use Rattle.smith_bytes.specs.declared.error.Error.{Error}
-use Rattle.smith_bytes.specs.declared.error.Error.TheVariants.{EmptyChoose}
-use Rattle.smith_draw_consts.proofs.TriedStepLemmas.{following_so, takes_if_read}
-use Rattle.smith_types.specs.Entities.{IsTableValid}
-use Rattle.smith_types.specs.Expressions.{IsConstExpr}
 use Rattle.smith_types.specs.Floats.{HasNoFloat, GivesNoFloat}
-use Rattle.smith_syntax.specs.declared.const_instr.ConstInstr.{ConstInstr}
-use Rattle.smith_syntax.specs.declared.entity_type.TableType.{TableType}
-use Rattle.smith_syntax.specs.declared.value_type.ValType.TheVariants.{Ref}
-use Rattle.smith_syntax.specs.declared.value_type.RefType.{RefType}
+use Rattle.smith_types.specs.Syntax.value_type.RefType.{RefType}
 use Rattle.smith_validity.proofs.HeldValueLemmas.{all_of_parts}
-use Rattle.smith_config.specs.declared.config.Config.{Config}
-use Rattle.smith_config.specs.Features.{features_of}
-use Rattle.smith_config.specs.Sanitized.{IsSanitized}
 use Rattle.smith_config.specs.EntityBounds.{IsTableWithin}
 use Rattle.smith_draw_consts.specs.ConstExprs.{table_init_at}
-use Rattle.smith_draw_consts.specs.ConstScopes.{AreSpacesValid, seen_by}
+use Rattle.smith_draw_consts.specs.ConstScopes.{AreSpacesValid}
 use Rattle.smith_draw_types.specs.TableTypes.{table_type_at}
 use Rattle.smith_draw_types.specs.declared.spaces.Spaces.{Spaces}
-use Rattle.smith_bytes.specs.Spelling.{SpellsEmpty}
 use Rattle.smith_config.specs.Granted.{HasGroundedElements}
 use Rattle.smith_draw_definitions.specs.Defined.{IsFilled, AreAdded, MayInitialise, drawn_over, scope_of_spaces}
 use Rattle.smith_draw_definitions.specs.DefinedTables.{IsTableFit, AreTablesDrawn}
 use Rattle.smith_draw_definitions.specs.Definitions.{InitialiserScope, Table, table_at, tables_at, table_scope}
 use Rattle.smith_module_rules.specs.Promises.{initial_of}
-use Rattle.smith_bytes.specs.Spelling.{SpellsNone}
 use Rattle.smith_draw_definitions.proofs.DefinedLemmas.{parts_filled, several_so, all_after, tried_none}
 
 -- with defined globals invisible, the imported ones are visible

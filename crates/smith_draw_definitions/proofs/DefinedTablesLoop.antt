@@ -1,16 +1,7 @@
 -- The iterations of the loop that defines tables.
-use Rattle.std.proofs.Common.{◌≡◌, ℕ, ◌+◌, ◌-◌, ◌<◌, ◌≤◌, Bool, true, false, ◌&&◌, List, [], ◌∷◌, ◌++◌, map, length, refl, append_assoc}
-use Rattle.std.proofs.Common.{nat_lt}
-use Rattle.std.specs.Prelude.{Option, Ok, Err, if◌then◌else◌}
-use Rattle.smith_bytes.specs.declared.error.Error.{Error}
-use Rattle.std.proofs.lemmas.List.{append-nil, map-append}
-use Rattle.std.proofs.lemmas.List.Elements.{All-nil, All-push}
-use Rattle.smith_bytes.specs.Draws.{bool_at}
-use Rattle.smith_bytes.specs.Growth.{goes_at}
-use Rattle.smith_bytes.specs.Source.{KeepsPieces}
-use Rattle.smith_syntax.specs.declared.const_instr.ConstInstr.{ConstInstr}
-use Rattle.smith_syntax.specs.declared.entity_type.TableType.{TableType}
-use Rattle.smith_config.specs.declared.config.Config.{Config}
+use Rattle.smith_draw_definitions.proofs.Common.{[], All-nil, All-push, append-nil, append_assoc, Bool, bool_at, Config, ConstInstr, Err}
+use Rattle.smith_draw_definitions.proofs.Common.{Error, false, goes_at, if◌then◌else◌, KeepsPieces, length, List, map, map-append, nat_lt}
+use Rattle.smith_draw_definitions.proofs.Common.{Ok, Option, refl, TableType, true, ℕ, ◌&&◌, ◌++◌, ◌+◌, ◌-◌, ◌<◌, ◌∷◌, ◌≡◌, ◌≤◌}
 use Rattle.smith_draw_definitions.specs.DefinedTables.{IsTableFit, AreTablesDrawn}
 use Rattle.smith_draw_definitions.specs.Definitions.{InitialiserScope, Table, table_at, tables_at}
 use Rattle.smith_draw_definitions.proofs.DefinedLoop.{IsTried, tried_start, tried_go, tried_refused, tried_stop, tried_full}

@@ -1,13 +1,7 @@
 -- The definitions that the bytes produce, by the draws of each kind of items.
-use Rattle.std.proofs.Common.{◌≡◌, ℕ, ◌-◌, Ok, Err, Option, List, length, refl}
-use Rattle.smith_bytes.specs.declared.error.Error.{Error}
-use Rattle.smith_types.specs.Imports.{EntitySpaces}
-use Rattle.smith_syntax.specs.declared.composite_type.SubType.{SubType}
-use Rattle.smith_syntax.specs.declared.const_instr.ConstInstr.{ConstInstr}
-use Rattle.smith_syntax.specs.declared.entity_type.GlobalType.{GlobalType}
-use Rattle.smith_syntax.specs.declared.entity_type.MemoryType.{MemoryType}
-use Rattle.smith_syntax.specs.declared.entity_type.TableType.{TableType}
-use Rattle.smith_config.specs.declared.config.Config.{Config}
+use Rattle.smith_draw_definitions.proofs.Common.{Config, ConstInstr, EntitySpaces, Error, GlobalType, length, List, MemoryType, refl}
+use Rattle.smith_draw_definitions.proofs.Common.{SubType, TableType, ℕ, ◌-◌, ◌≡◌}
+use Rattle.std.proofs.Common.{Err, Ok, Option}
 use Rattle.smith_draw_definitions.specs.Definitions.{InitialiserScope, scope_among, tags_at, funcs_at, tables_at, memories_at, globals_at}
 use Rattle.smith_draw_definitions.specs.Definitions.{definitions_at, defined_in}
 use Rattle.smith_draw_definitions.specs.declared.definitions.Definitions.{Definitions}

@@ -1,24 +1,14 @@
 -- Facts that one step of drawing a module provides for the next.
-use Rattle.std.proofs.Common.{inl, inr, ◌≡◌, ℕ, ◌-◌, ◌≤◌, max, List, [], take, length, refl, arith}
-use Rattle.std.specs.Prelude.{All}
-use Rattle.smith_bytes.specs.declared.error.Error.{Error}
+use Rattle.smith_draw_definitions.proofs.Common.{[], All, AreKeptGrounds, arith, Config, Context, EntitySpaces, Error, Extends, features_of}
+use Rattle.smith_draw_definitions.proofs.Common.{function_context, GroupedTypes, inl, inr, IsContextGrown, IsFuncTypeIndex, IsGlobalValid}
+use Rattle.smith_draw_definitions.proofs.Common.{length, List, refl, SubType, take, ValType, ℕ, ◌-◌, ◌≡◌, ◌≤◌}
+use Rattle.std.proofs.Common.{max}
 use Rattle.smith_bytes.specs.declared.error.Count.TheVariants as counts
 use Rattle.std.proofs.Math.Seq.{take-append_seam}
 use Rattle.std.proofs.lemmas.List.{length-take}
 use Rattle.std.proofs.lemmas.List.Elements.{All-take}
-use Rattle.smith_types.specs.Entities.{IsFuncTypeIndex, IsGlobalValid}
-use Rattle.smith_types.specs.Expressions.{Context}
-use Rattle.smith_types.specs.Grown.{Extends, IsContextGrown}
-use Rattle.smith_types.specs.Imports.{EntitySpaces}
-use Rattle.smith_types.specs.GroupedTypes.{GroupedTypes}
-use Rattle.smith_syntax.specs.declared.composite_type.SubType.{SubType}
-use Rattle.smith_syntax.specs.declared.value_type.ValType.{ValType}
-use Rattle.smith_config.specs.declared.config.Config.{Config}
-use Rattle.smith_config.specs.Features.{features_of}
 use Rattle.smith_config.specs.Granted.{IsUngrounded}
 use Rattle.smith_draw_consts.specs.ConstBounds.{MayRefuseConstExpr}
-use Rattle.smith_draw_types.specs.Grounding.{function_context}
-use Rattle.smith_draw_types.specs.KeptGrounds.{AreKeptGrounds}
 use Rattle.smith_draw_types.specs.declared.kept_grounds.KeptGrounds.{KeptGrounds}
 use Rattle.smith_draw_types.proofs.FilledLemmas.{fields_before}
 use Rattle.smith_draw_definitions.specs.Defined.{MayDefine, MayInitialise, MayRefuseDrawn, MayRefuseDefined, drawn_over, drawn_beside}

@@ -1,18 +1,14 @@
 -- The refusals of functions: without garbage collection only if `min_types` is 0.
-use Rattle.std.proofs.Common.{◌≡◌, ◌⊎◌, ℕ, zero, suc, ◌<◌, ◌≤◌, Bool, true, false, not, ◌&&◌, cond, List, [], ◌∷◌, length, refl, sym, ap}
-use Rattle.std.proofs.Common.{subst, arith, inl, inr}
-use Rattle.std.specs.Prelude.{slice_get, Result, Ok, Err, IfErr}
-use Rattle.smith_types.specs.GroupedTypes.{GroupedTypes}
+use Rattle.smith_draw_definitions.proofs.Common.{[], ap, AreTypesValid, arith, Bool, cond, Config, Err, Error, false, features_of}
+use Rattle.smith_draw_definitions.proofs.Common.{GroupedTypes, inl, inr, IsSanitized, length, List, Ok, refl, Result, slice_get, subst}
+use Rattle.smith_draw_definitions.proofs.Common.{SubType, suc, sym, true, zero, ℕ, ◌&&◌, ◌<◌, ◌∷◌, ◌≡◌, ◌≤◌, ◌⊎◌}
+use Rattle.std.proofs.Common.{not}
+use Rattle.std.specs.Prelude.{IfErr}
 use Rattle.smith_types.specs.Flags.{IsInnerEnabled}
-use Rattle.smith_types.specs.ValidTypes.{IsTypeValid, AreTypesValid}
-use Rattle.smith_syntax.specs.declared.composite_type.CompositeInnerType.{CompositeInnerType}
-use Rattle.smith_syntax.specs.declared.composite_type.CompositeInnerType.TheVariants as inners
-use Rattle.smith_syntax.specs.declared.composite_type.SubType.{SubType}
+use Rattle.smith_types.specs.ValidTypes.{IsTypeValid}
+use Rattle.smith_types.specs.Syntax.composite_type.CompositeInnerType.{CompositeInnerType}
+use Rattle.smith_types.specs.Syntax.composite_type.CompositeInnerType.TheVariants as inners
 use Rattle.smith_types.proofs.ValidityLemmas.{AreTypesValid-at}
-use Rattle.smith_config.specs.declared.config.Config.{Config}
-use Rattle.smith_config.specs.Features.{features_of}
-use Rattle.smith_config.specs.Sanitized.{IsSanitized}
-use Rattle.smith_bytes.specs.declared.error.Error.{Error}
 use Rattle.smith_bytes.specs.declared.error.Error.TheVariants as errors
 use Rattle.smith_bytes.specs.declared.error.Why.TheVariants.{Unmet}
 use Rattle.smith_bytes.specs.declared.error.Count.TheVariants as counts

@@ -1,11 +1,6 @@
 -- The number of globals after the defined ones are drawn.
-use Rattle.std.proofs.Common.{◌≡◌, ℕ, ◌≤◌, List, ◌++◌, map, subst}
-use Rattle.std.specs.Prelude.{Result, Ok, IfOk}
-use Rattle.smith_bytes.specs.declared.error.Error.{Error}
-use Rattle.smith_draw_consts.proofs.TriedStepLemmas.{following_so}
-use Rattle.smith_syntax.specs.declared.entity_type.GlobalType.{GlobalType}
-use Rattle.smith_syntax.specs.declared.const_instr.ConstInstr.{ConstInstr}
-use Rattle.smith_config.specs.declared.config.Config.{Config}
+use Rattle.smith_draw_definitions.proofs.Common.{Config, ConstInstr, Error, following_so, GlobalType, IfOk, List, map, Ok, Result, subst, ℕ}
+use Rattle.smith_draw_definitions.proofs.Common.{◌++◌, ◌≡◌, ◌≤◌}
 use Rattle.smith_draw_definitions.specs.Definitions.{InitialiserScope, Global, global_at, globals_at}
 use Rattle.smith_draw_definitions.specs.Defined.{IsFilled}
 use Rattle.smith_draw_definitions.proofs.DefinedLemmas.{parts_filled}

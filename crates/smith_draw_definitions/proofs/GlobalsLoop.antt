@@ -1,29 +1,18 @@
 -- One iteration of the loop over the defined globals.
-use Rattle.std.proofs.Common.{◌≡◌, ℕ, ◌+◌, ◌-◌, ◌≤◌, ◌<◌, Bool, true, false, ◌&&◌, nat_lt, List, [], ◌∷◌, ◌++◌, length, map, inl, inr, refl}
-use Rattle.std.proofs.Common.{sym, ap, subst, ◌∙◌, arith, append_assoc, length-append, append-nil}
-use Rattle.std.specs.Prelude.{Option, Some, None, Result, Ok, Err, ok_or, if◌then◌else◌}
-use Rattle.smith_bytes.specs.Steps.{◌>>=◌}
-use Rattle.smith_bytes.specs.declared.error.Error.{Error}
-use Rattle.smith_bytes.specs.declared.error.Error.TheVariants.{EmptyChoose}
+use Rattle.smith_draw_definitions.proofs.Common.{[], All-nil, All-push, ap, append_assoc, arith, Bool, bool_at, Config, ConstInstr, Context}
+use Rattle.smith_draw_definitions.proofs.Common.{EmptyChoose, Err, Error, false, features_of, GlobalType, goes_at, if◌then◌else◌, inl, inr}
+use Rattle.smith_draw_definitions.proofs.Common.{IsConstExpr, IsContextGrown, IsGlobalValid, KeepsPieces, length, length-append, length-map}
+use Rattle.smith_draw_definitions.proofs.Common.{List, map, map-append, nat_lt, None, Ok, Option, refl, Result, slice_get-grown}
+use Rattle.smith_draw_definitions.proofs.Common.{slice_get-last, slice_get-push, Some, subst, sym, true, without_globals, ℕ, ◌&&◌, ◌++◌}
+use Rattle.smith_draw_definitions.proofs.Common.{◌+◌, ◌-◌, ◌<◌, ◌>>=◌, ◌∙◌, ◌∷◌, ◌≡◌, ◌≤◌}
+use Rattle.std.proofs.Common.{append-nil}
+use Rattle.std.specs.Prelude.{ok_or}
 use Rattle.smith_draw_consts.specs.ConstExprs.{const_expr_at}
 use Rattle.smith_draw_types.specs.GlobalTypes.{global_type_at}
-use Rattle.smith_draw_types.specs.Grounding.{without_globals}
 use Rattle.std.specs.List.{All}
-use Rattle.std.proofs.lemmas.List.{map-append, length-map}
-use Rattle.std.proofs.lemmas.List.Elements.{All-nil, All-push, All-map}
-use Rattle.smith_bytes.specs.Source.{KeepsPieces}
-use Rattle.smith_bytes.specs.Draws.{bool_at}
-use Rattle.smith_bytes.specs.Growth.{goes_at}
-use Rattle.smith_types.specs.Entities.{IsGlobalValid}
-use Rattle.smith_types.specs.Expressions.{Context, IsConstExpr}
+use Rattle.std.proofs.lemmas.List.Elements.{All-map}
 use Rattle.smith_types.specs.Floats.{HasNoFloat, IsNoFloat, GivesNoFloat}
-use Rattle.smith_types.specs.Grown.{IsContextGrown}
-use Rattle.smith_syntax.specs.declared.entity_type.GlobalType.{GlobalType}
-use Rattle.smith_syntax.specs.declared.const_instr.ConstInstr.{ConstInstr}
-use Rattle.smith_types.proofs.ListLemmas.{slice_get-grown, slice_get-last, slice_get-push}
 use Rattle.smith_types.proofs.ExpressionGrowthLemmas.{IsConstExpr-grown}
-use Rattle.smith_config.specs.declared.config.Config.{Config}
-use Rattle.smith_config.specs.Features.{features_of}
 use Rattle.smith_draw_definitions.specs.Definitions.{InitialiserScope, Global, context_at, global_scope, globals_of, initialised_at}
 use Rattle.smith_draw_definitions.specs.Definitions.{global_at, globals_at}
 use Rattle.smith_config.specs.Granted.{HasGroundedValue}

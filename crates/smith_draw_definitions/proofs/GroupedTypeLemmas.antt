@@ -1,10 +1,10 @@
 -- A type among types in groups is found by a walk over the groups.
-use Rattle.std.proofs.Common.{◌≡◌, ◌∙◌, ℕ, zero, suc, ◌+◌, ◌-◌, ◌<◌, ◌≤◌, List, [], ◌∷◌, ◌++◌, length, drop, get_or, refl, sym, ap, arith}
-use Rattle.std.specs.Prelude.{Some, slice_get}
+use Rattle.smith_draw_definitions.proofs.Common.{[], ap, arith, drop, length, List, refl, slice_get, Some, SubType, suc, sym, zero, ℕ, ◌++◌}
+use Rattle.smith_draw_definitions.proofs.Common.{◌+◌, ◌-◌, ◌<◌, ◌∙◌, ◌∷◌, ◌≡◌, ◌≤◌}
+use Rattle.std.proofs.Common.{get_or}
 use Rattle.std.specs.List.{flat_map}
 use Rattle.std.proofs.lemmas.List.{drop_more}
 use Rattle.std.proofs.lemmas.Option.{slice_get-get_or}
-use Rattle.smith_syntax.specs.declared.composite_type.SubType.{SubType}
 
 pub in_front : {A : Type 0} (xs ys : List A) (i : ℕ) → i < length xs → slice_get (xs ++ ys) i ≡ slice_get xs i
 in_front [] ys i inside = absurd (omega arith)

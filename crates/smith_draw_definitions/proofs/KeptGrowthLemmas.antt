@@ -1,26 +1,21 @@
 -- The kept globals, functions and types stay correct, as types, globals and functions are added.
-use Rattle.std.proofs.Common.{◌≡◌, ℕ, ◌+◌, ◌<◌, ◌≤◌, Bool, true, false, List, [], ◌∷◌, ◌++◌, Option, Some, None, take, length, refl, sym}
-use Rattle.std.proofs.Common.{ap, ◌∙◌, subst, arith}
-use Rattle.std.specs.Prelude.{All, IfSome, not, ◌&&◌, nat_le, nat_lt, if◌then◌else◌, slice_get}
+use Rattle.smith_draw_definitions.proofs.Common.{[], All, All-head, All-weaker, ap, AreKeptOffers, arith, Bool, Concrete, Context, Exact}
+use Rattle.smith_draw_definitions.proofs.Common.{Extends, false, get_or_from_slice_get, GlobalType, if◌then◌else◌, IsFuncTypeIndex}
+use Rattle.smith_draw_definitions.proofs.Common.{IsGlobalValid, IsOrderly, length, List, refl, slice_get, slice_get_within, subst, SubType}
+use Rattle.smith_draw_definitions.proofs.Common.{sym, take, true, ValType, ℕ, ◌++◌, ◌+◌, ◌<◌, ◌∙◌, ◌∷◌, ◌≡◌, ◌≤◌}
+use Rattle.std.proofs.Common.{None, Option, Some}
+use Rattle.std.specs.Prelude.{IfSome, nat_le, nat_lt, not, ◌&&◌}
 use Rattle.std.proofs.lemmas.List.{length-append, length-take-le, take-append-le}
-use Rattle.std.proofs.lemmas.List.Elements.{All-head, All-tail, All-take, All-weaker}
-use Rattle.std.proofs.lemmas.Option.{get_or_from_slice_get, slice_get_within}
-use Rattle.smith_types.specs.Entities.{IsFuncTypeIndex, IsGlobalValid}
-use Rattle.smith_types.specs.Expressions.{Context, reference_to, created, function_reference}
-use Rattle.smith_types.specs.Grown.{Extends}
+use Rattle.std.proofs.lemmas.List.Elements.{All-tail, All-take}
+use Rattle.smith_types.specs.Expressions.{created, function_reference, reference_to}
 use Rattle.smith_types.specs.Subtyping.{IsValInRange}
-use Rattle.smith_types.specs.Types.{IsOrderly}
-use Rattle.smith_syntax.specs.declared.value_type.HeapType.TheVariants.{Concrete, Exact}
-use Rattle.smith_syntax.specs.declared.value_type.ValType.{ValType}
-use Rattle.smith_syntax.specs.declared.composite_type.CompositeInnerType.{CompositeInnerType}
-use Rattle.smith_syntax.specs.declared.composite_type.CompositeInnerType.TheVariants as inner
-use Rattle.smith_syntax.specs.declared.composite_type.SubType.{SubType}
-use Rattle.smith_syntax.specs.declared.entity_type.GlobalType.{GlobalType}
+use Rattle.smith_types.specs.Syntax.composite_type.CompositeInnerType.{CompositeInnerType}
+use Rattle.smith_types.specs.Syntax.composite_type.CompositeInnerType.TheVariants as inner
 use Rattle.smith_validity.proofs.ReferredTypeLemmas.{value_in_range}
 use Rattle.smith_draw_types.specs.Below.{is_val_below}
 use Rattle.smith_draw_consts.specs.ConstOffers.{each_from, offered_if, global_offers, function_offers, struct_ways, array_ways, type_offers}
 use Rattle.smith_draw_consts.specs.ConstOffers.{ways_by}
-use Rattle.smith_draw_consts.specs.KeptOffers.{AreClasses, AreFewRead, AreFlags, AreItemsRead, AreKeptOffers, AreManyKept, AreRecorded}
+use Rattle.smith_draw_consts.specs.KeptOffers.{AreClasses, AreFewRead, AreFlags, AreItemsRead, AreManyKept, AreRecorded}
 use Rattle.smith_draw_consts.specs.KeptOffers.{AreWaysCounted, IsEntry, IsKeptOffer, IsKeptWays, is_offered, offered_before, readable}
 use Rattle.smith_draw_consts.specs.declared.block_counts.BlockCounts.{BlockCounts}
 use Rattle.smith_draw_consts.specs.declared.classes.Classes.{Classes}

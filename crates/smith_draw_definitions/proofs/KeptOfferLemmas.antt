@@ -1,20 +1,9 @@
 -- The kept globals and functions are correct for later initialisers.
-use Rattle.std.proofs.Common.{◌≡◌, Bool, List, [], ◌∷◌, ◌++◌, refl}
-use Rattle.std.specs.Prelude.{All}
-use Rattle.std.proofs.lemmas.List.Elements.{All-weaker}
+use Rattle.smith_draw_definitions.proofs.Common.{[], All, All-weaker, AreKeptOffers, Bool, Config, EntitySpaces, EntityType, Extends}
+use Rattle.smith_draw_definitions.proofs.Common.{features_of, GlobalType, GroupedTypes, IsFuncTypeIndex, IsGlobalValid, IsOrderly, List}
+use Rattle.smith_draw_definitions.proofs.Common.{refl, SubType, with_entity, ◌++◌, ◌∷◌, ◌≡◌}
 use Rattle.std.proofs.lemmas.Option.{IfSome_then}
-use Rattle.smith_types.specs.Entities.{IsFuncTypeIndex, IsGlobalValid}
-use Rattle.smith_types.specs.Grown.{Extends}
-use Rattle.smith_types.specs.Imports.{EntitySpaces}
-use Rattle.smith_types.specs.EntitySpaces.{with_entity}
-use Rattle.smith_types.specs.GroupedTypes.{GroupedTypes}
-use Rattle.smith_types.specs.Types.{IsOrderly}
-use Rattle.smith_syntax.specs.declared.composite_type.SubType.{SubType}
-use Rattle.smith_syntax.specs.declared.entity_type.EntityType.{EntityType}
-use Rattle.smith_syntax.specs.declared.entity_type.GlobalType.{GlobalType}
-use Rattle.smith_config.specs.declared.config.Config.{Config}
-use Rattle.smith_config.specs.Features.{features_of}
-use Rattle.smith_draw_consts.specs.KeptOffers.{AreItemsRead, AreKeptOffers, IsEntry, IsKeptWays}
+use Rattle.smith_draw_consts.specs.KeptOffers.{AreItemsRead, IsEntry, IsKeptWays}
 use Rattle.smith_draw_consts.specs.declared.kept_offers.KeptOffers.{KeptOffers}
 use Rattle.smith_draw_consts.specs.declared.read_items.ReadItems.{ReadItems}
 use Rattle.smith_draw_definitions.specs.Definitions.{InitialiserScope, global_scope}

@@ -1,3 +1,4 @@
+pub mod Common
 pub mod ExtensionLemmas
 pub mod FuncRefusalLemmas
 pub mod DrawnStepLemmas

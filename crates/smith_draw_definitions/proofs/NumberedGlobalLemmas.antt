@@ -1,26 +1,16 @@
 -- From a source that begins with the spelling of mutable globals with numbers, these are drawn.
-use Rattle.std.proofs.Common.{◌≡◌, ℕ, ℤ, zero, suc, true, false, List, [], ◌∷◌, ◌++◌, length, map, refl, sym, ap, ◌∙◌, arith, append_assoc}
+use Rattle.smith_draw_definitions.proofs.Common.{[], All-nil, All-push, ap, append_assoc, arith, Config, ConstInstr, Context, Error, false}
+use Rattle.smith_draw_definitions.proofs.Common.{GlobalType, length, List, Listed, map, map-append, Ok, refl, Result, suc, sym}
+use Rattle.smith_draw_definitions.proofs.Common.{takes_if_read, true, try_grow_at, without_globals, zero, ℕ, ◌++◌, ◌>>=◌, ◌∙◌, ◌∷◌, ◌≡◌}
+use Rattle.std.proofs.Common.{ℤ}
 use Rattle.std.proofs.Common.{append-nil}
 use Rattle.std.specs.List.{All}
-use Rattle.std.specs.Prelude.{Result, Ok}
 use Rattle.std.proofs.lemmas.Bool.{le-ltb}
-use Rattle.std.proofs.lemmas.List.{map-append}
-use Rattle.std.proofs.lemmas.List.Elements.{All-nil, All-push}
-use Rattle.smith_bytes.specs.Spelling.{Listed}
 use Rattle.smith_bytes.specs.Takes.{Takes}
 use Rattle.smith_bytes.proofs.SpelledLemmas.{joined_parts, bool_read}
-use Rattle.smith_bytes.specs.Steps.{◌>>=◌}
-use Rattle.smith_bytes.specs.declared.error.Error.{Error}
-use Rattle.smith_draw_consts.specs.TriedLists.{try_grow_at}
-use Rattle.smith_draw_consts.proofs.TriedStepLemmas.{takes_if_read}
-use Rattle.smith_syntax.specs.declared.entity_type.GlobalType.{GlobalType}
-use Rattle.smith_syntax.specs.declared.const_instr.ConstInstr.{ConstInstr}
-use Rattle.smith_syntax.specs.declared.const_instr.ConstInstr.TheVariants.{I32Const}
-use Rattle.smith_syntax.specs.declared.value_type.ValType.TheVariants.{I32}
-use Rattle.smith_config.specs.declared.config.Config.{Config}
-use Rattle.smith_types.specs.Expressions.{Context}
+use Rattle.smith_types.specs.Syntax.const_instr.ConstInstr.TheVariants.{I32Const}
+use Rattle.smith_types.specs.Syntax.value_type.ValType.TheVariants.{I32}
 use Rattle.smith_draw_types.specs.GlobalTypes.{global_type_at}
-use Rattle.smith_draw_types.specs.Grounding.{without_globals}
 use Rattle.smith_draw_types.specs.SpelledGlobals.{mutable_i32, SpellsMutableI32}
 use Rattle.smith_draw_types.specs.SpelledConstants.{SpellsConstExpr}
 use Rattle.smith_draw_types.proofs.GlobalTypeLemmas.{global_type_taken}

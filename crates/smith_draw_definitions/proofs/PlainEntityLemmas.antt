@@ -1,21 +1,14 @@
 -- Entities that name no type of their own list are valid over other types.
-use Rattle.std.proofs.Common.{◌≡◌, ◌∙◌, ℕ, ◌+◌, false, List, [], ◌∷◌, ◌++◌, length, sym, subst}
-use Rattle.std.specs.Prelude.{Some, slice_get, All}
-use Rattle.std.proofs.lemmas.Option.{slice_get_within, get_or_from_slice_get}
-use Rattle.smith_types.specs.Entities.{IsTableValid, IsGlobalValid}
-use Rattle.smith_syntax.specs.Features.{Features}
-use Rattle.smith_types.specs.Imports.{EntitySpaces}
-use Rattle.smith_types.specs.GroupedTypes.{GroupedTypes}
+use Rattle.smith_draw_definitions.proofs.Common.{[], All, AreTypesValid, Concrete, EntitySpaces, Exact, false, Features}
+use Rattle.smith_draw_definitions.proofs.Common.{get_or_from_slice_get, GlobalType, GroupedTypes, IsGlobalValid, IsTableValid, length, List}
+use Rattle.smith_draw_definitions.proofs.Common.{Ref, slice_get, slice_get_within, Some, subst, SubType, sym, TableType, ValType, ℕ, ◌++◌}
+use Rattle.smith_draw_definitions.proofs.Common.{◌+◌, ◌∙◌, ◌∷◌, ◌≡◌}
 use Rattle.smith_types.specs.Types.{next_group}
-use Rattle.smith_types.specs.ValidTypes.{IsHeapTypeValid, IsRefTypeValid, IsValTypeValid, IsTypeValid, AreTypesValid, values_of}
-use Rattle.smith_syntax.specs.declared.composite_type.SubType.{SubType}
-use Rattle.smith_syntax.specs.declared.entity_type.GlobalType.{GlobalType}
-use Rattle.smith_syntax.specs.declared.entity_type.TableType.{TableType}
-use Rattle.smith_syntax.specs.declared.value_type.HeapType.{HeapType}
-use Rattle.smith_syntax.specs.declared.value_type.HeapType.TheVariants.{Abstract, Concrete, Exact}
-use Rattle.smith_syntax.specs.declared.value_type.RefType.{RefType}
-use Rattle.smith_syntax.specs.declared.value_type.ValType.{ValType}
-use Rattle.smith_syntax.specs.declared.value_type.ValType.TheVariants.{I32, I64, F32, F64, V128, Ref}
+use Rattle.smith_types.specs.ValidTypes.{IsHeapTypeValid, IsRefTypeValid, IsTypeValid, IsValTypeValid, values_of}
+use Rattle.smith_types.specs.Syntax.value_type.HeapType.{HeapType}
+use Rattle.smith_types.specs.Syntax.value_type.HeapType.TheVariants.{Abstract}
+use Rattle.smith_types.specs.Syntax.value_type.RefType.{RefType}
+use Rattle.smith_types.specs.Syntax.value_type.ValType.TheVariants.{F32, F64, I32, I64, V128}
 use Rattle.smith_validity.proofs.HeldValueLemmas.{all_values_apart}
 use Rattle.smith_types.proofs.SpaceLemmas.{IsOrderly-push}
 use Rattle.smith_types.proofs.ValidityLemmas.{AreTypesValid-at, AreTypesValid-single}

@@ -1,28 +1,17 @@
 -- Definitions with one more entity, and when they are refused.
-use Rattle.std.proofs.Common.{◌≡◌, ◌∙◌, ℕ, ◌+◌, Bool, false, true, List, [], ◌∷◌, ◌++◌, length, inl, inr, refl, sym, ap, subst}
-use Rattle.std.specs.Prelude.{Option, Some, None, Result, Ok, Err, IsErrAnd, IfOk, IfErr}
-use Rattle.smith_bytes.specs.declared.error.Error.{Error}
-use Rattle.smith_bytes.specs.declared.error.Error.TheVariants.{Memory, EmptyChoose}
-use Rattle.smith_types.specs.Expressions.{Context}
-use Rattle.smith_types.specs.Imports.{EntitySpaces}
-use Rattle.smith_syntax.specs.declared.composite_type.SubType.{SubType}
-use Rattle.smith_syntax.specs.declared.const_instr.ConstInstr.{ConstInstr}
-use Rattle.smith_syntax.specs.declared.entity_type.EntityType.{EntityType}
-use Rattle.smith_syntax.specs.declared.entity_type.EntityType.TheVariants as entity
-use Rattle.smith_syntax.specs.declared.entity_type.GlobalType.{GlobalType}
-use Rattle.smith_syntax.specs.declared.entity_type.TableType.{TableType}
-use Rattle.smith_syntax.specs.declared.value_type.ValType.{ValType}
-use Rattle.smith_syntax.specs.declared.value_type.ValType.TheVariants.{Ref}
-use Rattle.smith_config.specs.declared.config.Config.{Config}
+use Rattle.smith_draw_definitions.proofs.Common.{[], ap, Bool, Config, ConstInstr, Context, EmptyChoose, EntitySpaces, EntityType, Err}
+use Rattle.smith_draw_definitions.proofs.Common.{Error, false, GlobalType, IfOk, inl, inr, is_memory, length, List, None, Ok, Option, Ref}
+use Rattle.smith_draw_definitions.proofs.Common.{refl, Result, Returns, seen_by, Some, standing_in, subst, SubType, sym, TableType, true}
+use Rattle.smith_draw_definitions.proofs.Common.{ValType, without_globals, ℕ, ◌++◌, ◌+◌, ◌∙◌, ◌∷◌, ◌≡◌}
+use Rattle.std.specs.Prelude.{IfErr, IsErrAnd}
+use Rattle.smith_bytes.specs.declared.error.Error.TheVariants.{Memory}
+use Rattle.smith_types.specs.Syntax.entity_type.EntityType.TheVariants as entity
 use Rattle.smith_draw_consts.specs.ConstBounds.{MayRefuseConstExpr}
 use Rattle.smith_draw_consts.specs.ConstExprs.{const_expr_at, table_init_at}
-use Rattle.smith_draw_consts.specs.ConstScopes.{seen_by}
-use Rattle.smith_draw_types.specs.Grounding.{standing_in, without_globals}
 use Rattle.smith_draw_types.specs.declared.spaces.Spaces.{Spaces}
 use Rattle.smith_draw_types.proofs.NullableLemmas.{ungrounded_not_null}
 use Rattle.smith_draw_definitions.specs.Defined.{drawn_beside}
 use Rattle.smith_draw_definitions.specs.Required.{MayRefuseInitial}
-use Rattle.smith_bytes.specs.Steps.{Returns, is_memory}
 use Rattle.smith_draw_definitions.specs.RequiredExports.{scope_beside, made_of, with_table, with_global, defined_with_at}
 use Rattle.smith_draw_definitions.specs.declared.definitions.Definitions.{Definitions}
 

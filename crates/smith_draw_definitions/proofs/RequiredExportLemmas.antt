@@ -1,43 +1,30 @@
 -- An export of a shape, of an entity that is defined for it, after the existing entities.
-use Rattle.std.proofs.Common.{◌≡◌, ◌∙◌, ◌⊎◌, ℕ, zero, suc, ◌+◌, ◌-◌, ◌<◌, ◌≤◌, Bool, true, false, List, [], ◌∷◌, ◌++◌, length, map, inl}
-use Rattle.std.proofs.Common.{inr, refl, sym, ap, subst, arith, length-append}
-use Rattle.std.specs.Prelude.{All, Option, Some, None, option_map, slice_get, IsTrue}
+use Rattle.smith_draw_definitions.proofs.Common.{[], All, All-cons, All-nil, All-push, ap, AreEntitiesValid, AreTypesValid, arith, Bool}
+use Rattle.smith_draw_definitions.proofs.Common.{Config, Count, EntitySpaces, EntityType, Error, Export, Extends, false, Features}
+use Rattle.smith_draw_definitions.proofs.Common.{features_of, get_or_from_slice_get, GlobalType, GroupedTypes, inl, inr, IsContextGrown}
+use Rattle.smith_draw_definitions.proofs.Common.{IsFuncTypeIndex, IsGlobalValid, IsMemoryValid, IsTableValid, IsTagValid, IsTrue, length}
+use Rattle.smith_draw_definitions.proofs.Common.{length-append, List, map, MemoryType, None, Option, Ref, refl, SeveralMemories}
+use Rattle.smith_draw_definitions.proofs.Common.{SeveralTables, Shape, shape_spaces, shape_types, slice_get, slice_get-grown}
+use Rattle.smith_draw_definitions.proofs.Common.{slice_get-last, slice_get-push, slice_get_within, Some, subst, SubType, suc, sym}
+use Rattle.smith_draw_definitions.proofs.Common.{TableType, true, ValType, with_entity, zero, ℕ, ◌++◌, ◌+◌, ◌-◌, ◌<◌, ◌∙◌, ◌∷◌, ◌≡◌, ◌≤◌}
+use Rattle.smith_draw_definitions.proofs.Common.{◌⊎◌}
+use Rattle.std.specs.Prelude.{option_map}
 use Rattle.std.specs.List.{Any, flat_map}
-use Rattle.std.proofs.lemmas.List.Elements.{All-nil, All-cons, All-push}
-use Rattle.std.proofs.lemmas.Option.{slice_get_within, slice_get-get_or, get_or_from_slice_get}
-use Rattle.smith_bytes.specs.declared.error.Count.{Count}
+use Rattle.std.proofs.lemmas.Option.{slice_get-get_or}
 use Rattle.smith_bytes.specs.declared.error.Count.TheVariants as counts
-use Rattle.smith_bytes.specs.declared.error.Error.{Error}
 use Rattle.smith_bytes.specs.declared.error.Error.TheVariants as errors
-use Rattle.smith_bytes.specs.declared.error.Why.TheVariants.{SeveralMemories, SeveralTables}
-use Rattle.smith_types.specs.Entities.{IsTagValid, IsFuncTypeIndex, IsTableValid, IsMemoryValid, IsGlobalValid, AreEntitiesValid}
 use Rattle.smith_types.specs.Exports.{IsEntityAt, entity_kind}
 use Rattle.smith_types.specs.Expressions.{field_values}
-use Rattle.smith_syntax.specs.Features.{Features}
-use Rattle.smith_types.specs.Grown.{Extends, IsContextGrown}
 use Rattle.smith_types.specs.HeldValues.{values_in}
-use Rattle.smith_types.specs.Imports.{EntitySpaces, tag_of, entity_spaces}
-use Rattle.smith_types.specs.EntitySpaces.{with_entity}
-use Rattle.smith_types.specs.GroupedTypes.{GroupedTypes}
+use Rattle.smith_types.specs.Imports.{entity_spaces, tag_of}
 use Rattle.smith_types.specs.Types.{next_group}
-use Rattle.smith_types.specs.ValidTypes.{AreTypesValid, values_of}
-use Rattle.smith_syntax.specs.declared.value_type.ValType.{ValType}
-use Rattle.smith_syntax.specs.declared.value_type.ValType.TheVariants.{Ref}
-use Rattle.smith_syntax.specs.declared.composite_type.CompositeInnerType.TheVariants.{Func}
-use Rattle.smith_syntax.specs.declared.composite_type.FuncType.{FuncType}
-use Rattle.smith_syntax.specs.declared.composite_type.SubType.{SubType}
-use Rattle.smith_syntax.specs.declared.entity_type.EntityType.{EntityType}
-use Rattle.smith_syntax.specs.declared.entity_type.EntityType.TheVariants as entity
-use Rattle.smith_syntax.specs.declared.entity_type.ExportKind.{ExportKind}
-use Rattle.smith_syntax.specs.declared.entity_type.ExportKind.TheVariants as kind
-use Rattle.smith_syntax.specs.declared.entity_type.GlobalType.{GlobalType}
-use Rattle.smith_syntax.specs.declared.entity_type.MemoryType.{MemoryType}
-use Rattle.smith_syntax.specs.declared.entity_type.TableType.{TableType}
-use Rattle.smith_types.proofs.ListLemmas.{slice_get-grown, slice_get-last, slice_get-push}
-use Rattle.smith_config.specs.declared.config.Config.{Config}
-use Rattle.smith_config.specs.declared.shape.Shape.{Shape}
-use Rattle.smith_config.specs.Features.{features_of}
-use Rattle.smith_config.specs.Shapes.{most_listed, space_of, shape_types, shape_spaces, shape_values, IsTypePlain, ArePlain}
+use Rattle.smith_types.specs.ValidTypes.{values_of}
+use Rattle.smith_types.specs.Syntax.composite_type.CompositeInnerType.TheVariants.{Func}
+use Rattle.smith_types.specs.Syntax.composite_type.FuncType.{FuncType}
+use Rattle.smith_types.specs.Syntax.entity_type.EntityType.TheVariants as entity
+use Rattle.smith_types.specs.Syntax.entity_type.ExportKind.{ExportKind}
+use Rattle.smith_types.specs.Syntax.entity_type.ExportKind.TheVariants as kind
+use Rattle.smith_config.specs.Shapes.{ArePlain, IsTypePlain, most_listed, shape_values, space_of}
 use Rattle.smith_config.specs.Granted.{IsNonNullable, IsUngrounded}
 use Rattle.smith_draw_types.specs.HeldFields.{HoldsUngroundedField}
 use Rattle.smith_draw_types.specs.HeldFields.{fields_of}
@@ -64,7 +51,6 @@ use Rattle.smith_draw_definitions.specs.Required.{
 }
 use Rattle.smith_draw_definitions.specs.RequiredExports.{entity_of, next_index, with_table, with_global, types_over, entity_over}
 use Rattle.smith_draw_definitions.specs.RequiredExports.{with_own_group}
-use Rattle.smith_module_rules.specs.ExportedItems.{Export}
 use Rattle.smith_module_rules.specs.ShapesKept.{IsSameFuncType, IsSameType}
 use Rattle.smith_draw_definitions.specs.declared.definitions.Definitions.{Definitions}
 use Rattle.smith_draw_definitions.proofs.ExtensionLemmas.{all_kept}

@@ -1,42 +1,33 @@
 -- One iteration of the loop over the exports that a shape fixes.
-use Rattle.std.proofs.Common.{◌≡◌, ◌∙◌, ◌⊎◌, ℕ, zero, suc, ◌+◌, ◌-◌, ◌<◌, ◌≤◌, Bool, true, false, List, [], ◌∷◌, ◌++◌, length, map, drop}
-use Rattle.std.proofs.Common.{take, get_or, inl, inr, refl, sym, ap, subst, arith, append_assoc}
-use Rattle.std.specs.Prelude.{All, Some, slice_get, sum_by, Result, Ok, Err, IsErrAnd}
+use Rattle.smith_draw_definitions.proofs.Common.{[], All, All-cons, All-nil, ap, append_assoc, AreSpacesGrown, arith, Bool, Config, Context}
+use Rattle.smith_draw_definitions.proofs.Common.{Count, drop, EntitySpaces, EntityType, Err, Error, Export, Extends, false, GroupedTypes}
+use Rattle.smith_draw_definitions.proofs.Common.{inl, inr, is_memory, KeepsPieces, length, List, map, Ok, refl, Result, Returns}
+use Rattle.smith_draw_definitions.proofs.Common.{SeveralMemories, SeveralTables, Shape, shape_spaces, shape_types, slice_get}
+use Rattle.smith_draw_definitions.proofs.Common.{slice_get-grown, Some, subst, SubType, suc, sym, take, true, zero, ℕ, ◌++◌, ◌+◌, ◌-◌, ◌<◌}
+use Rattle.smith_draw_definitions.proofs.Common.{◌∙◌, ◌∷◌, ◌≡◌, ◌≤◌, ◌⊎◌}
+use Rattle.std.proofs.Common.{get_or}
+use Rattle.std.specs.Prelude.{IsErrAnd, sum_by}
 use Rattle.std.specs.List.{Any, AllZip}
 use Rattle.std.proofs.lemmas.List.{drop_all, drop_more, take_all, take_more}
-use Rattle.std.proofs.lemmas.List.Elements.{All-nil, All-cons}
 use Rattle.std.proofs.lemmas.List.Sums.{sum_by-cons, sum_by_push}
 use Rattle.std.proofs.lemmas.Slice.Zip.{all_zipped_more}
-use Rattle.smith_bytes.specs.Source.{KeepsPieces}
-use Rattle.smith_bytes.specs.declared.error.Count.{Count}
 use Rattle.smith_bytes.specs.declared.error.Count.TheVariants as counts
-use Rattle.smith_bytes.specs.declared.error.Error.{Error}
 use Rattle.smith_bytes.specs.declared.error.Error.TheVariants as errors
-use Rattle.smith_bytes.specs.declared.error.Why.TheVariants.{SeveralMemories, SeveralTables}
 use Rattle.smith_types.specs.Exports.{AreDistinct, AreExportsStanding, AreExportsValid}
-use Rattle.smith_types.specs.Expressions.{Context}
-use Rattle.smith_types.specs.Grown.{Extends, AreSpacesGrown}
-use Rattle.smith_types.specs.Imports.{EntitySpaces}
-use Rattle.smith_types.specs.GroupedTypes.{GroupedTypes}
-use Rattle.smith_syntax.specs.declared.composite_type.SubType.{SubType}
-use Rattle.smith_syntax.specs.declared.entity_type.EntityType.{EntityType}
-use Rattle.smith_syntax.specs.declared.entity_type.EntityType.TheVariants as entity
+use Rattle.smith_types.specs.Syntax.entity_type.EntityType.TheVariants as entity
 use Rattle.smith_types.proofs.ExportGrowthLemmas.{IsEntityAt-grown}
-use Rattle.smith_types.proofs.ListLemmas.{slice_get-grown, AllZip-weaker}
-use Rattle.smith_config.specs.declared.config.Config.{Config}
-use Rattle.smith_config.specs.declared.shape.Shape.{Shape}
-use Rattle.smith_config.specs.Shapes.{most_listed, shape_types, shape_spaces, shape_values}
+use Rattle.smith_types.proofs.ListLemmas.{AllZip-weaker}
+use Rattle.smith_config.specs.Shapes.{most_listed, shape_values}
 use Rattle.smith_config.specs.Granted.{IsNonNullable}
 use Rattle.smith_draw_types.specs.HeldFields.{HoldsUngroundedField}
 use Rattle.smith_draw_types.specs.FuncSizes.{HasFewValues}
 use Rattle.smith_module_rules.specs.Bounds.{counts_as}
 use Rattle.smith_module_rules.specs.ShapeImports.{count_in}
-use Rattle.smith_module_rules.specs.ExportedItems.{IsStanding, Export}
+use Rattle.smith_module_rules.specs.ExportedItems.{IsStanding}
 use Rattle.smith_draw_definitions.proofs.RequiredLimitLemmas.{no_limits, limits_both, no_types, types_both}
 use Rattle.smith_draw_definitions.specs.Defined.{StandsAfter, drawn_beside}
 use Rattle.smith_draw_definitions.specs.Required.{AddsLimitsOf, AddsTypesOf, IsKeptType, MayRequire, MayDefineMore, IsRequiredMore}
 use Rattle.smith_draw_definitions.specs.Required.{AreRequired, MayLackIn, MayRefuseExported, MayRefuseRequired}
-use Rattle.smith_bytes.specs.Steps.{Returns, is_memory}
 use Rattle.smith_draw_definitions.specs.RequiredExports.{Required, entity_of, standing_with, export_required_at, required_from, required_at}
 use Rattle.smith_module_rules.specs.ShapesKept.{IsSameExport, IsSameFuncType}
 use Rattle.smith_draw_definitions.specs.declared.definitions.Definitions.{Definitions}

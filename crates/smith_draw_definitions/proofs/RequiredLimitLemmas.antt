@@ -1,20 +1,12 @@
 -- The types that are added for the exports of a shape are the shape's, and the tables, memories and
 -- globals that are defined for them have its types.
-use Rattle.std.proofs.Common.{◌≡◌, ◌⊎◌, ℕ, Bool, true, false, List, [], ◌∷◌, ◌++◌, inl, inr, subst, sym}
-use Rattle.std.specs.Prelude.{All, Some, slice_get}
+use Rattle.smith_draw_definitions.proofs.Common.{[], All, All-append, All-cons, All-nil, All-weaker, Bool, EntitySpaces, EntityType, false}
+use Rattle.smith_draw_definitions.proofs.Common.{GlobalType, inl, inr, List, MemoryType, Shape, shape_spaces, shape_types, slice_get, Some}
+use Rattle.smith_draw_definitions.proofs.Common.{subst, SubType, sym, TableType, true, with_entity, ℕ, ◌++◌, ◌∷◌, ◌≡◌, ◌⊎◌}
 use Rattle.std.specs.List.{Contains}
-use Rattle.std.proofs.lemmas.List.Elements.{All-nil, All-cons, All-append, All-contains, All-contains_itself, All-weaker}
+use Rattle.std.proofs.lemmas.List.Elements.{All-contains, All-contains_itself}
 use Rattle.smith_types.specs.Exports.{IsEntityAt, entity_kind}
-use Rattle.smith_types.specs.Imports.{EntitySpaces}
-use Rattle.smith_types.specs.EntitySpaces.{with_entity}
-use Rattle.smith_syntax.specs.declared.composite_type.SubType.{SubType}
-use Rattle.smith_syntax.specs.declared.entity_type.EntityType.{EntityType}
-use Rattle.smith_syntax.specs.declared.entity_type.EntityType.TheVariants as entity
-use Rattle.smith_syntax.specs.declared.entity_type.GlobalType.{GlobalType}
-use Rattle.smith_syntax.specs.declared.entity_type.MemoryType.{MemoryType}
-use Rattle.smith_syntax.specs.declared.entity_type.TableType.{TableType}
-use Rattle.smith_config.specs.declared.shape.Shape.{Shape}
-use Rattle.smith_config.specs.Shapes.{shape_spaces, shape_types}
+use Rattle.smith_types.specs.Syntax.entity_type.EntityType.TheVariants as entity
 use Rattle.smith_draw_definitions.specs.Required.{AddsLimitsOf, AddsTypesOf, IsKeptType}
 use Rattle.smith_draw_definitions.proofs.PlainEntityLemmas.{all_at}
 

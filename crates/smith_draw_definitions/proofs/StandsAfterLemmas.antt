@@ -1,30 +1,18 @@
 -- The entities that follow imports are valid with one more that is defined.
-use Rattle.std.proofs.Common.{◌≡◌, ◌∙◌, ℕ, ◌+◌, ◌-◌, ◌<◌, Bool, true, false, not, ◌&&◌, cond, nat_lt, nat_le, lt-ltb, List, [], ◌∷◌, ◌++◌}
-use Rattle.std.proofs.Common.{length, inl, inr, refl, sym, ap, subst, arith, append_assoc, length-append}
-use Rattle.std.specs.Prelude.{Option, Some, None, slice_get, IsTrue, if◌then◌else◌}
-use Rattle.std.proofs.lemmas.Bool.{and_right, leb-false}
-use Rattle.std.proofs.lemmas.List.Elements.{All-head, All-push}
-use Rattle.smith_types.specs.Entities.{IsTagValid, IsFuncTypeIndex, IsTableValid, IsMemoryValid, IsGlobalValid, AreEntitiesValid}
-use Rattle.smith_types.specs.Expressions.{Context, IsConstExpr}
-use Rattle.smith_syntax.specs.Features.{Features}
-use Rattle.smith_types.specs.Grown.{Extends, IsContextGrown, AreSpacesGrown}
-use Rattle.smith_types.specs.Imports.{EntitySpaces, Defines, tag_of, entity_spaces}
-use Rattle.smith_types.specs.EntitySpaces.{with_entity}
-use Rattle.smith_types.specs.GroupedTypes.{GroupedTypes}
-use Rattle.smith_types.specs.ValidTypes.{AreTypesValid}
-use Rattle.smith_bytes.specs.declared.error.Why.TheVariants.{SeveralMemories, SeveralTables}
-use Rattle.smith_syntax.specs.declared.composite_type.SubType.{SubType}
-use Rattle.smith_syntax.specs.declared.const_instr.ConstInstr.{ConstInstr}
-use Rattle.smith_syntax.specs.declared.entity_type.EntityType.{EntityType}
-use Rattle.smith_syntax.specs.declared.entity_type.EntityType.TheVariants as entity
-use Rattle.smith_syntax.specs.declared.entity_type.GlobalType.{GlobalType}
-use Rattle.smith_syntax.specs.declared.entity_type.MemoryType.{MemoryType}
-use Rattle.smith_syntax.specs.declared.entity_type.TableType.{TableType}
+use Rattle.smith_draw_definitions.proofs.Common.{[], All-head, All-push, and_right, ap, append_assoc, AreEntitiesValid, AreSpacesGrown}
+use Rattle.smith_draw_definitions.proofs.Common.{AreTypesValid, arith, Bool, cond, Config, ConstInstr, Context, EntitySpaces, EntityType}
+use Rattle.smith_draw_definitions.proofs.Common.{Extends, false, Features, features_of, GlobalType, GroupedTypes, if◌then◌else◌, inl, inr}
+use Rattle.smith_draw_definitions.proofs.Common.{IsConstExpr, IsContextGrown, IsFuncTypeIndex, IsGlobalValid, IsMemoryValid, IsTableValid}
+use Rattle.smith_draw_definitions.proofs.Common.{IsTagValid, IsTrue, length, length-append, List, lt-ltb, MemoryType, nat_le, nat_lt, None}
+use Rattle.smith_draw_definitions.proofs.Common.{Option, refl, SeveralMemories, SeveralTables, slice_get, slice_get-grown, slice_get-last}
+use Rattle.smith_draw_definitions.proofs.Common.{slice_get-push, Some, subst, SubType, sym, TableType, true, with_entity, ℕ, ◌&&◌, ◌++◌}
+use Rattle.smith_draw_definitions.proofs.Common.{◌+◌, ◌-◌, ◌<◌, ◌∙◌, ◌∷◌, ◌≡◌}
+use Rattle.std.proofs.Common.{not}
+use Rattle.std.proofs.lemmas.Bool.{leb-false}
+use Rattle.smith_types.specs.Imports.{Defines, entity_spaces, tag_of}
+use Rattle.smith_types.specs.Syntax.entity_type.EntityType.TheVariants as entity
 use Rattle.smith_types.proofs.ExpressionGrowthLemmas.{IsConstExpr-grown}
-use Rattle.smith_types.proofs.ListLemmas.{slice_get-grown, slice_get-last, slice_get-push}
 use Rattle.smith_types.proofs.EntityGrowthLemmas.{AreEntitiesValid-grown}
-use Rattle.smith_config.specs.declared.config.Config.{Config}
-use Rattle.smith_config.specs.Features.{features_of}
 use Rattle.smith_draw_definitions.specs.Defined.{StandsAfter, scope_in, IsGlobalInitialised}
 use Rattle.smith_draw_definitions.specs.Definitions.{context_at}
 use Rattle.smith_module_rules.specs.Module.{IsTableInitialised}

@@ -1,32 +1,25 @@
 -- Properties of tags and functions that are defined after imported ones, and the bytes they take.
-use Rattle.std.proofs.Common.{◌≡◌, ℕ, ◌<◌, ◌≤◌, Bool, true, false, ◌&&◌, cond, eqb, ltb, nat_lt, List, [], ◌∷◌, ◌++◌, length, refl, subst}
-use Rattle.std.proofs.Common.{arith, lt-ltb}
-use Rattle.std.specs.Prelude.{Result, Ok, IfOk, OnOk, IsTrue, All, if◌then◌else◌}
+use Rattle.smith_draw_definitions.proofs.Common.{[], All, All-append, All-nil, and_right, arith, Bool, chosen_at, cond, Config, Count}
+use Rattle.smith_draw_definitions.proofs.Common.{Error, false, IfOk, if◌then◌else◌, is_memory, IsFuncTypeIndex, IsTagValid, IsTrue, length}
+use Rattle.smith_draw_definitions.proofs.Common.{List, Listed, lt-ltb, nat_lt, Ok, refl, Result, returned_so, Returns, SpellsEmpty, subst}
+use Rattle.smith_draw_definitions.proofs.Common.{SubType, true, types_for, ℕ, ◌&&◌, ◌++◌, ◌<◌, ◌∷◌, ◌≡◌, ◌≤◌}
+use Rattle.std.proofs.Common.{eqb, ltb}
+use Rattle.std.specs.Prelude.{OnOk}
 use Rattle.std.specs.List.{list_any}
-use Rattle.std.proofs.lemmas.Bool.{cond_both, ltb-false, eqb-false, and_right, ne_eqb}
-use Rattle.std.proofs.lemmas.List.Elements.{All-nil, All-append}
-use Rattle.smith_bytes.specs.Spelling.{SpellsBool, Where, Listed}
-use Rattle.smith_bytes.specs.declared.error.Count.{Count}
+use Rattle.std.proofs.lemmas.Bool.{cond_both, eqb-false, ltb-false, ne_eqb}
+use Rattle.smith_bytes.specs.Spelling.{SpellsBool, Where}
 use Rattle.smith_bytes.specs.declared.error.Count.TheVariants as counts
-use Rattle.smith_bytes.specs.declared.error.Error.{Error}
-use Rattle.smith_types.specs.Entities.{IsTagValid, IsFuncTypeIndex}
-use Rattle.smith_syntax.specs.declared.composite_type.SubType.{SubType}
-use Rattle.smith_config.specs.declared.config.Config.{Config}
-use Rattle.smith_draw_types.specs.Choices.{chosen_at}
 use Rattle.smith_draw_types.specs.Spelling.{SpellsPlace}
-use Rattle.smith_draw_types.specs.TypeUses.{is_tag_type, types_for, func_types}
+use Rattle.smith_draw_types.specs.TypeUses.{func_types, is_tag_type}
 use Rattle.smith_draw_types.specs.declared.type_use.TypeUse.TheVariants.{Tag, DefinedFunc}
 use Rattle.smith_draw_types.proofs.SpelledValueLemmas.{chosen_read}
 use Rattle.smith_draw_types.proofs.SupertypeLemmas.{chosen_of}
 use Rattle.smith_draw_types.proofs.TypeUseLemmas.{types_usable, places_any}
-use Rattle.smith_bytes.specs.Steps.{Returns, is_memory}
-use Rattle.smith_bytes.specs.Spelling.{SpellsEmpty}
 use Rattle.smith_draw_definitions.specs.Defined.{IsFilled}
 use Rattle.smith_draw_definitions.specs.Definitions.{items_defined_at, type_indices_at, tag_types, tags_at, funcs_at}
 use Rattle.smith_draw_types.specs.SpelledParts.{SpellsNoTag, SpellsFuncs}
 use Rattle.smith_draw_definitions.proofs.ExtensionLemmas.{all_kept}
 use Rattle.smith_draw_definitions.proofs.DefinedLemmas.{defined_all, defined_filled, defined_read, none_listed}
-use Rattle.smith_draw_consts.proofs.TriedStepLemmas.{returned_so}
 
 -- properties of items whose types are chosen
 pub record AreTyped (Holds : ℕ → Type 0) (choices : List ℕ) (least most : ℕ) (imported items : List ℕ) : Type 0 where

@@ -2,21 +2,15 @@
 use Rattle.std.specs.Prelude.{◌≡◌, ℕ, ◌+◌, ◌-◌, ◌<◌, ◌≤◌, ◌^◌, ◌⊎◌, max, Option, Some, List, [], ◌++◌, map, length, slice_get, All}
 use Rattle.std.specs.Prelude.{if◌then◌else◌}
 use Rattle.std.specs.List.{flat_map}
-use Rattle.smith_bytes.specs.declared.error.Error.{Error}
+use Rattle.smith_draw_definitions.specs.Common.{Config, ConstInstr, Context, EntitySpaces, Error, features_of, GlobalType, GroupedTypes}
+use Rattle.smith_draw_definitions.specs.Common.{IsTableInitialised, SubType, TableType}
 use Rattle.smith_bytes.specs.declared.error.Error.TheVariants as errors
 use Rattle.smith_types.specs.Entities.{IsFuncTypeIndex, IsGlobalValid, AreEntitiesValid, AreCountsEnabled}
-use Rattle.smith_types.specs.Expressions.{Context, IsConstExpr}
+use Rattle.smith_types.specs.Expressions.{IsConstExpr}
 use Rattle.smith_types.specs.Grown.{Extends}
-use Rattle.smith_types.specs.Imports.{EntitySpaces, Defines}
-use Rattle.smith_types.specs.GroupedTypes.{GroupedTypes}
+use Rattle.smith_types.specs.Imports.{Defines}
 use Rattle.smith_types.specs.ValidTypes.{AreTypesValid}
-use Rattle.smith_syntax.specs.declared.composite_type.SubType.{SubType}
-use Rattle.smith_syntax.specs.declared.entity_type.GlobalType.{GlobalType}
-use Rattle.smith_syntax.specs.declared.entity_type.TableType.{TableType}
-use Rattle.smith_syntax.specs.declared.const_instr.ConstInstr.{ConstInstr}
-use Rattle.smith_config.specs.declared.config.Config.{Config}
 use Rattle.smith_config.specs.Faults.{Passes}
-use Rattle.smith_config.specs.Features.{features_of}
 use Rattle.smith_config.specs.Sanitized.{IsSanitized}
 use Rattle.smith_config.specs.EntityBounds.{IsTableWithin, IsMemoryWithin}
 use Rattle.smith_draw_types.specs.HeldFields.{HoldsUngroundedField}
@@ -25,7 +19,6 @@ use Rattle.smith_draw_types.specs.Grounding.{without_globals}
 use Rattle.smith_draw_types.specs.declared.spaces.Spaces.{Spaces}
 use Rattle.smith_draw_definitions.specs.Definitions.{InitialiserScope, scope_over, context_at, table_scope}
 use Rattle.smith_config.specs.Granted.{HasGroundedElements, HasGroundedValue}
-use Rattle.smith_module_rules.specs.Module.{IsTableInitialised}
 use Rattle.smith_module_rules.specs.Promises.{initial_of}
 use Rattle.smith_module_rules.specs.Refusals.{MayRefuse}
 use Rattle.smith_draw_definitions.specs.declared.definitions.Definitions.{Definitions}

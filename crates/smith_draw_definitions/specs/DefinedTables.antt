@@ -2,15 +2,11 @@
 use Rattle.std.specs.Prelude.{◌≡◌, Option, List, ◌++◌, map, All}
 use Rattle.smith_types.specs.Entities.{IsTableValid}
 use Rattle.smith_types.specs.Floats.{HasNoFloat, GivesNoFloat}
-use Rattle.smith_syntax.specs.declared.const_instr.ConstInstr.{ConstInstr}
-use Rattle.smith_syntax.specs.declared.entity_type.TableType.{TableType}
-use Rattle.smith_config.specs.declared.config.Config.{Config}
-use Rattle.smith_config.specs.Features.{features_of}
+use Rattle.smith_draw_definitions.specs.Common.{Config, ConstInstr, features_of, IsTableInitialised, TableType}
 use Rattle.smith_config.specs.EntityBounds.{IsTableWithin}
 use Rattle.smith_draw_definitions.specs.Definitions.{InitialiserScope, Table, table_scope}
 use Rattle.smith_config.specs.Granted.{HasGroundedElements}
 use Rattle.smith_draw_definitions.specs.Defined.{drawn_over}
-use Rattle.smith_module_rules.specs.Module.{IsTableInitialised}
 use Rattle.smith_module_rules.specs.Promises.{initial_of}
 
 -- a table may be defined with this initialiser, or with none

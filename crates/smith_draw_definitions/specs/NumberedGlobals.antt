@@ -1,10 +1,8 @@
 -- The bytes that spell mutable 32-bit globals. Rules of this project.
 use Rattle.std.specs.Prelude.{◌≡◌, ℕ, ℤ, List, [], ◌∷◌, map}
 use Rattle.smith_bytes.specs.Spelling.{Listed}
-use Rattle.smith_syntax.specs.declared.entity_type.GlobalType.{GlobalType}
-use Rattle.smith_syntax.specs.declared.const_instr.ConstInstr.{ConstInstr}
-use Rattle.smith_syntax.specs.declared.const_instr.ConstInstr.TheVariants.{I32Const}
-use Rattle.smith_config.specs.declared.config.Config.{Config}
+use Rattle.smith_draw_definitions.specs.Common.{Config, ConstInstr, GlobalType}
+use Rattle.smith_types.specs.Syntax.const_instr.ConstInstr.TheVariants.{I32Const}
 use Rattle.smith_draw_types.specs.SpelledGlobals.{mutable_i32}
 use Rattle.smith_draw_types.specs.SpelledParts.{SpellsGlobal}
 

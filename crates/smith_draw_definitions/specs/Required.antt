@@ -3,26 +3,21 @@ use Rattle.std.specs.Prelude.{◌≡◌, false, ℕ, ◌+◌, ◌<◌, ◌≤◌
 use Rattle.std.specs.List.{Any, AllZip, Contains}
 use Rattle.smith_bytes.specs.declared.error.Count.{Count}
 use Rattle.smith_bytes.specs.declared.error.Count.TheVariants as counts
-use Rattle.smith_bytes.specs.declared.error.Error.{Error}
+use Rattle.smith_draw_definitions.specs.Common.{Config, ConstInstr, Context, EntitySpaces, Error, features_of, GroupedTypes}
+use Rattle.smith_draw_definitions.specs.Common.{IsTableInitialised, SubType}
 use Rattle.smith_bytes.specs.declared.error.Error.TheVariants as errors
 use Rattle.smith_bytes.specs.declared.error.Which.{Which}
 use Rattle.smith_bytes.specs.declared.error.Which.TheVariants as which
 use Rattle.smith_bytes.specs.declared.error.Why.TheVariants.{SeveralMemories, SeveralTables}
 use Rattle.smith_types.specs.Entities.{AreEntitiesValid}
-use Rattle.smith_types.specs.Expressions.{Context, IsConstExpr}
+use Rattle.smith_types.specs.Expressions.{IsConstExpr}
 use Rattle.smith_types.specs.Grown.{Extends, AreSpacesGrown}
-use Rattle.smith_types.specs.Imports.{EntitySpaces}
 use Rattle.smith_types.specs.EntitySpaces.{with_entity}
-use Rattle.smith_types.specs.GroupedTypes.{GroupedTypes}
 use Rattle.smith_types.specs.ValidTypes.{AreTypesValid}
-use Rattle.smith_syntax.specs.declared.value_type.ValType.TheVariants.{Ref}
-use Rattle.smith_syntax.specs.declared.composite_type.SubType.{SubType}
-use Rattle.smith_syntax.specs.declared.const_instr.ConstInstr.{ConstInstr}
-use Rattle.smith_syntax.specs.declared.entity_type.EntityType.{EntityType}
-use Rattle.smith_syntax.specs.declared.entity_type.EntityType.TheVariants as entity
-use Rattle.smith_config.specs.declared.config.Config.{Config}
+use Rattle.smith_types.specs.Syntax.value_type.ValType.TheVariants.{Ref}
+use Rattle.smith_types.specs.Syntax.entity_type.EntityType.{EntityType}
+use Rattle.smith_types.specs.Syntax.entity_type.EntityType.TheVariants as entity
 use Rattle.smith_config.specs.declared.shape.Shape.{Shape}
-use Rattle.smith_config.specs.Features.{features_of}
 use Rattle.smith_config.specs.Sanitized.{IsSanitized}
 use Rattle.smith_config.specs.Shapes.{most_listed, shape_types, shape_spaces, shape_values, IsShapeValid}
 use Rattle.smith_config.specs.Granted.{IsNonNullable}
@@ -32,7 +27,6 @@ use Rattle.smith_module_rules.specs.Bounds.{counts_as, items_of_exports}
 use Rattle.smith_module_rules.specs.ShapeImports.{count_in}
 use Rattle.smith_draw_definitions.specs.Defined.{AreWithin, HasRoom, StandsAfter, drawn_beside}
 use Rattle.smith_types.specs.Exports.{entity_kind}
-use Rattle.smith_module_rules.specs.Module.{IsTableInitialised}
 use Rattle.smith_draw_definitions.specs.RequiredExports.{several, scope_beside, with_table, with_global}
 use Rattle.smith_module_rules.specs.ExportedItems.{Export}
 use Rattle.smith_module_rules.specs.ShapesKept.{IsSameExport, IsSameType}

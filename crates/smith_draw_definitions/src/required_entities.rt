@@ -2,7 +2,7 @@ ghost use Rattle.std.specs.Prelude.{◌≡◌, Bool, true, false, IfErr, OnOk};
 ghost use Rattle.smith_bytes.specs.Source.{KeepsPieces};
 ghost use Rattle.smith_types.specs.Entities.{AreEntitiesValid, IsTableValid, IsGlobalValid};
 ghost use Rattle.smith_types.specs.EntitySpaces.{spaces_in};
-ghost use Rattle.smith_syntax.specs.declared.value_type.ValType.TheVariants.{Ref};
+ghost use Rattle.smith_types.specs.Syntax.value_type.ValType.TheVariants.{Ref};
 ghost use Rattle.smith_config.specs.declared.config.Config.{Config as Configuration};
 ghost use Rattle.smith_config.specs.Features.{features_of};
 ghost use Rattle.smith_draw_consts.specs.ConstBounds.{MayRefuseConstExpr};

@@ -2,8 +2,8 @@
 use Rattle.std.proofs.Common.{◌≡◌, ℕ, ◌<◌, List, ap, sym, ◌∙◌, arith, length}
 use Rattle.std.specs.Prelude.{Option, Some, slice_get}
 use Rattle.smith_types.specs.Expressions.{Context}
-use Rattle.smith_syntax.specs.declared.entity_type.GlobalType.{GlobalType}
-use Rattle.smith_syntax.specs.declared.value_type.ValType.{ValType}
+use Rattle.smith_types.specs.Syntax.entity_type.GlobalType.{GlobalType}
+use Rattle.smith_types.specs.Syntax.value_type.ValType.{ValType}
 use Rattle.smith_draw_consts.specs.KeptOffers.{AreFewRead, readable}
 use Rattle.smith_draw_consts.specs.declared.few_items.FewItems.{FewItems}
 use Rattle.smith_draw_examples.specs.ExampleKeptOffers.{HasFew}

@@ -2,7 +2,7 @@
 use Rattle.std.proofs.Common.{◌≡◌, ℕ, ◌%◌, ◌-◌, ◌∙◌, arith, Bool, true, false, cond, List, [], ◌∷◌, refl, sym, subst, ap}
 use Rattle.std.proofs.lemmas.Bool.{lt-ltb}
 use Rattle.smith_bytes.specs.Spelling.{SpellsBool, Where, Listed}
-use Rattle.smith_syntax.specs.declared.value_type.ValType.{ValType}
+use Rattle.smith_types.specs.Syntax.value_type.ValType.{ValType}
 use Rattle.smith_config.specs.declared.config.Config.{Config}
 use Rattle.smith_draw_types.specs.Spelling.{SpellsValType, SpellsFuncType, SpellsForm, SpellsSize, SpellsSubType, SpellsSubTypes}
 use Rattle.smith_draw_types.specs.Spelling.{SpellsGroup, SpellsGroups}

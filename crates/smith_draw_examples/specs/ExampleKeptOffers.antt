@@ -1,8 +1,8 @@
 -- Records of the offered globals and functions, for the examples.
 use Rattle.std.specs.Prelude.{◌≡◌, ℕ, ◌+◌, Option, None, List, [], ◌∷◌}
-use Rattle.smith_syntax.specs.declared.value_type.ValType.{ValType}
-use Rattle.smith_syntax.specs.declared.value_type.ValType.TheVariants.{I32, Ref}
-use Rattle.smith_syntax.specs.declared.value_type.AbstractHeapType.TheVariants as heap
+use Rattle.smith_types.specs.Syntax.value_type.ValType.{ValType}
+use Rattle.smith_types.specs.Syntax.value_type.ValType.TheVariants.{I32, Ref}
+use Rattle.smith_types.specs.Syntax.value_type.AbstractHeapType.TheVariants as heap
 use Rattle.smith_types.specs.ExampleContexts.{context_types}
 use Rattle.smith_types.specs.ExampleEntities.{constant_global, variable_global}
 use Rattle.smith_types.specs.ExampleTypes.{plain, nullable}

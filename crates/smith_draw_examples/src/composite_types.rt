@@ -2,8 +2,8 @@
 // functions.
 
 ghost use Rattle.std.specs.Prelude.{◌≡◌, [], ◌∷◌, replicate, true, false, Some};
-ghost use Rattle.smith_syntax.specs.declared.composite_type.StorageType.TheVariants.{I8, I16};
-ghost use Rattle.smith_syntax.specs.declared.value_type.ValType.TheVariants.{I64};
+ghost use Rattle.smith_types.specs.Syntax.composite_type.StorageType.TheVariants.{I8, I16};
+ghost use Rattle.smith_types.specs.Syntax.value_type.ValType.TheVariants.{I64};
 ghost use Rattle.smith_types.specs.ExampleTypes.{constant, variable, empty_struct, struct, array, plain_func, open_type, final_type};
 ghost use Rattle.smith_types.specs.ExampleTypes.{struct_and_below};
 ghost use Rattle.smith_draw_consts.specs.ExampleConstExprs.{context_of_types};

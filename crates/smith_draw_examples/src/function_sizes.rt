@@ -3,7 +3,7 @@
 
 ghost use Rattle.std.specs.Prelude.{replicate};
 ghost use Rattle.smith_types.specs.ExampleTypes.{final_type, empty_struct, taking, giving};
-ghost use Rattle.smith_syntax.specs.declared.value_type.ValType.TheVariants.{I32};
+ghost use Rattle.smith_types.specs.Syntax.value_type.ValType.TheVariants.{I32};
 ghost use Rattle.smith_draw_types.specs.FuncSizes.{IsSmall};
 
 fn small_types()

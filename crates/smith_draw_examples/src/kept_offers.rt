@@ -2,9 +2,9 @@
 // nothing calls these functions.
 
 ghost use Rattle.std.specs.Prelude.{◌≡◌, ◌*◌, true, false, None, Some, [], ◌∷◌};
-ghost use Rattle.smith_syntax.specs.declared.value_type.ValType.TheVariants.{I32, I64, Ref};
-ghost use Rattle.smith_syntax.specs.declared.value_type.HeapType.TheVariants.{Concrete, Exact};
-ghost use Rattle.smith_syntax.specs.Features.{every_feature};
+ghost use Rattle.smith_types.specs.Syntax.value_type.ValType.TheVariants.{I32, I64, Ref};
+ghost use Rattle.smith_types.specs.Syntax.value_type.HeapType.TheVariants.{Concrete, Exact};
+ghost use Rattle.smith_types.specs.Syntax.Features.{every_feature};
 ghost use Rattle.smith_types.specs.ExampleFeatures.{usual_features};
 ghost use Rattle.smith_types.specs.ExampleTypes.{nullable, not_null};
 ghost use Rattle.smith_types.specs.ExampleContexts.{context_with};

@@ -2,8 +2,8 @@
 
 ghost use Rattle.std.specs.Prelude.{◌≡◌, [], ◌∷◌, replicate, false};
 ghost use Rattle.smith_types.specs.ExampleTypes.{anyref, nullable, final_type, plain_func};
-ghost use Rattle.smith_syntax.specs.declared.value_type.ValType.TheVariants.{I32, I64, F32, V128, Ref};
-ghost use Rattle.smith_syntax.specs.declared.value_type.HeapType.TheVariants.{Concrete};
+ghost use Rattle.smith_types.specs.Syntax.value_type.ValType.TheVariants.{I32, I64, F32, V128, Ref};
+ghost use Rattle.smith_types.specs.Syntax.value_type.HeapType.TheVariants.{Concrete};
 ghost use Rattle.smith_draw_consts.specs.ExampleConstExprs.{context_of_types};
 ghost use Rattle.smith_config.specs.Config.{default_config};
 ghost use Rattle.smith_draw_types.specs.Locals.{locals_at};

@@ -2,8 +2,8 @@
 // calls these functions.
 
 ghost use Rattle.std.specs.Prelude.{◌≡◌, [], ◌∷◌, true};
-ghost use Rattle.smith_syntax.specs.declared.value_type.AbstractHeapType.TheVariants as heap;
-ghost use Rattle.smith_syntax.specs.declared.value_type.HeapType.TheVariants.{Abstract, Concrete, Exact};
+ghost use Rattle.smith_types.specs.Syntax.value_type.AbstractHeapType.TheVariants as heap;
+ghost use Rattle.smith_types.specs.Syntax.value_type.HeapType.TheVariants.{Abstract, Concrete, Exact};
 ghost use Rattle.smith_types.specs.ExampleTypes.{plain, struct_and_below};
 ghost use Rattle.smith_config.specs.Config.{default_config};
 ghost use Rattle.smith_draw_types.specs.Offered.{subtypes_offered, supertypes_offered};

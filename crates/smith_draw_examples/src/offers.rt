@@ -2,9 +2,9 @@
 // calls these functions.
 
 ghost use Rattle.std.specs.Prelude.{◌≡◌, [], ◌∷◌, true, false, None};
-ghost use Rattle.smith_syntax.specs.declared.value_type.AbstractHeapType.TheVariants as heap;
-ghost use Rattle.smith_syntax.specs.declared.value_type.HeapType.TheVariants.{Abstract, Concrete, Exact};
-ghost use Rattle.smith_syntax.specs.declared.composite_type.StorageType.TheVariants.{Val};
+ghost use Rattle.smith_types.specs.Syntax.value_type.AbstractHeapType.TheVariants as heap;
+ghost use Rattle.smith_types.specs.Syntax.value_type.HeapType.TheVariants.{Abstract, Concrete, Exact};
+ghost use Rattle.smith_types.specs.Syntax.composite_type.StorageType.TheVariants.{Val};
 ghost use Rattle.smith_types.specs.ExampleTypes.{open_type, plain_func, struct_and_below, plain, nullable, not_null, anyref, eqref};
 ghost use Rattle.smith_types.specs.ExampleTypes.{constant, variable};
 ghost use Rattle.smith_draw_consts.specs.ExampleConstExprs.{context_of_types};

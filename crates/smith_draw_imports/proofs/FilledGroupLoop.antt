@@ -1,13 +1,9 @@
 -- The iterations of the loop that fills a compact group.
-use Rattle.std.proofs.Common.{◌≡◌, ℕ, suc, ◌+◌, ◌-◌, ◌<◌, ◌≤◌, Bool, true, false, List, ◌++◌, refl, sym, arith, ◌∙◌}
+use Rattle.smith_draw_imports.proofs.Common.{arith, Bool, Config, EntitySpaces, EntityType, false, Import, Imports, imports_of, List, refl}
+use Rattle.smith_draw_imports.proofs.Common.{SubType, suc, sym, true, ℕ, ◌++◌, ◌+◌, ◌-◌, ◌<◌, ◌∙◌, ◌≡◌, ◌≤◌}
 use Rattle.std.specs.Prelude.{Option, Some, None}
 use Rattle.smith_bytes.specs.Draws.{bool_at}
-use Rattle.smith_syntax.specs.declared.composite_type.SubType.{SubType}
-use Rattle.smith_syntax.specs.declared.entity_type.EntityType.{EntityType}
-use Rattle.smith_syntax.specs.declared.imports.Import.{Import}
-use Rattle.smith_syntax.specs.declared.imports.Imports.{Imports}
-use Rattle.smith_types.specs.Imports.{EntitySpaces, imports_of, imported_spaces}
-use Rattle.smith_config.specs.declared.config.Config.{Config}
+use Rattle.smith_types.specs.Imports.{imported_spaces}
 use Rattle.smith_draw_imports.specs.ImportNames.{import_name_at}
 use Rattle.smith_draw_imports.specs.ImportedEntities.{sizes}
 use Rattle.smith_draw_imports.specs.Importing.{fill_at, next_entity_at, module_name, with_import}

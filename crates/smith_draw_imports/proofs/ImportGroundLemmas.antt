@@ -1,15 +1,11 @@
 -- The kept heap types that imported functions ground, as entities are imported.
-use Rattle.std.proofs.Common.{◌≡◌, ℕ, ◌+◌, false, List, [], ◌∷◌, ◌++◌, length, refl, sym, ◌∙◌, arith}
+use Rattle.smith_draw_imports.proofs.Common.{[], AreKeptGrounds, arith, Config, EntitySpaces, EntityType, false, length, List, refl}
+use Rattle.smith_draw_imports.proofs.Common.{SubType, sym, ℕ, ◌++◌, ◌+◌, ◌∙◌, ◌∷◌, ◌≡◌}
 use Rattle.std.proofs.lemmas.List.{length-append}
 use Rattle.smith_types.specs.FuncGrounds.{IsFunctionAdded}
-use Rattle.smith_types.specs.Imports.{EntitySpaces}
 use Rattle.smith_types.specs.EntitySpaces.{with_entity}
-use Rattle.smith_syntax.specs.declared.composite_type.SubType.{SubType}
-use Rattle.smith_syntax.specs.declared.entity_type.EntityType.{EntityType}
-use Rattle.smith_syntax.specs.declared.entity_type.EntityType.TheVariants as entity
+use Rattle.smith_types.specs.Syntax.entity_type.EntityType.TheVariants as entity
 use Rattle.smith_types.proofs.GroundGrowthLemmas.{import_pushes}
-use Rattle.smith_config.specs.declared.config.Config.{Config}
-use Rattle.smith_draw_types.specs.KeptGrounds.{AreKeptGrounds}
 use Rattle.smith_draw_types.specs.declared.kept_grounds.KeptGrounds.{KeptGrounds}
 use Rattle.smith_draw_imports.specs.ImportedEntities.{import_scope}
 

@@ -1,13 +1,10 @@
 -- The iterations of the loop over groups of imports.
-use Rattle.std.proofs.Common.{◌≡◌, ℕ, suc, ◌+◌, ◌-◌, ◌<◌, ◌≤◌, Bool, true, false, List, length, refl, sym, ap, arith, ◌∙◌, lt-ltb, le-ltb}
+use Rattle.smith_draw_imports.proofs.Common.{ap, arith, Bool, Config, false, flattened, Imports, length, List, piece_short, refl, SubType}
+use Rattle.smith_draw_imports.proofs.Common.{suc, sym, true, ℕ, ◌+◌, ◌-◌, ◌<◌, ◌∙◌, ◌≡◌, ◌≤◌}
+use Rattle.std.proofs.Common.{le-ltb, lt-ltb}
 use Rattle.std.proofs.Common.{nat_lt}
 use Rattle.smith_bytes.specs.Source.{KeepsPieces}
 use Rattle.smith_bytes.specs.Growth.{goes_at}
-use Rattle.smith_draw_types.proofs.GroupsLoop.{piece_short}
-use Rattle.smith_syntax.specs.declared.composite_type.SubType.{SubType}
-use Rattle.smith_syntax.specs.declared.imports.Imports.{Imports}
-use Rattle.smith_types.specs.Imports.{flattened}
-use Rattle.smith_config.specs.declared.config.Config.{Config}
 use Rattle.smith_draw_imports.specs.Importing.{group_at, groups_at}
 
 -- `turns` iterations suffice, and the groups added from here on complete the whole

@@ -1,11 +1,12 @@
 -- Making a pair of names new: the name grows at each iteration, and is new once it is longer than
 -- each existing name.
-use Rattle.std.proofs.Common.{◌≡◌, ℕ, suc, ◌+◌, ◌≤◌, ◌<◌, Bool, true, false, List, [], ◌∷◌, ◌++◌, length, max, refl, sym, ap, ◌||◌, ◌&&◌}
-use Rattle.std.proofs.Common.{◌∙◌, arith, below_more, string_bytes, length-append}
+use Rattle.smith_draw_imports.proofs.Common.{[], ap, arith, Bool, decimal, false, Import, length, length-append, List, refl, string_bytes}
+use Rattle.smith_draw_imports.proofs.Common.{suc, sym, true, ℕ, ◌++◌, ◌+◌, ◌<◌, ◌∙◌, ◌∷◌, ◌≡◌, ◌≤◌}
+use Rattle.std.proofs.Common.{max, ◌&&◌, ◌||◌}
+use Rattle.std.proofs.Common.{below_more}
 use Rattle.std.specs.Prelude.{not, if◌then◌else◌}
 use Rattle.std.specs.Str.{bytes_eq}
 use Rattle.std.specs.List.{list_any}
-use Rattle.std.specs.Fmt.{decimal}
 use Rattle.std.specs.HashSet.{HashSet, PutsKey, hash_set_len}
 use Rattle.std.specs.declared.string.String.{String}
 use Rattle.std.specs.declared.alloc.Global.{Global}
@@ -14,7 +15,6 @@ use Rattle.std.proofs.lemmas.List.Folds.{list_any-append}
 use Rattle.std.proofs.lemmas.List.Sorted.{list_any-IsPermutation}
 use Rattle.smith_bytes.specs.Names.{text_at, with_copies, new_name, IsNewName}
 use Rattle.smith_bytes.proofs.NewNameLemmas.{new_name_is, new_by}
-use Rattle.smith_syntax.specs.declared.imports.Import.{Import}
 use Rattle.smith_draw_imports.specs.ImportNames.{has_names, is_taken, longest_name, import_name_at, is_pair, has_pair, HasPairs, AddsPair}
 
 -- the length of the longest name of a pair

@@ -1,3 +1,4 @@
+pub mod Common
 pub mod ImportNameLemmas
 pub mod ImportedEntityLemmas
 pub mod ImportsGrownLemmas

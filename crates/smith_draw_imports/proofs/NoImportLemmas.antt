@@ -1,5 +1,7 @@
 -- The bytes left of a source if nothing is imported, and the kind of a group.
-use Rattle.std.proofs.Common.{◌≡◌, ℕ, zero, suc, ◌+◌, ◌<◌, Bool, false, List, [], ◌∷◌, ◌++◌, length, refl, ap, arith, lt-ltb, drop}
+use Rattle.smith_draw_imports.proofs.Common.{[], ap, arith, Bool, Config, false, Imports, length, List, refl, SubType, suc, ℕ, ◌++◌, ◌+◌}
+use Rattle.smith_draw_imports.proofs.Common.{◌<◌, ◌∷◌, ◌≡◌}
+use Rattle.std.proofs.Common.{drop, lt-ltb, zero}
 use Rattle.std.proofs.Common.{length-drop}
 use Rattle.std.specs.Prelude.{Result, Ok, OnOk}
 use Rattle.smith_bytes.specs.Draws.{whole_at}
@@ -7,9 +9,6 @@ use Rattle.smith_bytes.specs.Spelling.{SpellsBool, SpellsNone}
 use Rattle.smith_bytes.specs.Takes.{Takes}
 use Rattle.smith_bytes.specs.declared.error.Error.{Error}
 use Rattle.smith_bytes.proofs.SpelledLemmas.{bool_read}
-use Rattle.smith_syntax.specs.declared.composite_type.SubType.{SubType}
-use Rattle.smith_syntax.specs.declared.imports.Imports.{Imports}
-use Rattle.smith_config.specs.declared.config.Config.{Config}
 use Rattle.smith_bytes.specs.Steps.{ReturnsWhy}
 use Rattle.smith_draw_imports.specs.Importing.{groups_at, imports_at}
 use Rattle.smith_draw_imports.specs.Imported.{SpellsNoImport}

@@ -8,7 +8,7 @@ use Rattle.std.specs.Fmt.{decimal}
 use Rattle.std.specs.declared.string.String.{String}
 use Rattle.std.specs.declared.alloc.Global.{Global}
 use Rattle.smith_bytes.specs.Names.{text_at, new_name}
-use Rattle.smith_syntax.specs.declared.imports.Import.{Import}
+use Rattle.smith_types.specs.Syntax.imports.Import.{Import}
 
 -- whether an import has this pair of names: of its module, and of the import itself
 abbrev pub has_names : List ℕ → List ℕ → Import → Bool

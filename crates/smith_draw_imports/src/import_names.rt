@@ -3,7 +3,7 @@ ghost use Rattle.std.specs.Prelude.{List};
 ghost use Rattle.std.specs.HashSet.{hash_set_len};
 ghost use Rattle.std.specs.Fmt.{decimal};
 ghost use Rattle.smith_bytes.specs.Source.{KeepsPieces};
-ghost use Rattle.smith_syntax.specs.declared.imports.Import.{Import};
+ghost use Rattle.smith_types.specs.Syntax.imports.Import.{Import};
 ghost use Rattle.smith_draw_imports.specs.ImportNames.{import_name_at, is_taken, has_pair, KnowsPairs};
 ghost use Rattle.smith_draw_imports.specs.ImportNames.{AddsPair};
 ghost use Rattle.smith_bytes.specs.Names.{IsNewName};

@@ -1,33 +1,30 @@
 -- Available imports that are taken: their counts and their properties.
-use Rattle.std.proofs.Common.{◌≡◌, ℕ, suc, ◌+◌, ◌<◌, ◌≤◌, ◌^◌, Bool, true, false, ◌&&◌, List, [], ◌∷◌, ◌++◌, length, drop, refl, sym, ap}
-use Rattle.std.proofs.Common.{arith, length-append, ◌∙◌}
-use Rattle.std.specs.Prelude.{nat_lt, nat_le, All, IsTrue, if◌then◌else◌}
+use Rattle.smith_draw_shape_imports.proofs.Common.{[], All, All-nil, all_apart, ap, arith, Bool, Config, drop, false, Features, features_of}
+use Rattle.smith_draw_shape_imports.proofs.Common.{flattened, Import, Imports, is_fitting, IsTrue, length, length-append, List, refl}
+use Rattle.smith_draw_shape_imports.proofs.Common.{shape_imports, shape_types, sym, true, ℕ, ◌++◌, ◌+◌, ◌<◌, ◌∙◌, ◌∷◌, ◌≡◌}
+use Rattle.std.proofs.Common.{suc, ◌&&◌, ◌^◌, ◌≤◌}
+use Rattle.std.specs.Prelude.{if◌then◌else◌, nat_le, nat_lt}
 use Rattle.std.specs.List.{Contains}
 use Rattle.std.proofs.lemmas.Bool.{ltb-true, leb-true}
 use Rattle.std.proofs.lemmas.List.{get_or-drop, drop-drop}
-use Rattle.std.proofs.lemmas.List.Elements.{All-nil, All-head, All-tail, All-append, All-weaker, All-contains_itself, All-from_recursion}
+use Rattle.std.proofs.lemmas.List.Elements.{All-append, All-contains_itself, All-from_recursion, All-head, All-tail, All-weaker}
 use Rattle.std.proofs.lemmas.List.Sums.{sum_by-append}
 use Rattle.std.proofs.lemmas.Option.{slice_get_within, get_or_from_slice_get}
 use Rattle.smith_bytes.specs.Draws.{bool_at}
 use Rattle.smith_bytes.specs.declared.error.Which.TheVariants.{AvailableImports}
 use Rattle.smith_types.specs.Entities.{AreEntitiesValid, IsTagValid, IsFuncTypeIndex, IsTableValid, IsMemoryValid, IsGlobalValid}
-use Rattle.smith_syntax.specs.Features.{Features}
-use Rattle.smith_types.specs.Imports.{EntitySpaces, flattened, imported, imported_spaces, tag_of, func_of, table_of, memory_of, global_of}
+use Rattle.smith_types.specs.Imports.{EntitySpaces, func_of, global_of, imported, imported_spaces, memory_of, table_of, tag_of}
 use Rattle.smith_types.specs.Sizes.{IsTyped, size_in, value_count}
-use Rattle.smith_syntax.specs.declared.composite_type.CompositeInnerType.{CompositeInnerType}
-use Rattle.smith_syntax.specs.declared.composite_type.CompositeInnerType.TheVariants.{Array, Func, Struct}
-use Rattle.smith_syntax.specs.declared.composite_type.SubType.{SubType}
-use Rattle.smith_syntax.specs.declared.entity_type.EntityType.{EntityType}
-use Rattle.smith_syntax.specs.declared.entity_type.EntityType.TheVariants as entity
-use Rattle.smith_syntax.specs.declared.imports.Import.{Import}
-use Rattle.smith_syntax.specs.declared.imports.Imports.{Imports}
-use Rattle.smith_validity.proofs.HeldValueLemmas.{all_apart, parts_of_all}
-use Rattle.smith_config.specs.declared.config.Config.{Config}
+use Rattle.smith_types.specs.Syntax.composite_type.CompositeInnerType.{CompositeInnerType}
+use Rattle.smith_types.specs.Syntax.composite_type.CompositeInnerType.TheVariants.{Array, Func, Struct}
+use Rattle.smith_types.specs.Syntax.composite_type.SubType.{SubType}
+use Rattle.smith_types.specs.Syntax.entity_type.EntityType.{EntityType}
+use Rattle.smith_types.specs.Syntax.entity_type.EntityType.TheVariants as entity
+use Rattle.smith_validity.proofs.HeldValueLemmas.{parts_of_all}
 use Rattle.smith_config.specs.declared.shape.Shape.{Shape}
 use Rattle.smith_config.specs.Faults.{maximum_of}
-use Rattle.smith_config.specs.Features.{features_of}
-use Rattle.smith_config.specs.Shapes.{IsInnerShort, IsShapeValid, shape_types, shape_imports, shape_spaces}
-use Rattle.smith_module_rules.specs.ShapeImports.{count_in, count_for, is_allowed, is_fitting, is_picked, sizes_of, taken_from}
+use Rattle.smith_config.specs.Shapes.{IsInnerShort, IsShapeValid, shape_spaces}
+use Rattle.smith_module_rules.specs.ShapeImports.{count_for, count_in, is_allowed, is_picked, sizes_of, taken_from}
 use Rattle.smith_draw_imports.specs.ImportedEntities.{has_room}
 use Rattle.smith_types.specs.Exports.{entity_kind}
 use Rattle.smith_draw_imports.specs.Imported.{spaces_of}

@@ -1,20 +1,16 @@
 -- The iterations of the loop that puts available imports into groups.
-use Rattle.std.proofs.Common.{◌≡◌, ℕ, Bool, true, false, List, ◌∷◌, ◌++◌, [], refl, sym, ap, ◌∙◌, arith, append_assoc, append-nil}
-use Rattle.std.proofs.Common.{length-append}
-use Rattle.std.specs.Prelude.{IsTrue}
+use Rattle.smith_draw_shape_imports.proofs.Common.{[], All-nil, all_apart, ap, arith, Bool, Config, false, Features, flattened, Import}
+use Rattle.smith_draw_shape_imports.proofs.Common.{import_of, Imports, IsImportsValid, IsTrue, length-append, List, refl, Single, sym, true}
+use Rattle.smith_draw_shape_imports.proofs.Common.{ℕ, ◌++◌, ◌∙◌, ◌∷◌, ◌≡◌}
+use Rattle.std.proofs.Common.{append-nil, append_assoc}
 use Rattle.std.proofs.lemmas.Grind.{flat_map-append}
-use Rattle.std.proofs.lemmas.List.Elements.{All-nil, All-cons, All-head, All-push}
+use Rattle.std.proofs.lemmas.List.Elements.{All-cons, All-head, All-push}
 use Rattle.std.proofs.lemmas.Slice.Eq.{bytes_eq-Decides}
-use Rattle.smith_syntax.specs.Features.{Features}
 use Rattle.smith_types.specs.Flags.{IsImportsEnabled}
-use Rattle.smith_types.specs.Imports.{IsImportsValid, flattened, import_of, imports_of}
+use Rattle.smith_types.specs.Imports.{imports_of}
 use Rattle.smith_syntax.specs.Same.{exact_entity}
-use Rattle.smith_syntax.specs.declared.entity_type.EntityType.{EntityType}
-use Rattle.smith_syntax.specs.declared.imports.Import.{Import}
-use Rattle.smith_syntax.specs.declared.imports.Imports.{Imports}
-use Rattle.smith_syntax.specs.declared.imports.Imports.TheVariants.{Single, Compact1, Compact2}
-use Rattle.smith_validity.proofs.HeldValueLemmas.{all_apart}
-use Rattle.smith_config.specs.declared.config.Config.{Config}
+use Rattle.smith_types.specs.Syntax.entity_type.EntityType.{EntityType}
+use Rattle.smith_types.specs.Syntax.imports.Imports.TheVariants.{Compact1, Compact2}
 use Rattle.smith_draw_shape_imports.specs.AvailableImports.{may_join, group_begun, joins_at, group_begun_at, joined_at, grouped_at}
 use Rattle.smith_draw_shape_imports.specs.AvailableImports.{AreGroupsOf}
 use Rattle.smith_draw_imports.specs.Imported.{IsCompact, IsOfGroup}

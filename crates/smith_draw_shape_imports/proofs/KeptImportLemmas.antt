@@ -1,26 +1,23 @@
 -- The imports that a module takes from its shape are the shape's, one by one, in valid groups.
-use Rattle.std.proofs.Common.{◌≡◌, ◌∙◌, ℕ, ◌+◌, ◌<◌, Bool, true, false, cond, nat_lt, lt-ltb, List, [], ◌∷◌, ◌++◌, length, map, take}
-use Rattle.std.proofs.Common.{get_or, refl, sym, ap, arith, append-nil, length-append}
-use Rattle.std.specs.Prelude.{IsTrue, All}
-use Rattle.std.specs.List.{flat_map, filter}
+use Rattle.smith_draw_shape_imports.proofs.Common.{[], All, All-nil, all_apart, ap, arith, Bool, Config, false, Features, features_of}
+use Rattle.smith_draw_shape_imports.proofs.Common.{flat_map, flattened, Import, Imports, IsImportsValid, IsTrue, length, length-append}
+use Rattle.smith_draw_shape_imports.proofs.Common.{List, map, refl, shape_imports, shape_types, Single, sym, take, true, ℕ, ◌++◌, ◌+◌, ◌<◌}
+use Rattle.smith_draw_shape_imports.proofs.Common.{◌∙◌, ◌∷◌, ◌≡◌}
+use Rattle.std.proofs.Common.{cond, lt-ltb, nat_lt}
+use Rattle.std.proofs.Common.{append-nil, get_or}
+use Rattle.std.specs.List.{filter}
 use Rattle.std.proofs.lemmas.Bool.{ltb-true}
 use Rattle.std.proofs.lemmas.Grind.{flat_map-append}
 use Rattle.std.proofs.lemmas.List.{map-append, take_more}
-use Rattle.std.proofs.lemmas.List.Elements.{All-nil, All-cons}
+use Rattle.std.proofs.lemmas.List.Elements.{All-cons}
 use Rattle.smith_bytes.specs.declared.error.Which.TheVariants.{ModuleShape}
 use Rattle.smith_types.specs.Entities.{IsTagValid, IsFuncTypeIndex, IsTableValid, IsMemoryValid, IsGlobalValid, AreEntitiesValid}
 use Rattle.smith_types.specs.Entities.{AreCountsEnabled}
-use Rattle.smith_syntax.specs.Features.{Features}
 use Rattle.smith_types.specs.Flags.{IsImportsEnabled}
-use Rattle.smith_types.specs.Imports.{IsImportsValid, imports_of, flattened, imported_spaces}
-use Rattle.smith_syntax.specs.declared.imports.Import.{Import}
-use Rattle.smith_syntax.specs.declared.imports.Imports.{Imports}
-use Rattle.smith_syntax.specs.declared.imports.Imports.TheVariants.{Single, Compact1, Compact2}
-use Rattle.smith_validity.proofs.HeldValueLemmas.{all_apart}
-use Rattle.smith_config.specs.declared.config.Config.{Config}
+use Rattle.smith_types.specs.Imports.{imported_spaces, imports_of}
+use Rattle.smith_types.specs.Syntax.imports.Imports.TheVariants.{Compact1, Compact2}
 use Rattle.smith_config.specs.declared.shape.Shape.{Shape}
-use Rattle.smith_config.specs.Features.{features_of}
-use Rattle.smith_config.specs.Shapes.{IsShapeValid, shape_types, shape_imports}
+use Rattle.smith_config.specs.Shapes.{IsShapeValid}
 use Rattle.smith_draw_shape_imports.specs.KeptImports.{kept_of}
 use Rattle.smith_module_rules.specs.ShapeImports.{is_filled}
 

@@ -1,3 +1,4 @@
+pub mod Common
 pub mod TakenImportsLoop
 pub mod AvailableImportLemmas
 pub mod GroupedImportsLoop

@@ -1,13 +1,12 @@
 -- The iterations of the loop that takes available imports.
-use Rattle.std.proofs.Common.{◌≡◌, ℕ, ◌+◌, ◌<◌, Bool, true, false, List, ◌∷◌, ◌++◌, [], drop, get_or, length, refl, sym, ap, ◌∙◌}
+use Rattle.smith_draw_shape_imports.proofs.Common.{[], ap, Bool, Config, drop, false, Import, is_fitting, length, List, refl, sym, true, ℕ}
+use Rattle.smith_draw_shape_imports.proofs.Common.{◌++◌, ◌+◌, ◌<◌, ◌∙◌, ◌∷◌, ◌≡◌}
+use Rattle.std.proofs.Common.{get_or}
 use Rattle.std.specs.Prelude.{if◌then◌else◌}
 use Rattle.std.proofs.lemmas.List.{drop_more}
 use Rattle.smith_bytes.specs.Draws.{bool_at}
-use Rattle.smith_syntax.specs.declared.composite_type.SubType.{SubType}
-use Rattle.smith_syntax.specs.declared.imports.Import.{Import}
-use Rattle.smith_config.specs.declared.config.Config.{Config}
+use Rattle.smith_types.specs.Syntax.composite_type.SubType.{SubType}
 use Rattle.smith_draw_shape_imports.specs.AvailableImports.{picked_at}
-use Rattle.smith_module_rules.specs.ShapeImports.{is_fitting}
 
 -- taking imports from here on completes the whole
 pub record IsPicking (config : Config) (types : List SubType) (taken more : List Import) (bytes : List ℕ)

@@ -1,6 +1,6 @@
 ghost use Rattle.std.specs.Prelude.{◌≡◌, ◌++◌, map, OnOk, IfOk, IfErr};
 ghost use Rattle.smith_types.specs.Imports.{import_of, imports_of, flattened};
-ghost use Rattle.smith_syntax.specs.declared.imports.ImportItem.{ImportItem as Item};
+ghost use Rattle.smith_types.specs.Syntax.imports.ImportItem.{ImportItem as Item};
 
 use smith_bytes::Error;
 use smith_types::{EntityType, Import, ImportItem, Imports, Items, Name};

@@ -1,7 +1,7 @@
 ghost use Rattle.std.specs.Prelude.{◌≡◌, ◌++◌, ◌∷◌, [], IsTrue, IfOk, IfErr, All, List};
 ghost use Rattle.smith_bytes.specs.Source.{KeepsPieces};
 ghost use Rattle.smith_types.specs.Imports.{IsImportsValid, flattened, imports_of};
-ghost use Rattle.smith_syntax.specs.declared.imports.Import.{Import};
+ghost use Rattle.smith_types.specs.Syntax.imports.Import.{Import};
 ghost use Rattle.smith_config.specs.Features.{features_of};
 ghost use Rattle.smith_draw_types.specs.Drawing.{Draws, AlwaysDraws};
 ghost use Rattle.smith_draw_shape_imports.specs.AvailableImports.{may_join, group_begun, joins_at};

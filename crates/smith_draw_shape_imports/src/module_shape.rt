@@ -1,8 +1,8 @@
 ghost use Rattle.std.specs.Prelude.{◌≡◌, ◌<◌, ◌^◌, ◌++◌, map, length, IfOk, IfErr, OnOk};
 ghost use Rattle.smith_bytes.specs.declared.error.Which.TheVariants.{ModuleShape};
 ghost use Rattle.smith_types.specs.Imports.{flattened, imports_of, import_of};
-ghost use Rattle.smith_syntax.specs.declared.imports.ImportItem.{ImportItem as Item};
-ghost use Rattle.smith_syntax.specs.declared.imports.Imports.TheVariants.{Single};
+ghost use Rattle.smith_types.specs.Syntax.imports.ImportItem.{ImportItem as Item};
+ghost use Rattle.smith_types.specs.Syntax.imports.Imports.TheVariants.{Single};
 ghost use Rattle.smith_config.specs.Shapes.{IsShapeValid};
 ghost use Rattle.smith_draw_shape_imports.specs.KeptImports.{kept_of, AreKept};
 ghost use Rattle.smith_module_rules.specs.ShapeImports.{kept_groups};

@@ -1,15 +1,8 @@
 -- The proper supertypes of a type.
-use Rattle.std.proofs.Common.{◌≡◌, ℕ, zero, suc, ◌-◌, ◌<◌, ◌≤◌, List, [], ◌∷◌, Option, Some, None, length, refl, sym, ap, subst, arith}
-use Rattle.std.specs.Prelude.{slice_get}
+use Rattle.smith_draw_types.proofs.Common.{[], ap, arith, below_declared, Concrete, HeapType, IsBelow, IsBelow-trans, IsOrderly, length}
+use Rattle.smith_draw_types.proofs.Common.{List, None, Option, refl, slice_get, slice_get_within, Some, subst, SubType, suc, sym, zero, ℕ}
+use Rattle.smith_draw_types.proofs.Common.{◌-◌, ◌<◌, ◌∷◌, ◌≡◌, ◌≤◌}
 use Rattle.std.specs.List.{AllByRecursion as ByRecursion}
-use Rattle.std.proofs.lemmas.Option.{slice_get_within}
-use Rattle.smith_syntax.specs.declared.value_type.HeapType.{HeapType}
-use Rattle.smith_syntax.specs.declared.value_type.HeapType.TheVariants.{Concrete}
-use Rattle.smith_syntax.specs.declared.composite_type.SubType.{SubType}
-use Rattle.smith_types.specs.Types.{IsOrderly}
-use Rattle.smith_types.specs.Subtyping.{IsBelow}
-use Rattle.smith_types.proofs.GrowthLemmas.{IsBelow-trans}
-use Rattle.smith_types.proofs.PathLemmas.{below_declared}
 use Rattle.smith_draw_types.specs.Offered.{supertype_of, supertype_at, ancestors_within, ancestors}
 
 declares : (types : List SubType) (i s : ℕ) (o : Option SubType) → slice_get types i ≡ o → supertype_of o ≡ Some s → (t : SubType)

@@ -1,24 +1,17 @@
 -- The test of subtyping decides it, over orderly types.
-use Rattle.std.proofs.Common.{rules, ◌≡◌, inl, inr, ℕ, Bool, true, false, List, [], ◌∷◌, Option, Some, None, IsTrue, ◌↔◌, refl, sym, subst}
-use Rattle.std.proofs.Common.{ap, ◌∙◌}
-use Rattle.std.specs.Prelude.{slice_get, ◌||◌, ◌&&◌, ◌==◌, not}
+use Rattle.smith_draw_types.proofs.Common.{[], Abstract, AbstractHeapType, ap, Bool, bottom, bottom_of, by_cases_from_below}
+use Rattle.smith_draw_types.proofs.Common.{CompositeInnerType, Concrete, Exact, false, HeapType, inl, inr, is_abstract_below, IsBelow}
+use Rattle.smith_draw_types.proofs.Common.{IsOrderly, IsValBelow, kind, List, None, Option, Ref, refl, rules, same_from_decides, shared}
+use Rattle.smith_draw_types.proofs.Common.{slice_get, Some, subst, SubType, sym, true, ValType, ℕ, ◌↔◌, ◌∙◌, ◌∷◌, ◌≡◌}
+use Rattle.std.proofs.Common.{IsTrue}
+use Rattle.std.specs.Prelude.{not, ◌&&◌, ◌==◌, ◌||◌}
 use Rattle.std.specs.Bool.{Decides}
 use Rattle.std.specs.Cmp.{booleans_Decides, unsigned_Decides}
 use Rattle.std.specs.List.{AllByRecursion as Each}
 use Rattle.std.proofs.Math.Bool.{beq}
-use Rattle.std.proofs.lemmas.Bool.Decides.{Decides-and, Decides-or, Decides-like, same_from_decides}
+use Rattle.std.proofs.lemmas.Bool.Decides.{Decides-and, Decides-like, Decides-or}
 use Rattle.std.proofs.lemmas.Option.{same_Some}
-use Rattle.smith_syntax.specs.Kinds.{kind, bottom, shared, bottom_of}
-use Rattle.smith_types.specs.Types.{IsOrderly}
-use Rattle.smith_types.specs.Subtyping.{is_abstract_below, IsBelow, IsValBelow}
-use Rattle.smith_syntax.specs.declared.value_type.AbstractHeapType.{AbstractHeapType}
-use Rattle.smith_syntax.specs.declared.value_type.HeapType.{HeapType}
-use Rattle.smith_syntax.specs.declared.value_type.HeapType.TheVariants.{Abstract, Concrete, Exact}
-use Rattle.smith_syntax.specs.declared.value_type.ValType.{ValType}
-use Rattle.smith_syntax.specs.declared.value_type.ValType.TheVariants.{Ref}
-use Rattle.smith_syntax.specs.declared.composite_type.CompositeInnerType.{CompositeInnerType}
-use Rattle.smith_syntax.specs.declared.composite_type.SubType.{SubType}
-use Rattle.smith_types.proofs.WalkLemmas.{IsBelowByCases, Reaches, here, up, by_cases_from_below, below_from_by_cases}
+use Rattle.smith_types.proofs.WalkLemmas.{below_from_by_cases, here, IsBelowByCases, Reaches, up}
 use Rattle.smith_draw_types.specs.Offered.{ancestors}
 use Rattle.smith_draw_types.specs.Below.{names, is_under, is_bottom_of, is_heap_below, is_val_below}
 use Rattle.smith_draw_types.proofs.AncestorLemmas.{ancestors_up, ancestors_above}

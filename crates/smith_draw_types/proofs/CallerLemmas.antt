@@ -1,5 +1,5 @@
 -- Conditions on the callers of draws, derived from facts that they have.
-use Rattle.smith_config.specs.declared.config.Config.{Config}
+use Rattle.smith_draw_types.proofs.Common.{Config}
 use Rattle.smith_config.specs.Faults.{Passes}
 use Rattle.smith_draw_types.specs.Callers.{PassesButImports}
 

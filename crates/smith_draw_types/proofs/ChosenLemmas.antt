@@ -1,17 +1,11 @@
 -- The item chosen among those offered.
-use Rattle.std.proofs.Common.{rules, ◌≡◌, ℕ, ◌+◌, ◌-◌, ◌<◌, Bool, false, true, cond, List, [], ◌∷◌, Some, length, drop, refl, sym, subst}
-use Rattle.std.proofs.Common.{◌∙◌, ap, arith, lit<}
-use Rattle.std.specs.Prelude.{slice_get, slice_index_or, filter, not, ◌||◌}
-use Rattle.std.proofs.lemmas.Option.{slice_get-get_or, get_or_from_slice_get}
-use Rattle.smith_syntax.specs.declared.value_type.AbstractHeapType.TheVariants as heap
-use Rattle.smith_syntax.specs.declared.value_type.HeapType.{HeapType}
-use Rattle.smith_syntax.specs.declared.value_type.HeapType.TheVariants.{Abstract, Concrete, Exact}
-use Rattle.smith_syntax.specs.declared.composite_type.SubType.{SubType}
-use Rattle.smith_config.specs.declared.config.Config.{Config}
-use Rattle.smith_bytes.proofs.DrawnLemmas.{range_within}
-use Rattle.smith_bytes.specs.Draws.{range_at, digit_count, choose_at}
-use Rattle.smith_types.specs.Expressions.{Context}
-use Rattle.smith_syntax.specs.declared.value_type.RefType.{RefType}
+use Rattle.smith_draw_types.proofs.Common.{[], Abstract, ap, arith, Bool, Concrete, cond, Config, Context, drop, Exact, false, filter}
+use Rattle.smith_draw_types.proofs.Common.{get_or_from_slice_get, HeapType, length, List, lit<, range_at, range_within, refl, RefType}
+use Rattle.smith_draw_types.proofs.Common.{rules, slice_get, slice_get-get_or, Some, subst, SubType, sym, true, ℕ, ◌+◌, ◌-◌, ◌<◌, ◌∙◌, ◌∷◌}
+use Rattle.smith_draw_types.proofs.Common.{◌≡◌}
+use Rattle.std.specs.Prelude.{not, slice_index_or, ◌||◌}
+use Rattle.smith_types.specs.Syntax.value_type.AbstractHeapType.TheVariants as heap
+use Rattle.smith_bytes.specs.Draws.{choose_at, digit_count}
 use Rattle.smith_draw_types.specs.Choices.{chosen_at}
 use Rattle.smith_draw_types.specs.Grounding.{is_grounded}
 use Rattle.smith_draw_types.specs.Offered.{gc_subtypes, gc_supertypes, subtypes_offered, supertypes_offered}

@@ -1,27 +1,13 @@
 -- Drawn function, struct and composite types are valid, over every list of types.
-use Rattle.std.proofs.Common.{◌≡◌, ℕ, zero, suc, ◌≤◌, ◌<◌, Bool, true, false, cond, List, [], length, refl, arith}
-use Rattle.std.specs.Prelude.{IsTrue}
+use Rattle.smith_draw_types.proofs.Common.{[], All-append, All-nil, All-weaker, arith, Bool, CompositeInnerType, CompositeType, cond}
+use Rattle.smith_draw_types.proofs.Common.{Config, Context, false, features_of, FieldType, FuncType, grow_all, grow_most, IsFieldInRange}
+use Rattle.smith_draw_types.proofs.Common.{IsFuncTypeValid, IsSanitized, IsTrue, IsValInRange, length, List, range_at, range_within}
+use Rattle.smith_draw_types.proofs.Common.{recursion_from_All, refl, StructType, SubType, suc, true, ValType, values_of, values_of_storage}
+use Rattle.smith_draw_types.proofs.Common.{zero, ℕ, ◌<◌, ◌≡◌, ◌≤◌}
 use Rattle.std.specs.List.{All}
-use Rattle.std.proofs.lemmas.List.Elements.{All-nil, All-append, All-weaker, recursion_from_All}
-use Rattle.smith_bytes.specs.Draws.{range_at}
-use Rattle.smith_bytes.proofs.DrawnLemmas.{range_within}
-use Rattle.smith_bytes.proofs.GrownLemmas.{grow_most, grow_all}
-use Rattle.smith_types.specs.Expressions.{Context}
 use Rattle.smith_types.specs.Flags.{IsInnerEnabled}
-use Rattle.smith_types.specs.Subtyping.{IsValInRange}
-use Rattle.smith_types.specs.Matching.{IsFieldInRange, IsInnerInRange}
-use Rattle.smith_types.specs.ValidTypes.{values_of, values_of_storage, IsFuncTypeValid}
-use Rattle.smith_syntax.specs.declared.value_type.ValType.{ValType}
-use Rattle.smith_syntax.specs.declared.composite_type.FieldType.{FieldType}
-use Rattle.smith_syntax.specs.declared.composite_type.FuncType.{FuncType}
-use Rattle.smith_syntax.specs.declared.composite_type.StructType.{StructType}
-use Rattle.smith_syntax.specs.declared.composite_type.CompositeInnerType.{CompositeInnerType}
-use Rattle.smith_syntax.specs.declared.composite_type.CompositeInnerType.TheVariants as inners
-use Rattle.smith_syntax.specs.declared.composite_type.CompositeType.{CompositeType}
-use Rattle.smith_syntax.specs.declared.composite_type.SubType.{SubType}
-use Rattle.smith_config.specs.declared.config.Config.{Config}
-use Rattle.smith_config.specs.Features.{features_of}
-use Rattle.smith_config.specs.Sanitized.{IsSanitized}
+use Rattle.smith_types.specs.Matching.{IsInnerInRange}
+use Rattle.smith_types.specs.Syntax.composite_type.CompositeInnerType.TheVariants as inners
 use Rattle.smith_draw_types.specs.ValueTypes.{sharedness_at, val_type_at}
 use Rattle.smith_draw_types.specs.FieldTypes.{field_type_at}
 use Rattle.smith_draw_types.specs.CompositeTypes.{most_results, val_types_at, func_type_at, struct_type_at, inner_of_number_at}

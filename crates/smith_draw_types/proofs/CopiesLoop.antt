@@ -1,15 +1,11 @@
 -- One turn of the loop that clones a group.
-use Rattle.std.proofs.Common.{◌≡◌, ℕ, ◌+◌, ◌-◌, ◌^◌, ◌<◌, ◌≤◌, List, [], ◌∷◌, ◌++◌, Some, get_or, length, take, drop, sym, ap, ◌∙◌, arith}
-use Rattle.std.proofs.Common.{append_assoc, length-drop}
-use Rattle.std.specs.Prelude.{slice_get}
-use Rattle.std.specs.declared.ops.Range.{Range}
+use Rattle.smith_draw_types.proofs.Common.{[], All-from_recursion, ap, append_assoc, arith, drop, get_or, GroupedTypes, length, length-drop}
+use Rattle.smith_draw_types.proofs.Common.{List, next_start, Range, slice_get, slice_get-get_or, Some, SubType, sym, take, ℕ, ◌++◌, ◌+◌}
+use Rattle.smith_draw_types.proofs.Common.{◌-◌, ◌<◌, ◌^◌, ◌∙◌, ◌∷◌, ◌≡◌, ◌≤◌}
 use Rattle.std.specs.List.{AllByRecursion as Each}
 use Rattle.std.proofs.lemmas.List.{take_more, get_or-drop, get_or_append_left}
-use Rattle.std.proofs.lemmas.List.Elements.{All-from_recursion}
-use Rattle.std.proofs.lemmas.Option.{slice_get-get_or}
-use Rattle.smith_syntax.specs.declared.composite_type.SubType.{SubType}
-use Rattle.smith_types.specs.GroupedTypes.{GroupedTypes, IsSound, MayFollow}
-use Rattle.smith_types.specs.Types.{AreConsecutive, next_start}
+use Rattle.smith_types.specs.GroupedTypes.{IsSound, MayFollow}
+use Rattle.smith_types.specs.Types.{AreConsecutive}
 use Rattle.smith_types.proofs.ValidityLemmas.{ends_within}
 
 -- the first types of a group are appended to the types

@@ -1,7 +1,7 @@
 -- A property of all drawn values holds for the result of a call.
-use Rattle.std.proofs.Common.{ℕ, List, Result}
-use Rattle.std.specs.Prelude.{IfOk, OnOk}
-use Rattle.std.proofs.lemmas.Result.{IfOk-weaker, on_ok_weaker}
+use Rattle.smith_draw_types.proofs.Common.{IfOk-weaker, List, on_ok_weaker, OnOk, ℕ}
+use Rattle.std.proofs.Common.{Result}
+use Rattle.std.specs.Prelude.{IfOk}
 use Rattle.smith_bytes.specs.declared.error.Error.{Error}
 use Rattle.smith_draw_types.specs.Drawing.{Draws, DrawsInto}
 use Rattle.smith_draw_types.proofs.ValueTypeLemmas.{drawn_is}

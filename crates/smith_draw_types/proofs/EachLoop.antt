@@ -1,7 +1,7 @@
 -- One turn of a loop that draws an item for each item of a list, and properties of the drawn list.
-use Rattle.std.proofs.Common.{◌≡◌, ℕ, ◌+◌, ◌<◌, ◌≤◌, List, [], ◌∷◌, ◌++◌, length, get_or, drop, refl, sym, ◌∙◌, ap, append_assoc}
-use Rattle.std.proofs.lemmas.List.{append-nil, drop_more, at_drop_all}
-use Rattle.smith_bytes.specs.Source.{KeepsPieces}
+use Rattle.smith_draw_types.proofs.Common.{[], ap, append-nil, append_assoc, drop, get_or, KeepsPieces, length, List, refl, sym, ℕ, ◌++◌}
+use Rattle.smith_draw_types.proofs.Common.{◌+◌, ◌<◌, ◌∙◌, ◌∷◌, ◌≡◌, ◌≤◌}
+use Rattle.std.proofs.lemmas.List.{at_drop_all, drop_more}
 use Rattle.smith_draw_types.specs.MatchingTypes.{each_at}
 
 -- a list prepended to drawn items

@@ -1,13 +1,8 @@
 -- A property that each drawn type has over types that have it holds for all types of a type space
 -- as drawn groups are added.
-use Rattle.std.proofs.Common.{ℕ, ◌+◌, ◌-◌, Bool, true, false, ◌||◌, List, [], ◌∷◌, length}
-use Rattle.std.specs.Prelude.{All}
-use Rattle.std.proofs.lemmas.List.Elements.{All-append, All-take, All-drop, All-from_recursion}
-use Rattle.smith_bytes.proofs.GrownLemmas.{cond_both}
-use Rattle.smith_types.specs.Expressions.{Context}
-use Rattle.smith_types.specs.GroupedTypes.{GroupedTypes}
-use Rattle.smith_syntax.specs.declared.composite_type.SubType.{SubType}
-use Rattle.smith_config.specs.declared.config.Config.{Config}
+use Rattle.smith_draw_types.proofs.Common.{[], All, All-append, All-from_recursion, Bool, cond_both, Config, Context, false, GroupedTypes}
+use Rattle.smith_draw_types.proofs.Common.{length, List, SubType, true, ℕ, ◌+◌, ◌-◌, ◌||◌, ◌∷◌}
+use Rattle.std.proofs.lemmas.List.Elements.{All-drop, All-take}
 use Rattle.smith_draw_types.specs.Grounding.{over}
 use Rattle.smith_draw_types.specs.Choices.{chosen_at}
 use Rattle.smith_draw_types.specs.SubTypes.{sub_type_at}

@@ -1,23 +1,15 @@
 -- A record of functions that was made over fewer types: no function grounds a type that was added,
 -- and each earlier heap type is grounded as before.
-use Rattle.std.proofs.Common.{◌≡◌, ℕ, ◌<◌, ◌≤◌, ◌++◌, Bool, true, false, List, Some, IsTrue, ◌↔◌, take, drop, length, sym, [], ◌∷◌}
-use Rattle.std.proofs.Common.{append-nil, append_assoc, ◌∙◌, subst, ap, arith, length-append}
-use Rattle.std.specs.Prelude.{slice_get, nat_le, if◌then◌else◌}
+use Rattle.smith_draw_types.proofs.Common.{[], Abstract, ap, append_assoc, AreFuncGrounds, arith, Bool, by_cases_from_below, Concrete}
+use Rattle.smith_draw_types.proofs.Common.{Context, drop, Exact, Extends, false, FuncGrounds, function_reference, get_or_from_slice_get}
+use Rattle.smith_draw_types.proofs.Common.{HeapType, IfSome_then, if◌then◌else◌, IsBelow, IsGroundedByFuncs, IsInRange, IsOrderly}
+use Rattle.smith_draw_types.proofs.Common.{IsValBelow, length, length-append, List, nat_le, reference_to, slice_get, slice_get-get_or, Some}
+use Rattle.smith_draw_types.proofs.Common.{subst, SubType, sym, take, true, ValType, ℕ, ◌++◌, ◌<◌, ◌↔◌, ◌∙◌, ◌∷◌, ◌≡◌, ◌≤◌}
+use Rattle.std.proofs.Common.{IsTrue}
+use Rattle.std.proofs.Common.{append-nil}
 use Rattle.std.proofs.lemmas.List.{length-take-le, take-append-drop, take-append-le, get_or-take, take_all}
-use Rattle.std.proofs.lemmas.Option.{IfSome_then, slice_get-get_or, get_or_from_slice_get}
-use Rattle.smith_types.specs.Types.{IsOrderly}
-use Rattle.smith_types.specs.Grown.{Extends}
-use Rattle.smith_types.specs.Subtyping.{IsBelow, IsValBelow, IsInRange}
-use Rattle.smith_types.specs.Expressions.{Context, reference_to, function_reference}
-use Rattle.smith_types.specs.Grounded.{IsGroundedByFuncs}
-use Rattle.smith_types.specs.FuncGrounds.{AreFuncGrounds}
-use Rattle.smith_types.specs.declared.func_grounds.FuncGrounds.{FuncGrounds}
-use Rattle.smith_syntax.specs.declared.value_type.HeapType.{HeapType}
-use Rattle.smith_syntax.specs.declared.value_type.HeapType.TheVariants.{Abstract, Concrete, Exact}
-use Rattle.smith_syntax.specs.declared.value_type.ValType.{ValType}
-use Rattle.smith_syntax.specs.declared.composite_type.SubType.{SubType}
 use Rattle.smith_types.proofs.GrowthLemmas.{IsValBelow-grown}
-use Rattle.smith_types.proofs.WalkLemmas.{Reaches, here, up, by_cases_from_below, below_from_by_cases}
+use Rattle.smith_types.proofs.WalkLemmas.{below_from_by_cases, here, Reaches, up}
 use Rattle.smith_draw_types.specs.Grounding.{any_from, function_grounds, over}
 use Rattle.smith_draw_types.specs.FunctionFamilies.{AreFunctionFamilies}
 use Rattle.smith_draw_types.specs.KeptGrounds.{IsRecordOver, IsEarlyRecord, AreEarlyFamilies, AreEarlyGrounds}

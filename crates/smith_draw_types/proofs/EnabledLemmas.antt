@@ -1,13 +1,10 @@
 -- The item chosen among the enabled items of a table.
-use Rattle.std.proofs.Common.{ℕ, zero, suc, ◌-◌, Bool, List, [], ◌∷◌, length, get_or, ◌≡◌, ◌+◌, ◌<◌, true, drop, add-one, refl, sym, arith}
-use Rattle.std.proofs.Common.{◌∙◌}
-use Rattle.std.specs.Prelude.{IsTrue}
+use Rattle.smith_draw_types.proofs.Common.{[], add-one, arith, Bool, drop, get_or, IsTrue, length, length-map, List, range_at}
+use Rattle.smith_draw_types.proofs.Common.{recursion_from_All, refl, suc, sym, true, zero, ℕ, ◌+◌, ◌-◌, ◌<◌, ◌∙◌, ◌∷◌, ◌≡◌}
 use Rattle.std.specs.List.{filter, All, AllByRecursion as ByRecursion, count_by}
-use Rattle.std.proofs.lemmas.List.Elements.{All-map, All-filter, filter_passes, recursion_from_All}
+use Rattle.std.proofs.lemmas.List.Elements.{All-filter, All-map, filter_passes}
 use Rattle.std.proofs.Math.Seq.{drop-cons}
-use Rattle.std.proofs.lemmas.List.{length-map}
 use Rattle.std.proofs.lemmas.List.Sums.{length-filter}
-use Rattle.smith_bytes.specs.Draws.{range_at}
 use Rattle.smith_draw_types.specs.Choices.{enabled, chosen_at}
 
 -- a property of each enabled item

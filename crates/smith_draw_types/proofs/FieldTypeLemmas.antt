@@ -1,18 +1,9 @@
 -- Drawn storage and field types are valid, over every list of types.
-use Rattle.std.proofs.Common.{ℕ, zero, suc, ◌-◌, ◌≤◌, Bool, List, [], ◌∷◌, length, arith}
+use Rattle.smith_draw_types.proofs.Common.{[], All-append, All-from_recursion, All-nil, arith, Bool, Config, Context, FieldType, grow_all}
+use Rattle.smith_draw_types.proofs.Common.{grow_most, IsFieldInRange, IsSanitized, length, List, range_at, StorageType, SubType, suc}
+use Rattle.smith_draw_types.proofs.Common.{ValType, values_of_storage, zero, ℕ, ◌-◌, ◌∷◌, ◌≤◌}
 use Rattle.std.specs.List.{All, flat_map, AllByRecursion as ByRecursion}
-use Rattle.std.proofs.lemmas.List.Elements.{All-nil, All-append, All-from_recursion}
-use Rattle.smith_bytes.specs.Draws.{range_at}
-use Rattle.smith_bytes.proofs.GrownLemmas.{grow_all, grow_most}
-use Rattle.smith_types.specs.Expressions.{Context}
-use Rattle.smith_types.specs.Matching.{IsStorageInRange, IsFieldInRange}
-use Rattle.smith_types.specs.ValidTypes.{values_of_storage}
-use Rattle.smith_syntax.specs.declared.value_type.ValType.{ValType}
-use Rattle.smith_syntax.specs.declared.composite_type.StorageType.{StorageType}
-use Rattle.smith_syntax.specs.declared.composite_type.FieldType.{FieldType}
-use Rattle.smith_syntax.specs.declared.composite_type.SubType.{SubType}
-use Rattle.smith_config.specs.declared.config.Config.{Config}
-use Rattle.smith_config.specs.Sanitized.{IsSanitized}
+use Rattle.smith_types.specs.Matching.{IsStorageInRange}
 use Rattle.smith_draw_types.specs.ValueTypes.{val_type_at}
 use Rattle.smith_draw_types.specs.FieldTypes.{storage_of_number_at, storage_type_at, field_type_at, fields_until_at}
 use Rattle.smith_draw_types.proofs.ValueTypeLemmas.{MayShare, IsValTypeDrawn, val_type_drawn}

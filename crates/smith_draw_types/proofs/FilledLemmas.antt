@@ -1,36 +1,19 @@
 -- Every drawn non-nullable reference is grounded. If this holds for the fields and elements of the
 -- existing types, it holds for those of drawn types.
-use Rattle.std.proofs.Common.{◌≡◌, inl, inr, ℕ, zero, suc, ◌+◌, ◌-◌, ◌∙◌, Bool, false, Some, List, [], ◌∷◌, ◌++◌, length, refl, sym, subst}
-use Rattle.std.proofs.Common.{arith}
-use Rattle.std.specs.Prelude.{All}
+use Rattle.smith_draw_types.proofs.Common.{[], All, All-from_recursion, All-nil, All-weaker, append-nil, arith, Array, Bool}
+use Rattle.smith_draw_types.proofs.Common.{CompositeInnerType, cond_both, Config, Context, false, FieldType, Func, GroupedTypes, grow_all}
+use Rattle.smith_draw_types.proofs.Common.{HeapType, I16, I8, inl, inr, IsGrounded, IsOrderly, IsUngrounded, length, List, range_at}
+use Rattle.smith_draw_types.proofs.Common.{recursion_from_All, refl, RefType, Some, StorageType, Struct, StructType, subst, SubType, suc}
+use Rattle.smith_draw_types.proofs.Common.{sym, Val, ValType, zero, ℕ, ◌++◌, ◌+◌, ◌-◌, ◌∙◌, ◌∷◌, ◌≡◌}
 use Rattle.std.specs.List.{Any, AllByRecursion as Each}
-use Rattle.std.proofs.lemmas.List.{append-nil}
-use Rattle.std.proofs.lemmas.List.Elements.{All-nil, All-weaker, All-from_recursion, recursion_from_All}
-use Rattle.smith_bytes.specs.Draws.{range_at}
-use Rattle.smith_bytes.proofs.GrownLemmas.{grow_all, cond_both}
-use Rattle.smith_types.specs.Expressions.{Context, unpacked, field_values}
-use Rattle.smith_types.specs.Grounded.{IsGrounded}
+use Rattle.smith_types.specs.Expressions.{field_values, unpacked}
 use Rattle.smith_types.specs.Grown.{IsContextGrown, AreImportsGrown}
-use Rattle.smith_types.specs.GroupedTypes.{GroupedTypes}
-use Rattle.smith_types.specs.Types.{IsOrderly}
-use Rattle.smith_syntax.specs.declared.value_type.HeapType.{HeapType}
-use Rattle.smith_syntax.specs.declared.value_type.RefType.{RefType}
-use Rattle.smith_syntax.specs.declared.value_type.ValType.{ValType}
-use Rattle.smith_syntax.specs.declared.value_type.ValType.TheVariants as vals
-use Rattle.smith_syntax.specs.declared.composite_type.StorageType.{StorageType}
-use Rattle.smith_syntax.specs.declared.composite_type.StorageType.TheVariants.{I8, I16, Val}
-use Rattle.smith_syntax.specs.declared.composite_type.FieldType.{FieldType}
-use Rattle.smith_syntax.specs.declared.composite_type.CompositeInnerType.{CompositeInnerType}
-use Rattle.smith_syntax.specs.declared.composite_type.CompositeInnerType.TheVariants.{Array, Func, Struct}
-use Rattle.smith_syntax.specs.declared.composite_type.StructType.{StructType}
-use Rattle.smith_syntax.specs.declared.composite_type.SubType.{SubType}
+use Rattle.smith_types.specs.Syntax.value_type.ValType.TheVariants as vals
 use Rattle.smith_types.proofs.GroundGrowthLemmas.{context_grounded, imports_grounded}
-use Rattle.smith_config.specs.declared.config.Config.{Config}
 use Rattle.smith_draw_types.specs.declared.value_type.ValueClass.{ValueClass}
 use Rattle.smith_draw_types.specs.declared.value_type.ValueClass.TheVariants.{I32, I64, F32, F64, V128, Reference}
 use Rattle.smith_draw_types.specs.Choices.{enabled, chosen_at}
 use Rattle.smith_draw_types.specs.Grounding.{over}
-use Rattle.smith_config.specs.Granted.{IsUngrounded}
 use Rattle.smith_draw_types.specs.HeldFields.{HoldsUngroundedField}
 use Rattle.smith_draw_types.specs.HeldFields.{fields_of}
 use Rattle.smith_draw_types.specs.ValueTypes.{value_classes, sharedness_at, ref_type_at, value_of_class_at, val_type_at}

@@ -1,26 +1,12 @@
 -- Without floats, no drawn type contains one if no existing type does.
-use Rattle.std.proofs.Common.{◌≡◌, ℕ, zero, suc, ◌+◌, ◌-◌, Bool, false, Option, Some, None, List, [], length, refl, subst}
-use Rattle.std.specs.Prelude.{IsTrue, slice_get, All}
+use Rattle.smith_draw_types.proofs.Common.{[], All, All-append, All-from_recursion, All-nil, Array, Bool, CompositeInnerType, cond_both}
+use Rattle.smith_draw_types.proofs.Common.{Config, Context, false, FieldType, Func, FuncType, get_or_from_slice_get, GroupedTypes, grow_all}
+use Rattle.smith_draw_types.proofs.Common.{I16, I8, IsNoFloat, IsTrue, length, List, None, Option, range_at, recursion_from_All, refl}
+use Rattle.smith_draw_types.proofs.Common.{slice_get, slice_get_within, Some, StorageType, Struct, StructType, subst, SubType, suc, Val}
+use Rattle.smith_draw_types.proofs.Common.{ValType, values_of, values_of_storage, zero, ℕ, ◌+◌, ◌-◌, ◌≡◌}
 use Rattle.std.specs.List.{AllByRecursion as Each}
-use Rattle.std.proofs.lemmas.List.Elements.{All-nil, All-append, All-from_recursion, recursion_from_All}
-use Rattle.std.proofs.lemmas.Option.{slice_get_within, get_or_from_slice_get}
-use Rattle.smith_bytes.specs.Draws.{range_at}
-use Rattle.smith_bytes.proofs.GrownLemmas.{grow_all, cond_both}
-use Rattle.smith_types.specs.Expressions.{Context}
-use Rattle.smith_types.specs.Floats.{IsNoFloat, HasNoFloat}
-use Rattle.smith_types.specs.GroupedTypes.{GroupedTypes}
-use Rattle.smith_types.specs.ValidTypes.{values_of, values_of_storage}
-use Rattle.smith_syntax.specs.declared.value_type.ValType.{ValType}
-use Rattle.smith_syntax.specs.declared.value_type.ValType.TheVariants as vals
-use Rattle.smith_syntax.specs.declared.composite_type.StorageType.{StorageType}
-use Rattle.smith_syntax.specs.declared.composite_type.StorageType.TheVariants.{I8, I16, Val}
-use Rattle.smith_syntax.specs.declared.composite_type.FieldType.{FieldType}
-use Rattle.smith_syntax.specs.declared.composite_type.FuncType.{FuncType}
-use Rattle.smith_syntax.specs.declared.composite_type.StructType.{StructType}
-use Rattle.smith_syntax.specs.declared.composite_type.CompositeInnerType.{CompositeInnerType}
-use Rattle.smith_syntax.specs.declared.composite_type.CompositeInnerType.TheVariants.{Array, Func, Struct}
-use Rattle.smith_syntax.specs.declared.composite_type.SubType.{SubType}
-use Rattle.smith_config.specs.declared.config.Config.{Config}
+use Rattle.smith_types.specs.Floats.{HasNoFloat}
+use Rattle.smith_types.specs.Syntax.value_type.ValType.TheVariants as vals
 use Rattle.smith_draw_types.specs.Grounding.{over}
 use Rattle.smith_draw_types.specs.declared.value_type.ValueClass.{ValueClass}
 use Rattle.smith_draw_types.specs.declared.value_type.ValueClass.TheVariants.{I32, I64, F32, F64, V128, Reference}

@@ -1,20 +1,11 @@
 -- Drawn function types have at most 20 parameters and 20 results, or as many as the function types
 -- that they match.
-use Rattle.std.proofs.Common.{ℕ, zero, suc, ◌≤◌, Bool, true, false, cond, Some, List, [], length, arith, ◌≡◌}
-use Rattle.std.specs.Prelude.{All, slice_get}
-use Rattle.std.proofs.lemmas.List.Elements.{All-weaker}
-use Rattle.std.proofs.lemmas.Option.{slice_get_within, get_or_from_slice_get}
-use Rattle.smith_bytes.proofs.GrownLemmas.{grow_most}
-use Rattle.smith_types.specs.Expressions.{Context}
-use Rattle.smith_types.specs.GroupedTypes.{GroupedTypes}
-use Rattle.smith_syntax.specs.declared.composite_type.CompositeInnerType.{CompositeInnerType}
-use Rattle.smith_syntax.specs.declared.composite_type.CompositeInnerType.TheVariants.{Array, Func, Struct}
-use Rattle.smith_syntax.specs.declared.composite_type.FuncType.{FuncType}
-use Rattle.smith_syntax.specs.declared.composite_type.SubType.{SubType}
-use Rattle.smith_syntax.specs.declared.composite_type.CompositeInnerType.TheVariants as inners
+use Rattle.smith_draw_types.proofs.Common.{[], All, All-weaker, arith, Array, Bool, CompositeInnerType, cond, Config, Context, false, Func}
+use Rattle.smith_draw_types.proofs.Common.{FuncType, get_or_from_slice_get, GroupedTypes, grow_most, length, List, slice_get}
+use Rattle.smith_draw_types.proofs.Common.{slice_get_within, Some, Struct, SubType, suc, true, zero, ℕ, ◌≡◌, ◌≤◌}
+use Rattle.smith_types.specs.Syntax.composite_type.CompositeInnerType.TheVariants as inners
 use Rattle.smith_types.specs.Sizes.{value_count, size_in}
-use Rattle.smith_syntax.specs.declared.entity_type.EntityType.TheVariants as entity
-use Rattle.smith_config.specs.declared.config.Config.{Config}
+use Rattle.smith_types.specs.Syntax.entity_type.EntityType.TheVariants as entity
 use Rattle.smith_config.specs.Shapes.{IsInnerShort, IsShort, most_listed, shape_types}
 use Rattle.smith_config.specs.declared.shape.Shape.{Shape}
 use Rattle.smith_draw_types.specs.Grounding.{over}

@@ -1,24 +1,12 @@
 -- The grounded types of a family and of a kind, by the lists of the types that functions ground.
-use Rattle.std.proofs.Common.{◌≡◌, ℕ, ◌<◌, Bool, true, false, ◌&&◌, List, [], ◌∷◌, map, length, refl, sym, ◌∙◌}
-use Rattle.std.proofs.Common.{ap, arith}
-use Rattle.std.specs.Prelude.{filter}
-use Rattle.std.proofs.lemmas.Option.{slice_get_within}
-use Rattle.smith_syntax.specs.declared.value_type.AbstractHeapType.TheVariants as heap
-use Rattle.smith_syntax.specs.declared.value_type.HeapType.TheVariants.{Concrete}
-use Rattle.smith_syntax.specs.declared.composite_type.CompositeInnerType.{CompositeInnerType}
-use Rattle.smith_syntax.specs.declared.composite_type.CompositeInnerType.TheVariants.{Array, Func, Struct}
-use Rattle.smith_types.specs.declared.func_grounds.FuncGrounds.{FuncGrounds}
+use Rattle.smith_draw_types.proofs.Common.{[], ap, arith, Array, below_declared, Bool, CompositeInnerType, Concrete, Context, directly_read}
+use Rattle.smith_draw_types.proofs.Common.{false, filter, Func, FuncGrounds, indices_where, is_directly_below, is_directly_below_at}
+use Rattle.smith_draw_types.proofs.Common.{is_shared_as, IsGroundedByStructs, IsOrderly, length, List, map, refl, slice_get_within, Struct}
+use Rattle.smith_draw_types.proofs.Common.{sym, true, ℕ, ◌&&◌, ◌<◌, ◌∙◌, ◌∷◌, ◌≡◌}
+use Rattle.smith_types.specs.Syntax.value_type.AbstractHeapType.TheVariants as heap
 use Rattle.smith_types.specs.declared.ground.Ground.{Ground}
-use Rattle.smith_types.specs.Expressions.{Context}
-use Rattle.smith_types.specs.Families.{is_directly_below}
 use Rattle.smith_types.specs.FuncGrounds.{is_noted}
-use Rattle.smith_types.specs.Grounded.{IsGroundedByStructs}
-use Rattle.smith_types.specs.Grounds.{indices_where, is_shared_as}
-use Rattle.smith_types.specs.MarkedFamilies.{is_directly_below_at}
-use Rattle.smith_types.specs.Types.{IsOrderly}
 use Rattle.smith_types.proofs.MarkLemmas.{said_inside}
-use Rattle.smith_types.proofs.MarkedFamilyLemmas.{directly_read}
-use Rattle.smith_types.proofs.PathLemmas.{below_declared}
 use Rattle.smith_draw_types.specs.FunctionFamilies.{is_noted_below, is_noted_function}
 use Rattle.smith_draw_types.specs.Grounding.{any_from, function_grounds, is_grounded}
 use Rattle.smith_draw_types.specs.KeptGrounds.{IsRecordOver}

@@ -1,30 +1,21 @@
 -- The lists of the types that functions ground, as they are made and as types are added.
-use Rattle.std.proofs.Common.{◌≡◌, ◌↔◌, ℕ, zero, suc, ◌+◌, ◌<◌, ◌≤◌, Bool, true, false, ◌&&◌, List, [], ◌∷◌, ◌++◌, Option, Some}
-use Rattle.std.proofs.Common.{IsTrue, get_or, set, length, refl, sym, subst, ◌∙◌, ap, inl, inr, arith, length-append}
-use Rattle.std.specs.Prelude.{slice_get, if◌then◌else◌, Vec}
+use Rattle.smith_draw_types.proofs.Common.{[], AbstractHeapType, ap, AreFuncGrounds, arith, Bool, Concrete, Context, directly_read, Extends}
+use Rattle.smith_draw_types.proofs.Common.{false, FuncGrounds, get_or, if◌then◌else◌, indices_where, inl, inr, is_directly_below_at}
+use Rattle.smith_draw_types.proofs.Common.{is_index, IsGroundedByFuncs, length, length-append, List, Option, refl, same_from_decides}
+use Rattle.smith_draw_types.proofs.Common.{slice_get, slice_get-get_or, slice_get-grown, Some, stands, subst, SubType, suc, sym, true, zero}
+use Rattle.smith_draw_types.proofs.Common.{ℕ, ◌&&◌, ◌++◌, ◌+◌, ◌<◌, ◌↔◌, ◌∙◌, ◌∷◌, ◌≡◌, ◌≤◌}
+use Rattle.std.proofs.Common.{IsTrue, set}
+use Rattle.std.specs.Prelude.{Vec}
 use Rattle.std.specs.declared.alloc.Global.{Global}
 use Rattle.std.proofs.lemmas.Bool.{eq-eqb, ne_eqb}
-use Rattle.std.proofs.lemmas.Bool.Decides.{same_from_decides}
 use Rattle.std.proofs.lemmas.List.{length-set}
-use Rattle.std.proofs.lemmas.Option.{slice_get-get_or}
-use Rattle.smith_syntax.specs.declared.composite_type.SubType.{SubType}
-use Rattle.smith_syntax.specs.declared.value_type.AbstractHeapType.{AbstractHeapType}
-use Rattle.smith_syntax.specs.declared.value_type.AbstractHeapType.TheVariants as heap
-use Rattle.smith_syntax.specs.declared.value_type.HeapType.TheVariants.{Concrete}
-use Rattle.smith_types.specs.declared.func_grounds.FuncGrounds.{FuncGrounds}
+use Rattle.smith_types.specs.Syntax.value_type.AbstractHeapType.TheVariants as heap
 use Rattle.smith_types.specs.declared.ground.Ground.{Ground}
-use Rattle.smith_types.specs.Expressions.{Context}
-use Rattle.smith_types.specs.Families.{is_index}
-use Rattle.smith_types.specs.FuncGrounds.{AreFuncGrounds, is_noted}
-use Rattle.smith_types.specs.Grounded.{IsGroundedByFuncs}
-use Rattle.smith_types.specs.Grounds.{indices_where}
-use Rattle.smith_types.specs.Grown.{Extends}
-use Rattle.smith_types.specs.MarkedFamilies.{is_directly_below_at}
+use Rattle.smith_types.specs.FuncGrounds.{is_noted}
 use Rattle.smith_types.proofs.FamilyLemmas.{slice_get-set}
-use Rattle.smith_types.proofs.ListLemmas.{slice_get-grown, slice_get-push}
+use Rattle.smith_types.proofs.ListLemmas.{slice_get-push}
 use Rattle.smith_types.proofs.MarkLemmas.{said_inside}
-use Rattle.smith_types.proofs.MarkedLemmas.{where_same, one_with, one_passes, one_fails, stands}
-use Rattle.smith_types.proofs.MarkedFamilyLemmas.{directly_read}
+use Rattle.smith_types.proofs.MarkedLemmas.{one_fails, one_passes, one_with, where_same}
 use Rattle.smith_draw_types.specs.FunctionFamilies.{is_kind_in, is_kind_at, is_noted_below, is_noted_function, AreListed}
 use Rattle.smith_draw_types.specs.FunctionFamilies.{AreFunctionFamilies}
 use Rattle.smith_draw_types.specs.Offered.{is_kind}

@@ -1,20 +1,14 @@
 -- Drawn global types are valid, contain no floats if floats are off, and are read from the bytes
 -- that spell them.
-use Rattle.std.proofs.Common.{◌≡◌, ℕ, true, false, List, [], ◌++◌, length, refl, sym, ap, append-nil, ◌∙◌}
-use Rattle.std.specs.Prelude.{IsTrue}
-use Rattle.smith_bytes.specs.Takes.{Takes, SpellsSuch}
-use Rattle.smith_bytes.proofs.SpelledLemmas.{joined_parts, bool_read, takes_by}
-use Rattle.smith_types.specs.Expressions.{Context}
+use Rattle.smith_draw_types.proofs.Common.{[], ap, AreTypesValid, bool_read, Config, Context, false, features_of, GroupedTypes, IsNoFloat}
+use Rattle.smith_draw_types.proofs.Common.{IsSanitized, IsShareable, IsTrue, IsValTypeValid, joined_parts, length, List, Ref, refl}
+use Rattle.smith_draw_types.proofs.Common.{SpellsSuch, sym, true, ValType, ℕ, ◌++◌, ◌∙◌, ◌≡◌}
+use Rattle.std.proofs.Common.{append-nil}
+use Rattle.smith_bytes.specs.Takes.{Takes}
+use Rattle.smith_bytes.proofs.SpelledLemmas.{takes_by}
 use Rattle.smith_types.specs.Entities.{IsGlobalValid}
-use Rattle.smith_types.specs.Floats.{IsNoFloat}
-use Rattle.smith_types.specs.GroupedTypes.{GroupedTypes}
-use Rattle.smith_types.specs.ValidTypes.{AreTypesValid, IsValTypeValid, IsShareable}
-use Rattle.smith_syntax.specs.declared.value_type.ValType.{ValType}
-use Rattle.smith_syntax.specs.declared.value_type.ValType.TheVariants.{I32, I64, F32, F64, V128, Ref}
-use Rattle.smith_syntax.specs.declared.entity_type.GlobalType.{GlobalType}
-use Rattle.smith_config.specs.declared.config.Config.{Config}
-use Rattle.smith_config.specs.Features.{features_of}
-use Rattle.smith_config.specs.Sanitized.{IsSanitized}
+use Rattle.smith_types.specs.Syntax.value_type.ValType.TheVariants.{F32, F64, I32, I64, V128}
+use Rattle.smith_types.specs.Syntax.entity_type.GlobalType.{GlobalType}
 use Rattle.smith_draw_types.specs.Grounding.{over}
 use Rattle.smith_draw_types.specs.GlobalTypes.{global_sharedness_at, global_type_at}
 use Rattle.smith_draw_types.specs.SpelledGlobals.{mutable_i32, SpellsMutableI32}

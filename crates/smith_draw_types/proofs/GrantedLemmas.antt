@@ -1,28 +1,14 @@
 -- No value type of a drawn type is an ungrounded non-nullable reference if none is in the type that
 -- it matches and in the types before it.
-use Rattle.std.proofs.Common.{ℕ, zero, suc, ◌∙◌, Bool, false, Some, List, [], ◌∷◌, ◌++◌, length, sym}
-use Rattle.std.specs.Prelude.{All}
+use Rattle.smith_draw_types.proofs.Common.{[], All, All-append, All-from_recursion, All-nil, All-weaker, AreTypesGranted, Array, Bool}
+use Rattle.smith_draw_types.proofs.Common.{CompositeInnerType, Config, Context, false, FieldType, Func, FuncType, GroupedTypes, grow_all}
+use Rattle.smith_draw_types.proofs.Common.{HasGranted, I16, I8, IsGranted, IsOrderly, length, List, range_at, recursion_from_All, Some}
+use Rattle.smith_draw_types.proofs.Common.{StorageType, Struct, StructType, SubType, suc, sym, Val, ValType, values_of, values_of_storage}
+use Rattle.smith_draw_types.proofs.Common.{zero, ℕ, ◌++◌, ◌∙◌, ◌∷◌}
 use Rattle.std.specs.List.{AllByRecursion as Each}
 use Rattle.std.proofs.lemmas.Bool.{true≢false}
-use Rattle.std.proofs.lemmas.List.Elements.{All-nil, All-append, All-weaker, All-from_recursion, recursion_from_All}
-use Rattle.smith_bytes.specs.Draws.{range_at}
-use Rattle.smith_bytes.proofs.GrownLemmas.{grow_all}
-use Rattle.smith_types.specs.Expressions.{Context, unpacked}
-use Rattle.smith_types.specs.GroupedTypes.{GroupedTypes}
-use Rattle.smith_types.specs.Types.{IsOrderly}
-use Rattle.smith_types.specs.ValidTypes.{values_of, values_of_storage}
-use Rattle.smith_syntax.specs.declared.value_type.ValType.{ValType}
-use Rattle.smith_syntax.specs.declared.value_type.ValType.TheVariants as vals
-use Rattle.smith_syntax.specs.declared.composite_type.StorageType.{StorageType}
-use Rattle.smith_syntax.specs.declared.composite_type.StorageType.TheVariants.{I8, I16, Val}
-use Rattle.smith_syntax.specs.declared.composite_type.FieldType.{FieldType}
-use Rattle.smith_syntax.specs.declared.composite_type.FuncType.{FuncType}
-use Rattle.smith_syntax.specs.declared.composite_type.StructType.{StructType}
-use Rattle.smith_syntax.specs.declared.composite_type.CompositeInnerType.{CompositeInnerType}
-use Rattle.smith_syntax.specs.declared.composite_type.CompositeInnerType.TheVariants.{Array, Func, Struct}
-use Rattle.smith_syntax.specs.declared.composite_type.SubType.{SubType}
-use Rattle.smith_config.specs.declared.config.Config.{Config}
-use Rattle.smith_config.specs.Granted.{IsGranted, HasGranted, AreTypesGranted}
+use Rattle.smith_types.specs.Expressions.{unpacked}
+use Rattle.smith_types.specs.Syntax.value_type.ValType.TheVariants as vals
 use Rattle.smith_draw_types.specs.Grounding.{over}
 use Rattle.smith_draw_types.specs.CompositeTypes.{most_results, val_types_at, func_type_at, struct_type_at, inner_of_number_at}
 use Rattle.smith_draw_types.specs.CompositeTypes.{inner_number_at, composite_type_at}

@@ -1,25 +1,11 @@
 -- The grounded types among the subtypes offered for a concrete type, by its direct subtypes.
-use Rattle.std.proofs.Common.{◌≡◌, ℕ, zero, suc, ◌+◌, ◌-◌, ◌<◌, ◌≤◌, Bool, true, false, ◌&&◌, List, [], ◌∷◌, ◌++◌, map, Option, Some}
-use Rattle.std.proofs.Common.{length, inl, inr, refl, sym, ◌∙◌, ap, arith}
-use Rattle.std.specs.Prelude.{slice_get, filter, if◌then◌else◌}
-use Rattle.std.specs.Option.{option_map}
-use Rattle.std.proofs.lemmas.List.{length-append, length-map}
-use Rattle.std.proofs.lemmas.List.Elements.{filter-append}
-use Rattle.std.proofs.lemmas.Option.{slice_get-map}
-use Rattle.smith_syntax.specs.declared.value_type.HeapType.{HeapType}
-use Rattle.smith_syntax.specs.declared.value_type.HeapType.TheVariants.{Concrete, Exact}
-use Rattle.smith_syntax.specs.declared.composite_type.SubType.{SubType}
-use Rattle.smith_types.specs.Types.{IsOrderly}
-use Rattle.smith_types.specs.Families.{is_directly_below}
-use Rattle.smith_types.specs.Expressions.{Context}
-use Rattle.smith_types.specs.Grounded.{IsGroundedByFuncs}
-use Rattle.smith_types.specs.Grounds.{indices_where}
-use Rattle.smith_types.specs.MarkedFamilies.{is_directly_below_at, DecidesGroundedBelow}
-use Rattle.smith_types.proofs.ListLemmas.{slice_get-grown}
-use Rattle.smith_types.proofs.MarkedLemmas.{stands}
-use Rattle.smith_types.proofs.MarkedFamilyLemmas.{directly_read}
-use Rattle.smith_types.proofs.PathLemmas.{below_declared}
-use Rattle.smith_config.specs.declared.config.Config.{Config}
+use Rattle.smith_draw_types.proofs.Common.{[], ap, arith, below_declared, Bool, Concrete, Config, Context, directly_read, Exact, false}
+use Rattle.smith_draw_types.proofs.Common.{filter, filter-append, HeapType, if◌then◌else◌, indices_where, inl, inr, is_directly_below}
+use Rattle.smith_draw_types.proofs.Common.{is_directly_below_at, IsGroundedByFuncs, IsOrderly, length, length-map, List, map, Option}
+use Rattle.smith_draw_types.proofs.Common.{option_map, refl, slice_get, slice_get-grown, slice_get-map, Some, stands, SubType, suc, sym}
+use Rattle.smith_draw_types.proofs.Common.{true, zero, ℕ, ◌&&◌, ◌++◌, ◌+◌, ◌-◌, ◌<◌, ◌∙◌, ◌∷◌, ◌≡◌, ◌≤◌}
+use Rattle.std.proofs.lemmas.List.{length-append}
+use Rattle.smith_types.specs.MarkedFamilies.{DecidesGroundedBelow}
 use Rattle.smith_draw_types.specs.Grounding.{is_grounded}
 use Rattle.smith_draw_types.specs.Offered.{offered_direct_subtypes, exact_subtypes, bottom_at}
 use Rattle.smith_draw_types.proofs.GroundedKindLemmas.{both, both_are, picks, functions_above}

@@ -1,29 +1,20 @@
 -- The grounded types of a kind, by what is recorded of them.
-use Rattle.std.proofs.Common.{rules, ◌≡◌, ◌↔◌, ◌⊎◌, inl, inr, ℕ, zero, suc, ◌+◌, ◌^◌, ◌<◌, ◌≤◌, Bool, true, false, ◌&&◌, List, [], ◌∷◌}
-use Rattle.std.proofs.Common.{◌++◌, map, Some, length, drop, refl, sym, subst, ◌∙◌, ap, arith, IsTrue}
-use Rattle.std.specs.Prelude.{slice_get, filter, if◌then◌else◌}
-use Rattle.std.proofs.lemmas.List.{append-nil, length-append, length-map}
-use Rattle.std.proofs.lemmas.List.Concat.{flat_map-cons}
-use Rattle.std.proofs.lemmas.List.Elements.{filter-append}
-use Rattle.smith_syntax.specs.declared.value_type.AbstractHeapType.{AbstractHeapType}
-use Rattle.smith_syntax.specs.declared.value_type.AbstractHeapType.TheVariants as heap
-use Rattle.smith_syntax.specs.declared.value_type.HeapType.{HeapType}
-use Rattle.smith_syntax.specs.declared.value_type.HeapType.TheVariants.{Abstract, Concrete}
-use Rattle.smith_syntax.specs.declared.composite_type.CompositeInnerType.{CompositeInnerType}
-use Rattle.smith_syntax.specs.declared.composite_type.CompositeInnerType.TheVariants.{Array, Func, Struct}
-use Rattle.smith_syntax.specs.declared.composite_type.SubType.{SubType}
-use Rattle.smith_syntax.specs.Kinds.{kind_of, kind, shared}
-use Rattle.smith_types.specs.Types.{IsOrderly}
-use Rattle.smith_types.specs.Subtyping.{IsBelow, IsValBelow, itself}
-use Rattle.smith_types.specs.Expressions.{Context, function_reference, reference_to}
-use Rattle.smith_types.specs.Grounded.{IsGroundedByStructs, IsGroundedByFuncs, IsGrounded}
-use Rattle.smith_types.specs.Grounds.{is_shared_as, is_shared_at, indices_where, DecidesGrounded}
-use Rattle.smith_types.proofs.GrowthLemmas.{IsBelow-trans, IsValBelow-trans}
+use Rattle.smith_draw_types.proofs.Common.{[], Abstract, AbstractHeapType, ap, append-nil, arith, Array, Bool, by_cases_from_below}
+use Rattle.smith_draw_types.proofs.Common.{CompositeInnerType, Concrete, Config, Context, drop, false, filter, filter-append, flat_map-cons}
+use Rattle.smith_draw_types.proofs.Common.{Func, function_reference, HeapType, if◌then◌else◌, indices_where, inl, inr, is_shared_as}
+use Rattle.smith_draw_types.proofs.Common.{IsBelow, IsBelow-trans, IsGrounded, IsGroundedByFuncs, IsGroundedByStructs, IsOrderly}
+use Rattle.smith_draw_types.proofs.Common.{IsValBelow, itself, kind, kind_of, length, length-map, List, map, reference_to, refl, rules}
+use Rattle.smith_draw_types.proofs.Common.{shared, slice_get, Some, stands, Struct, subst, SubType, suc, sym, true, zero, ℕ, ◌&&◌, ◌++◌}
+use Rattle.smith_draw_types.proofs.Common.{◌+◌, ◌<◌, ◌^◌, ◌↔◌, ◌∙◌, ◌∷◌, ◌≡◌, ◌≤◌, ◌⊎◌}
+use Rattle.std.proofs.Common.{IsTrue}
+use Rattle.std.proofs.lemmas.List.{length-append}
+use Rattle.smith_types.specs.Syntax.value_type.AbstractHeapType.TheVariants as heap
+use Rattle.smith_types.specs.Grounds.{DecidesGrounded, is_shared_at}
+use Rattle.smith_types.proofs.GrowthLemmas.{IsValBelow-trans}
 use Rattle.smith_types.proofs.PathLemmas.{below_kind}
-use Rattle.smith_types.proofs.WalkLemmas.{alike_along, by_cases_from_below}
+use Rattle.smith_types.proofs.WalkLemmas.{alike_along}
 use Rattle.smith_types.proofs.GroundedLemmas.{below_created}
-use Rattle.smith_types.proofs.MarkedLemmas.{shared_read, stands}
-use Rattle.smith_config.specs.declared.config.Config.{Config}
+use Rattle.smith_types.proofs.MarkedLemmas.{shared_read}
 use Rattle.smith_draw_types.specs.FunctionFamilies.{is_kind_at}
 use Rattle.smith_draw_types.specs.Grounding.{is_grounded}
 use Rattle.smith_draw_types.specs.Offered.{abstract_subtypes, kinds_below, is_of_kind, is_kind, picked_from, of_kinds, gc_subtypes}

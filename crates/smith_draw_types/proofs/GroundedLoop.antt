@@ -1,8 +1,8 @@
 -- The turns of the loops over the subtypes that may be grounded.
-use Rattle.std.proofs.Common.{◌≡◌, ℕ, zero, suc, ◌+◌, ◌-◌, ◌<◌, ◌≤◌, Bool, true, false, cond, List, [], ◌∷◌, Option, Some, length, drop}
-use Rattle.std.proofs.Common.{get_or, refl, ap, subst, ◌∙◌, arith, add-one, drop-cons}
-use Rattle.std.specs.Prelude.{slice_get, filter}
-use Rattle.std.proofs.lemmas.Option.{get_or_from_slice_get, slice_get_within, slice_get-get_or}
+use Rattle.smith_draw_types.proofs.Common.{[], add-one, ap, arith, Bool, cond, drop, false, filter, get_or, get_or_from_slice_get, length}
+use Rattle.smith_draw_types.proofs.Common.{List, Option, refl, slice_get, slice_get-get_or, slice_get_within, Some, subst, suc, true, zero}
+use Rattle.smith_draw_types.proofs.Common.{ℕ, ◌+◌, ◌-◌, ◌<◌, ◌∙◌, ◌∷◌, ◌≡◌, ◌≤◌}
+use Rattle.std.proofs.Common.{drop-cons}
 
 -- the rest of a list from a position
 pub left_from : {A : Type 0} (xs : List A) (n : ℕ) (x : A) → slice_get xs n ≡ Some x → drop n xs ≡ x ∷ drop (n + 1) xs

@@ -1,13 +1,8 @@
 -- The grounded types among the subtypes offered, with those that are recorded at their end.
-use Rattle.std.proofs.Common.{◌≡◌, ℕ, zero, suc, ◌+◌, ◌-◌, ◌<◌, ◌≤◌, Bool, List, [], ◌∷◌, ◌++◌, map, Some, length, drop, take, refl, sym}
-use Rattle.std.proofs.Common.{subst, ◌∙◌, ap, arith}
-use Rattle.std.specs.Prelude.{slice_get, filter}
-use Rattle.std.specs.Option.{option_map}
-use Rattle.std.proofs.lemmas.List.{length-append, length-map, take-append-drop}
-use Rattle.std.proofs.lemmas.List.Elements.{filter-append}
-use Rattle.std.proofs.lemmas.Option.{slice_get-map}
-use Rattle.smith_syntax.specs.declared.value_type.HeapType.{HeapType}
-use Rattle.smith_syntax.specs.declared.value_type.HeapType.TheVariants.{Concrete}
+use Rattle.smith_draw_types.proofs.Common.{[], ap, arith, Bool, Concrete, drop, filter, filter-append, HeapType, length, length-map, List}
+use Rattle.smith_draw_types.proofs.Common.{map, option_map, refl, slice_get, slice_get-map, Some, subst, suc, sym, take, zero, ℕ, ◌++◌, ◌+◌}
+use Rattle.smith_draw_types.proofs.Common.{◌-◌, ◌<◌, ◌∙◌, ◌∷◌, ◌≡◌, ◌≤◌}
+use Rattle.std.proofs.lemmas.List.{length-append, take-append-drop}
 use Rattle.smith_draw_types.proofs.GroundedLoop.{none_left}
 use Rattle.smith_draw_types.proofs.OfferedPlaceLemmas.{slice_get-after}
 

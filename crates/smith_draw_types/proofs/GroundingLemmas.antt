@@ -1,20 +1,14 @@
 -- The test of groundedness decides it, over orderly types.
-use Rattle.std.proofs.Common.{◌≡◌, ◌⊎◌, inl, inr, ℕ, zero, suc, ◌+◌, ◌<◌, ◌≤◌, Bool, true, false, cond, ◌&&◌, ◌||◌, List, [], ◌∷◌, Some}
-use Rattle.std.proofs.Common.{length, drop, refl, sym, subst, ◌∙◌, arith, nat_lt}
-use Rattle.std.specs.Prelude.{IsTrue, ◌↔◌, slice_get, nat_le}
+use Rattle.smith_draw_types.proofs.Common.{[], arith, Bool, Concrete, cond, Context, drop, Exact, false, function_reference, HeapType, inl}
+use Rattle.smith_draw_types.proofs.Common.{inr, IsBelow, IsGrounded, IsGroundedByFuncs, IsGroundedByStructs, IsInRange, IsOrderly, IsTrue}
+use Rattle.smith_draw_types.proofs.Common.{IsValBelow, IsValInRange, length, List, lt-ltb, ltb-true, nat_le, nat_lt, reference_to, refl}
+use Rattle.smith_draw_types.proofs.Common.{same_from_decides, slice_get, slice_get_within, Some, subst, SubType, suc, sym, true, ValType}
+use Rattle.smith_draw_types.proofs.Common.{zero, ℕ, ◌&&◌, ◌+◌, ◌<◌, ◌||◌, ◌∙◌, ◌∷◌, ◌≡◌, ◌≤◌, ◌⊎◌}
+use Rattle.std.specs.Prelude.{◌↔◌}
 use Rattle.std.specs.Bool.{Decides}
-use Rattle.std.proofs.lemmas.Bool.{lt-ltb, le-ltb, ltb-true}
-use Rattle.std.proofs.lemmas.Bool.Decides.{same_from_decides}
-use Rattle.std.proofs.lemmas.Option.{slice_get_within}
-use Rattle.smith_types.specs.Expressions.{Context, created, function_reference, reference_to}
-use Rattle.smith_types.specs.Grounded.{IsGroundedByStructs, IsGroundedByFuncs, IsGrounded}
+use Rattle.std.proofs.lemmas.Bool.{le-ltb}
+use Rattle.smith_types.specs.Expressions.{created}
 use Rattle.smith_types.specs.Grounds.{is_ground}
-use Rattle.smith_types.specs.Subtyping.{IsBelow, IsInRange, IsValInRange, IsValBelow}
-use Rattle.smith_types.specs.Types.{IsOrderly}
-use Rattle.smith_syntax.specs.declared.value_type.HeapType.{HeapType}
-use Rattle.smith_syntax.specs.declared.value_type.HeapType.TheVariants.{Concrete, Exact}
-use Rattle.smith_syntax.specs.declared.value_type.ValType.{ValType}
-use Rattle.smith_syntax.specs.declared.composite_type.SubType.{SubType}
 use Rattle.smith_types.proofs.GroundedLemmas.{grounded_at, grounded_is}
 use Rattle.smith_draw_types.specs.Below.{is_val_below}
 use Rattle.smith_draw_types.specs.Grounding.{any_from, type_grounds, function_grounds, is_grounded}

@@ -1,18 +1,11 @@
 -- The number of types in a drawn group.
-use Rattle.std.proofs.Common.{◌≡◌, ℕ, ◌+◌, ◌-◌, ◌<◌, ◌≤◌, Bool, true, false, cond, ◌&&◌, ◌||◌, List, length, drop, refl, arith}
-use Rattle.std.proofs.Common.{length-append, length-drop, nat_lt}
-use Rattle.std.specs.Prelude.{IsTrue, nat_le}
-use Rattle.std.specs.declared.ops.Range.{Range}
+use Rattle.smith_draw_types.proofs.Common.{arith, Bool, cond, Config, Context, drop, false, GroupedTypes, grow_most, IsTrue, length}
+use Rattle.smith_draw_types.proofs.Common.{length-append, length-drop, List, ltb-true, nat_le, nat_lt, next_start, Range, range_at}
+use Rattle.smith_draw_types.proofs.Common.{range_within, ratio_at, refl, SubType, true, ℕ, ◌&&◌, ◌+◌, ◌-◌, ◌<◌, ◌||◌, ◌≡◌, ◌≤◌}
 use Rattle.std.proofs.lemmas.List.{length-take}
-use Rattle.std.proofs.lemmas.Bool.{ltb-true, leb-true}
-use Rattle.smith_bytes.specs.Draws.{range_at, ratio_at}
-use Rattle.smith_bytes.proofs.DrawnLemmas.{range_within}
-use Rattle.smith_bytes.proofs.GrownLemmas.{grow_most, grow_least}
-use Rattle.smith_types.specs.Expressions.{Context}
-use Rattle.smith_types.specs.GroupedTypes.{GroupedTypes}
-use Rattle.smith_types.specs.Types.{AreConsecutive, next_start}
-use Rattle.smith_syntax.specs.declared.composite_type.SubType.{SubType}
-use Rattle.smith_config.specs.declared.config.Config.{Config}
+use Rattle.std.proofs.lemmas.Bool.{leb-true}
+use Rattle.smith_bytes.proofs.GrownLemmas.{grow_least}
+use Rattle.smith_types.specs.Types.{AreConsecutive}
 use Rattle.smith_draw_types.specs.Grounding.{over}
 use Rattle.smith_draw_types.specs.Choices.{chosen_at}
 use Rattle.smith_draw_types.specs.SubTypes.{sub_type_at}

@@ -1,13 +1,8 @@
 -- One turn of each loop that adds groups.
-use Rattle.std.proofs.Common.{◌≡◌, ℕ, zero, suc, ◌+◌, ◌≤◌, ◌<◌, Bool, true, false, List, [], ◌∷◌, ◌++◌, length, refl, sym, ap, ◌∙◌, arith}
-use Rattle.std.proofs.Common.{length-append}
-use Rattle.std.proofs.lemmas.Bool.{lt-ltb, le-ltb}
-use Rattle.smith_bytes.specs.Source.{KeepsPieces}
-use Rattle.smith_bytes.specs.Draws.{bool_at}
+use Rattle.smith_draw_types.proofs.Common.{[], ap, arith, Bool, bool_at, Config, Context, false, GroupedTypes, KeepsPieces, length}
+use Rattle.smith_draw_types.proofs.Common.{length-append, List, lt-ltb, refl, suc, sym, true, zero, ℕ, ◌++◌, ◌+◌, ◌<◌, ◌∙◌, ◌∷◌, ◌≡◌, ◌≤◌}
+use Rattle.std.proofs.lemmas.Bool.{le-ltb}
 use Rattle.smith_bytes.proofs.PieceLemmas.{piece_same}
-use Rattle.smith_types.specs.Expressions.{Context}
-use Rattle.smith_types.specs.GroupedTypes.{GroupedTypes}
-use Rattle.smith_config.specs.declared.config.Config.{Config}
 use Rattle.smith_draw_types.specs.RecGroups.{rec_group_at, least_types_at, more_types_at}
 use Rattle.smith_draw_types.proofs.ValueTypeLemmas.{drawn_is}
 use Rattle.smith_draw_types.proofs.GroupSizeLemmas.{AreWithin, rec_group_more}

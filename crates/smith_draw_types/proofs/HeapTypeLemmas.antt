@@ -1,25 +1,14 @@
 -- Drawn heap types that match a heap type are subtypes of it, and drawn supertypes are supertypes;
 -- both are valid if it is.
-use Rattle.std.proofs.Common.{rules, ◌≡◌, ℕ, ◌<◌, ◌≤◌, Bool, true, false, cond, List, [], ◌∷◌, Some, length, refl, sym, subst, arith}
-use Rattle.std.specs.Prelude.{slice_get, IsTrue, All}
+use Rattle.smith_draw_types.proofs.Common.{[], Abstract, AbstractHeapType, All, All-from_recursion, arith, below_declared, Bool, bottom}
+use Rattle.smith_draw_types.proofs.Common.{bottom_of, CompositeInnerType, Concrete, cond, Config, Exact, false, features_of}
+use Rattle.smith_draw_types.proofs.Common.{get_or_from_slice_get, HeapType, is_abstract_below, IsBelow, IsBelow-trans, IsHeapTypeValid}
+use Rattle.smith_draw_types.proofs.Common.{IsOrderly, IsTrue, itself, kind, kind_of, length, List, refl, rules, shared, slice_get}
+use Rattle.smith_draw_types.proofs.Common.{slice_get_within, Some, subst, SubType, sym, true, ℕ, ◌<◌, ◌∷◌, ◌≡◌, ◌≤◌}
 use Rattle.std.specs.List.{AllByRecursion as Each}
-use Rattle.std.proofs.lemmas.Option.{slice_get_within, get_or_from_slice_get}
-use Rattle.std.proofs.lemmas.List.Elements.{All-from_recursion}
-use Rattle.smith_syntax.specs.Features.{Features}
-use Rattle.smith_syntax.specs.declared.value_type.AbstractHeapType.{AbstractHeapType}
-use Rattle.smith_syntax.specs.declared.value_type.HeapType.{HeapType}
-use Rattle.smith_syntax.specs.declared.value_type.HeapType.TheVariants.{Abstract, Concrete, Exact}
-use Rattle.smith_syntax.specs.declared.composite_type.CompositeInnerType.{CompositeInnerType}
-use Rattle.smith_syntax.specs.declared.composite_type.SubType.{SubType}
-use Rattle.smith_syntax.specs.Kinds.{kind, bottom, shared, kind_of, bottom_of}
-use Rattle.smith_types.specs.Types.{IsOrderly}
-use Rattle.smith_types.specs.Subtyping.{is_abstract_below, IsBelow, itself}
+use Rattle.smith_types.specs.Syntax.Features.{Features}
 use Rattle.smith_types.specs.Flags.{IsAbstractEnabled}
-use Rattle.smith_types.specs.ValidTypes.{IsHeapTypeValid}
-use Rattle.smith_types.proofs.GrowthLemmas.{IsBelow-trans}
-use Rattle.smith_types.proofs.PathLemmas.{below_abstract, below_declared, below_kind, above_bottom, exact_below}
-use Rattle.smith_config.specs.declared.config.Config.{Config}
-use Rattle.smith_config.specs.Features.{features_of}
+use Rattle.smith_types.proofs.PathLemmas.{above_bottom, below_abstract, below_kind, exact_below}
 use Rattle.smith_draw_types.specs.Offered.{gc_subtypes, gc_supertypes, subtypes_offered, supertypes_offered}
 use Rattle.smith_draw_types.specs.Kept.{IsSharingEnabled, StaysValid}
 use Rattle.smith_draw_types.specs.MatchingTypes.{matching_heap_type_at, super_heap_type_at}

@@ -1,12 +1,11 @@
 -- The record of functions, as the functions of spaces are noted in turn.
-use Rattle.std.proofs.Common.{◌≡◌, ℕ, ◌+◌, ◌<◌, ◌≤◌, Bool, true, false, List, take, get_or, length, refl, subst, arith, add-one}
-use Rattle.std.specs.Prelude.{◌&&◌, nat_le, if◌then◌else◌}
+use Rattle.smith_draw_types.proofs.Common.{add-one, AreFuncGrounds, arith, Bool, Concrete, Context, Exact, false, FuncGrounds, get_or}
+use Rattle.smith_draw_types.proofs.Common.{if◌then◌else◌, length, List, nat_le, reference_to, refl, subst, take, true, ℕ, ◌+◌, ◌<◌, ◌≡◌}
+use Rattle.smith_draw_types.proofs.Common.{◌≤◌}
+use Rattle.std.specs.Prelude.{◌&&◌}
 use Rattle.std.proofs.Math.Seq.{take-suc}
 use Rattle.std.proofs.lemmas.List.{length-take-le, take_all}
-use Rattle.smith_types.specs.Expressions.{Context, reference_to}
-use Rattle.smith_types.specs.FuncGrounds.{AreFuncGrounds, IsFunctionAdded}
-use Rattle.smith_types.specs.declared.func_grounds.FuncGrounds.{FuncGrounds}
-use Rattle.smith_syntax.specs.declared.value_type.HeapType.TheVariants.{Concrete, Exact}
+use Rattle.smith_types.specs.FuncGrounds.{IsFunctionAdded}
 use Rattle.smith_draw_types.specs.Grounding.{with_functions}
 
 -- the reference to a function, by the two tests that determine whether it is exact

@@ -1,20 +1,13 @@
 -- Properties that drawn types have if the types that they are drawn over have them: for one type,
 -- from types without a supertype and subtypes; for all types of a type space, if the property may
 -- depend on all of them and is preserved as more are added.
-use Rattle.std.proofs.Common.{◌≡◌, ℕ, ◌+◌, ◌-◌, Bool, true, false, ◌||◌, Option, Some, None, List, [], ◌∷◌, ◌++◌, length, get_or, refl, sym}
-use Rattle.std.proofs.Common.{subst, arith, append_assoc}
-use Rattle.std.specs.Prelude.{slice_get, All}
+use Rattle.smith_draw_types.proofs.Common.{[], All, All-append, All-from_recursion, All-weaker, append-nil, append_assoc, arith, Bool}
+use Rattle.smith_draw_types.proofs.Common.{cond_both, Config, Context, false, get_or, GroupedTypes, IsOrderly, length, List, None, Option}
+use Rattle.smith_draw_types.proofs.Common.{refl, slice_get, slice_get-get_or, slice_get_within, Some, subst, SubType, sym, true, ℕ, ◌++◌}
+use Rattle.smith_draw_types.proofs.Common.{◌+◌, ◌-◌, ◌||◌, ◌∷◌, ◌≡◌}
 use Rattle.std.specs.List.{AllByRecursion as Each}
-use Rattle.std.proofs.lemmas.List.{append-nil}
-use Rattle.std.proofs.lemmas.List.Elements.{All-append, All-weaker, All-from_recursion}
-use Rattle.std.proofs.lemmas.Option.{slice_get-get_or, slice_get_within}
-use Rattle.smith_bytes.proofs.GrownLemmas.{cond_both}
-use Rattle.smith_types.specs.Expressions.{Context}
-use Rattle.smith_types.specs.GroupedTypes.{GroupedTypes}
-use Rattle.smith_types.specs.Types.{IsAlike, IsOrderly}
-use Rattle.smith_syntax.specs.declared.composite_type.SubType.{SubType}
+use Rattle.smith_types.specs.Types.{IsAlike}
 use Rattle.smith_types.proofs.SpaceLemmas.{IsOrderly-push}
-use Rattle.smith_config.specs.declared.config.Config.{Config}
 use Rattle.smith_draw_types.specs.Choices.{chosen_at}
 use Rattle.smith_draw_types.specs.Grounding.{over}
 use Rattle.smith_draw_types.specs.SubTypes.{supertypes, root_type_at, sub_type_below_at, sub_type_of_at, supertype_wanted_at, sub_type_at}

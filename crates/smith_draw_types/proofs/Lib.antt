@@ -1,3 +1,4 @@
+pub mod Common
 pub mod CallerLemmas
 pub mod EnabledLemmas
 pub mod UntilLoop

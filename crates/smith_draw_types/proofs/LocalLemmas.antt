@@ -1,17 +1,7 @@
 -- Drawn locals are few and valid; without floats none is a float, and with `non_nullable_enabled`
 -- off none is a non-nullable reference.
-use Rattle.std.proofs.Common.{◌≡◌, ℕ, ◌≤◌, false, List, [], length, arith}
-use Rattle.std.specs.Prelude.{All}
-use Rattle.std.proofs.lemmas.List.Elements.{All-nil}
-use Rattle.smith_bytes.proofs.GrownLemmas.{grow_most, grow_all}
-use Rattle.smith_types.specs.Expressions.{Context}
-use Rattle.smith_types.specs.Floats.{IsNoFloat}
-use Rattle.smith_types.specs.ValidTypes.{IsValTypeValid}
-use Rattle.smith_syntax.specs.declared.value_type.ValType.{ValType}
-use Rattle.smith_config.specs.declared.config.Config.{Config}
-use Rattle.smith_config.specs.Features.{features_of}
-use Rattle.smith_config.specs.Sanitized.{IsSanitized}
-use Rattle.smith_config.specs.Granted.{IsNonNullable}
+use Rattle.smith_draw_types.proofs.Common.{[], All, All-nil, arith, Config, Context, false, features_of, grow_all, grow_most, IsNoFloat}
+use Rattle.smith_draw_types.proofs.Common.{IsNonNullable, IsSanitized, IsValTypeValid, length, List, ValType, ℕ, ◌≡◌, ◌≤◌}
 use Rattle.smith_draw_types.specs.CompositeTypes.{val_types_at}
 use Rattle.smith_draw_types.specs.Locals.{locals_at}
 use Rattle.smith_draw_types.specs.ValueTypes.{val_type_at}

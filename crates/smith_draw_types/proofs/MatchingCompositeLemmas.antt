@@ -1,28 +1,13 @@
 -- Drawn composite types match and are valid, over every list of types.
-use Rattle.std.proofs.Common.{◌≡◌, ℕ, zero, suc, ◌+◌, ◌-◌, ◌≤◌, Bool, List, [], ◌∷◌, ◌++◌, length, refl, nat_lt}
-use Rattle.std.specs.Prelude.{IsTrue, All}
+use Rattle.smith_draw_types.proofs.Common.{[], All, All-append, All-from_recursion, Array, Bool, CompositeInnerType, cond_both, Config}
+use Rattle.smith_draw_types.proofs.Common.{Context, features_of, FieldType, Func, FuncType, goes_at, grow_at, IsFuncTypeValid, IsOrderly}
+use Rattle.smith_draw_types.proofs.Common.{IsSanitized, IsShareable, IsTrue, IsValTypeValid, kind_of, length, List, nat_lt, range_at}
+use Rattle.smith_draw_types.proofs.Common.{recursion_from_All, refl, Struct, StructType, SubType, suc, ValType, values_of}
+use Rattle.smith_draw_types.proofs.Common.{values_of_storage, zero, ℕ, ◌++◌, ◌+◌, ◌-◌, ◌∷◌, ◌≡◌, ◌≤◌}
 use Rattle.std.specs.List.{flat_map, AllByRecursion as Each}
-use Rattle.std.proofs.lemmas.List.Elements.{All-append, All-from_recursion, recursion_from_All}
-use Rattle.smith_bytes.specs.Draws.{range_at}
-use Rattle.smith_bytes.specs.Growth.{goes_at, grow_at}
-use Rattle.smith_bytes.proofs.GrownLemmas.{cond_both}
-use Rattle.smith_types.specs.Expressions.{Context}
 use Rattle.smith_types.specs.Flags.{IsInnerEnabled}
-use Rattle.smith_syntax.specs.Kinds.{kind_of}
-use Rattle.smith_types.specs.Types.{IsOrderly}
 use Rattle.smith_types.specs.Matching.{IsInnerMatch, AreFieldsMatched}
-use Rattle.smith_types.specs.ValidTypes.{IsValTypeValid, IsFuncTypeValid, IsShareable, values_of, values_of_storage}
-use Rattle.smith_syntax.specs.declared.value_type.ValType.{ValType}
-use Rattle.smith_syntax.specs.declared.composite_type.FieldType.{FieldType}
-use Rattle.smith_syntax.specs.declared.composite_type.FuncType.{FuncType}
-use Rattle.smith_syntax.specs.declared.composite_type.StructType.{StructType}
-use Rattle.smith_syntax.specs.declared.composite_type.CompositeInnerType.{CompositeInnerType}
-use Rattle.smith_syntax.specs.declared.composite_type.CompositeInnerType.TheVariants.{Array, Func, Struct}
-use Rattle.smith_syntax.specs.declared.composite_type.SubType.{SubType}
 use Rattle.smith_types.proofs.GrowthLemmas.{AreFieldsMatched-longer}
-use Rattle.smith_config.specs.declared.config.Config.{Config}
-use Rattle.smith_config.specs.Features.{features_of}
-use Rattle.smith_config.specs.Sanitized.{IsSanitized}
 use Rattle.smith_draw_types.specs.Kept.{IsSharingEnabled, IsFieldValid, IsStorageShareable}
 use Rattle.smith_draw_types.specs.FieldTypes.{field_type_at, fields_until_at}
 use Rattle.smith_draw_types.specs.MatchingTypes.{matching_field_type_at, matched_fields_at, matching_func_type_at}

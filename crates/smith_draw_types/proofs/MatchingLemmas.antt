@@ -1,33 +1,23 @@
 -- Drawn types that match a type are subtypes of it, and drawn supertypes are supertypes; both are
 -- valid if it is.
-use Rattle.std.proofs.Common.{◌≡◌, ◌⊎◌, inl, inr, ℕ, ◌≤◌, Bool, true, false, cond, List, [], ◌∷◌, length, drop, refl, sym, subst, arith}
-use Rattle.std.specs.Prelude.{All, IsTrue, filter, not, ◌||◌}
+use Rattle.smith_draw_types.proofs.Common.{[], All, All-from_recursion, All-weaker, AreBelow, arith, Bool, cond, cond_both, Config, Context}
+use Rattle.smith_draw_types.proofs.Common.{drop, false, features_of, FieldType, filter, FuncType, HeapType, I16, I8, inl, inr, IsBelow}
+use Rattle.smith_draw_types.proofs.Common.{IsFuncMatch, IsFuncTypeValid, IsHeapTypeValid, IsOrderly, IsStorageMatch, IsTrue, IsValBelow}
+use Rattle.smith_draw_types.proofs.Common.{IsValTypeValid, itself, length, List, recursion_from_All, Ref, refl, RefType, StorageType, subst}
+use Rattle.smith_draw_types.proofs.Common.{SubType, sym, true, Val, ValType, ℕ, ◌∷◌, ◌≡◌, ◌≤◌, ◌⊎◌}
+use Rattle.std.specs.Prelude.{not, ◌||◌}
 use Rattle.std.specs.List.{AllByRecursion as Each}
-use Rattle.std.proofs.lemmas.List.Elements.{All-filter, All-weaker, filter_passes, All-from_recursion, recursion_from_All}
-use Rattle.smith_types.specs.Expressions.{Context}
-use Rattle.smith_syntax.specs.declared.value_type.RefType.{RefType}
-use Rattle.smith_syntax.specs.declared.value_type.ValType.{ValType}
-use Rattle.smith_syntax.specs.declared.value_type.ValType.TheVariants.{Ref}
-use Rattle.smith_syntax.specs.declared.composite_type.StorageType.{StorageType}
-use Rattle.smith_syntax.specs.declared.composite_type.StorageType.TheVariants.{I8, I16, Val}
-use Rattle.smith_syntax.specs.declared.composite_type.FieldType.{FieldType}
-use Rattle.smith_syntax.specs.declared.composite_type.FuncType.{FuncType}
-use Rattle.smith_syntax.specs.declared.composite_type.SubType.{SubType}
-use Rattle.smith_types.specs.Types.{IsOrderly}
-use Rattle.smith_types.specs.Subtyping.{IsBelow, itself, IsRefBelow, IsValBelow}
-use Rattle.smith_types.specs.Matching.{IsStorageMatch, IsFieldMatch, AreFieldsMatched, AreBelow, IsFuncMatch}
-use Rattle.smith_types.specs.ValidTypes.{IsHeapTypeValid, IsRefTypeValid, IsValTypeValid, IsFuncTypeValid}
+use Rattle.std.proofs.lemmas.List.Elements.{All-filter, filter_passes}
+use Rattle.smith_types.specs.Subtyping.{IsRefBelow}
+use Rattle.smith_types.specs.Matching.{AreFieldsMatched, IsFieldMatch}
+use Rattle.smith_types.specs.ValidTypes.{IsRefTypeValid}
 use Rattle.smith_types.proofs.GrowthLemmas.{IsFieldMatch-refl}
-use Rattle.smith_config.specs.declared.config.Config.{Config}
-use Rattle.smith_config.specs.Features.{features_of}
 use Rattle.smith_draw_types.specs.Kept.{IsSharingEnabled, StaysValid, IsStorageValid, IsFieldValid}
 use Rattle.smith_draw_types.specs.Grounding.{is_grounded}
 use Rattle.smith_draw_types.specs.Offered.{gc_subtypes, subtypes_offered}
 use Rattle.smith_draw_types.specs.MatchingTypes.{first_and_passing, references_offered, each_at, matching_ref_type_at, matching_val_type_at}
 use Rattle.smith_draw_types.specs.MatchingTypes.{matching_storage_type_at, matching_field_type_at, matched_fields_at, super_ref_type_at}
 use Rattle.smith_draw_types.specs.MatchingTypes.{super_val_type_at, matching_func_type_at}
-use Rattle.smith_bytes.proofs.GrownLemmas.{cond_both}
-use Rattle.smith_syntax.specs.declared.value_type.HeapType.{HeapType}
 use Rattle.smith_draw_types.proofs.ChosenLemmas.{gc_first}
 use Rattle.smith_draw_types.proofs.EnabledLemmas.{chosen_is}
 use Rattle.smith_draw_types.proofs.HeapTypeLemmas.{offered_each, gc_subtypes_below, gc_subtypes_valid, super_heap_above, super_heap_valid}

@@ -1,11 +1,11 @@
 -- The numbers of pages that a drawn memory may have.
-use Rattle.std.proofs.Common.{◌≡◌, ℕ, zero, suc, ◌-◌, ◌*◌, ◌/◌, ◌^◌, ◌≤◌, ◌<◌, ◌⊎◌, min, max, Bool, true, false, cond, ◌||◌, Option, Some}
-use Rattle.std.proofs.Common.{None, refl, arith, inl, inr, lit<}
+use Rattle.smith_draw_types.proofs.Common.{arith, Bool, cond, Config, false, inl, inr, IsSome, IsTrue, lit<, None, Option, refl, Some, suc}
+use Rattle.smith_draw_types.proofs.Common.{true, zero, ℕ, ◌-◌, ◌<◌, ◌^◌, ◌||◌, ◌≡◌, ◌≤◌, ◌⊎◌}
+use Rattle.std.proofs.Common.{max, min, ◌*◌, ◌/◌}
 use Rattle.std.proofs.Math.Nat.{le-div_iff_mul-le, div-mul-le_self, mul-le-mul_right, pow-le-pow_right, one-le-pow}
-use Rattle.std.specs.Prelude.{IsTrue, IsSome, IfSome}
+use Rattle.std.specs.Prelude.{IfSome}
 use Rattle.smith_types.specs.Entities.{AreLimitsValid, page_log2, addresses, most_pages}
-use Rattle.smith_syntax.specs.declared.entity_type.MemoryType.{MemoryType}
-use Rattle.smith_config.specs.declared.config.Config.{Config}
+use Rattle.smith_types.specs.Syntax.entity_type.MemoryType.{MemoryType}
 use Rattle.smith_draw_types.specs.Callers.{PassesButImports}
 use Rattle.smith_config.specs.EntityBounds.{memory_bytes, ArePagesWithin, IsMemoryWithin}
 use Rattle.smith_draw_types.specs.Memories.{least_pages, drawn_pages}

@@ -1,22 +1,15 @@
 -- With `non_nullable_enabled` off, no drawn reference is non-nullable. If no field or element of
 -- the existing types is, none of a drawn type is.
-use Rattle.std.proofs.Common.{◌≡◌, ℕ, ◌∙◌, Bool, true, false, List, length, refl, sym}
-use Rattle.std.specs.Prelude.{IsTrue}
+use Rattle.smith_draw_types.proofs.Common.{Bool, Config, Context, false, GroupedTypes, IsNonNullable, IsOrderly, IsTrue, IsUngrounded}
+use Rattle.smith_draw_types.proofs.Common.{length, List, refl, SubType, sym, true, ValType, ℕ, ◌∙◌, ◌≡◌}
 use Rattle.std.specs.List.{Any}
 use Rattle.std.proofs.lemmas.Bool.{true≢false}
-use Rattle.smith_types.specs.Expressions.{Context}
 use Rattle.smith_types.specs.Expressions.{field_values}
-use Rattle.smith_types.specs.GroupedTypes.{GroupedTypes}
-use Rattle.smith_types.specs.Types.{IsOrderly}
-use Rattle.smith_syntax.specs.declared.value_type.ValType.{ValType}
-use Rattle.smith_syntax.specs.declared.value_type.ValType.TheVariants as vals
-use Rattle.smith_syntax.specs.declared.composite_type.SubType.{SubType}
-use Rattle.smith_config.specs.declared.config.Config.{Config}
+use Rattle.smith_types.specs.Syntax.value_type.ValType.TheVariants as vals
 use Rattle.smith_draw_types.specs.Grounding.{over}
 use Rattle.smith_draw_types.specs.declared.value_type.ValueClass.{ValueClass}
 use Rattle.smith_draw_types.specs.declared.value_type.ValueClass.TheVariants.{I32, I64, F32, F64, V128, Reference}
 use Rattle.smith_draw_types.specs.Choices.{enabled, chosen_at}
-use Rattle.smith_config.specs.Granted.{IsNonNullable, IsUngrounded}
 use Rattle.smith_draw_types.specs.HeldFields.{HoldsNonNullableField}
 use Rattle.smith_draw_types.specs.HeldFields.{fields_of}
 use Rattle.smith_draw_types.specs.ValueTypes.{value_classes, ref_type_at, value_of_class_at, val_type_at}

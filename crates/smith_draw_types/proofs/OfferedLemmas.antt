@@ -1,21 +1,11 @@
 -- Properties of each heap type that is offered.
-use Rattle.std.proofs.Common.{rules, ◌≡◌, ℕ, zero, suc, ◌+◌, Bool, true, false, cond, not, ◌&&◌, List, [], ◌∷◌, ◌++◌, map, Option, Some}
-use Rattle.std.proofs.Common.{None, refl, sym, ap, subst, arith}
-use Rattle.std.specs.Prelude.{slice_get, IsTrue}
+use Rattle.smith_draw_types.proofs.Common.{[], Abstract, AbstractHeapType, ap, arith, Bool, bottom, bottom_of, CompositeInnerType, Concrete}
+use Rattle.smith_draw_types.proofs.Common.{cond, Config, Exact, false, flat_map-cons, HeapType, is_abstract_below, is_directly_below}
+use Rattle.smith_draw_types.proofs.Common.{is_index, is_shared_as, IsTrue, kind, kind_of, List, map, None, not, Option, refl, rules, shared}
+use Rattle.smith_draw_types.proofs.Common.{slice_get, Some, subst, SubType, suc, sym, true, zero, ℕ, ◌&&◌, ◌++◌, ◌+◌, ◌∷◌, ◌≡◌}
 use Rattle.std.specs.List.{flat_map, AllByRecursion as Each}
 use Rattle.std.proofs.lemmas.Bool.{eqb-true}
-use Rattle.std.proofs.lemmas.List.Concat.{flat_map-cons}
-use Rattle.smith_syntax.specs.declared.value_type.AbstractHeapType.{AbstractHeapType}
-use Rattle.smith_syntax.specs.declared.value_type.AbstractHeapType.TheVariants as heap
-use Rattle.smith_syntax.specs.declared.value_type.HeapType.{HeapType}
-use Rattle.smith_syntax.specs.declared.value_type.HeapType.TheVariants.{Abstract, Concrete, Exact}
-use Rattle.smith_syntax.specs.declared.composite_type.CompositeInnerType.{CompositeInnerType}
-use Rattle.smith_syntax.specs.declared.composite_type.SubType.{SubType}
-use Rattle.smith_syntax.specs.Kinds.{kind, kind_of, bottom, bottom_of, shared}
-use Rattle.smith_types.specs.Subtyping.{is_abstract_below}
-use Rattle.smith_types.specs.Families.{is_index, is_directly_below}
-use Rattle.smith_config.specs.declared.config.Config.{Config}
-use Rattle.smith_types.specs.Grounds.{is_shared_as}
+use Rattle.smith_types.specs.Syntax.value_type.AbstractHeapType.TheVariants as heap
 use Rattle.smith_draw_types.specs.Offered.{abstract_subtypes, abstract_supertypes, supertypes_of_inner, kinds_below, kinds_above}
 use Rattle.smith_draw_types.specs.Offered.{is_of_kind, is_kind, picked_from, of_kinds, offered_direct_subtypes, ancestors, of_standing}
 use Rattle.smith_draw_types.specs.Offered.{bottom_at, kinds_at, exact_subtypes, gc_subtypes, gc_supertypes}

@@ -1,26 +1,15 @@
 -- The number of heap types offered in place of one, and the type at a position among them.
-use Rattle.std.proofs.Common.{rules, ◌≡◌, ℕ, zero, suc, ◌+◌, ◌-◌, ◌<◌, ◌≤◌, Bool, true, false, not, ◌&&◌, List, [], ◌∷◌, ◌++◌, map, Option}
-use Rattle.std.proofs.Common.{Some, None, length, get_or, drop, refl, sym, ◌∙◌, ap, subst, arith, lit<, drop-cons}
-use Rattle.std.specs.Prelude.{slice_get, if◌then◌else◌}
-use Rattle.std.proofs.lemmas.Option.{slice_get-map}
-use Rattle.std.specs.Option.{option_map}
-use Rattle.std.proofs.lemmas.List.{length-append, length-map}
-use Rattle.std.proofs.lemmas.List.Concat.{flat_map-cons}
-use Rattle.smith_syntax.specs.declared.value_type.AbstractHeapType.{AbstractHeapType}
-use Rattle.smith_syntax.specs.declared.value_type.HeapType.{HeapType}
-use Rattle.smith_syntax.specs.declared.value_type.HeapType.TheVariants.{Abstract, Concrete}
-use Rattle.smith_syntax.specs.declared.composite_type.CompositeInnerType.{CompositeInnerType}
-use Rattle.smith_syntax.specs.declared.composite_type.SubType.{SubType}
-use Rattle.smith_syntax.specs.Kinds.{shared, bottom}
-use Rattle.smith_types.specs.Types.{IsOrderly}
+use Rattle.smith_draw_types.proofs.Common.{[], Abstract, AbstractHeapType, ap, arith, below_declared, Bool, bottom, CompositeInnerType}
+use Rattle.smith_draw_types.proofs.Common.{Concrete, drop, false, flat_map-cons, get_or, HeapType, if◌then◌else◌, is_directly_below}
+use Rattle.smith_draw_types.proofs.Common.{IsBelow, IsOrderly, length, length-map, List, lit<, map, None, not, Option, option_map, refl}
+use Rattle.smith_draw_types.proofs.Common.{rules, shared, slice_get, slice_get-grown, slice_get-map, Some, subst, SubType, suc, sym, true}
+use Rattle.smith_draw_types.proofs.Common.{zero, ℕ, ◌&&◌, ◌++◌, ◌+◌, ◌-◌, ◌<◌, ◌∙◌, ◌∷◌, ◌≡◌, ◌≤◌}
+use Rattle.std.proofs.Common.{drop-cons}
+use Rattle.std.proofs.lemmas.List.{length-append}
 use Rattle.smith_types.specs.GroupedTypes.{HasDepth, root, deeper}
-use Rattle.smith_types.specs.Subtyping.{IsBelow}
 use Rattle.smith_types.specs.KindCounts.{is_inner_of_kind, indices_from, indices_of_kind}
 use Rattle.smith_types.specs.KindCounts as kinds
-use Rattle.smith_types.specs.Families.{is_directly_below}
 use Rattle.smith_types.specs.Families as families
-use Rattle.smith_types.proofs.ListLemmas.{slice_get-grown}
-use Rattle.smith_types.proofs.PathLemmas.{below_declared}
 use Rattle.smith_types.proofs.SpaceLemmas.{depth_alone, depth_some}
 use Rattle.smith_types.proofs.WalkLemmas.{below_level, below_above}
 use Rattle.smith_draw_types.specs.Offered.{is_of_kind, is_kind, offered_direct_subtypes, picked_from, of_kinds, supertype_of, ancestors}

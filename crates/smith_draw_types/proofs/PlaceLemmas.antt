@@ -1,5 +1,6 @@
 -- The positions of the items of a list that pass a test.
-use Rattle.std.proofs.Common.{◌≡◌, ◌∙◌, ℕ, suc, Bool, true, false, List, [], ◌∷◌, length, refl, ap, count_by}
+use Rattle.smith_draw_types.proofs.Common.{[], ap, Bool, false, length, List, refl, suc, true, ℕ, ◌∙◌, ◌∷◌, ◌≡◌}
+use Rattle.std.proofs.Common.{count_by}
 use Rattle.std.specs.List.{filter}
 use Rattle.std.proofs.lemmas.List.Sums.{length-filter}
 use Rattle.smith_draw_types.specs.TypeUses.{places_from}

@@ -1,27 +1,17 @@
 -- Drawn groups are valid, and respect the bounds on the number of types.
-use Rattle.std.proofs.Common.{◌≡◌, ℕ, zero, suc, ◌+◌, ◌-◌, ◌<◌, ◌≤◌, Bool, true, false, cond, ◌||◌, List, [], ◌∷◌, ◌++◌, Some, get_or}
-use Rattle.std.proofs.Common.{length, refl, sym, subst, arith, append_assoc, length-append, nat_lt}
-use Rattle.std.specs.Prelude.{slice_get}
+use Rattle.smith_draw_types.proofs.Common.{[], append-nil, append_assoc, AreTypesValid, arith, Bool, bool_at, cond, cond_both, Config}
+use Rattle.smith_draw_types.proofs.Common.{Context, false, features_of, get_or, goes_at, GroupedTypes, grow_at, IsSanitized, length}
+use Rattle.smith_draw_types.proofs.Common.{length-append, List, ltb-true, nat_lt, Range, range_at, recursion_from_All, refl, slice_get}
+use Rattle.smith_draw_types.proofs.Common.{slice_get-get_or, slice_get-grown, slice_get_within, Some, subst, SubType, suc, sym, true, zero}
+use Rattle.smith_draw_types.proofs.Common.{ℕ, ◌++◌, ◌+◌, ◌-◌, ◌<◌, ◌||◌, ◌∷◌, ◌≡◌, ◌≤◌}
 use Rattle.std.specs.List.{AllByRecursion as Each}
-use Rattle.std.specs.declared.ops.Range.{Range}
-use Rattle.std.proofs.lemmas.Bool.{ltb-true, ltb-false}
-use Rattle.std.proofs.lemmas.List.{append-nil}
-use Rattle.std.proofs.lemmas.List.Elements.{All-take, All-drop, recursion_from_All}
-use Rattle.std.proofs.lemmas.Option.{slice_get-get_or, slice_get_within}
-use Rattle.smith_bytes.specs.Draws.{bool_at, range_at}
-use Rattle.smith_bytes.specs.Growth.{goes_at, grow_at}
-use Rattle.smith_bytes.proofs.GrownLemmas.{cond_both}
-use Rattle.smith_types.specs.Expressions.{Context}
-use Rattle.smith_syntax.specs.Features.{Features}
-use Rattle.smith_types.specs.GroupedTypes.{GroupedTypes, IsSound}
+use Rattle.std.proofs.lemmas.Bool.{ltb-false}
+use Rattle.std.proofs.lemmas.List.Elements.{All-drop, All-take}
+use Rattle.smith_types.specs.Syntax.Features.{Features}
+use Rattle.smith_types.specs.GroupedTypes.{IsSound}
 use Rattle.smith_types.specs.OpenTypes.{AreTypesOpen}
-use Rattle.smith_types.specs.ValidTypes.{AreTypesValid, IsGroupValid}
-use Rattle.smith_syntax.specs.declared.composite_type.SubType.{SubType}
-use Rattle.smith_types.proofs.ListLemmas.{slice_get-grown}
+use Rattle.smith_types.specs.ValidTypes.{IsGroupValid}
 use Rattle.smith_types.proofs.GroupGrowthLemmas.{AreTypesOpen-at, AreTypesOpen-start, AreTypesOpen-push, AreTypesOpen-close}
-use Rattle.smith_config.specs.declared.config.Config.{Config}
-use Rattle.smith_config.specs.Features.{features_of}
-use Rattle.smith_config.specs.Sanitized.{IsSanitized}
 use Rattle.smith_draw_types.specs.Grounding.{over}
 use Rattle.smith_draw_types.specs.Choices.{chosen_at}
 use Rattle.smith_draw_types.specs.SubTypes.{sub_type_at}

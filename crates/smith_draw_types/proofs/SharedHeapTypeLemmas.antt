@@ -1,14 +1,8 @@
 -- The test of a shared heap type is correct, and types are shared only if that is enabled.
-use Rattle.std.proofs.Common.{◌≡◌, ℕ, Bool, true, false, Option, Some, None, List, refl, sym, ◌↔◌}
-use Rattle.std.specs.Prelude.{slice_get, IsTrue}
-use Rattle.smith_types.specs.GroupedTypes.{GroupedTypes}
-use Rattle.smith_types.specs.ValidTypes.{AreTypesValid, IsHeapTypeValid, IsHeapTypeShared}
-use Rattle.smith_syntax.specs.declared.value_type.HeapType.{HeapType}
-use Rattle.smith_syntax.specs.declared.value_type.HeapType.TheVariants.{Abstract, Concrete, Exact}
-use Rattle.smith_syntax.specs.declared.composite_type.SubType.{SubType}
+use Rattle.smith_draw_types.proofs.Common.{Abstract, AreTypesValid, Bool, Concrete, Config, Exact, false, features_of, GroupedTypes}
+use Rattle.smith_draw_types.proofs.Common.{HeapType, IsHeapTypeShared, IsHeapTypeValid, IsTrue, List, None, Option, refl, slice_get, Some}
+use Rattle.smith_draw_types.proofs.Common.{SubType, sym, true, ℕ, ◌↔◌, ◌≡◌}
 use Rattle.smith_types.proofs.ValidityLemmas.{AreTypesValid-at}
-use Rattle.smith_config.specs.declared.config.Config.{Config}
-use Rattle.smith_config.specs.Features.{features_of}
 use Rattle.smith_draw_types.specs.SharedHeapTypes.{is_type_shared, is_heap_type_shared}
 
 type_shared : (types : List SubType) (i : ℕ) (at : Option SubType) → slice_get types i ≡ at → IsTrue (is_type_shared at) → (t : SubType)

@@ -1,22 +1,12 @@
 -- Matching types have the same sharedness.
-use Rattle.std.proofs.Common.{rules, ◌≡◌, ℕ, ◌<◌, Bool, List, [], ◌∷◌, ◌++◌, Some, length, sym, ◌∙◌, subst, arith, ◌↔◌}
-use Rattle.std.specs.Prelude.{slice_get, IsTrue, All}
+use Rattle.smith_draw_types.proofs.Common.{[], Abstract, All, All-from_recursion, AreBelow, arith, Bool, Concrete, Exact, FuncType}
+use Rattle.smith_draw_types.proofs.Common.{HeapType, I16, I8, IsBelow, IsFuncMatch, IsHeapTypeShared, IsOrderly, IsShareable}
+use Rattle.smith_draw_types.proofs.Common.{IsStorageMatch, IsTrue, IsValBelow, itself, length, List, recursion_from_All, Ref, rules, shared}
+use Rattle.smith_draw_types.proofs.Common.{slice_get, slice_get-get_or, slice_get_within, Some, StorageType, subst, SubType, sym, Val}
+use Rattle.smith_draw_types.proofs.Common.{ValType, ℕ, ◌++◌, ◌<◌, ◌↔◌, ◌∙◌, ◌∷◌, ◌≡◌}
 use Rattle.std.specs.List.{AllByRecursion as Each}
-use Rattle.std.proofs.lemmas.Option.{same_Some, slice_get_within, slice_get-get_or}
-use Rattle.std.proofs.lemmas.List.Elements.{All-from_recursion, recursion_from_All}
-use Rattle.smith_syntax.specs.declared.value_type.HeapType.{HeapType}
-use Rattle.smith_syntax.specs.declared.value_type.HeapType.TheVariants.{Abstract, Concrete, Exact}
-use Rattle.smith_syntax.specs.declared.value_type.ValType.{ValType}
-use Rattle.smith_syntax.specs.declared.value_type.ValType.TheVariants.{Ref}
-use Rattle.smith_syntax.specs.declared.composite_type.StorageType.{StorageType}
-use Rattle.smith_syntax.specs.declared.composite_type.StorageType.TheVariants.{I8, I16, Val}
-use Rattle.smith_syntax.specs.declared.composite_type.FuncType.{FuncType}
-use Rattle.smith_syntax.specs.declared.composite_type.SubType.{SubType}
-use Rattle.smith_syntax.specs.Kinds.{shared}
-use Rattle.smith_types.specs.Types.{IsOrderly}
-use Rattle.smith_types.specs.Subtyping.{IsStep, IsBelow, itself, by_step, IsValBelow}
-use Rattle.smith_types.specs.Matching.{IsStorageMatch, AreBelow, IsFuncMatch}
-use Rattle.smith_types.specs.ValidTypes.{IsHeapTypeShared, IsShareable}
+use Rattle.std.proofs.lemmas.Option.{same_Some}
+use Rattle.smith_types.specs.Subtyping.{by_step, IsStep}
 use Rattle.smith_draw_types.specs.Kept.{IsStorageShareable, IsFuncShareable}
 
 true_as : {a b : Bool} → a ≡ b → IsTrue a ↔ IsTrue b

@@ -1,21 +1,12 @@
 -- From a source that starts with a piece that spells groups, these groups are drawn, and the bytes
 -- after the piece remain.
-use Rattle.std.proofs.Common.{◌≡◌, ℕ, zero, suc, ◌-◌, ◌+◌, ◌<◌, ◌≤◌, ◌&&◌, Bool, true, false, cond, List, [], ◌∷◌, ◌++◌, length, nat_lt}
-use Rattle.std.proofs.Common.{refl, sym, ap, subst, ◌∙◌, arith, append_assoc, length-append}
+use Rattle.smith_draw_types.proofs.Common.{[], All-nil, ap, append-nil, append_assoc, arith, Bool, bool_at, bool_read, cond, Config}
+use Rattle.smith_draw_types.proofs.Common.{Context, false, GroupedTypes, IsSanitized, joined_parts, length, length-append, List, lt-ltb}
+use Rattle.smith_draw_types.proofs.Common.{nat_lt, next_start, number_read, range_at, ratio_at, refl, SpellsRefusal, subst, SubType, suc}
+use Rattle.smith_draw_types.proofs.Common.{sym, true, Where, zero, ℕ, ◌&&◌, ◌++◌, ◌+◌, ◌-◌, ◌<◌, ◌∙◌, ◌∷◌, ◌≡◌, ◌≤◌}
 use Rattle.std.specs.List.{All, flat_map}
-use Rattle.std.proofs.lemmas.Bool.{lt-ltb}
-use Rattle.std.proofs.lemmas.List.{append-nil}
-use Rattle.std.proofs.lemmas.List.Elements.{All-nil}
-use Rattle.smith_bytes.specs.Draws.{bool_at, range_at, ratio_at}
-use Rattle.smith_bytes.specs.Spelling.{SpellsRefusal, SpellsBool, Where}
-use Rattle.smith_bytes.proofs.SpelledLemmas.{joined_parts, bool_read, number_read}
-use Rattle.smith_types.specs.Expressions.{Context}
-use Rattle.smith_types.specs.GroupedTypes.{GroupedTypes}
-use Rattle.smith_types.specs.Types.{next_start}
+use Rattle.smith_bytes.specs.Spelling.{SpellsBool}
 use Rattle.smith_types.proofs.SpaceLemmas.{next_start-push}
-use Rattle.smith_syntax.specs.declared.composite_type.SubType.{SubType}
-use Rattle.smith_config.specs.declared.config.Config.{Config}
-use Rattle.smith_config.specs.Sanitized.{IsSanitized}
 use Rattle.smith_config.specs.Shapes.{ranges_from, space_of}
 use Rattle.smith_draw_types.specs.RecGroups.{types_left, with_group, types_until_at, group_size_at, new_group_at, clone_wanted_at}
 use Rattle.smith_draw_types.specs.RecGroups.{rec_group_at, least_types_at, more_types_at, types_at}

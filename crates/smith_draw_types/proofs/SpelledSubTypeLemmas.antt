@@ -1,23 +1,13 @@
 -- From a source that starts with a piece that spells types without supertypes, these types are
 -- drawn, and the bytes after the piece remain.
-use Rattle.std.proofs.Common.{◌≡◌, ℕ, suc, ◌+◌, ◌<◌, ◌&&◌, ◌||◌, Bool, true, false, cond, Option, Some, None, List, [], ◌∷◌, ◌++◌, length}
-use Rattle.std.proofs.Common.{nat_lt, refl, sym, ap, subst, ◌∙◌, arith, append_assoc, length-append}
-use Rattle.std.specs.Prelude.{IsTrue, slice_get}
+use Rattle.smith_draw_types.proofs.Common.{[], ap, append-nil, append_assoc, arith, Bool, bool_at, bool_read, cond, Config, Context, false}
+use Rattle.smith_draw_types.proofs.Common.{get_or_from_slice_get, grow_at, IsOrderly, IsSanitized, IsTrue, joined_parts, length}
+use Rattle.smith_draw_types.proofs.Common.{length-append, List, lt-ltb, nat_lt, None, Option, ratio_at, refl, slice_get, slice_get_within}
+use Rattle.smith_draw_types.proofs.Common.{Some, SpellsRefusal, subst, SubType, suc, sym, true, Where, ℕ, ◌&&◌, ◌++◌, ◌+◌, ◌<◌, ◌||◌, ◌∙◌}
+use Rattle.smith_draw_types.proofs.Common.{◌∷◌, ◌≡◌}
 use Rattle.std.specs.List.{All, list_any}
-use Rattle.std.proofs.lemmas.Bool.{lt-ltb}
-use Rattle.std.proofs.lemmas.Option.{get_or_from_slice_get, slice_get_within}
-use Rattle.std.proofs.lemmas.List.{append-nil}
 use Rattle.std.proofs.lemmas.List.Elements.{All-push}
-use Rattle.smith_bytes.specs.Draws.{bool_at, ratio_at}
-use Rattle.smith_bytes.specs.Growth.{grow_at}
-use Rattle.smith_bytes.specs.Spelling.{SpellsRefusal, Where}
-use Rattle.smith_bytes.proofs.SpelledLemmas.{joined_parts, bool_read}
-use Rattle.smith_types.specs.Expressions.{Context}
 use Rattle.smith_validity.specs.Decided.{AreHeld}
-use Rattle.smith_types.specs.Types.{IsOrderly}
-use Rattle.smith_syntax.specs.declared.composite_type.SubType.{SubType}
-use Rattle.smith_config.specs.declared.config.Config.{Config}
-use Rattle.smith_config.specs.Sanitized.{IsSanitized}
 use Rattle.smith_draw_types.specs.Grounding.{over}
 use Rattle.smith_draw_types.specs.Offered.{supertype_of, ancestors}
 use Rattle.smith_draw_types.specs.CompositeTypes.{composite_type_at}

@@ -1,27 +1,14 @@
 -- From a source that starts with a piece that spells a field, function, struct or composite type,
 -- this type is drawn, and the bytes after the piece remain.
-use Rattle.std.proofs.Common.{◌≡◌, ℕ, ◌-◌, ◌+◌, Bool, true, false, cond, List, [], ◌++◌, length, refl, arith}
+use Rattle.smith_draw_types.proofs.Common.{[], All-weaker, arith, Array, Bool, bool_read, CompositeInnerType, CompositeType, cond, Config}
+use Rattle.smith_draw_types.proofs.Common.{Context, false, FieldType, Func, FuncType, I16, I8, IsOrderly, joined_parts, length, List}
+use Rattle.smith_draw_types.proofs.Common.{number_read, range_at, recursion_from_All, refl, SpellsSuch, StorageType, Struct, StructType}
+use Rattle.smith_draw_types.proofs.Common.{true, Val, ValType, values_of, ℕ, ◌++◌, ◌+◌, ◌-◌, ◌≡◌}
 use Rattle.std.specs.List.{All}
-use Rattle.std.proofs.lemmas.List.Elements.{All-weaker, recursion_from_All}
-use Rattle.smith_bytes.specs.Draws.{range_at}
 use Rattle.smith_bytes.specs.Spelling.{Each, Listed}
-use Rattle.smith_bytes.specs.Takes.{SpellsSuch}
-use Rattle.smith_bytes.proofs.SpelledLemmas.{joined_parts, bool_read, number_read, listed_read, each_read, listed_such, each_such}
-use Rattle.smith_types.specs.Expressions.{Context}
+use Rattle.smith_bytes.proofs.SpelledLemmas.{each_read, each_such, listed_read, listed_such}
 use Rattle.smith_validity.specs.Decided.{IsStored, AreHeld}
-use Rattle.smith_types.specs.Types.{IsOrderly}
-use Rattle.smith_types.specs.ValidTypes.{values_of}
 use Rattle.smith_validity.proofs.HeldValueLemmas.{held_from_values}
-use Rattle.smith_syntax.specs.declared.value_type.ValType.{ValType}
-use Rattle.smith_syntax.specs.declared.composite_type.StorageType.{StorageType}
-use Rattle.smith_syntax.specs.declared.composite_type.StorageType.TheVariants.{I8, I16, Val}
-use Rattle.smith_syntax.specs.declared.composite_type.FieldType.{FieldType}
-use Rattle.smith_syntax.specs.declared.composite_type.FuncType.{FuncType}
-use Rattle.smith_syntax.specs.declared.composite_type.StructType.{StructType}
-use Rattle.smith_syntax.specs.declared.composite_type.CompositeInnerType.{CompositeInnerType}
-use Rattle.smith_syntax.specs.declared.composite_type.CompositeInnerType.TheVariants.{Array, Func, Struct}
-use Rattle.smith_syntax.specs.declared.composite_type.CompositeType.{CompositeType}
-use Rattle.smith_config.specs.declared.config.Config.{Config}
 use Rattle.smith_draw_types.specs.ValueTypes.{sharedness_at, val_type_at}
 use Rattle.smith_draw_types.specs.FieldTypes.{storage_type_at, field_type_at, fields_until_at}
 use Rattle.smith_draw_types.specs.CompositeTypes.{most_results, val_types_at, func_type_at, struct_type_at, inner_of_number_at}

@@ -1,26 +1,15 @@
 -- From a source that starts with a piece that spells a heap or value type, this type is drawn, and
 -- the bytes after the piece remain.
-use Rattle.std.proofs.Common.{◌≡◌, ℕ, zero, suc, [], ◌∷◌, sym, subst, ◌<◌, ◌-◌, ◌&&◌, not, Bool, true, false, cond, Some, List, ◌++◌}
-use Rattle.std.proofs.Common.{length, refl, nat_lt, inl, inr, arith}
-use Rattle.std.specs.Prelude.{IsTrue, ◌⊎◌, slice_get}
-use Rattle.std.proofs.lemmas.Bool.{lt-ltb, ltb-true}
-use Rattle.std.proofs.lemmas.Option.{get_or_from_slice_get}
-use Rattle.smith_bytes.specs.Draws.{bool_at, ratio_at}
-use Rattle.smith_bytes.specs.Spelling.{SpellsBool, SpellsRefusal, Where}
-use Rattle.smith_bytes.proofs.SpelledLemmas.{joined_parts, bool_read, number_read, refusal_read}
-use Rattle.smith_types.specs.Expressions.{Context}
-use Rattle.smith_types.specs.Grounded.{IsGroundedByStructs}
-use Rattle.smith_types.specs.Subtyping.{IsInRange}
-use Rattle.smith_types.specs.Types.{IsOrderly}
-use Rattle.smith_syntax.specs.declared.value_type.AbstractHeapType.{AbstractHeapType}
-use Rattle.smith_syntax.specs.declared.value_type.AbstractHeapType.TheVariants.{Func}
-use Rattle.smith_syntax.specs.declared.value_type.HeapType.{HeapType}
-use Rattle.smith_syntax.specs.declared.value_type.HeapType.TheVariants.{Abstract, Concrete, Exact}
-use Rattle.smith_syntax.specs.declared.value_type.RefType.{RefType}
-use Rattle.smith_syntax.specs.declared.value_type.ValType.{ValType}
-use Rattle.smith_syntax.specs.declared.value_type.ValType.TheVariants as vals
-use Rattle.smith_syntax.specs.declared.composite_type.SubType.{SubType}
-use Rattle.smith_config.specs.declared.config.Config.{Config}
+use Rattle.smith_draw_types.proofs.Common.{[], Abstract, AbstractHeapType, arith, Bool, bool_at, bool_read, Concrete, cond, Config, Context}
+use Rattle.smith_draw_types.proofs.Common.{Exact, false, get_or_from_slice_get, HeapType, inl, inr, IsGroundedByStructs, IsInRange}
+use Rattle.smith_draw_types.proofs.Common.{IsOrderly, IsTrue, joined_parts, length, List, lt-ltb, ltb-true, nat_lt, not, number_read}
+use Rattle.smith_draw_types.proofs.Common.{ratio_at, refl, RefType, slice_get, Some, SpellsRefusal, subst, SubType, suc, sym, true, ValType}
+use Rattle.smith_draw_types.proofs.Common.{Where, zero, ℕ, ◌&&◌, ◌++◌, ◌-◌, ◌<◌, ◌∷◌, ◌≡◌}
+use Rattle.std.specs.Prelude.{◌⊎◌}
+use Rattle.smith_bytes.specs.Spelling.{SpellsBool}
+use Rattle.smith_bytes.proofs.SpelledLemmas.{refusal_read}
+use Rattle.smith_types.specs.Syntax.value_type.AbstractHeapType.TheVariants.{Func}
+use Rattle.smith_types.specs.Syntax.value_type.ValType.TheVariants as vals
 use Rattle.smith_draw_types.specs.declared.value_type.ValueClass.TheVariants.{I32}
 use Rattle.smith_draw_types.specs.Choices.{enabled, chosen_at}
 use Rattle.smith_draw_types.specs.Grounding.{is_grounded}

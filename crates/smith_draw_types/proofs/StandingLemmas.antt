@@ -1,17 +1,9 @@
 -- Matching types refer to existing types if the other type does.
-use Rattle.std.proofs.Common.{rules, List, [], ◌∷◌}
+use Rattle.smith_draw_types.proofs.Common.{[], above_stands, All-from_recursion, AreBelow, below_stands, FuncType, IsFuncMatch, IsOrderly}
+use Rattle.smith_draw_types.proofs.Common.{IsStorageMatch, IsValBelow, IsValInRange, List, recursion_from_All, Ref, rules, StorageType}
+use Rattle.smith_draw_types.proofs.Common.{SubType, Val, ValType, ◌∷◌}
 use Rattle.std.specs.List.{AllByRecursion as Each}
-use Rattle.std.proofs.lemmas.List.Elements.{All-from_recursion, recursion_from_All}
-use Rattle.smith_syntax.specs.declared.value_type.ValType.{ValType}
-use Rattle.smith_syntax.specs.declared.value_type.ValType.TheVariants.{Ref}
-use Rattle.smith_syntax.specs.declared.composite_type.StorageType.{StorageType}
-use Rattle.smith_syntax.specs.declared.composite_type.StorageType.TheVariants.{Val}
-use Rattle.smith_syntax.specs.declared.composite_type.FuncType.{FuncType}
-use Rattle.smith_syntax.specs.declared.composite_type.SubType.{SubType}
-use Rattle.smith_types.specs.Types.{IsOrderly}
-use Rattle.smith_types.specs.Subtyping.{IsValBelow, IsValInRange}
-use Rattle.smith_types.specs.Matching.{IsStorageMatch, AreBelow, IsFuncMatch, IsStorageInRange, IsFuncInRange}
-use Rattle.smith_types.proofs.RangeLemmas.{below_stands, above_stands}
+use Rattle.smith_types.specs.Matching.{IsFuncInRange, IsStorageInRange}
 
 pub val_stands : (types : List SubType) (a b : ValType) → IsValBelow types a b → IsValInRange types b → IsValInRange types a
 val_stands types (Ref a) (Ref b) below h = below_stands types a.heap_type b.heap_type below.heap h

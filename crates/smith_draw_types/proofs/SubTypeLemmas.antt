@@ -1,19 +1,11 @@
 -- Drawn subtypes are valid, and their supertypes may have subtypes, over every list of types.
-use Rattle.std.proofs.Common.{rules, ◌≡◌, ℕ, ◌<◌, Bool, true, false, cond, not, ◌&&◌, Option, Some, List, length, refl, sym, ◌∙◌, subst}
-use Rattle.std.proofs.Common.{nat_lt}
-use Rattle.std.specs.Prelude.{IsTrue, IsSome, slice_get, slice_index_or, All}
-use Rattle.std.proofs.lemmas.Bool.{ltb-true}
-use Rattle.std.proofs.lemmas.Option.{slice_get-get_or}
-use Rattle.smith_bytes.specs.Draws.{bool_at, ratio_at}
-use Rattle.smith_types.specs.Expressions.{Context}
-use Rattle.smith_types.specs.GroupedTypes.{GroupedTypes}
+use Rattle.smith_draw_types.proofs.Common.{All, Bool, bool_at, cond, Config, Context, false, features_of, GroupedTypes, IsSanitized, IsSome}
+use Rattle.smith_draw_types.proofs.Common.{IsTrue, length, List, ltb-true, nat_lt, not, Option, ratio_at, refl, rules, slice_get}
+use Rattle.smith_draw_types.proofs.Common.{slice_get-get_or, Some, subst, SubType, sym, true, values_of, ℕ, ◌&&◌, ◌<◌, ◌∙◌, ◌≡◌}
+use Rattle.std.specs.Prelude.{slice_index_or}
 use Rattle.smith_types.specs.OpenTypes.{AreTypesOpen}
-use Rattle.smith_types.specs.ValidTypes.{values_of, IsTypeValid}
-use Rattle.smith_syntax.specs.declared.composite_type.SubType.{SubType}
+use Rattle.smith_types.specs.ValidTypes.{IsTypeValid}
 use Rattle.smith_types.proofs.GroupGrowthLemmas.{AreTypesOpen-at}
-use Rattle.smith_config.specs.declared.config.Config.{Config}
-use Rattle.smith_config.specs.Features.{features_of}
-use Rattle.smith_config.specs.Sanitized.{IsSanitized}
 use Rattle.smith_draw_types.specs.Grounding.{over}
 use Rattle.smith_draw_types.specs.Choices.{chosen_at}
 use Rattle.smith_draw_types.specs.Kept.{IsSharingEnabled}

@@ -1,14 +1,9 @@
 -- The types that may have subtypes.
-use Rattle.std.proofs.Common.{◌≡◌, ℕ, zero, suc, ◌+◌, ◌-◌, ◌<◌, Bool, true, false, cond, List, [], ◌∷◌, Some, None, length, refl, sym, ◌∙◌}
-use Rattle.std.proofs.Common.{ap, subst, arith}
-use Rattle.std.specs.Prelude.{slice_get, slice_index, All}
+use Rattle.smith_draw_types.proofs.Common.{[], All, All-from_recursion, ap, arith, Bool, cond, false, IsOrderly, length, List, lt-ltb, None}
+use Rattle.smith_draw_types.proofs.Common.{range_at, range_within, refl, slice_get, Some, subst, SubType, suc, sym, true, zero, ℕ, ◌+◌, ◌-◌}
+use Rattle.smith_draw_types.proofs.Common.{◌<◌, ◌∙◌, ◌∷◌, ◌≡◌}
+use Rattle.std.specs.Prelude.{slice_index}
 use Rattle.std.specs.List.{AllByRecursion as Each}
-use Rattle.std.proofs.lemmas.List.Elements.{All-from_recursion}
-use Rattle.std.proofs.lemmas.Bool.{lt-ltb}
-use Rattle.smith_bytes.specs.Draws.{range_at}
-use Rattle.smith_bytes.proofs.DrawnLemmas.{range_within}
-use Rattle.smith_syntax.specs.declared.composite_type.SubType.{SubType}
-use Rattle.smith_types.specs.Types.{IsOrderly}
 use Rattle.smith_types.specs.GroupedTypes.{HasDepth, AreExtensible, root, deeper, extensible_from}
 use Rattle.smith_draw_types.specs.Choices.{chosen_at}
 use Rattle.smith_draw_types.specs.Offered.{supertype_at}

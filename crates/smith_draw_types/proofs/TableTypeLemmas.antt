@@ -1,14 +1,11 @@
 -- Drawn table types are valid and within bounds.
-use Rattle.std.proofs.Common.{◌≡◌, ◌⊎◌, ℕ, zero, suc, ◌≤◌, min, max, Bool, true, false, cond, Option, Some, None, List, refl, arith, inl}
-use Rattle.std.proofs.Common.{inr}
-use Rattle.std.specs.Prelude.{IsTrue, IsSome, IfSome}
-use Rattle.smith_types.specs.Expressions.{Context}
+use Rattle.smith_draw_types.proofs.Common.{arith, Bool, cond, Config, Context, false, features_of, inl, inr, IsSome, IsTrue, List, None}
+use Rattle.smith_draw_types.proofs.Common.{Option, refl, RefType, Some, suc, true, zero, ℕ, ◌≡◌, ◌≤◌, ◌⊎◌}
+use Rattle.std.proofs.Common.{max, min}
+use Rattle.std.specs.Prelude.{IfSome}
 use Rattle.smith_types.specs.Entities.{most_elements}
 use Rattle.smith_types.specs.Flags.{IsElementTypeEnabled, funcref}
-use Rattle.smith_syntax.specs.declared.value_type.RefType.{RefType}
-use Rattle.smith_syntax.specs.declared.entity_type.TableType.{TableType}
-use Rattle.smith_config.specs.declared.config.Config.{Config}
-use Rattle.smith_config.specs.Features.{features_of}
+use Rattle.smith_types.specs.Syntax.entity_type.TableType.{TableType}
 use Rattle.smith_config.specs.EntityBounds.{AreElementsWithin, IsTableWithin}
 use Rattle.smith_draw_types.specs.TableTypes.{drawn_elements}
 use Rattle.smith_draw_types.specs.ValueTypes.{ref_type_at}

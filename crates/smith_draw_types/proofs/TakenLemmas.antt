@@ -1,27 +1,12 @@
 -- From a source that starts with a piece that spells a type, this type is drawn, if it refers to
 -- existing types that ground its references.
-use Rattle.std.proofs.Common.{◌≡◌, ℕ, Bool, true, false, List, [], subst, sym, ap, ◌∙◌}
+use Rattle.smith_draw_types.proofs.Common.{[], ap, Array, Bool, CompositeType, Config, Context, false, FieldType, Func, FuncType}
+use Rattle.smith_draw_types.proofs.Common.{GroupedTypes, HeapType, IsInRange, IsOrderly, IsSanitized, List, Ref, RefType, SpellsSuch}
+use Rattle.smith_draw_types.proofs.Common.{StorageType, Struct, StructType, subst, SubType, sym, true, ValType, values_of}
+use Rattle.smith_draw_types.proofs.Common.{values_of_storage, ℕ, ◌∙◌, ◌≡◌}
 use Rattle.std.specs.List.{All}
-use Rattle.smith_bytes.specs.Takes.{Takes, SpellsSuch}
+use Rattle.smith_bytes.specs.Takes.{Takes}
 use Rattle.smith_bytes.proofs.SpelledLemmas.{takes_by}
-use Rattle.smith_types.specs.Expressions.{Context}
-use Rattle.smith_types.specs.Subtyping.{IsInRange}
-use Rattle.smith_types.specs.Types.{IsOrderly}
-use Rattle.smith_types.specs.ValidTypes.{values_of, values_of_storage}
-use Rattle.smith_syntax.specs.declared.value_type.HeapType.{HeapType}
-use Rattle.smith_syntax.specs.declared.value_type.RefType.{RefType}
-use Rattle.smith_syntax.specs.declared.value_type.ValType.{ValType}
-use Rattle.smith_syntax.specs.declared.value_type.ValType.TheVariants.{Ref}
-use Rattle.smith_syntax.specs.declared.composite_type.StorageType.{StorageType}
-use Rattle.smith_syntax.specs.declared.composite_type.FieldType.{FieldType}
-use Rattle.smith_syntax.specs.declared.composite_type.FuncType.{FuncType}
-use Rattle.smith_syntax.specs.declared.composite_type.StructType.{StructType}
-use Rattle.smith_syntax.specs.declared.composite_type.CompositeInnerType.TheVariants.{Array, Func, Struct}
-use Rattle.smith_syntax.specs.declared.composite_type.CompositeType.{CompositeType}
-use Rattle.smith_types.specs.GroupedTypes.{GroupedTypes}
-use Rattle.smith_syntax.specs.declared.composite_type.SubType.{SubType}
-use Rattle.smith_config.specs.declared.config.Config.{Config}
-use Rattle.smith_config.specs.Sanitized.{IsSanitized}
 use Rattle.smith_config.specs.Shapes.{space_of}
 use Rattle.smith_draw_types.specs.ValueTypes.{heap_type_at, ref_type_at, val_type_at}
 use Rattle.smith_draw_types.specs.FieldTypes.{storage_type_at, field_type_at}

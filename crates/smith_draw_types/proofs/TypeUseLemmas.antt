@@ -1,18 +1,15 @@
 -- The types counted for tags and functions are suitable for them.
-use Rattle.std.proofs.Common.{◌≡◌, ◌∙◌, ap, ℕ, suc, ◌+◌, Bool, true, false, not, ◌&&◌, cond, List, [], ◌∷◌, ◌++◌, length, refl, arith}
-use Rattle.std.proofs.Common.{append_assoc, length-append, ◌||◌, ltb, lt-ltb}
-use Rattle.std.specs.Prelude.{◌==◌, Some, slice_get, All}
+use Rattle.smith_draw_types.proofs.Common.{[], All, All-from_recursion, All-weaker, ap, append_assoc, arith, Array, Bool}
+use Rattle.smith_draw_types.proofs.Common.{CompositeInnerType, cond, false, Func, length, length-append, List, not, refl, slice_get}
+use Rattle.smith_draw_types.proofs.Common.{slice_get-grown, Struct, SubType, suc, true, ValType, ℕ, ◌&&◌, ◌++◌, ◌+◌, ◌||◌, ◌∙◌, ◌∷◌, ◌≡◌}
+use Rattle.std.proofs.Common.{lt-ltb, ltb}
+use Rattle.std.specs.Prelude.{Some, ◌==◌}
 use Rattle.std.specs.List.{AllByRecursion as ByRecursion, list_any}
 use Rattle.std.proofs.lemmas.Bool.{eqb-true}
-use Rattle.std.proofs.lemmas.List.Elements.{All-from_recursion, All-weaker}
-use Rattle.smith_syntax.specs.declared.value_type.ValType.{ValType}
-use Rattle.smith_syntax.specs.declared.composite_type.CompositeInnerType.{CompositeInnerType}
-use Rattle.smith_syntax.specs.declared.composite_type.CompositeInnerType.TheVariants.{Array, Func, Struct}
-use Rattle.smith_syntax.specs.declared.composite_type.SubType.{SubType}
-use Rattle.smith_syntax.specs.declared.value_type.AbstractHeapType.TheVariants as heap
+use Rattle.smith_types.specs.Syntax.value_type.AbstractHeapType.TheVariants as heap
 use Rattle.smith_types.specs.KindCounts.{is_inner_of_kind, is_function, is_in, indices_from, indices_in}
 use Rattle.smith_types.specs.declared.kind_counts.TypeSet.TheVariants.{OfKind, Functions, WithoutResults}
-use Rattle.smith_types.proofs.ListLemmas.{slice_get-last, slice_get-grown}
+use Rattle.smith_types.proofs.ListLemmas.{slice_get-last}
 use Rattle.smith_draw_types.specs.TypeUses.{is_tag_type, is_unshared_function, places_from, may_be_used, types_for, IsUsable}
 use Rattle.smith_draw_types.specs.declared.type_use.TypeUse.{TypeUse}
 use Rattle.smith_draw_types.specs.declared.type_use.TypeUse.TheVariants.{Tag, ImportedFunc, DefinedFunc}

@@ -1,9 +1,7 @@
 -- One turn of a loop that extends a list up to a given length.
-use Rattle.std.proofs.Common.{◌≡◌, ℕ, ◌+◌, ◌<◌, List, [], ◌∷◌, ◌++◌, true, refl, nat_lt}
-use Rattle.std.proofs.lemmas.Bool.{lt-ltb}
-use Rattle.smith_bytes.specs.Source.{KeepsPieces}
-use Rattle.smith_bytes.specs.Growth.{goes_at}
-use Rattle.smith_bytes.proofs.GrowingLoop.{IsGrowing, grow_go}
+use Rattle.smith_draw_types.proofs.Common.{[], goes_at, IsGrowing, KeepsPieces, List, lt-ltb, nat_lt, refl, true, ℕ, ◌++◌, ◌+◌, ◌<◌, ◌∷◌}
+use Rattle.smith_draw_types.proofs.Common.{◌≡◌}
+use Rattle.smith_bytes.proofs.GrowingLoop.{grow_go}
 
 goes_while : (n end : ℕ) (bytes : List ℕ) → n < end → goes_at (nat_lt n end) bytes ≡ (true, bytes)
 goes_while n end bytes lt = rw (lt-ltb n end lt) refl

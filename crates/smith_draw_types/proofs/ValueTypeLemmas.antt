@@ -1,29 +1,15 @@
 -- Drawn value types are valid, over every list of types.
-use Rattle.std.proofs.Common.{◌≡◌, ℕ, ◌<◌, ◌-◌, Bool, true, false, cond, ◌&&◌, ◌||◌, not, Option, Some, None, List, refl, subst, arith}
-use Rattle.std.proofs.Common.{nat_lt}
-use Rattle.std.specs.Prelude.{IsTrue, slice_get}
+use Rattle.smith_draw_types.proofs.Common.{Abstract, AbstractHeapType, All-from_recursion, All-weaker, arith, Bool, bool_at, Concrete, cond}
+use Rattle.smith_draw_types.proofs.Common.{Config, Context, false, features_of, HeapType, IsHeapTypeShared, IsHeapTypeValid, IsInRange}
+use Rattle.smith_draw_types.proofs.Common.{IsSanitized, IsShareable, IsTrue, IsValInRange, IsValTypeValid, List, ltb-true, nat_lt, None}
+use Rattle.smith_draw_types.proofs.Common.{not, Option, range_at, range_within, ratio_at, refl, RefType, slice_get, slice_get_within, Some}
+use Rattle.smith_draw_types.proofs.Common.{subst, SubType, true, ValType, ℕ, ◌&&◌, ◌-◌, ◌<◌, ◌||◌, ◌≡◌}
 use Rattle.std.specs.List.{All, AllByRecursion as ByRecursion}
-use Rattle.std.proofs.lemmas.List.Elements.{All-from_recursion, All-weaker}
-use Rattle.std.proofs.lemmas.Option.{slice_get_within}
-use Rattle.std.proofs.lemmas.Bool.{ltb-true}
-use Rattle.smith_types.specs.Expressions.{Context}
 use Rattle.smith_types.specs.Flags.{IsAbstractEnabled}
-use Rattle.smith_types.specs.Subtyping.{IsInRange, IsValInRange}
-use Rattle.smith_types.specs.ValidTypes.{IsHeapTypeValid, IsRefTypeValid, IsValTypeValid, IsHeapTypeShared, IsShareable}
-use Rattle.smith_syntax.specs.declared.value_type.AbstractHeapType.{AbstractHeapType}
-use Rattle.smith_syntax.specs.declared.value_type.AbstractHeapType.TheVariants.{Func}
-use Rattle.smith_syntax.specs.declared.value_type.HeapType.{HeapType}
-use Rattle.smith_syntax.specs.declared.value_type.HeapType.TheVariants.{Abstract, Concrete}
-use Rattle.smith_syntax.specs.declared.value_type.RefType.{RefType}
-use Rattle.smith_syntax.specs.declared.value_type.ValType.{ValType}
-use Rattle.smith_syntax.specs.declared.composite_type.SubType.{SubType}
-use Rattle.smith_config.specs.declared.config.Config.{Config}
-use Rattle.smith_config.specs.Features.{features_of}
-use Rattle.smith_config.specs.Sanitized.{IsSanitized}
+use Rattle.smith_types.specs.ValidTypes.{IsRefTypeValid}
+use Rattle.smith_types.specs.Syntax.value_type.AbstractHeapType.TheVariants.{Func}
 use Rattle.smith_draw_types.specs.declared.value_type.ValueClass.{ValueClass}
 use Rattle.smith_draw_types.specs.declared.value_type.ValueClass.TheVariants.{I32, I64, F32, F64, V128, Reference}
-use Rattle.smith_bytes.specs.Draws.{bool_at, range_at, ratio_at}
-use Rattle.smith_bytes.proofs.DrawnLemmas.{range_within}
 use Rattle.smith_draw_types.specs.Choices.{enabled, chosen_at}
 use Rattle.smith_draw_types.specs.Grounding.{is_grounded}
 use Rattle.smith_draw_types.specs.ValueTypes.{value_classes, abstract_heap_types, sharedness_at, abstract_heap_type_at, index_wanted_at}

@@ -1,14 +1,10 @@
 -- Whether one type is a subtype of another, as a test over orderly types.
 use Rattle.std.specs.Prelude.{ℕ, Bool, true, false, not, ◌&&◌, ◌||◌, ◌==◌, Option, Some, None, List, [], ◌∷◌, slice_get}
 use Rattle.std.proofs.Math.Bool.{beq}
-use Rattle.smith_syntax.specs.Kinds.{kind, bottom, shared}
+use Rattle.smith_draw_types.specs.Common.{Abstract, AbstractHeapType, Concrete, Exact, HeapType, shared, SubType, ValType}
+use Rattle.smith_types.specs.Syntax.Kinds.{bottom, kind}
 use Rattle.smith_types.specs.Subtyping.{is_abstract_below}
-use Rattle.smith_syntax.specs.declared.value_type.AbstractHeapType.{AbstractHeapType}
-use Rattle.smith_syntax.specs.declared.value_type.HeapType.{HeapType}
-use Rattle.smith_syntax.specs.declared.value_type.HeapType.TheVariants.{Abstract, Concrete, Exact}
-use Rattle.smith_syntax.specs.declared.value_type.ValType.{ValType}
-use Rattle.smith_syntax.specs.declared.value_type.ValType.TheVariants.{I32, I64, F32, F64, V128, Ref}
-use Rattle.smith_syntax.specs.declared.composite_type.SubType.{SubType}
+use Rattle.smith_types.specs.Syntax.value_type.ValType.TheVariants.{I32, I64, F32, F64, V128, Ref}
 use Rattle.smith_draw_types.specs.Offered.{ancestors}
 
 -- whether the list has the concrete type with this index

@@ -1,6 +1,6 @@
 -- Conditions on the callers of draws. Rules of this project.
 use Rattle.std.specs.Prelude.{ℕ}
-use Rattle.smith_config.specs.declared.config.Config.{Config}
+use Rattle.smith_draw_types.specs.Common.{Config}
 use Rattle.smith_config.specs.Faults.{Passes}
 
 -- a configuration passes its check with some value of `min_imports`

@@ -1,7 +1,7 @@
 -- Choices among the items that a configuration enables.
 use Rattle.std.specs.Prelude.{ℕ, ◌-◌, Bool, List, map, length, slice_index_or}
 use Rattle.std.specs.List.{filter}
-use Rattle.smith_bytes.specs.Draws.{range_at}
+use Rattle.smith_draw_types.specs.Common.{range_at}
 
 -- the enabled items of a table, in order
 abbrev pub enabled : {A : Type 0} → List (A × Bool) → List A

@@ -1,15 +1,7 @@
 -- Drawn function, struct and composite types.
 use Rattle.std.specs.Prelude.{ℕ, zero, suc, Bool, false, List, [], if◌then◌else◌}
-use Rattle.smith_syntax.specs.declared.value_type.ValType.{ValType}
-use Rattle.smith_syntax.specs.declared.composite_type.FuncType.{FuncType}
-use Rattle.smith_syntax.specs.declared.composite_type.StructType.{StructType}
-use Rattle.smith_syntax.specs.declared.composite_type.CompositeInnerType.{CompositeInnerType}
-use Rattle.smith_syntax.specs.declared.composite_type.CompositeInnerType.TheVariants.{Array, Func, Struct}
-use Rattle.smith_syntax.specs.declared.composite_type.CompositeType.{CompositeType}
-use Rattle.smith_types.specs.Expressions.{Context}
-use Rattle.smith_config.specs.declared.config.Config.{Config}
-use Rattle.smith_bytes.specs.Draws.{range_at}
-use Rattle.smith_bytes.specs.Growth.{grow_at}
+use Rattle.smith_draw_types.specs.Common.{Array, CompositeInnerType, CompositeType, Config, Context, Func, FuncType, grow_at, range_at}
+use Rattle.smith_draw_types.specs.Common.{Struct, StructType, ValType}
 use Rattle.smith_draw_types.specs.ValueTypes.{sharedness_at, val_type_at}
 use Rattle.smith_draw_types.specs.FieldTypes.{field_type_at, fields_until_at}
 

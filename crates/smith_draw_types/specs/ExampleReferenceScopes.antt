@@ -1,7 +1,6 @@
 -- Types of the examples.
 use Rattle.std.specs.Prelude.{ℕ, zero, suc, ◌+◌, List, [], ◌∷◌, None, Some}
-use Rattle.smith_syntax.specs.declared.composite_type.SubType.{SubType}
-use Rattle.smith_syntax.specs.declared.composite_type.StorageType.TheVariants.{I8}
+use Rattle.smith_draw_types.specs.Common.{I8, SubType}
 use Rattle.smith_types.specs.ExampleTypes.{open_type, final_type, shared_type, empty_struct, array, plain_func, constant}
 
 -- a struct, an array, a function, the same three shared, and then another struct and another array

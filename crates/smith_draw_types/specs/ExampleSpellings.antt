@@ -1,8 +1,6 @@
 -- A piece of bytes that spells a list of groups, used by the examples.
 use Rattle.std.specs.Prelude.{◌≡◌, ◌<◌, true, false, None, [], ◌∷◌}
-use Rattle.smith_syntax.specs.declared.composite_type.CompositeInnerType.TheVariants.{Func}
-use Rattle.smith_syntax.specs.declared.composite_type.SubType.{SubType}
-use Rattle.smith_config.specs.declared.config.Config.{Config}
+use Rattle.smith_draw_types.specs.Common.{Config, Func, SubType}
 use Rattle.smith_draw_types.specs.Spelling.{SpellsGroups}
 
 -- a function type without parameters and results

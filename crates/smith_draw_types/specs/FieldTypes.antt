@@ -1,12 +1,6 @@
 -- Drawn storage and field types, and the fields of structs.
 use Rattle.std.specs.Prelude.{ℕ, zero, suc, ◌-◌, Bool, List, length}
-use Rattle.smith_syntax.specs.declared.composite_type.StorageType.{StorageType}
-use Rattle.smith_syntax.specs.declared.composite_type.StorageType.TheVariants.{I8, I16, Val}
-use Rattle.smith_syntax.specs.declared.composite_type.FieldType.{FieldType}
-use Rattle.smith_types.specs.Expressions.{Context}
-use Rattle.smith_config.specs.declared.config.Config.{Config}
-use Rattle.smith_bytes.specs.Draws.{bool_at, range_at}
-use Rattle.smith_bytes.specs.Growth.{grow_at}
+use Rattle.smith_draw_types.specs.Common.{bool_at, Config, Context, FieldType, grow_at, I16, I8, range_at, StorageType, Val}
 use Rattle.smith_draw_types.specs.ValueTypes.{val_type_at}
 
 -- the storage type for a number: 8 or 16 bits packed, or a value type (own rule)

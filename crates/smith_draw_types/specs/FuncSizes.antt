@@ -1,9 +1,6 @@
 -- The numbers of parameters and results of drawn function types. A rule of this project.
 use Rattle.std.specs.Prelude.{ℕ, ◌≤◌, length}
-use Rattle.smith_syntax.specs.declared.composite_type.CompositeInnerType.{CompositeInnerType}
-use Rattle.smith_syntax.specs.declared.composite_type.CompositeInnerType.TheVariants.{Func}
-use Rattle.smith_syntax.specs.declared.composite_type.FuncType.{FuncType}
-use Rattle.smith_syntax.specs.declared.composite_type.SubType.{SubType}
+use Rattle.smith_draw_types.specs.Common.{CompositeInnerType, Func, FuncType, SubType}
 
 -- a function type has at most `most` parameters and at most `most` results
 pub record IsFunctionWithin (most : ℕ) (function : FuncType) : Type 0 where

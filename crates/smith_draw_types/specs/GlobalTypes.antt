@@ -1,12 +1,8 @@
 -- Drawn global types.
 use Rattle.std.specs.Prelude.{ℕ, Bool, false, List, length}
-use Rattle.smith_syntax.specs.declared.value_type.ValType.{ValType}
-use Rattle.smith_syntax.specs.declared.value_type.ValType.TheVariants.{Ref}
-use Rattle.smith_syntax.specs.declared.composite_type.SubType.{SubType}
-use Rattle.smith_types.specs.Expressions.{Context}
-use Rattle.smith_syntax.specs.declared.entity_type.GlobalType.{GlobalType}
-use Rattle.smith_config.specs.declared.config.Config.{Config}
-use Rattle.smith_bytes.specs.Draws.{bool_at}
+use Rattle.smith_draw_types.specs.Common.{bool_at, Config, Context, SubType, ValType}
+use Rattle.smith_types.specs.Syntax.value_type.ValType.TheVariants.{Ref}
+use Rattle.smith_types.specs.Syntax.entity_type.GlobalType.{GlobalType}
 use Rattle.smith_draw_types.specs.ValueTypes.{sharedness_at, val_type_at}
 use Rattle.smith_draw_types.specs.SharedHeapTypes.{is_heap_type_shared}
 

@@ -1,10 +1,7 @@
 -- The grounded types among the last subtypes that are offered for an abstract heap type, and among
 -- the direct subtypes of a concrete heap type.
 use Rattle.std.specs.Prelude.{◌≡◌, ℕ, ◌^◌, ◌<◌, ◌≤◌, List, length, map, drop, filter}
-use Rattle.smith_syntax.specs.declared.value_type.HeapType.{HeapType}
-use Rattle.smith_syntax.specs.declared.value_type.HeapType.TheVariants.{Concrete}
-use Rattle.smith_types.specs.Expressions.{Context}
-use Rattle.smith_config.specs.declared.config.Config.{Config}
+use Rattle.smith_draw_types.specs.Common.{Concrete, Config, Context, HeapType}
 use Rattle.smith_draw_types.specs.Grounding.{is_grounded}
 use Rattle.smith_draw_types.specs.Offered.{gc_subtypes, offered_direct_subtypes}
 use Rattle.smith_draw_types.specs.declared.matching.GroundedTail.{GroundedTail}

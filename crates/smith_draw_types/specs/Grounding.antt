@@ -1,12 +1,10 @@
 -- The context of a drawn reference, and whether a heap type is grounded in it, as a test over
 -- orderly types.
 use Rattle.std.specs.Prelude.{ℕ, ◌+◌, Bool, false, ◌&&◌, ◌||◌, nat_lt, List, [], ◌∷◌, length}
-use Rattle.smith_syntax.specs.Features.{Features}
-use Rattle.smith_types.specs.Expressions.{Context, created, function_reference, reference_to}
+use Rattle.smith_types.specs.Syntax.Features.{Features}
+use Rattle.smith_draw_types.specs.Common.{Config, Context, HeapType, SubType}
+use Rattle.smith_types.specs.Expressions.{created, function_reference, reference_to}
 use Rattle.smith_types.specs.Grounds.{is_ground}
-use Rattle.smith_syntax.specs.declared.value_type.HeapType.{HeapType}
-use Rattle.smith_syntax.specs.declared.composite_type.SubType.{SubType}
-use Rattle.smith_config.specs.declared.config.Config.{Config}
 use Rattle.smith_config.specs.Features.{features_of}
 use Rattle.smith_draw_types.specs.Below.{is_val_below}
 use Rattle.smith_draw_types.specs.declared.early_grounds.EarlyGrounds.{EarlyGrounds}

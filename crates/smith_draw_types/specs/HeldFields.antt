@@ -1,12 +1,8 @@
 -- References in the fields of types.
 use Rattle.std.specs.Prelude.{List, [], ◌∷◌}
 use Rattle.std.specs.List.{Any}
-use Rattle.smith_types.specs.Expressions.{Context, field_values}
-use Rattle.smith_syntax.specs.declared.composite_type.CompositeInnerType.{CompositeInnerType}
-use Rattle.smith_syntax.specs.declared.composite_type.CompositeInnerType.TheVariants.{Array, Func, Struct}
-use Rattle.smith_syntax.specs.declared.composite_type.FieldType.{FieldType}
-use Rattle.smith_syntax.specs.declared.composite_type.SubType.{SubType}
-use Rattle.smith_config.specs.declared.config.Config.{Config}
+use Rattle.smith_draw_types.specs.Common.{Array, CompositeInnerType, Config, Context, FieldType, Func, Struct, SubType}
+use Rattle.smith_types.specs.Expressions.{field_values}
 use Rattle.smith_config.specs.Granted.{IsNonNullable, IsUngrounded}
 
 -- the fields of a struct type, or the element of an array type (Structure, Composite Types)

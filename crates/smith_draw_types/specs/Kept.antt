@@ -1,12 +1,8 @@
 -- Properties that a drawn type has if the type has them in whose place it is drawn.
 use Rattle.std.specs.Prelude.{ℕ, ◌≤◌, IsTrue, List, length, All}
-use Rattle.smith_syntax.specs.Features.{Features}
+use Rattle.smith_types.specs.Syntax.Features.{Features}
 use Rattle.smith_types.specs.ValidTypes.{IsValTypeValid, IsShareable, values_of_storage, values_of}
-use Rattle.smith_syntax.specs.declared.composite_type.StorageType.{StorageType}
-use Rattle.smith_syntax.specs.declared.composite_type.FieldType.{FieldType}
-use Rattle.smith_syntax.specs.declared.composite_type.FuncType.{FuncType}
-use Rattle.smith_syntax.specs.declared.composite_type.CompositeInnerType.TheVariants.{Func}
-use Rattle.smith_syntax.specs.declared.composite_type.SubType.{SubType}
+use Rattle.smith_draw_types.specs.Common.{FieldType, Func, FuncType, StorageType, SubType}
 
 -- a type is shared only if that is enabled (own rule)
 abbrev pub IsSharingEnabled : Features → SubType → Type 0

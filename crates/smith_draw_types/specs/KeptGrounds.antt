@@ -1,6 +1,6 @@
 -- The record of functions that is reused in several draws.
 use Rattle.std.specs.Prelude.{◌≡◌, ℕ, ◌<◌, ◌≤◌, List, Some, slice_get, take, length, IfSome, IsSome}
-use Rattle.smith_types.specs.Expressions.{Context}
+use Rattle.smith_draw_types.specs.Common.{Context}
 use Rattle.smith_types.specs.FuncGrounds.{AreFuncGrounds}
 use Rattle.smith_types.specs.declared.func_grounds.FuncGrounds.{FuncGrounds}
 use Rattle.smith_draw_types.specs.FunctionFamilies.{AreFunctionFamilies}

@@ -1,3 +1,4 @@
+pub mod Common
 pub mod Drawing
 pub mod Callers
 pub mod Choices

@@ -1,6 +1,7 @@
 -- Drawn limits, with small numbers more likely.
 use Rattle.std.specs.Prelude.{ℕ, ◌+◌, ◌-◌, ◌*◌, ◌/◌, Bool, true, Option, Some, None, List, nat_lt, ◌==◌, if◌then◌else◌}
-use Rattle.smith_bytes.specs.Draws.{whole_at, bool_at, range_at}
+use Rattle.smith_draw_types.specs.Common.{bool_at, range_at}
+use Rattle.smith_bytes.specs.Draws.{whole_at}
 
 -- the greatest 32-bit number
 abbrev pub most_u32 : ℕ

@@ -1,8 +1,6 @@
 -- Drawn locals of bodies.
 use Rattle.std.specs.Prelude.{ℕ, false, List, length}
-use Rattle.smith_syntax.specs.declared.value_type.ValType.{ValType}
-use Rattle.smith_types.specs.Expressions.{Context}
-use Rattle.smith_config.specs.declared.config.Config.{Config}
+use Rattle.smith_draw_types.specs.Common.{Config, Context, ValType}
 use Rattle.smith_draw_types.specs.CompositeTypes.{val_types_at}
 
 -- the types of locals: at most 100 value types over the existing types (own rule)

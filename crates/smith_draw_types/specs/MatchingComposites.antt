@@ -1,12 +1,6 @@
 -- Drawn struct and composite types that match a type.
 use Rattle.std.specs.Prelude.{ℕ, ◌+◌, Bool, List, length}
-use Rattle.smith_syntax.specs.declared.composite_type.StructType.{StructType}
-use Rattle.smith_syntax.specs.declared.composite_type.CompositeInnerType.{CompositeInnerType}
-use Rattle.smith_syntax.specs.declared.composite_type.CompositeInnerType.TheVariants.{Array, Func, Struct}
-use Rattle.smith_syntax.specs.declared.composite_type.CompositeType.{CompositeType}
-use Rattle.smith_types.specs.Expressions.{Context}
-use Rattle.smith_config.specs.declared.config.Config.{Config}
-use Rattle.smith_bytes.specs.Draws.{range_at}
+use Rattle.smith_draw_types.specs.Common.{Array, CompositeInnerType, CompositeType, Config, Context, Func, range_at, Struct, StructType}
 use Rattle.smith_draw_types.specs.FieldTypes.{fields_until_at}
 use Rattle.smith_draw_types.specs.MatchingTypes.{matching_field_type_at, matched_fields_at, matching_func_type_at}
 

@@ -1,16 +1,8 @@
 -- Drawn types that match a type: subtypes and, for heap, reference and value types, supertypes.
 use Rattle.std.specs.Prelude.{ℕ, Bool, true, false, not, ◌||◌, List, [], ◌∷◌, filter, if◌then◌else◌}
-use Rattle.smith_syntax.specs.declared.value_type.ValType.{ValType}
-use Rattle.smith_syntax.specs.declared.value_type.ValType.TheVariants as vals
-use Rattle.smith_syntax.specs.declared.value_type.RefType.{RefType}
-use Rattle.smith_syntax.specs.declared.value_type.HeapType.{HeapType}
-use Rattle.smith_syntax.specs.declared.composite_type.StorageType.{StorageType}
-use Rattle.smith_syntax.specs.declared.composite_type.StorageType.TheVariants.{I8, I16, Val}
-use Rattle.smith_syntax.specs.declared.composite_type.FieldType.{FieldType}
-use Rattle.smith_syntax.specs.declared.composite_type.FuncType.{FuncType}
-use Rattle.smith_syntax.specs.declared.composite_type.SubType.{SubType}
-use Rattle.smith_types.specs.Expressions.{Context}
-use Rattle.smith_config.specs.declared.config.Config.{Config}
+use Rattle.smith_draw_types.specs.Common.{Config, Context, FieldType, FuncType, HeapType, I16, I8, RefType, StorageType, SubType, Val}
+use Rattle.smith_draw_types.specs.Common.{ValType}
+use Rattle.smith_types.specs.Syntax.value_type.ValType.TheVariants as vals
 use Rattle.smith_draw_types.specs.Choices.{chosen_at}
 use Rattle.smith_draw_types.specs.Grounding.{is_grounded}
 use Rattle.smith_draw_types.specs.Offered.{subtypes_offered, supertypes_offered}

@@ -1,9 +1,8 @@
 -- Drawn memory types.
 use Rattle.std.specs.Prelude.{ℕ, ◌-◌, ◌/◌, ◌^◌, min, max, Bool, false, ◌||◌, Option, Some, None, List, if◌then◌else◌}
 use Rattle.smith_types.specs.Entities.{page_log2, addresses}
-use Rattle.smith_syntax.specs.declared.entity_type.MemoryType.{MemoryType}
-use Rattle.smith_config.specs.declared.config.Config.{Config}
-use Rattle.smith_bytes.specs.Draws.{bool_at, ratio_at}
+use Rattle.smith_types.specs.Syntax.entity_type.MemoryType.{MemoryType}
+use Rattle.smith_draw_types.specs.Common.{bool_at, Config, ratio_at}
 use Rattle.smith_config.specs.EntityBounds.{memory_bytes}
 use Rattle.smith_draw_types.specs.Limits.{limits64_at}
 

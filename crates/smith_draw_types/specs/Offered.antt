@@ -2,18 +2,13 @@
 use Rattle.std.specs.Prelude.{◌≡◌, ℕ, zero, suc, ◌+◌, Bool, true, false, not, ◌&&◌, Option, Some, None, List, [], ◌∷◌, ◌++◌, map, length}
 use Rattle.std.specs.Prelude.{slice_get, if◌then◌else◌}
 use Rattle.std.specs.List.{flat_map}
-use Rattle.smith_syntax.specs.declared.value_type.AbstractHeapType.{AbstractHeapType}
-use Rattle.smith_syntax.specs.declared.value_type.AbstractHeapType.TheVariants as heap
-use Rattle.smith_syntax.specs.declared.value_type.HeapType.{HeapType}
-use Rattle.smith_syntax.specs.declared.value_type.HeapType.TheVariants.{Abstract, Concrete, Exact}
-use Rattle.smith_syntax.specs.declared.composite_type.CompositeInnerType.{CompositeInnerType}
-use Rattle.smith_syntax.specs.declared.composite_type.CompositeInnerType.TheVariants.{Array, Func, Struct}
-use Rattle.smith_syntax.specs.declared.composite_type.SubType.{SubType}
-use Rattle.smith_syntax.specs.Kinds.{bottom, shared}
+use Rattle.smith_draw_types.specs.Common.{Abstract, AbstractHeapType, Array, CompositeInnerType, Concrete, Config, Exact, Func, HeapType}
+use Rattle.smith_draw_types.specs.Common.{shared, Struct, SubType}
+use Rattle.smith_types.specs.Syntax.value_type.AbstractHeapType.TheVariants as heap
+use Rattle.smith_types.specs.Syntax.Kinds.{bottom}
 use Rattle.smith_types.specs.Types.{IsOrderly}
 use Rattle.smith_types.specs.Families.{is_directly_below}
 use Rattle.smith_types.specs.Grounds.{is_shared_as}
-use Rattle.smith_config.specs.declared.config.Config.{Config}
 
 -- the abstract heap types that are offered as subtypes of an abstract heap type, including itself
 -- (own rule)

@@ -1,6 +1,6 @@
 -- Drawn offsets of active segments. A rule of this project.
 use Rattle.std.specs.Prelude.{ℕ, ◌-◌, List, nat_lt, if◌then◌else◌}
-use Rattle.smith_bytes.specs.Draws.{range_at}
+use Rattle.smith_draw_types.specs.Common.{range_at}
 use Rattle.smith_draw_types.specs.Limits.{gradually_at}
 
 -- the offset of a segment of this size in a table or a memory with the minimum size `least`: any

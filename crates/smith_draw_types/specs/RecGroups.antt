@@ -2,13 +2,9 @@
 use Rattle.std.specs.Prelude.{ℕ, zero, suc, ◌-◌, ◌+◌, Bool, true, false, ◌&&◌, ◌||◌, nat_lt, nat_le, List, [], ◌∷◌, ◌++◌, length, take}
 use Rattle.std.specs.Prelude.{drop, if◌then◌else◌}
 use Rattle.std.specs.declared.ops.Range.{Range}
-use Rattle.smith_syntax.specs.declared.composite_type.SubType.{SubType}
-use Rattle.smith_types.specs.Expressions.{Context}
+use Rattle.smith_draw_types.specs.Common.{bool_at, Config, Context, grow_at, range_at, ratio_at, SubType}
 use Rattle.smith_types.specs.GroupedTypes.{GroupedTypes}
 use Rattle.smith_types.specs.Types.{next_group}
-use Rattle.smith_config.specs.declared.config.Config.{Config}
-use Rattle.smith_bytes.specs.Draws.{bool_at, range_at, ratio_at}
-use Rattle.smith_bytes.specs.Growth.{grow_at}
 use Rattle.smith_draw_types.specs.Choices.{chosen_at}
 use Rattle.smith_draw_types.specs.Grounding.{over}
 use Rattle.smith_draw_types.specs.SubTypes.{sub_type_at}

@@ -1,9 +1,6 @@
 -- Whether a heap type is shared.
 use Rattle.std.specs.Prelude.{Bool, false, Option, Some, None, List, slice_get}
-use Rattle.smith_syntax.specs.Kinds.{shared}
-use Rattle.smith_syntax.specs.declared.value_type.HeapType.{HeapType}
-use Rattle.smith_syntax.specs.declared.value_type.HeapType.TheVariants.{Abstract, Concrete, Exact}
-use Rattle.smith_syntax.specs.declared.composite_type.SubType.{SubType}
+use Rattle.smith_draw_types.specs.Common.{Abstract, Concrete, Exact, HeapType, shared, SubType}
 
 -- whether a type exists and is shared (own rule)
 abbrev pub is_type_shared : Option SubType → Bool

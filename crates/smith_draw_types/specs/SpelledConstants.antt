@@ -2,10 +2,9 @@
 use Rattle.std.specs.Prelude.{◌≡◌, ℕ, ℤ, List, [], ◌∷◌, length}
 use Rattle.std.specs.Int.{cast_signed, w32}
 use Rattle.smith_bytes.specs.Draws.{little_endian}
-use Rattle.smith_bytes.specs.Spelling.{SpellsNumber, Where, Joined}
-use Rattle.smith_syntax.specs.declared.const_instr.ConstInstr.{ConstInstr}
-use Rattle.smith_syntax.specs.declared.const_instr.ConstInstr.TheVariants.{I32Const}
-use Rattle.smith_config.specs.declared.config.Config.{Config}
+use Rattle.smith_draw_types.specs.Common.{Config, Joined, SpellsNumber, Where}
+use Rattle.smith_types.specs.Syntax.const_instr.ConstInstr.{ConstInstr}
+use Rattle.smith_types.specs.Syntax.const_instr.ConstInstr.TheVariants.{I32Const}
 
 -- a signed 32-bit number: its four bytes, least significant first
 pub record SpellsI32 (value : ℤ) (piece : List ℕ) : Type 0 where

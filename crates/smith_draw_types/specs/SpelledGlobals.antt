@@ -1,9 +1,8 @@
 -- Bytes that spell the type of a global that is a mutable 32-bit number. Rules of this project.
 use Rattle.std.specs.Prelude.{ℕ, ◌-◌, true, false, List, length}
-use Rattle.smith_bytes.specs.Spelling.{SpellsBool, SpellsNumber, Joined}
-use Rattle.smith_syntax.specs.declared.value_type.ValType.TheVariants.{I32}
-use Rattle.smith_syntax.specs.declared.entity_type.GlobalType.{GlobalType}
-use Rattle.smith_config.specs.declared.config.Config.{Config}
+use Rattle.smith_draw_types.specs.Common.{Config, Joined, SpellsBool, SpellsNumber}
+use Rattle.smith_types.specs.Syntax.value_type.ValType.TheVariants.{I32}
+use Rattle.smith_types.specs.Syntax.entity_type.GlobalType.{GlobalType}
 use Rattle.smith_draw_types.specs.Choices.{enabled}
 use Rattle.smith_draw_types.specs.ValueTypes.{value_classes}
 use Rattle.smith_draw_types.specs.Spelling.{SpellsUnshared}

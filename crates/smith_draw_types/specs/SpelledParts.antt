@@ -1,10 +1,8 @@
 -- The bytes that spell tags, functions, globals and data of a module. Rules of this project, for a
 -- sanitised configuration.
 use Rattle.std.specs.Prelude.{◌≡◌, ℕ, ◌&&◌, nat_lt, true, false, if◌then◌else◌, ℤ, List, [], ◌∷◌, length}
-use Rattle.std.specs.List.{list_any}
-use Rattle.smith_bytes.specs.Spelling.{SpellsBool, Where, Joined, Listed}
-use Rattle.smith_syntax.specs.declared.composite_type.SubType.{SubType}
-use Rattle.smith_config.specs.declared.config.Config.{Config}
+use Rattle.smith_draw_types.specs.Common.{Config, Joined, list_any, SpellsBool, SubType, Where}
+use Rattle.smith_bytes.specs.Spelling.{Listed}
 use Rattle.smith_draw_types.specs.Spelling.{SpellsPlace}
 use Rattle.smith_draw_types.specs.SpelledConstants.{SpellsConstant}
 use Rattle.smith_draw_types.specs.SpelledGlobals.{SpellsMutableI32}

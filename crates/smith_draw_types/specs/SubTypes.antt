@@ -1,12 +1,9 @@
 -- Drawn subtypes, and the types that may have subtypes.
 use Rattle.std.specs.Prelude.{◌≡◌, ℕ, suc, ◌<◌, ◌+◌, Bool, true, false, not, ◌&&◌, nat_lt, Option, Some, None, List, [], ◌∷◌, length}
 use Rattle.std.specs.Prelude.{slice_get, if◌then◌else◌}
-use Rattle.smith_syntax.specs.declared.composite_type.SubType.{SubType}
-use Rattle.smith_types.specs.Expressions.{Context}
+use Rattle.smith_draw_types.specs.Common.{bool_at, Config, Context, ratio_at, SubType}
 use Rattle.smith_types.specs.Types.{IsAlike}
 use Rattle.smith_types.specs.GroupedTypes.{HasDepth}
-use Rattle.smith_config.specs.declared.config.Config.{Config}
-use Rattle.smith_bytes.specs.Draws.{bool_at, ratio_at}
 use Rattle.smith_draw_types.specs.Choices.{chosen_at}
 use Rattle.smith_draw_types.specs.Offered.{ancestors}
 use Rattle.smith_draw_types.specs.CompositeTypes.{composite_type_at}

@@ -1,9 +1,8 @@
 -- Drawn table types.
 use Rattle.std.specs.Prelude.{ℕ, min, max, Bool, false, List, length, if◌then◌else◌}
 use Rattle.smith_types.specs.Entities.{most_elements}
-use Rattle.smith_types.specs.Expressions.{Context}
-use Rattle.smith_syntax.specs.declared.entity_type.TableType.{TableType}
-use Rattle.smith_config.specs.declared.config.Config.{Config}
+use Rattle.smith_draw_types.specs.Common.{Config, Context}
+use Rattle.smith_types.specs.Syntax.entity_type.TableType.{TableType}
 use Rattle.smith_draw_types.specs.Limits.{limits64_at}
 use Rattle.smith_draw_types.specs.Memories.{memory64_at}
 use Rattle.smith_draw_types.specs.SharedHeapTypes.{is_heap_type_shared}

@@ -1,9 +1,6 @@
 -- The types that tags and functions may have. Rules of this project.
 use Rattle.std.specs.Prelude.{ℕ, suc, Bool, true, false, not, ◌&&◌, ◌==◌, List, [], ◌∷◌, length, if◌then◌else◌, slice_get, option_to_list}
-use Rattle.std.specs.List.{list_any}
-use Rattle.smith_syntax.specs.declared.composite_type.CompositeInnerType.{CompositeInnerType}
-use Rattle.smith_syntax.specs.declared.composite_type.CompositeInnerType.TheVariants.{Func}
-use Rattle.smith_syntax.specs.declared.composite_type.SubType.{SubType}
+use Rattle.smith_draw_types.specs.Common.{CompositeInnerType, Func, list_any, SubType}
 use Rattle.smith_types.specs.Entities.{IsTagValid, IsFuncTypeIndex}
 use Rattle.smith_types.specs.KindCounts.{is_function, gives_nothing}
 use Rattle.smith_draw_types.specs.declared.type_use.TypeUse.{TypeUse}

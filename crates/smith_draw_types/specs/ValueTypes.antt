@@ -1,20 +1,12 @@
 -- Drawn value, reference and heap types, over the existing types below a limit of indices.
 use Rattle.std.specs.Prelude.{ℕ, ◌-◌, Bool, true, false, not, ◌&&◌, ◌||◌, nat_lt, Option, Some, None, List, [], ◌∷◌, slice_get}
 use Rattle.std.specs.Prelude.{if◌then◌else◌}
-use Rattle.smith_syntax.specs.declared.value_type.ValType.{ValType}
-use Rattle.smith_syntax.specs.declared.value_type.ValType.TheVariants as vals
-use Rattle.smith_syntax.specs.declared.value_type.RefType.{RefType}
-use Rattle.smith_syntax.specs.declared.value_type.HeapType.{HeapType}
-use Rattle.smith_syntax.specs.declared.value_type.HeapType.TheVariants.{Abstract, Concrete}
-use Rattle.smith_syntax.specs.declared.value_type.AbstractHeapType.{AbstractHeapType}
-use Rattle.smith_syntax.specs.declared.value_type.AbstractHeapType.TheVariants as heap
-use Rattle.smith_syntax.specs.declared.composite_type.SubType.{SubType}
-use Rattle.smith_types.specs.Expressions.{Context}
-use Rattle.smith_syntax.specs.Kinds.{shared}
-use Rattle.smith_config.specs.declared.config.Config.{Config}
+use Rattle.smith_draw_types.specs.Common.{Abstract, AbstractHeapType, bool_at, Concrete, Config, Context, HeapType, range_at, ratio_at}
+use Rattle.smith_draw_types.specs.Common.{RefType, shared, SubType, ValType}
+use Rattle.smith_types.specs.Syntax.value_type.ValType.TheVariants as vals
+use Rattle.smith_types.specs.Syntax.value_type.AbstractHeapType.TheVariants as heap
 use Rattle.smith_draw_types.specs.declared.value_type.ValueClass.{ValueClass}
 use Rattle.smith_draw_types.specs.declared.value_type.ValueClass.TheVariants.{I32, I64, F32, F64, V128, Reference}
-use Rattle.smith_bytes.specs.Draws.{bool_at, range_at, ratio_at}
 use Rattle.smith_draw_types.specs.Choices.{enabled, chosen_at}
 use Rattle.smith_draw_types.specs.Grounding.{is_grounded}
 

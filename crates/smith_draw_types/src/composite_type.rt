@@ -1,7 +1,7 @@
 ghost use Rattle.std.specs.Prelude.{◌≡◌, false, IsTrue, IfOk, All, length, ◌≤◌};
 ghost use Rattle.smith_bytes.specs.Takes.{Takes, SpellsSuch};
-ghost use Rattle.smith_syntax.specs.declared.composite_type.CompositeInnerType.TheVariants.{Func};
-ghost use Rattle.smith_syntax.specs.declared.composite_type.CompositeInnerType.TheVariants.{Struct};
+ghost use Rattle.smith_types.specs.Syntax.composite_type.CompositeInnerType.TheVariants.{Func};
+ghost use Rattle.smith_types.specs.Syntax.composite_type.CompositeInnerType.TheVariants.{Struct};
 ghost use Rattle.smith_types.specs.Flags.{IsInnerEnabled};
 ghost use Rattle.smith_types.specs.Matching.{IsFuncInRange, IsFieldInRange, IsInnerInRange};
 ghost use Rattle.smith_types.specs.ValidTypes.{values_of, IsFuncTypeValid, IsValTypeValid};

@@ -1,7 +1,7 @@
 // Drawn value types. The clauses are proved, and nothing calls these functions.
 
 ghost use Rattle.std.specs.Prelude.{◌≡◌, [], ◌∷◌, true, false};
-ghost use Rattle.smith_syntax.specs.declared.value_type.AbstractHeapType.TheVariants as heap;
+ghost use Rattle.smith_types.specs.Syntax.value_type.AbstractHeapType.TheVariants as heap;
 ghost use Rattle.smith_config.specs.Config.{default_config};
 ghost use Rattle.smith_draw_types.specs.declared.value_type.ValueClass.TheVariants as class;
 ghost use Rattle.smith_draw_types.specs.Choices.{enabled};

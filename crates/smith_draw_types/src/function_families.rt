@@ -1,8 +1,8 @@
 ghost use Rattle.std.specs.Prelude.{◌≡◌, ◌+◌, ◌++◌, ◌<◌, ℕ, Bool, List, [], ◌∷◌, Some, length, slice_get};
 ghost use Rattle.std.specs.Prelude.{IsTrue, OnOk, IfOk, IfErr, if◌then◌else◌};
-ghost use Rattle.smith_syntax.specs.declared.composite_type.SubType.{SubType as ListedType};
-ghost use Rattle.smith_syntax.specs.declared.value_type.AbstractHeapType.TheVariants.{Func};
-ghost use Rattle.smith_syntax.specs.declared.value_type.HeapType.TheVariants.{Concrete};
+ghost use Rattle.smith_types.specs.Syntax.composite_type.SubType.{SubType as ListedType};
+ghost use Rattle.smith_types.specs.Syntax.value_type.AbstractHeapType.TheVariants.{Func};
+ghost use Rattle.smith_types.specs.Syntax.value_type.HeapType.TheVariants.{Concrete};
 ghost use Rattle.smith_types.specs.Expressions.{Context};
 ghost use Rattle.smith_types.specs.Families.{is_index};
 ghost use Rattle.smith_types.specs.FuncGrounds.{AreFuncGrounds, is_noted};

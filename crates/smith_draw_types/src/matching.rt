@@ -16,8 +16,8 @@ ghost use Rattle.smith_types.specs.ValidTypes.{
   values_of_storage,
 };
 ghost use Rattle.smith_types.specs.Grounded.{IsGrounded};
-ghost use Rattle.smith_syntax.specs.declared.value_type.HeapType.TheVariants.{Abstract, Concrete};
-ghost use Rattle.smith_syntax.specs.declared.composite_type.CompositeInnerType.TheVariants.{Func};
+ghost use Rattle.smith_types.specs.Syntax.value_type.HeapType.TheVariants.{Abstract, Concrete};
+ghost use Rattle.smith_types.specs.Syntax.composite_type.CompositeInnerType.TheVariants.{Func};
 ghost use Rattle.smith_config.specs.Features.{features_of};
 ghost use Rattle.smith_draw_types.specs.Choices.{chosen_at};
 ghost use Rattle.smith_draw_types.specs.Drawing.{AlwaysDraws, Draws};

@@ -1,5 +1,5 @@
 ghost use Rattle.std.specs.Prelude.{◌+◌, ◌≤◌, IsTrue, IfOk, length, All};
-ghost use Rattle.smith_syntax.specs.declared.composite_type.CompositeInnerType.TheVariants.{Struct};
+ghost use Rattle.smith_types.specs.Syntax.composite_type.CompositeInnerType.TheVariants.{Struct};
 ghost use Rattle.smith_types.specs.Matching.{AreFieldsMatched};
 ghost use Rattle.smith_types.specs.ValidTypes.{values_of, IsValTypeValid, IsShareable};
 ghost use Rattle.smith_config.specs.Features.{features_of};

@@ -13,9 +13,9 @@ ghost use Rattle.std.specs.Prelude.{
   slice_get,
   if◌then◌else◌,
 };
-ghost use Rattle.smith_syntax.specs.declared.value_type.HeapType.TheVariants.{Abstract, Concrete};
-ghost use Rattle.smith_syntax.specs.declared.value_type.HeapType.TheVariants.{Exact};
-ghost use Rattle.smith_syntax.specs.declared.value_type.AbstractHeapType.TheVariants.{Array, Struct};
+ghost use Rattle.smith_types.specs.Syntax.value_type.HeapType.TheVariants.{Abstract, Concrete};
+ghost use Rattle.smith_types.specs.Syntax.value_type.HeapType.TheVariants.{Exact};
+ghost use Rattle.smith_types.specs.Syntax.value_type.AbstractHeapType.TheVariants.{Array, Struct};
 ghost use Rattle.smith_types.specs.Types.{IsOrderly};
 ghost use Rattle.smith_draw_types.specs.Offered.{
   abstract_subtypes,

@@ -5,7 +5,7 @@ ghost use Rattle.smith_types.specs.ValidTypes.{AreTypesValid};
 ghost use Rattle.smith_config.specs.Features.{features_of};
 ghost use Rattle.smith_config.specs.Sanitized.{IsSanitized};
 ghost use Rattle.smith_config.specs.EntityBounds.{IsTableWithin};
-ghost use Rattle.smith_syntax.specs.declared.value_type.ValType.TheVariants.{Ref};
+ghost use Rattle.smith_types.specs.Syntax.value_type.ValType.TheVariants.{Ref};
 ghost use Rattle.smith_config.specs.Granted.{IsUngrounded};
 ghost use Rattle.smith_draw_types.specs.Drawing.{AlwaysDraws, Draws};
 ghost use Rattle.smith_draw_types.specs.Grounding.{standing_in};

@@ -1,5 +1,5 @@
 ghost use Rattle.std.specs.Prelude.{◌≡◌, ◌<◌, ◌^◌, length, nat_lt, List, IsOk, IfOk, IfErr};
-ghost use Rattle.smith_syntax.specs.declared.composite_type.SubType.{SubType as ListedType};
+ghost use Rattle.smith_types.specs.Syntax.composite_type.SubType.{SubType as ListedType};
 ghost use Rattle.smith_types.specs.Entities.{IsTagValid};
 ghost use Rattle.smith_types.specs.KindCounts.{is_function, gives_nothing, indices_in};
 ghost use Rattle.smith_draw_types.specs.Choices.{chosen_at};

@@ -1,8 +1,5 @@
 -- Lists whose items all pass a test.
-use Rattle.std.proofs.Common.{◌≡◌, ℕ, Bool, true, List, [], ◌∷◌}
-use Rattle.std.specs.List.{list_all}
-use Rattle.std.proofs.lemmas.Bool.{and_parts}
-use Rattle.smith_binary.specs.Pieces.{Each, IsList}
+use Rattle.smith_encode.proofs.Common.{[], and_parts, Bool, Each, IsList, List, list_all, true, ℕ, ◌∷◌, ◌≡◌}
 use Rattle.smith_encode.specs.Spelled.{IfPasses}
 
 each_passes : {A : Type 0} (passes : A → Bool) (P : A → List ℕ → Type 0) (xs : List A) (piece : List ℕ) → list_all passes xs ≡ true

@@ -1,30 +1,28 @@
 -- Items as they are written.
-use Rattle.std.proofs.Common.{◌≡◌, ℕ, ◌^◌, Bool, true, ◌&&◌, nat_lt, List, [], ◌∷◌, refl}
-use Rattle.std.proofs.lemmas.Bool.{and_parts, ltb-true}
+use Rattle.smith_encode.proofs.Common.{[], and_parts, Body, Bool, Instr, Is, IsElem, IsList, IsNestedExpr, joined_written, List, Output}
+use Rattle.smith_encode.proofs.Common.{refl, total, true, Writes, written_plain, ℕ, ◌^◌, ◌∷◌, ◌≡◌}
+use Rattle.std.proofs.Common.{nat_lt, ◌&&◌}
+use Rattle.std.proofs.lemmas.Bool.{ltb-true}
 use Rattle.smith_binary.specs.Spelling.{IsUnsignedIn}
-use Rattle.smith_binary.specs.Pieces.{Is, IsByte, IsSizedIn, IsList, IsListIn, Joined, Output, Writes}
-use Rattle.smith_binary.proofs.WrittenLemmas.{joined_written, written_plain}
-use Rattle.smith_syntax.specs.declared.value_type.RefType.{RefType}
+use Rattle.smith_binary.specs.Pieces.{IsByte, IsListIn, IsSizedIn, Joined}
+use Rattle.smith_types.specs.Syntax.value_type.RefType.{RefType}
 use Rattle.smith_binary_sections.specs.Elements.{func_ref, IsFuncs, IsKindFuncs}
 use Rattle.smith_binary_sections.specs.Elements.Form.{first_funcs, passive_funcs, table_funcs, declared_funcs, first_items, passive_items}
 use Rattle.smith_binary_sections.specs.Elements.Form.{table_items, declared_items}
 use Rattle.smith_binary_sections.specs.Data.DataForm.{first_memory, no_memory, named_memory}
 use Rattle.smith_binary_sections.specs.Types.{IsRefTypeIn}
 use Rattle.smith_binary_sections.specs.Entities.{IsGlobalTypeIn, IsTableTypeIn}
-use Rattle.smith_instr.specs.declared.instr.Instr.{Instr}
 use Rattle.smith_instr.specs.declared.instr.Instr.TheVariants.{Reference}
 use Rattle.smith_instr.specs.declared.reference.ReferenceInstr.TheVariants.{Func}
 use Rattle.smith_binary_instr.specs.Instructions.{IsExprIn}
-use Rattle.smith_binary_read_instr.specs.Expressions.{IsNestedExpr}
-use Rattle.smith_decode.specs.declared.bodies.Body.{Body}
 use Rattle.smith_decode.specs.declared.data.DataMode.TheVariants as data_mode
 use Rattle.smith_decode.specs.declared.definitions.GlobalDefinition.{GlobalDefinition}
 use Rattle.smith_decode.specs.declared.definitions.TableDefinition.{TableDefinition}
-use Rattle.smith_decode.specs.BodyReadings.{IsLocalRun, IsRunBody, total}
+use Rattle.smith_decode.specs.BodyReadings.{IsLocalRun, IsRunBody}
 use Rattle.smith_decode.specs.DataReadings.{segment, IsSegment}
 use Rattle.smith_decode.specs.DefinitionReadings.{IsGlobalDefinition, IsTableDefinition}
 use Rattle.smith_decode.specs.Definitions.{null_of, IsTable}
-use Rattle.smith_decode.specs.Elements.{elem, IsElem, IsItems, IsTypedItems}
+use Rattle.smith_decode.specs.Elements.{elem, IsItems, IsTypedItems}
 use Rattle.smith_decode.specs.Elements.Mode.{passive, declared, active}
 use Rattle.smith_encode.specs.Nesting.{is_nested}
 use Rattle.smith_encode.specs.Segments.{functions_elem}

@@ -1,3 +1,4 @@
+pub mod Common
 pub mod NestingLemmas
 pub mod CheckedLemmas
 pub mod PlaceLemmas

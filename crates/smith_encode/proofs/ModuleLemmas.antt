@@ -1,23 +1,18 @@
 -- Modules as they are written.
-use Rattle.std.proofs.Common.{◌≡◌, ℕ, inl, inr, Bool, true, false, eqb, ◌||◌, List, [], ◌∷◌, ◌++◌, length, map, Option, Some, None}
-use Rattle.std.proofs.Common.{Result, Ok, Err}
-use Rattle.std.proofs.Common.{refl, sym, ap, subst, ◌∙◌, append_assoc, append-nil}
-use Rattle.std.specs.Prelude.{Any, IfOk, IfErr, IfSome, IsErrAnd}
+use Rattle.smith_encode.proofs.Common.{[], ap, append-nil, append_assoc, AreCustoms, Body, body_view, Bool, Custom, Each, eqb, Err, false}
+use Rattle.smith_encode.proofs.Common.{IfOk, IsModuleBinary, length, List, map, Module, name_data, None, Ok, Option, Output, refl, Result}
+use Rattle.smith_encode.proofs.Common.{segment_view, Some, subst, sym, syntax_of, true, Writes, ℕ, ◌++◌, ◌||◌, ◌∙◌, ◌∷◌, ◌≡◌}
+use Rattle.std.proofs.Common.{inl, inr}
+use Rattle.std.specs.Prelude.{Any, IfErr, IfSome, IsErrAnd}
 use Rattle.std.specs.List.{list_any}
 use Rattle.std.proofs.lemmas.Bool.{eqb-true}
 use Rattle.std.proofs.lemmas.List.{length-map, nil_from_length}
 use Rattle.smith_binary.specs.declared.error.EncodeError.{EncodeError}
 use Rattle.smith_binary.specs.Faults.{IsFault}
-use Rattle.smith_binary.specs.Pieces.{Each, Output, Writes}
 use Rattle.smith_binary_sections.specs.Modules.{IsPreamble}
 use Rattle.smith_binary_sections.proofs.FaultLemmas.{fault_as}
-use Rattle.smith_decode.specs.declared.bodies.Body.{Body}
-use Rattle.smith_decode.specs.declared.customs.Custom.{Custom}
-use Rattle.smith_decode.specs.declared.modules.Module.{Module}
-use Rattle.smith_decode.specs.BodyReadings.{body_view, name_data, names_data_in}
-use Rattle.smith_decode.specs.Customs.{AreCustoms}
-use Rattle.smith_decode.specs.DataReadings.{segment_view}
-use Rattle.smith_decode.specs.Modules.{IsModuleBinary, body_names_data, syntax_of}
+use Rattle.smith_decode.specs.BodyReadings.{names_data_in}
+use Rattle.smith_decode.specs.Modules.{body_names_data}
 use Rattle.smith_encode.specs.Faults.{HasNoSpelling}
 use Rattle.smith_encode.specs.Places.{skipped, left_after, HasCustomsAfter, WritesCustoms, WritesBefore}
 use Rattle.smith_encode.specs.Spelled.{are_parts_spelled}

@@ -1,7 +1,6 @@
 -- Expressions whose blocks all end.
-use Rattle.std.proofs.Common.{◌≡◌, Bool, true, Option, Some, None, List, [], ◌∷◌, refl}
+use Rattle.smith_encode.proofs.Common.{[], Bool, Instr, List, None, Option, refl, Some, true, ◌∷◌, ◌≡◌}
 use Rattle.std.specs.Prelude.{option_and_then}
-use Rattle.smith_instr.specs.declared.instr.Instr.{Instr}
 use Rattle.smith_binary_instr.specs.Nesting.{blocks_after, AreNested}
 use Rattle.smith_encode.specs.Nesting.{are_closed, blocks_left}
 

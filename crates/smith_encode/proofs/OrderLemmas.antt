@@ -1,13 +1,11 @@
 -- The custom sections of a module are in the order of its other sections.
-use Rattle.std.proofs.Common.{◌≡◌, ℕ, Bool, true, false, List, [], ◌∷◌, ◌++◌, Option, Some, None, refl, sym, ap, subst, ◌∙◌, append_assoc}
-use Rattle.std.proofs.Common.{append-nil, arith}
-use Rattle.smith_binary.specs.Pieces.{Is, Each, IsSection}
+use Rattle.smith_encode.proofs.Common.{[], ap, append-nil, append_assoc, AreCustoms, arith, Bool, Custom, Each, false, Is, IsModuleBinary}
+use Rattle.smith_encode.proofs.Common.{IsOptionalSection, IsThen, List, None, Option, refl, Some, subst, sym, true, ℕ, ◌++◌, ◌∙◌, ◌∷◌, ◌≡◌}
+use Rattle.smith_binary.specs.Pieces.{IsSection}
 use Rattle.smith_binary.specs.Unambiguous.{IsUnambiguousWhole, Same}
 use Rattle.smith_binary.proofs.UnambiguousLemmas.{same_head, section_is_unambiguous}
-use Rattle.smith_binary_sections.specs.Sections.{IsOptionalSection}
-use Rattle.smith_decode.specs.declared.customs.Custom.{Custom}
-use Rattle.smith_decode.specs.Customs.{IsCustom, AreCustoms, IsAnySection, IsNext, AreAmong, IsThen}
-use Rattle.smith_decode.specs.Modules.{Syntax, IsModuleBinary, IsStated}
+use Rattle.smith_decode.specs.Customs.{AreAmong, IsAnySection, IsCustom, IsNext}
+use Rattle.smith_decode.specs.Modules.{IsStated, Syntax}
 use Rattle.smith_encode.specs.Places.{is_same_section, skipped, left_after, HasCustomsAfter}
 use Rattle.smith_encode.specs.Tails.{FromElements}
 use Rattle.smith_encode.specs.Tails.{FromMemories, FromTypes, start_ids, front_ids, middle_ids, back_ids}

@@ -1,21 +1,18 @@
 -- The items of a module that bytes spell all have spellings.
-use Rattle.std.proofs.Common.{◌≡◌, ℕ, ◌<◌, ◌^◌, Bool, true, ◌&&◌, nat_lt, eqb, List, [], ◌∷◌, length, map, refl, sym, ap, ◌∙◌}
-use Rattle.std.proofs.Common.{arith, length-append}
+use Rattle.smith_encode.proofs.Common.{[], ap, arith, Body, body_view, Bool, Each, eqb, Instr, IsElem, IsList, IsModuleBinary, IsNestedExpr}
+use Rattle.smith_encode.proofs.Common.{IsOptionalSection, items_view, length, List, list_all, map, Module, refl, segment_view, sym}
+use Rattle.smith_encode.proofs.Common.{syntax_of, total, true, ℕ, ◌<◌, ◌^◌, ◌∙◌, ◌∷◌, ◌≡◌}
+use Rattle.std.proofs.Common.{nat_lt, ◌&&◌}
+use Rattle.std.proofs.Common.{length-append}
 use Rattle.std.specs.Prelude.{replicate}
-use Rattle.std.specs.List.{list_all}
 use Rattle.std.proofs.lemmas.Bool.{eq-eqb, lt-ltb}
 use Rattle.std.proofs.lemmas.List.{length-map, length-replicate}
-use Rattle.smith_binary.specs.Pieces.{Each, IsList}
 use Rattle.smith_binary_sections.specs.Codes.{locals_of}
-use Rattle.smith_binary_sections.specs.Sections.{IsOptionalSection}
 use Rattle.smith_binary_sections.specs.Elements.Form.{first_funcs, passive_funcs, table_funcs, declared_funcs, first_items, passive_items}
 use Rattle.smith_binary_sections.specs.Elements.Form.{table_items, declared_items}
 use Rattle.smith_binary_sections.specs.Data.DataForm.{first_memory, no_memory, named_memory}
 use Rattle.smith_binary_sections.specs.Elements.{Form}
 use Rattle.smith_binary_sections.specs.Data.{DataForm}
-use Rattle.smith_instr.specs.declared.instr.Instr.{Instr}
-use Rattle.smith_binary_read_instr.specs.Expressions.{IsNestedExpr}
-use Rattle.smith_decode.specs.declared.bodies.Body.{Body}
 use Rattle.smith_decode.specs.declared.bodies.LocalRun.{LocalRun}
 use Rattle.smith_decode.specs.declared.data.DataMode.{DataMode}
 use Rattle.smith_decode.specs.declared.data.DataMode.TheVariants as data_mode
@@ -27,17 +24,15 @@ use Rattle.smith_decode.specs.declared.elements.ElementItems.TheVariants.{Functi
 use Rattle.smith_decode.specs.declared.elements.ElementMode.{ElementMode}
 use Rattle.smith_decode.specs.declared.elements.ElementMode.TheVariants as element_mode
 use Rattle.smith_decode.specs.declared.elements.ElementSegment.{ElementSegment}
-use Rattle.smith_decode.specs.declared.modules.Module.{Module}
-use Rattle.smith_decode.specs.BodyReadings.{body_view, run_pair, total}
+use Rattle.smith_decode.specs.BodyReadings.{run_pair}
 use Rattle.smith_decode.specs.Data.{IsData, IsInDataForm}
 use Rattle.smith_decode.specs.Data as abstract_data
 use Rattle.smith_decode.specs.DataReadings as data_segment
-use Rattle.smith_decode.specs.DataReadings.{segment_view}
 use Rattle.smith_decode.specs.Definitions.{IsTable, IsGlobal}
-use Rattle.smith_decode.specs.ElementReadings.{element_view, items_view, mode_view}
-use Rattle.smith_decode.specs.Elements.{Elem, Mode, func_items, IsElem, IsInForm, IsItems}
+use Rattle.smith_decode.specs.ElementReadings.{element_view, mode_view}
+use Rattle.smith_decode.specs.Elements.{Elem, func_items, IsInForm, IsItems, Mode}
 use Rattle.smith_decode.specs.Elements.Mode.{passive, declared, active}
-use Rattle.smith_decode.specs.Modules.{IsFunctionBody, IsModuleBinary, syntax_of, table_pair, global_pair}
+use Rattle.smith_decode.specs.Modules.{global_pair, IsFunctionBody, table_pair}
 use Rattle.smith_encode.specs.Nesting.{is_nested}
 use Rattle.smith_encode.specs.Spelled.{is_table_nested, is_global_nested, are_items_nested, is_element_mode_nested, is_element_nested}
 use Rattle.smith_encode.specs.Spelled.{is_body_spelled, is_data_mode_nested, is_data_nested, are_parts_spelled}

@@ -1,15 +1,16 @@
 -- Custom sections that are written at their places.
-use Rattle.std.proofs.Common.{◌≡◌, ℕ, suc, ◌+◌, ◌<◌, Bool, true, false, eqb, ◌||◌, List, [], ◌∷◌, ◌++◌, length, Option, Some, None}
-use Rattle.std.proofs.Common.{Result, Ok, Err, refl}
-use Rattle.std.proofs.Common.{sym, ap, subst, ◌∙◌, append_assoc, append-nil, arith, add-one}
-use Rattle.std.specs.Prelude.{Any, IfOk, not}
+use Rattle.smith_encode.proofs.Common.{[], ap, append-nil, append_assoc, AreCustoms, arith, Bool, Custom, Each, eqb, Err, false, IfOk, Is}
+use Rattle.smith_encode.proofs.Common.{IsOptionalSection, IsThen, length, List, None, Ok, Option, Output, refl, Result, Some, subst, sym}
+use Rattle.smith_encode.proofs.Common.{true, Writes, ℕ, ◌++◌, ◌<◌, ◌||◌, ◌∙◌, ◌∷◌, ◌≡◌}
+use Rattle.std.proofs.Common.{suc, ◌+◌}
+use Rattle.std.proofs.Common.{add-one}
+use Rattle.std.specs.Prelude.{Any, not}
 use Rattle.std.proofs.lemmas.Bool.{eqb-true, eq-eqb, ne_eqb, or_parts}
 use Rattle.smith_binary.specs.Spelling.{Spelling}
 use Rattle.smith_binary.specs.Spelling.Spelling.{any}
-use Rattle.smith_binary.specs.Pieces.{Is, IsName, IsSection, Joined, Each, Output, Writes}
-use Rattle.smith_binary_sections.specs.Sections.{IsOptionalSection, IsSectionIfIn}
-use Rattle.smith_decode.specs.declared.customs.Custom.{Custom}
-use Rattle.smith_decode.specs.Customs.{IsNamed, AreCustoms, IsAnySection, IsNext, IsThen}
+use Rattle.smith_binary.specs.Pieces.{IsName, IsSection, Joined}
+use Rattle.smith_binary_sections.specs.Sections.{IsSectionIfIn}
+use Rattle.smith_decode.specs.Customs.{IsAnySection, IsNamed, IsNext}
 use Rattle.smith_decode.proofs.CustomLemmas.{no_customs, end_decodes}
 use Rattle.smith_encode.specs.Places.{is_same_section, skipped, left_after, is_due, next_place, HasCustomsAfter, Leads, WritesCustoms}
 use Rattle.smith_encode.specs.Places.{WritesNext, WritesBefore}

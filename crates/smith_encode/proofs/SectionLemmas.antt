@@ -1,20 +1,12 @@
 -- Sections as they are written.
-use Rattle.std.proofs.Common.{◌≡◌, ℕ, ◌≤◌, ◌^◌, ◌⊎◌, inl, inr, Bool, true, false, eqb, List, [], ◌∷◌, length, Option, Some, None}
-use Rattle.std.proofs.Common.{Result, Ok}
-use Rattle.std.proofs.Common.{Err, refl, sym, ap, subst, arith}
-use Rattle.std.specs.Prelude.{IfOk}
-use Rattle.std.specs.List.{list_all}
-use Rattle.std.proofs.lemmas.Bool.{and_parts}
+use Rattle.smith_encode.proofs.Common.{[], and_parts, ap, arith, Bool, Custom, eqb, Err, false, IfOk, IsList, IsOptionalSection, IsThen}
+use Rattle.smith_encode.proofs.Common.{length, List, list_all, Module, name_data, None, Ok, Option, Output, refl, Result, Some, subst, sym}
+use Rattle.smith_encode.proofs.Common.{syntax_of, true, ℕ, ◌^◌, ◌∷◌, ◌≡◌}
+use Rattle.std.proofs.Common.{inl, inr, ◌≤◌, ◌⊎◌}
 use Rattle.smith_binary.specs.Numbers.{IsUnsigned}
-use Rattle.smith_binary.specs.Pieces.{IsList, Output}
 use Rattle.smith_binary_sections.specs.Long.{IsLongContent}
-use Rattle.smith_binary_sections.specs.Sections.{IsOptionalSection}
 use Rattle.smith_binary_sections.proofs.SizeLemmas.{not_long, number_within}
-use Rattle.smith_decode.specs.declared.customs.Custom.{Custom}
-use Rattle.smith_decode.specs.declared.modules.Module.{Module}
-use Rattle.smith_decode.specs.BodyReadings.{name_data}
-use Rattle.smith_decode.specs.Customs.{IsThen}
-use Rattle.smith_decode.specs.Modules.{IsStated, syntax_of}
+use Rattle.smith_decode.specs.Modules.{IsStated}
 use Rattle.smith_encode.specs.Places.{WritesCustoms, WritesNext, WritesBefore}
 use Rattle.smith_encode.specs.Spelled.{IfPasses, is_table_nested, is_global_nested, is_element_nested, is_body_spelled, is_data_nested}
 use Rattle.smith_encode.specs.Spelled.{are_parts_spelled}

@@ -2,8 +2,8 @@
 use Rattle.std.specs.Prelude.{◌&&◌, IsTrue}
 use Rattle.std.proofs.Common.{◌≡◌, Bool, true, false, refl}
 use Rattle.std.proofs.lemmas.Bool.{false≢true}
-use Rattle.smith_syntax.specs.Features.{Features}
-use Rattle.smith_syntax.specs.declared.instruction_kind.InstructionKinds.{InstructionKinds}
+use Rattle.smith_types.specs.Syntax.Features.{Features}
+use Rattle.smith_types.specs.Syntax.instruction_kind.InstructionKinds.{InstructionKinds}
 use Rattle.smith_instr.specs.Enabled.{IsEnabled, is_enabled, is_kind_enabled, names_data}
 use Rattle.smith_instr.specs.declared.aggregate.AggregateInstr.TheVariants as aggregate
 use Rattle.smith_instr.specs.declared.instr.Instr.{Instr}

@@ -2,8 +2,8 @@
 use Rattle.std.proofs.Common.{◌≡◌, ℕ, List, [], ◌∷◌, ◌++◌, refl}
 use Rattle.std.specs.List.{AllZip}
 use Rattle.smith_types.specs.Subtyping.{IsValBelow}
-use Rattle.smith_syntax.specs.declared.value_type.ValType.{ValType}
-use Rattle.smith_syntax.specs.declared.composite_type.SubType.{SubType}
+use Rattle.smith_types.specs.Syntax.value_type.ValType.{ValType}
+use Rattle.smith_types.specs.Syntax.composite_type.SubType.{SubType}
 use Rattle.smith_types.proofs.GrowthLemmas.{IsValBelow-refl}
 use Rattle.smith_instr.specs.Contexts.{BodyContext, AreValid}
 use Rattle.smith_instr.specs.InstrTypes.{sets, HasInstrType}

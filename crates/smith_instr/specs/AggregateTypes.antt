@@ -3,17 +3,13 @@
 -- rule of this project, an instruction on an i31, an array or an external reference takes shared
 -- and unshared references.
 use Rattle.std.specs.Prelude.{◌≡◌, ℕ, ◌<◌, Bool, true, false, List, [], ◌∷◌, replicate, slice_get, Some, All}
-use Rattle.smith_types.specs.Expressions.{IsDefaultable, IsStructAt, IsArrayAt, reference_to, unpacked, field_values}
+use Rattle.smith_instr.specs.Common.{Abstract, Concrete, I32, IsRefBelow, Ref, reference_to, RefType, ValType}
+use Rattle.smith_types.specs.Expressions.{field_values, IsArrayAt, IsDefaultable, IsStructAt, unpacked}
 use Rattle.smith_types.specs.Matching.{IsStorageMatch}
-use Rattle.smith_types.specs.Subtyping.{IsRefBelow}
-use Rattle.smith_syntax.specs.declared.value_type.AbstractHeapType.TheVariants as abstract
-use Rattle.smith_syntax.specs.declared.value_type.HeapType.TheVariants.{Abstract, Concrete}
-use Rattle.smith_syntax.specs.declared.value_type.RefType.{RefType}
-use Rattle.smith_syntax.specs.declared.value_type.ValType.{ValType}
-use Rattle.smith_syntax.specs.declared.value_type.ValType.TheVariants.{I32, Ref}
-use Rattle.smith_syntax.specs.declared.composite_type.StorageType.{StorageType}
-use Rattle.smith_syntax.specs.declared.composite_type.StorageType.TheVariants as storage
-use Rattle.smith_syntax.specs.declared.composite_type.FieldType.{FieldType}
+use Rattle.smith_types.specs.Syntax.value_type.AbstractHeapType.TheVariants as abstract
+use Rattle.smith_types.specs.Syntax.composite_type.StorageType.{StorageType}
+use Rattle.smith_types.specs.Syntax.composite_type.StorageType.TheVariants as storage
+use Rattle.smith_types.specs.Syntax.composite_type.FieldType.{FieldType}
 use Rattle.smith_instr.specs.Contexts.{BodyContext, To, created_reference, nullable_to}
 use Rattle.smith_instr.specs.declared.aggregate.Extension.{Extension}
 use Rattle.smith_instr.specs.declared.aggregate.Extension.TheVariants as extension

@@ -2,21 +2,16 @@
 -- Specification 3.0.
 use Rattle.std.specs.Prelude.{◌≡◌, ◌⊎◌, ℕ, ◌<◌, Bool, true, nat_le, List, [], ◌∷◌, length, slice_get, Some, All, if◌then◌else◌}
 use Rattle.std.specs.List.{AllZip, Contains}
-use Rattle.smith_syntax.specs.Features.{Features}
+use Rattle.smith_instr.specs.Common.{Concrete, Features, HeapType, I32, I64, Ref, reference_to, RefType, TableType, ValType}
 use Rattle.smith_types.specs.Entities.{IsFuncAt}
-use Rattle.smith_types.specs.Expressions.{IsDefaultable, reference_to}
+use Rattle.smith_types.specs.Expressions.{IsDefaultable}
 use Rattle.smith_types.specs.Subtyping.{IsValBelow}
 use Rattle.smith_types.specs.ValidTypes.{IsValTypeValid, IsHeapTypeValid, IsRefTypeValid}
-use Rattle.smith_syntax.specs.declared.value_type.HeapType.{HeapType}
-use Rattle.smith_syntax.specs.declared.value_type.HeapType.TheVariants.{Concrete, Exact}
-use Rattle.smith_syntax.specs.declared.value_type.RefType.{RefType}
-use Rattle.smith_syntax.specs.declared.value_type.ValType.{ValType}
-use Rattle.smith_syntax.specs.declared.value_type.ValType.TheVariants.{I32, I64, Ref}
-use Rattle.smith_syntax.specs.declared.composite_type.FuncType.{FuncType}
-use Rattle.smith_syntax.specs.declared.composite_type.SubType.{SubType}
-use Rattle.smith_syntax.specs.declared.entity_type.GlobalType.{GlobalType}
-use Rattle.smith_syntax.specs.declared.entity_type.MemoryType.{MemoryType}
-use Rattle.smith_syntax.specs.declared.entity_type.TableType.{TableType}
+use Rattle.smith_types.specs.Syntax.value_type.HeapType.TheVariants.{Exact}
+use Rattle.smith_types.specs.Syntax.composite_type.FuncType.{FuncType}
+use Rattle.smith_types.specs.Syntax.composite_type.SubType.{SubType}
+use Rattle.smith_types.specs.Syntax.entity_type.GlobalType.{GlobalType}
+use Rattle.smith_types.specs.Syntax.entity_type.MemoryType.{MemoryType}
 use Rattle.smith_instr.specs.declared.control.BlockType.{BlockType}
 use Rattle.smith_instr.specs.declared.control.BlockType.TheVariants as block
 

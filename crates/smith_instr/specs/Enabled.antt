@@ -3,11 +3,11 @@
 -- standard's chapter Structure, Instructions. By a rule of this project, the kinds of numeric,
 -- vector and memory instructions each have a variant without floats.
 use Rattle.std.specs.Prelude.{Bool, true, false, IsTrue, ◌&&◌, ◌||◌, ◌==◌, bit_and, if◌then◌else◌}
-use Rattle.smith_syntax.specs.Features.{Features}
-use Rattle.smith_syntax.specs.Instructions.{kind_bits, kinds_bits}
-use Rattle.smith_syntax.specs.declared.instruction_kind.InstructionKind.{InstructionKind}
-use Rattle.smith_syntax.specs.declared.instruction_kind.InstructionKind.TheVariants as kind
-use Rattle.smith_syntax.specs.declared.instruction_kind.InstructionKinds.{InstructionKinds}
+use Rattle.smith_instr.specs.Common.{Features}
+use Rattle.smith_types.specs.Syntax.Instructions.{kind_bits, kinds_bits}
+use Rattle.smith_types.specs.Syntax.instruction_kind.InstructionKind.{InstructionKind}
+use Rattle.smith_types.specs.Syntax.instruction_kind.InstructionKind.TheVariants as kind
+use Rattle.smith_types.specs.Syntax.instruction_kind.InstructionKinds.{InstructionKinds}
 use Rattle.smith_instr.specs.declared.aggregate.AggregateInstr.{AggregateInstr}
 use Rattle.smith_instr.specs.declared.aggregate.AggregateInstr.TheVariants as aggregate
 use Rattle.smith_instr.specs.declared.control.BlockType.{BlockType}

@@ -2,17 +2,11 @@
 -- Specification 3.0.
 use Rattle.std.specs.Prelude.{◌≡◌, ℕ, Bool, true, false, List, [], ◌∷◌, ◌++◌, Some, slice_get, All, if◌then◌else◌}
 use Rattle.smith_types.specs.Entities.{IsFuncAt}
-use Rattle.smith_types.specs.Expressions.{reference_to}
-use Rattle.smith_types.specs.Subtyping.{IsRefBelow}
-use Rattle.smith_syntax.specs.declared.value_type.AbstractHeapType.TheVariants as abstract
-use Rattle.smith_syntax.specs.declared.value_type.HeapType.{HeapType}
-use Rattle.smith_syntax.specs.declared.value_type.HeapType.TheVariants.{Abstract, Concrete}
-use Rattle.smith_syntax.specs.declared.value_type.RefType.{RefType}
-use Rattle.smith_syntax.specs.declared.value_type.ValType.{ValType}
-use Rattle.smith_syntax.specs.declared.value_type.ValType.TheVariants.{I32, I64, F32, F64, V128, Ref}
-use Rattle.smith_syntax.specs.declared.composite_type.FuncType.{FuncType}
-use Rattle.smith_syntax.specs.declared.entity_type.GlobalType.{GlobalType}
-use Rattle.smith_syntax.specs.declared.entity_type.TableType.{TableType}
+use Rattle.smith_instr.specs.Common.{Abstract, Concrete, F32, F64, HeapType, I32, I64, IsRefBelow, Ref, reference_to, RefType, TableType}
+use Rattle.smith_instr.specs.Common.{V128, ValType}
+use Rattle.smith_types.specs.Syntax.value_type.AbstractHeapType.TheVariants as abstract
+use Rattle.smith_types.specs.Syntax.composite_type.FuncType.{FuncType}
+use Rattle.smith_types.specs.Syntax.entity_type.GlobalType.{GlobalType}
 use Rattle.smith_instr.specs.AggregateTypes.{HasAggregateType}
 use Rattle.smith_instr.specs.Contexts.{BodyContext, IsValid, AreValid, IsHeapValid, IsRefValid, AreBelow, IsLocalSet, IsFunction, IsTag, To}
 use Rattle.smith_instr.specs.Contexts.{address, nullable_to}

@@ -1,8 +1,7 @@
 -- Laws of the rules of typing, and of the features that instructions need.
 use Rattle.std.specs.Prelude.{List, ◌++◌, ◌≡◌, true, IsTrue}
-use Rattle.smith_syntax.specs.Features.{Features}
-use Rattle.smith_syntax.specs.declared.instruction_kind.InstructionKinds.{InstructionKinds}
-use Rattle.smith_syntax.specs.declared.value_type.ValType.{ValType}
+use Rattle.smith_instr.specs.Common.{Features, ValType}
+use Rattle.smith_types.specs.Syntax.instruction_kind.InstructionKinds.{InstructionKinds}
 use Rattle.smith_instr.specs.Contexts.{BodyContext}
 use Rattle.smith_instr.specs.Enabled.{IsEnabled, names_data}
 use Rattle.smith_instr.specs.Sequences.{Stacked, stacked, CountsAs, AreTyped}

@@ -1,3 +1,4 @@
+pub mod Common
 pub mod Contexts
 pub mod NumericTypes
 pub mod ReferenceTypes

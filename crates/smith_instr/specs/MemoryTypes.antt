@@ -1,9 +1,8 @@
 -- The types of memory instructions: the section Validation, Memory Instructions, of the WebAssembly
 -- Core Specification 3.0. Atomic accesses follow the threads proposal.
 use Rattle.std.specs.Prelude.{◌≡◌, ℕ, ◌<◌, ◌≤◌, ◌^◌, ◌-◌, Bool, List, [], ◌∷◌, Some, slice_get, if◌then◌else◌}
-use Rattle.smith_syntax.specs.declared.value_type.ValType.{ValType}
-use Rattle.smith_syntax.specs.declared.value_type.ValType.TheVariants.{I32, I64, F32, F64, V128}
-use Rattle.smith_syntax.specs.declared.entity_type.MemoryType.{MemoryType}
+use Rattle.smith_instr.specs.Common.{F32, F64, I32, I64, V128, ValType}
+use Rattle.smith_types.specs.Syntax.entity_type.MemoryType.{MemoryType}
 use Rattle.smith_instr.specs.Contexts.{BodyContext, To, address}
 use Rattle.smith_instr.specs.ReferenceTypes.{narrower}
 use Rattle.smith_instr.specs.declared.memory.Load.{Load}

@@ -1,8 +1,7 @@
 -- The types of numeric instructions: the section Validation, Numeric Instructions, of the
 -- WebAssembly Core Specification 3.0. Wide arithmetic follows its proposal.
 use Rattle.std.specs.Prelude.{List, [], ◌∷◌}
-use Rattle.smith_syntax.specs.declared.value_type.ValType.{ValType}
-use Rattle.smith_syntax.specs.declared.value_type.ValType.TheVariants.{I32, I64, F32, F64}
+use Rattle.smith_instr.specs.Common.{F32, F64, I32, I64, ValType}
 use Rattle.smith_instr.specs.declared.numeric.Conversion.{Conversion}
 use Rattle.smith_instr.specs.declared.numeric.Conversion.TheVariants as convert
 use Rattle.smith_instr.specs.declared.numeric.SaturatingConversion.{SaturatingConversion}

@@ -3,15 +3,8 @@
 -- shared and unshared references may be compared.
 use Rattle.std.specs.Prelude.{◌≡◌, ℕ, ◌<◌, Bool, List, [], ◌∷◌, Some, length, slice_get, if◌then◌else◌}
 use Rattle.std.specs.List.{Contains}
-use Rattle.smith_types.specs.Expressions.{reference_to}
-use Rattle.smith_types.specs.Subtyping.{IsRefBelow}
-use Rattle.smith_syntax.specs.declared.value_type.AbstractHeapType.TheVariants as abstract
-use Rattle.smith_syntax.specs.declared.value_type.HeapType.{HeapType}
-use Rattle.smith_syntax.specs.declared.value_type.HeapType.TheVariants.{Abstract}
-use Rattle.smith_syntax.specs.declared.value_type.RefType.{RefType}
-use Rattle.smith_syntax.specs.declared.value_type.ValType.{ValType}
-use Rattle.smith_syntax.specs.declared.value_type.ValType.TheVariants.{I32, Ref}
-use Rattle.smith_syntax.specs.declared.entity_type.TableType.{TableType}
+use Rattle.smith_instr.specs.Common.{Abstract, HeapType, I32, IsRefBelow, Ref, reference_to, RefType, TableType, ValType}
+use Rattle.smith_types.specs.Syntax.value_type.AbstractHeapType.TheVariants as abstract
 use Rattle.smith_instr.specs.Contexts.{BodyContext, IsHeapValid, IsRefValid, To, address, nullable_to, reference_to_function}
 use Rattle.smith_instr.specs.declared.reference.ReferenceInstr.{ReferenceInstr}
 use Rattle.smith_instr.specs.declared.reference.ReferenceInstr.TheVariants as reference

@@ -1,8 +1,7 @@
 -- Sequences of instructions and bodies: the sections Validation, Instruction Sequences, and
 -- Validation, Functions, of the WebAssembly Core Specification 3.0.
 use Rattle.std.specs.Prelude.{◌≡◌, ℕ, List, [], ◌∷◌, ◌++◌, All}
-use Rattle.smith_syntax.specs.declared.value_type.ValType.{ValType}
-use Rattle.smith_syntax.specs.declared.value_type.ValType.TheVariants.{I32}
+use Rattle.smith_instr.specs.Common.{I32, ValType}
 use Rattle.smith_instr.specs.Contexts.{BodyContext, labelled, AreValid, AreBelow, IsBlockType}
 use Rattle.smith_instr.specs.InstrTypes.{sets, HasInstrType, IsCatch}
 use Rattle.smith_instr.specs.declared.control.BlockType.{BlockType}

@@ -1,8 +1,7 @@
 -- The types of vector instructions: the section Validation, Vector Instructions, of the WebAssembly
 -- Core Specification 3.0.
 use Rattle.std.specs.Prelude.{ℕ, ◌<◌, List, [], ◌∷◌, All}
-use Rattle.smith_syntax.specs.declared.value_type.ValType.{ValType}
-use Rattle.smith_syntax.specs.declared.value_type.ValType.TheVariants.{I32, I64, F32, F64, V128}
+use Rattle.smith_instr.specs.Common.{F32, F64, I32, I64, V128, ValType}
 use Rattle.smith_instr.specs.Contexts.{To}
 use Rattle.smith_instr.specs.declared.vector.LaneShape.{LaneShape}
 use Rattle.smith_instr.specs.declared.vector.LaneShape.TheVariants as shape

@@ -6,7 +6,7 @@ use Rattle.smith_instr_examples.proofs.Common.{Concrete, RefType, ValType, I32, 
 use Rattle.smith_instr_examples.proofs.Common.{IsBelow-trans, below_abstract, below_kind, by_cases_from_below, kind, IsFuncAt, IsStructAt}
 use Rattle.smith_instr_examples.proofs.Common.{IsArrayAt, FuncType, IsRefValid, IsFunctionTable, IsElemOf, IsRefBelow-refl, functions}
 use Rattle.smith_instr_examples.proofs.Common.{some_func, managed, managed_types, narrows, anything, something, wide_functions}
-use Rattle.smith_syntax.specs.declared.value_type.AbstractHeapType.TheVariants as heap
+use Rattle.smith_types.specs.Syntax.value_type.AbstractHeapType.TheVariants as heap
 
 none_above : (inners : List CompositeInnerType) (i : ℕ) (t : SubType) → slice_get (map final_type inners) i ≡ Some t → t.supertype ≡ None
 none_above [] i t at = cc

@@ -1,7 +1,7 @@
 -- Shared types, and a table of shared functions.
 use Rattle.smith_types.specs.ExampleTypes.{shared_type}
-use Rattle.smith_syntax.specs.declared.composite_type.StorageType.TheVariants.{I16}
-use Rattle.smith_syntax.specs.declared.value_type.AbstractHeapType.TheVariants as heap
+use Rattle.smith_types.specs.Syntax.composite_type.StorageType.TheVariants.{I16}
+use Rattle.smith_types.specs.Syntax.value_type.AbstractHeapType.TheVariants as heap
 use Rattle.smith_instr.proofs.CompositionLemmas.{from_below}
 use Rattle.smith_instr.specs.declared.aggregate.AggregateInstr.TheVariants as aggregate
 use Rattle.smith_instr.specs.declared.instr.Instr.TheVariants as instr

@@ -1,10 +1,10 @@
 -- Values where an instruction takes values of another type, and types that are not valid.
-use Rattle.smith_syntax.specs.Kinds.{bottom}
+use Rattle.smith_types.specs.Syntax.Kinds.{bottom}
 use Rattle.smith_types.specs.Subtyping.{IsBelow, by_step}
 use Rattle.smith_types.specs.ValidTypes.{IsHeapTypeValid}
-use Rattle.smith_syntax.specs.declared.value_type.HeapType.{HeapType}
-use Rattle.smith_syntax.specs.declared.value_type.HeapType.TheVariants.{Exact}
-use Rattle.smith_syntax.specs.declared.value_type.AbstractHeapType.TheVariants as heap
+use Rattle.smith_types.specs.Syntax.value_type.HeapType.{HeapType}
+use Rattle.smith_types.specs.Syntax.value_type.HeapType.TheVariants.{Exact}
+use Rattle.smith_types.specs.Syntax.value_type.AbstractHeapType.TheVariants as heap
 use Rattle.smith_instr.proofs.CompositionLemmas.{from_below}
 use Rattle.smith_instr.specs.declared.aggregate.AggregateInstr.TheVariants as aggregate
 use Rattle.smith_instr.specs.declared.aggregate.Extension.TheVariants as extension

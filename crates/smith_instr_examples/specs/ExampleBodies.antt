@@ -4,17 +4,17 @@ use Rattle.smith_types.specs.ExampleFeatures.{usual_features}
 use Rattle.smith_types.specs.ExampleTypes.{func, final_type, plain_func, struct, taking, constant, variable, not_null, nullable, plain}
 use Rattle.smith_types.specs.ExampleEntities.{constant_global, variable_global}
 use Rattle.smith_types.specs.Flags.{funcref}
-use Rattle.smith_syntax.specs.declared.value_type.AbstractHeapType.TheVariants as heap
-use Rattle.smith_syntax.specs.declared.value_type.ValType.{ValType}
-use Rattle.smith_syntax.specs.declared.value_type.ValType.TheVariants.{I32, I64, Ref}
-use Rattle.smith_syntax.specs.declared.composite_type.StorageType.TheVariants.{I8, Val}
-use Rattle.smith_syntax.specs.declared.composite_type.CompositeInnerType.TheVariants.{Array, Func}
-use Rattle.smith_syntax.specs.declared.composite_type.FuncType.{FuncType}
-use Rattle.smith_syntax.specs.declared.entity_type.MemoryType.{MemoryType}
-use Rattle.smith_syntax.specs.declared.entity_type.TableType.{TableType}
-use Rattle.smith_syntax.specs.Instructions.{kind_bits}
-use Rattle.smith_syntax.specs.declared.instruction_kind.InstructionKind.{InstructionKind}
-use Rattle.smith_syntax.specs.declared.instruction_kind.InstructionKinds.{InstructionKinds}
+use Rattle.smith_types.specs.Syntax.value_type.AbstractHeapType.TheVariants as heap
+use Rattle.smith_types.specs.Syntax.value_type.ValType.{ValType}
+use Rattle.smith_types.specs.Syntax.value_type.ValType.TheVariants.{I32, I64, Ref}
+use Rattle.smith_types.specs.Syntax.composite_type.StorageType.TheVariants.{I8, Val}
+use Rattle.smith_types.specs.Syntax.composite_type.CompositeInnerType.TheVariants.{Array, Func}
+use Rattle.smith_types.specs.Syntax.composite_type.FuncType.{FuncType}
+use Rattle.smith_types.specs.Syntax.entity_type.MemoryType.{MemoryType}
+use Rattle.smith_types.specs.Syntax.entity_type.TableType.{TableType}
+use Rattle.smith_types.specs.Syntax.Instructions.{kind_bits}
+use Rattle.smith_types.specs.Syntax.instruction_kind.InstructionKind.{InstructionKind}
+use Rattle.smith_types.specs.Syntax.instruction_kind.InstructionKinds.{InstructionKinds}
 use Rattle.smith_instr.specs.Contexts.{BodyContext}
 use Rattle.smith_instr.specs.declared.instr.Instr.{Instr}
 use Rattle.smith_instr.specs.declared.instr.Instr.TheVariants as instr

@@ -1,11 +1,11 @@
 -- Instructions that have a type in the managed context, or none; instructions that are enabled, or
 -- not.
 use Rattle.std.specs.Prelude.{◌≡◌, ◌-◌, ◌^◌, Bool, List, []}
-use Rattle.smith_syntax.specs.Features.{Features}
-use Rattle.smith_syntax.specs.Instructions.{float_bits, kind_bits}
-use Rattle.smith_syntax.specs.declared.instruction_kind.InstructionKind.{InstructionKind}
-use Rattle.smith_syntax.specs.declared.instruction_kind.InstructionKinds.{InstructionKinds}
-use Rattle.smith_syntax.specs.declared.value_type.ValType.{ValType}
+use Rattle.smith_types.specs.Syntax.Features.{Features}
+use Rattle.smith_types.specs.Syntax.Instructions.{float_bits, kind_bits}
+use Rattle.smith_types.specs.Syntax.instruction_kind.InstructionKind.{InstructionKind}
+use Rattle.smith_types.specs.Syntax.instruction_kind.InstructionKinds.{InstructionKinds}
+use Rattle.smith_types.specs.Syntax.value_type.ValType.{ValType}
 use Rattle.smith_instr.specs.Enabled.{has_features, is_allowed, is_kind_enabled}
 use Rattle.smith_instr.specs.InstrTypes.{HasInstrType}
 use Rattle.smith_instr.specs.declared.instr.Instr.{Instr}

@@ -1,8 +1,8 @@
 ghost use Rattle.std.specs.List.{AllByRecursion as Each};
 ghost use Rattle.smith_instr.specs.MemoryTypes.{atomic_width};
 ghost use Rattle.std.specs.Prelude.{◌≡◌, [], ◌∷◌, ℕ};
-ghost use Rattle.smith_syntax.specs.declared.value_type.ValType.TheVariants.{I32, I64};
-ghost use Rattle.smith_syntax.specs.declared.value_type.ValType.{ValType};
+ghost use Rattle.smith_types.specs.Syntax.value_type.ValType.TheVariants.{I32, I64};
+ghost use Rattle.smith_types.specs.Syntax.value_type.ValType.{ValType};
 ghost use Rattle.smith_instr.specs.declared.atomic.AtomicAccess.TheVariants as atomic;
 ghost use Rattle.smith_instr.specs.declared.atomic.AtomicUpdate.{AtomicUpdate};
 ghost use Rattle.smith_instr.specs.declared.atomic.AtomicWidth.TheVariants as width;

@@ -1,10 +1,10 @@
 ghost use Rattle.std.specs.Prelude.{List, [], ◌∷◌, ◌≡◌, ℕ};
 ghost use Rattle.smith_types.specs.Expressions.{reference_to};
-ghost use Rattle.smith_syntax.specs.Features.{every_feature};
+ghost use Rattle.smith_types.specs.Syntax.Features.{every_feature};
 ghost use Rattle.smith_types.specs.Flags.{funcref};
-ghost use Rattle.smith_syntax.specs.declared.value_type.HeapType.TheVariants.{Concrete, Exact};
-ghost use Rattle.smith_syntax.specs.declared.value_type.ValType.TheVariants.{F32, I32, I64, Ref, V128};
-ghost use Rattle.smith_syntax.specs.declared.value_type.ValType.{ValType};
+ghost use Rattle.smith_types.specs.Syntax.value_type.HeapType.TheVariants.{Concrete, Exact};
+ghost use Rattle.smith_types.specs.Syntax.value_type.ValType.TheVariants.{F32, I32, I64, Ref, V128};
+ghost use Rattle.smith_types.specs.Syntax.value_type.ValType.{ValType};
 ghost use Rattle.smith_instr.specs.Contexts.{IsBlockType, created_reference, nullable_to, reference_to_function};
 ghost use Rattle.smith_instr.specs.InstrTypes.{HasInstrType, sets};
 ghost use Rattle.smith_instr.specs.declared.aggregate.AggregateInstr.TheVariants as aggregate;

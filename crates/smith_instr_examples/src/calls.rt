@@ -1,8 +1,8 @@
 ghost use Rattle.std.specs.Prelude.{List, [], ◌∷◌};
 ghost use Rattle.smith_types.specs.Flags.{funcref};
-ghost use Rattle.smith_syntax.specs.declared.value_type.HeapType.TheVariants.{Concrete};
-ghost use Rattle.smith_syntax.specs.declared.value_type.ValType.{ValType};
-ghost use Rattle.smith_syntax.specs.declared.value_type.ValType.TheVariants.{F32, I32, I64, Ref};
+ghost use Rattle.smith_types.specs.Syntax.value_type.HeapType.TheVariants.{Concrete};
+ghost use Rattle.smith_types.specs.Syntax.value_type.ValType.{ValType};
+ghost use Rattle.smith_types.specs.Syntax.value_type.ValType.TheVariants.{F32, I32, I64, Ref};
 ghost use Rattle.smith_instr.specs.Contexts.{nullable_to};
 ghost use Rattle.smith_instr.specs.InstrTypes.{HasInstrType};
 ghost use Rattle.smith_instr.specs.declared.instr.Instr.TheVariants as instr;

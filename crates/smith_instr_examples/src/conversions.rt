@@ -1,6 +1,6 @@
 ghost use Rattle.std.specs.List.{AllByRecursion as Each};
 ghost use Rattle.std.specs.Prelude.{[], ◌∷◌, ◌≡◌};
-ghost use Rattle.smith_syntax.specs.declared.value_type.ValType.TheVariants.{F32, F64, I32, I64};
+ghost use Rattle.smith_types.specs.Syntax.value_type.ValType.TheVariants.{F32, F64, I32, I64};
 ghost use Rattle.smith_instr.specs.declared.instr.Instr.TheVariants as instr;
 ghost use Rattle.smith_instr.specs.declared.numeric.Conversion.TheVariants as convert;
 ghost use Rattle.smith_instr.specs.declared.numeric.Conversion.{Conversion};
@@ -11,7 +11,7 @@ ghost use Rattle.smith_instr.specs.declared.numeric.SignExtension.TheVariants as
 ghost use Rattle.smith_instr.specs.declared.numeric.SignExtension.{SignExtension};
 ghost use Rattle.smith_instr.specs.declared.numeric.WideArithmetic.TheVariants as wide;
 ghost use Rattle.smith_instr_examples.specs.ExampleTyping.{HasOnlyType};
-ghost use Rattle.smith_syntax.specs.declared.value_type.ValType.{ValType};
+ghost use Rattle.smith_types.specs.Syntax.value_type.ValType.{ValType};
 ghost use Rattle.smith_instr.specs.declared.numeric.NumericInstr.{NumericInstr};
 ghost use Rattle.smith_instr.specs.NumericTypes.{conversion, of, saturating_conversion, sign_extension, signature};
 

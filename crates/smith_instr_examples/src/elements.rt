@@ -1,11 +1,11 @@
 ghost use Rattle.std.specs.Prelude.{List, [], ◌∷◌, ◌≡◌};
 ghost use Rattle.smith_types.specs.ExampleTypes.{constant, eqref, plain};
 ghost use Rattle.smith_types.specs.Flags.{funcref};
-ghost use Rattle.smith_syntax.specs.declared.composite_type.StorageType.TheVariants as storage;
-ghost use Rattle.smith_syntax.specs.declared.value_type.AbstractHeapType.TheVariants as heap;
-ghost use Rattle.smith_syntax.specs.declared.value_type.HeapType.TheVariants.{Concrete};
-ghost use Rattle.smith_syntax.specs.declared.value_type.ValType.{ValType};
-ghost use Rattle.smith_syntax.specs.declared.value_type.ValType.TheVariants.{F32, F64, I32, I64, Ref, V128};
+ghost use Rattle.smith_types.specs.Syntax.composite_type.StorageType.TheVariants as storage;
+ghost use Rattle.smith_types.specs.Syntax.value_type.AbstractHeapType.TheVariants as heap;
+ghost use Rattle.smith_types.specs.Syntax.value_type.HeapType.TheVariants.{Concrete};
+ghost use Rattle.smith_types.specs.Syntax.value_type.ValType.{ValType};
+ghost use Rattle.smith_types.specs.Syntax.value_type.ValType.TheVariants.{F32, F64, I32, I64, Ref, V128};
 ghost use Rattle.smith_instr.specs.AggregateTypes.{IsOfBytes, IsReadBy, value_of};
 ghost use Rattle.smith_instr.specs.Contexts.{nullable_to};
 ghost use Rattle.smith_instr.specs.InstrTypes.{HasInstrType};

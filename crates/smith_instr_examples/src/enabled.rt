@@ -1,8 +1,8 @@
 ghost use Rattle.std.specs.Prelude.{[], false, pos};
-ghost use Rattle.smith_syntax.specs.Instructions.{every_kind, no_kind};
-ghost use Rattle.smith_syntax.specs.declared.instruction_kind.InstructionKind.TheVariants.{Numeric, NumericInt, Memory, MemoryInt};
-ghost use Rattle.smith_syntax.specs.declared.instruction_kind.InstructionKind.TheVariants.{VectorInt, Control};
-ghost use Rattle.smith_syntax.specs.declared.value_type.ValType.TheVariants.{I32};
+ghost use Rattle.smith_types.specs.Syntax.Instructions.{every_kind, no_kind};
+ghost use Rattle.smith_types.specs.Syntax.instruction_kind.InstructionKind.TheVariants.{Numeric, NumericInt, Memory, MemoryInt};
+ghost use Rattle.smith_types.specs.Syntax.instruction_kind.InstructionKind.TheVariants.{VectorInt, Control};
+ghost use Rattle.smith_types.specs.Syntax.value_type.ValType.TheVariants.{I32};
 ghost use Rattle.smith_types.specs.ExampleFeatures.{usual_features};
 ghost use Rattle.smith_instr.specs.Enabled.{IsEnabled};
 ghost use Rattle.smith_instr.specs.declared.aggregate.AggregateInstr.TheVariants as aggregate;

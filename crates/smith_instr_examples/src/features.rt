@@ -1,8 +1,8 @@
 ghost use Rattle.std.specs.List.{AllByRecursion as Each};
 ghost use Rattle.std.specs.Prelude.{List, [], ◌∷◌, true, pos, ℕ, ◌&&◌};
-ghost use Rattle.smith_syntax.specs.declared.value_type.HeapType.{HeapType};
-ghost use Rattle.smith_syntax.specs.declared.value_type.ValType.TheVariants.{I32};
-ghost use Rattle.smith_syntax.specs.declared.value_type.ValType.{ValType};
+ghost use Rattle.smith_types.specs.Syntax.value_type.HeapType.{HeapType};
+ghost use Rattle.smith_types.specs.Syntax.value_type.ValType.TheVariants.{I32};
+ghost use Rattle.smith_types.specs.Syntax.value_type.ValType.{ValType};
 ghost use Rattle.smith_instr.specs.declared.aggregate.AggregateInstr.TheVariants as aggregate;
 ghost use Rattle.smith_instr.specs.declared.aggregate.Extension.TheVariants as extension;
 ghost use Rattle.smith_instr.specs.declared.atomic.AtomicAccess.{AtomicAccess};

@@ -1,8 +1,8 @@
 ghost use Rattle.std.specs.Prelude.{List, [], ◌∷◌, false};
-ghost use Rattle.smith_syntax.specs.declared.value_type.AbstractHeapType.TheVariants as heap;
-ghost use Rattle.smith_syntax.specs.declared.value_type.HeapType.TheVariants.{Abstract};
-ghost use Rattle.smith_syntax.specs.declared.value_type.ValType.{ValType};
-ghost use Rattle.smith_syntax.specs.declared.value_type.ValType.TheVariants.{I32, I64, Ref};
+ghost use Rattle.smith_types.specs.Syntax.value_type.AbstractHeapType.TheVariants as heap;
+ghost use Rattle.smith_types.specs.Syntax.value_type.HeapType.TheVariants.{Abstract};
+ghost use Rattle.smith_types.specs.Syntax.value_type.ValType.{ValType};
+ghost use Rattle.smith_types.specs.Syntax.value_type.ValType.TheVariants.{I32, I64, Ref};
 ghost use Rattle.smith_types.specs.Expressions.{reference_to};
 ghost use Rattle.smith_instr.specs.InstrTypes.{HasInstrType, IsCatch};
 ghost use Rattle.smith_instr.specs.Sequences.{AreTyped, Stacked, stacked};

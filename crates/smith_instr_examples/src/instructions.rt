@@ -1,9 +1,9 @@
 ghost use Rattle.std.specs.Prelude.{[], ◌∷◌, false};
 ghost use Rattle.smith_types.specs.Expressions.{reference_to};
 ghost use Rattle.smith_types.specs.Flags.{funcref};
-ghost use Rattle.smith_syntax.specs.declared.value_type.AbstractHeapType.TheVariants as heap;
-ghost use Rattle.smith_syntax.specs.declared.value_type.HeapType.TheVariants.{Abstract, Concrete};
-ghost use Rattle.smith_syntax.specs.declared.value_type.ValType.TheVariants.{I32, I64, F64, Ref};
+ghost use Rattle.smith_types.specs.Syntax.value_type.AbstractHeapType.TheVariants as heap;
+ghost use Rattle.smith_types.specs.Syntax.value_type.HeapType.TheVariants.{Abstract, Concrete};
+ghost use Rattle.smith_types.specs.Syntax.value_type.ValType.TheVariants.{I32, I64, F64, Ref};
 ghost use Rattle.smith_instr.specs.Contexts.{nullable_to, labelled, reference_to_function};
 ghost use Rattle.smith_instr.specs.InstrTypes.{HasInstrType, IsCatch};
 ghost use Rattle.smith_instr.specs.declared.control.Catch.TheVariants as catch;

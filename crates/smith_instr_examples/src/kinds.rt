@@ -1,9 +1,9 @@
 ghost use Rattle.std.specs.List.{AllByRecursion as Each};
 ghost use Rattle.std.specs.Prelude.{pos, IsTrue, List, [], ◌∷◌, ℕ};
-ghost use Rattle.smith_syntax.specs.Features.{every_feature};
-ghost use Rattle.smith_syntax.specs.declared.instruction_kind.InstructionKind.TheVariants as kind;
-ghost use Rattle.smith_syntax.specs.declared.value_type.HeapType.{HeapType};
-ghost use Rattle.smith_syntax.specs.declared.value_type.ValType.{ValType};
+ghost use Rattle.smith_types.specs.Syntax.Features.{every_feature};
+ghost use Rattle.smith_types.specs.Syntax.instruction_kind.InstructionKind.TheVariants as kind;
+ghost use Rattle.smith_types.specs.Syntax.value_type.HeapType.{HeapType};
+ghost use Rattle.smith_types.specs.Syntax.value_type.ValType.{ValType};
 ghost use Rattle.smith_instr.specs.Enabled.{IsEnabled, is_allowed, names_data};
 ghost use Rattle.smith_instr.specs.declared.aggregate.AggregateInstr.TheVariants as aggregate;
 ghost use Rattle.smith_instr.specs.declared.atomic.AtomicAccess.{AtomicAccess};
@@ -48,7 +48,7 @@ ghost use Rattle.smith_instr.specs.declared.memory.Store.{Store};
 ghost use Rattle.smith_instr.specs.declared.numeric.Conversion.{Conversion};
 ghost use Rattle.smith_instr.specs.declared.numeric.NumericInstr.{NumericInstr};
 ghost use Rattle.smith_instr.specs.declared.vector.VectorInstr.{VectorInstr};
-ghost use Rattle.smith_syntax.specs.declared.instruction_kind.InstructionKind.{InstructionKind};
+ghost use Rattle.smith_types.specs.Syntax.instruction_kind.InstructionKind.{InstructionKind};
 ghost use Rattle.smith_instr_examples.specs.ExampleBodies.{kinds_of};
 
 fn parametric()

@@ -1,8 +1,8 @@
 ghost use Rattle.std.specs.Prelude.{[], ◌∷◌};
 ghost use Rattle.smith_types.specs.ExampleTypes.{plain};
 ghost use Rattle.smith_types.specs.Flags.{funcref};
-ghost use Rattle.smith_syntax.specs.declared.value_type.AbstractHeapType.TheVariants as heap;
-ghost use Rattle.smith_syntax.specs.declared.value_type.ValType.TheVariants.{I32, I64, Ref};
+ghost use Rattle.smith_types.specs.Syntax.value_type.AbstractHeapType.TheVariants as heap;
+ghost use Rattle.smith_types.specs.Syntax.value_type.ValType.TheVariants.{I32, I64, Ref};
 ghost use Rattle.smith_instr.specs.Contexts.{labelled};
 ghost use Rattle.smith_instr.specs.Sequences.{AreTyped, Stacked, stacked};
 ghost use Rattle.smith_instr.specs.declared.control.BlockType.TheVariants as block;

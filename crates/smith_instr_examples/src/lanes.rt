@@ -1,6 +1,6 @@
 ghost use Rattle.std.specs.List.{AllByRecursion as Each};
 ghost use Rattle.std.specs.Prelude.{[], ◌∷◌, ◌++◌, replicate, ◌≡◌, ◌≤◌, ◌<◌, ℕ};
-ghost use Rattle.smith_syntax.specs.declared.value_type.ValType.TheVariants.{F32, F64, I32, I64, V128};
+ghost use Rattle.smith_types.specs.Syntax.value_type.ValType.TheVariants.{F32, F64, I32, I64, V128};
 ghost use Rattle.smith_instr.specs.declared.instr.Instr.TheVariants as instr;
 ghost use Rattle.smith_instr.specs.declared.vector.LaneExtract.TheVariants as extract;
 ghost use Rattle.smith_instr.specs.declared.vector.LaneExtract.{LaneExtract};
@@ -8,7 +8,7 @@ ghost use Rattle.smith_instr.specs.declared.vector.LaneShape.TheVariants as shap
 ghost use Rattle.smith_instr.specs.declared.vector.LaneShape.{LaneShape};
 ghost use Rattle.smith_instr.specs.declared.vector.VectorInstr.TheVariants as vector;
 ghost use Rattle.smith_instr_examples.specs.ExampleTyping.{HasNoType, HasOnlyType, HasType, LeavesNot, TakesNot};
-ghost use Rattle.smith_syntax.specs.declared.value_type.ValType.{ValType};
+ghost use Rattle.smith_types.specs.Syntax.value_type.ValType.{ValType};
 ghost use Rattle.smith_instr.specs.VectorTypes.{extracted, lanes};
 
 fn shapes()

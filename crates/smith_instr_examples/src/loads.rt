@@ -1,12 +1,12 @@
 ghost use Rattle.std.specs.List.{AllByRecursion as Each};
 ghost use Rattle.std.specs.Prelude.{◌≡◌, ◌≤◌, ◌<◌, ℕ, [], ◌∷◌};
-ghost use Rattle.smith_syntax.specs.declared.value_type.ValType.TheVariants.{F32, F64, I32, I64};
+ghost use Rattle.smith_types.specs.Syntax.value_type.ValType.TheVariants.{F32, F64, I32, I64};
 ghost use Rattle.smith_instr.specs.declared.instr.Instr.TheVariants as instr;
 ghost use Rattle.smith_instr.specs.declared.memory.Load.TheVariants as load;
 ghost use Rattle.smith_instr.specs.declared.memory.Load.{Load};
 ghost use Rattle.smith_instr_examples.specs.ExampleBodies.{aligned};
 ghost use Rattle.smith_instr_examples.specs.ExampleTyping.{HasNoType, HasOnlyType};
-ghost use Rattle.smith_syntax.specs.declared.value_type.ValType.{ValType};
+ghost use Rattle.smith_types.specs.Syntax.value_type.ValType.{ValType};
 ghost use Rattle.smith_instr.specs.MemoryTypes.{loaded};
 
 fn values()

@@ -2,7 +2,7 @@
 use Rattle.std.proofs.Common.{◌≡◌, ◌∙◌, ℕ, List, Result, Ok, Err, sym, subst, IfOk}
 use Rattle.smith_binary_read.specs.declared.error.Reason.{Reason}
 use Rattle.smith_bytes.specs.declared.error.Error.{Error}
-use Rattle.smith_syntax.specs.Features.{Features}
+use Rattle.smith_types.specs.Syntax.Features.{Features}
 use Rattle.smith_decode.specs.Forms.{AreFormsEnabled}
 use Rattle.smith_decode.specs.ModuleReadings.{module_at}
 use Rattle.smith_decode.specs.Modules.{IsModuleBinary, Syntax, syntax_of}

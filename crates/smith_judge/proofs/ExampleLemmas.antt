@@ -1,7 +1,7 @@
 -- Examples of origins, and of a file that is no module.
 use Rattle.std.proofs.Common.{[], arith, refl, zero, suc}
-use Rattle.smith_syntax.specs.Features.{every_feature}
-use Rattle.smith_syntax.specs.declared.entity_type.ExportKind.TheVariants as kind
+use Rattle.smith_types.specs.Syntax.Features.{every_feature}
+use Rattle.smith_types.specs.Syntax.entity_type.ExportKind.TheVariants as kind
 use Rattle.smith_judge.specs.ExampleImports.{function_and_globals}
 use Rattle.smith_judge.specs.Files.{IsValidFile}
 use Rattle.smith_judge.specs.Places.{IsOrigin}

@@ -2,7 +2,7 @@
 use Rattle.std.proofs.Common.{ℕ, List, Option, Some, None, Result, Ok, Err}
 use Rattle.std.specs.Prelude.{IfOk, MatchOption}
 use Rattle.smith_bytes.specs.declared.error.Error.{Error}
-use Rattle.smith_syntax.specs.Features.{Features}
+use Rattle.smith_types.specs.Syntax.Features.{Features}
 use Rattle.smith_decode.specs.Forms.{AreFormsEnabled}
 use Rattle.smith_decode.specs.Modules.{IsModuleBinary, syntax_of}
 use Rattle.smith_decode.specs.declared.modules.Module.{Module}

@@ -3,11 +3,11 @@ use Rattle.std.proofs.Common.{◌≡◌, ◌∙◌, ℕ, ◌+◌, ◌-◌, List,
 use Rattle.std.proofs.Math.Seq.{take-add}
 use Rattle.std.specs.Prelude.{slice_range}
 use Rattle.std.proofs.lemmas.Grind.{flat_map-append}
-use Rattle.smith_syntax.specs.declared.entity_type.EntityType.{EntityType}
-use Rattle.smith_syntax.specs.declared.entity_type.ExportKind.{ExportKind}
-use Rattle.smith_syntax.specs.declared.entity_type.ExportKind.TheVariants as kind
-use Rattle.smith_syntax.specs.declared.imports.Import.{Import}
-use Rattle.smith_syntax.specs.declared.imports.Imports.{Imports}
+use Rattle.smith_types.specs.Syntax.entity_type.EntityType.{EntityType}
+use Rattle.smith_types.specs.Syntax.entity_type.ExportKind.{ExportKind}
+use Rattle.smith_types.specs.Syntax.entity_type.ExportKind.TheVariants as kind
+use Rattle.smith_types.specs.Syntax.imports.Import.{Import}
+use Rattle.smith_types.specs.Syntax.imports.Imports.{Imports}
 use Rattle.smith_types.specs.Imports.{flattened, func_of, global_of, imported, imports_of, memory_of, table_of, tag_of}
 use Rattle.smith_judge.specs.Places.{imported_count}
 

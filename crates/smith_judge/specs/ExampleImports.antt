@@ -1,10 +1,10 @@
 -- Imports of the examples.
 use Rattle.std.specs.Prelude.{List, [], ◌∷◌, false}
-use Rattle.smith_syntax.specs.declared.entity_type.EntityType.TheVariants as entity
-use Rattle.smith_syntax.specs.declared.entity_type.GlobalType.{GlobalType}
-use Rattle.smith_syntax.specs.declared.imports.Imports.{Imports}
-use Rattle.smith_syntax.specs.declared.imports.Imports.TheVariants.{Single, Compact2}
-use Rattle.smith_syntax.specs.declared.value_type.ValType.TheVariants.{I32}
+use Rattle.smith_types.specs.Syntax.entity_type.EntityType.TheVariants as entity
+use Rattle.smith_types.specs.Syntax.entity_type.GlobalType.{GlobalType}
+use Rattle.smith_types.specs.Syntax.imports.Imports.{Imports}
+use Rattle.smith_types.specs.Syntax.imports.Imports.TheVariants.{Single, Compact2}
+use Rattle.smith_types.specs.Syntax.value_type.ValType.TheVariants.{I32}
 use Rattle.smith_types.specs.Imports.{import_of}
 
 -- a function, and then a group of two globals

@@ -1,6 +1,6 @@
 -- Why an instruction of a file is refused. Rules of this project.
 use Rattle.std.specs.Prelude.{ℕ, List}
-use Rattle.smith_syntax.specs.Features.{Features}
+use Rattle.smith_types.specs.Syntax.Features.{Features}
 use Rattle.smith_decode.specs.Forms.{AreFormsEnabled}
 use Rattle.smith_decode.specs.Modules.{IsModuleBinary, syntax_of}
 use Rattle.smith_decode.specs.declared.modules.Module.{Module}

@@ -1,7 +1,7 @@
 -- Files that are modules, and files that are valid modules: the sections Binary Format, Modules,
 -- and Validation, Modules, of the WebAssembly Core Specification 3.0.
 use Rattle.std.specs.Prelude.{◌≡◌, ℕ, List, Ok}
-use Rattle.smith_syntax.specs.Features.{Features}
+use Rattle.smith_types.specs.Syntax.Features.{Features}
 use Rattle.smith_decode.specs.Forms.{AreFormsEnabled}
 use Rattle.smith_decode.specs.ModuleReadings.{module_at}
 use Rattle.smith_decode.specs.Modules.{IsModuleBinary, syntax_of}

@@ -2,9 +2,9 @@
 -- Modules, and Structure, Indices, of the WebAssembly Core Specification 3.0. Imports come first in
 -- each index space.
 use Rattle.std.specs.Prelude.{◌≡◌, ℕ, ◌+◌, ◌-◌, ◌^◌, ◌≤◌, ◌<◌, List, take, min}
-use Rattle.smith_syntax.specs.declared.entity_type.ExportKind.{ExportKind}
-use Rattle.smith_syntax.specs.declared.entity_type.ExportKind.TheVariants as kind
-use Rattle.smith_syntax.specs.declared.imports.Imports.{Imports}
+use Rattle.smith_types.specs.Syntax.entity_type.ExportKind.{ExportKind}
+use Rattle.smith_types.specs.Syntax.entity_type.ExportKind.TheVariants as kind
+use Rattle.smith_types.specs.Syntax.imports.Imports.{Imports}
 use Rattle.smith_types.specs.Imports.{flattened, imported_spaces}
 use Rattle.smith_validity.specs.Decided.{count_at}
 use Rattle.smith_decode.specs.declared.locations.Place.{Place}

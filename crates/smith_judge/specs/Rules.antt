@@ -1,10 +1,10 @@
 -- The rule that a fault breaks, as far as the fault determines it, and the number of each rule (own
 -- rules).
 use Rattle.std.specs.Prelude.{ℕ, nat_lt, if◌then◌else◌, Option, Some, None, length, slice_get}
-use Rattle.smith_syntax.specs.declared.entity_type.ExportKind.{ExportKind}
-use Rattle.smith_syntax.specs.declared.entity_type.ExportKind.TheVariants as export
-use Rattle.smith_syntax.specs.declared.instruction_kind.InstructionKind.{InstructionKind}
-use Rattle.smith_syntax.specs.declared.instruction_kind.InstructionKind.TheVariants as kind
+use Rattle.smith_types.specs.Syntax.entity_type.ExportKind.{ExportKind}
+use Rattle.smith_types.specs.Syntax.entity_type.ExportKind.TheVariants as export
+use Rattle.smith_types.specs.Syntax.instruction_kind.InstructionKind.{InstructionKind}
+use Rattle.smith_types.specs.Syntax.instruction_kind.InstructionKind.TheVariants as kind
 use Rattle.smith_instr.specs.Enabled.{instr_kind}
 use Rattle.smith_instr.specs.declared.instr.Instr.{Instr}
 use Rattle.smith_instr.specs.declared.instr.Instr.TheVariants as instr

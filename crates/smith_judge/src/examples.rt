@@ -1,8 +1,8 @@
 // Where faults are, and which rules they break.
 
 ghost use Rattle.std.specs.Prelude.{◌≡◌, [], pos};
-ghost use Rattle.smith_syntax.specs.Features.{every_feature};
-ghost use Rattle.smith_syntax.specs.declared.entity_type.ExportKind.TheVariants as kind;
+ghost use Rattle.smith_types.specs.Syntax.Features.{every_feature};
+ghost use Rattle.smith_types.specs.Syntax.entity_type.ExportKind.TheVariants as kind;
 ghost use Rattle.smith_instr.specs.declared.instr.Instr.TheVariants as instr;
 ghost use Rattle.smith_check_module.specs.declared.faults.Part.TheVariants as part;
 ghost use Rattle.smith_check.specs.declared.judgement.Fault.TheVariants as fault;

@@ -1,5 +1,5 @@
 ghost use Rattle.std.specs.Prelude.{◌≡◌, IfOk, IfErr, MatchOption};
-ghost use Rattle.smith_syntax.specs.FeatureBits.{features_in};
+ghost use Rattle.smith_types.specs.Syntax.FeatureBits.{features_in};
 ghost use Rattle.smith_judge.specs.Explanations.{IsExplainedAnswer, IsExplainedFile};
 
 use crate::answer::Answer;

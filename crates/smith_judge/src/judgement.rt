@@ -1,5 +1,5 @@
 ghost use Rattle.std.specs.Prelude.{◌≡◌, IfOk, IfErr};
-ghost use Rattle.smith_syntax.specs.FeatureBits.{features_in};
+ghost use Rattle.smith_types.specs.Syntax.FeatureBits.{features_in};
 ghost use Rattle.smith_decode.specs.Forms.{AreFormsEnabled};
 ghost use Rattle.smith_decode.specs.Results.{offset_in};
 ghost use Rattle.smith_judge.specs.Answers.{Decides, IsAnswer, IsDescribed};

@@ -15,8 +15,8 @@ use Rattle.std.proofs.lemmas.List.{append_assoc, append-nil, take_all, take_more
 use Rattle.std.proofs.lemmas.List.Elements.{All-nil, All-cons, All-append, All-map, All-contains, All-contains_itself, All-weaker}
 use Rattle.std.proofs.lemmas.List.Elements.{Contains-append_left, Contains-append_right, Contains-push_cases}
 use Rattle.std.proofs.lemmas.List.Quantifiers.{Any-push}
-use Rattle.smith_syntax.specs.declared.entity_type.TableType.{TableType}
-use Rattle.smith_syntax.specs.declared.entity_type.MemoryType.{MemoryType}
+use Rattle.smith_types.specs.Syntax.entity_type.TableType.{TableType}
+use Rattle.smith_types.specs.Syntax.entity_type.MemoryType.{MemoryType}
 use Rattle.smith_module_rules.specs.InterestingValues.{HasReason, IsInteresting64, IsInteresting32, AreAll, limits_of}
 use Rattle.smith_module_rules.specs.CollectedValues.{AreExactly, AddsNumbers, Wide, Narrow, IsConstantValue, IsNearLimit, IsSortedSet}
 

@@ -2,22 +2,15 @@
 -- project.
 use Rattle.std.specs.Prelude.{◌≡◌, ℕ, ◌+◌, ◌≤◌, ◌⊎◌, max, false, ◌||◌, is_some, ⊤, List, [], ◌++◌, Option, option_map, unwrap_or, length}
 use Rattle.std.specs.Prelude.{slice_get, sum_by, All, if◌then◌else◌}
-use Rattle.std.specs.List.{Contains}
-use Rattle.smith_bytes.specs.declared.error.Count.{Count}
+use Rattle.smith_module_rules.specs.Common.{Config, Contains, Count, ElementSegment, EntitySpaces, ExportKind, FixesExports, flattened}
+use Rattle.smith_module_rules.specs.Common.{Import, imported_spaces, Shape, shape_imports, shapes_of, size_in}
 use Rattle.smith_bytes.specs.declared.error.Count.TheVariants as counts
-use Rattle.smith_types.specs.Imports.{EntitySpaces, flattened, imported_spaces}
 use Rattle.smith_types.specs.Segments.{item_count}
-use Rattle.smith_types.specs.Sizes.{size_in}
-use Rattle.smith_syntax.specs.declared.entity_type.EntityType.TheVariants as entity
-use Rattle.smith_syntax.specs.declared.entity_type.ExportKind.{ExportKind}
-use Rattle.smith_syntax.specs.declared.entity_type.ExportKind.TheVariants as kind
-use Rattle.smith_syntax.specs.declared.imports.Import.{Import}
-use Rattle.smith_syntax.specs.declared.segments.ElementSegment.{ElementSegment}
-use Rattle.smith_config.specs.declared.config.Config.{Config}
-use Rattle.smith_config.specs.declared.shape.Shape.{Shape}
+use Rattle.smith_types.specs.Syntax.entity_type.EntityType.TheVariants as entity
+use Rattle.smith_types.specs.Syntax.entity_type.ExportKind.TheVariants as kind
 use Rattle.smith_config.specs.Faults.{minimum_of, maximum_of}
-use Rattle.smith_config.specs.InUse.{shapes_of, FixesImports, FixesExports}
-use Rattle.smith_config.specs.Shapes.{shape_types, shape_imports, shape_spaces}
+use Rattle.smith_config.specs.InUse.{FixesImports}
+use Rattle.smith_config.specs.Shapes.{shape_spaces, shape_types}
 use Rattle.smith_config.specs.EntityBounds.{IsTableWithin, IsMemoryWithin}
 use Rattle.smith_module_rules.specs.Held.{HasItems}
 use Rattle.smith_module_rules.specs.ShapeImports.{count_in}

@@ -1,10 +1,8 @@
 -- Interesting values while they are collected: in any order, and possibly more than once. Rules of
 -- this project.
 use Rattle.std.specs.Prelude.{◌≡◌, ◌⊎◌, ℕ, ◌+◌, ◌*◌, ◌^◌, ◌<◌, ◌≤◌, List, [], ◌∷◌, ◌++◌, length, get_or}
-use Rattle.std.specs.List.{All, Any, Contains}
+use Rattle.smith_module_rules.specs.Common.{All, Any, Contains, MemoryType, TableType}
 use Rattle.std.specs.List.Sorted.{IsStrictlyIncreasing}
-use Rattle.smith_syntax.specs.declared.entity_type.TableType.{TableType}
-use Rattle.smith_syntax.specs.declared.entity_type.MemoryType.{MemoryType}
 use Rattle.smith_module_rules.specs.InterestingValues.{IsNearPower, IsPattern, IsFloatEdge, IsNearTable, IsNearMemory}
 
 -- `numbers` are all the numbers with the property `Holds`, and no other numbers

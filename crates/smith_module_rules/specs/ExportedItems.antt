@@ -1,14 +1,10 @@
 -- Items of index spaces, and modules that export every item. Rules of this project.
 use Rattle.std.specs.Prelude.{◌≡◌, ℕ, zero, suc, List, [], ◌∷◌, ◌++◌, length, map, ◌+◌, slice_get, sum_by}
 use Rattle.std.specs.Option.{option_map, unwrap_or}
-use Rattle.smith_types.specs.Imports.{EntitySpaces}
-use Rattle.smith_syntax.specs.declared.entity_type.ExportKind.{ExportKind}
-use Rattle.smith_syntax.specs.declared.entity_type.ExportKind.TheVariants as kind
-use Rattle.smith_types.specs.Sizes.{size_in}
-use Rattle.smith_syntax.specs.declared.composite_type.SubType.{SubType}
-use Rattle.smith_syntax.specs.declared.entity_type.EntityType.TheVariants as entity
+use Rattle.smith_module_rules.specs.Common.{EntitySpaces, EntityType, ExportKind, size_in, SubType}
+use Rattle.smith_types.specs.Syntax.entity_type.ExportKind.TheVariants as kind
+use Rattle.smith_types.specs.Syntax.entity_type.EntityType.TheVariants as entity
 use Rattle.smith_types.specs.Exports.{IsEntityAt}
-use Rattle.smith_syntax.specs.declared.entity_type.EntityType.{EntityType}
 
 -- an item of an index space: its kind and its index
 abbrev pub Item : Type 0

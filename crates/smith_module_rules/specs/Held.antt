@@ -1,14 +1,12 @@
 -- Contents of element segments and bodies. Rules of this project.
 use Rattle.std.specs.Prelude.{◌≡◌, ℕ, ◌≤◌, ◌⊎◌, IsTrue, List, [], Some, slice_get, All}
-use Rattle.smith_syntax.specs.Kinds.{shared}
+use Rattle.smith_types.specs.Syntax.Kinds.{shared}
 use Rattle.smith_types.specs.Segments.{item_count}
-use Rattle.smith_syntax.specs.declared.code.Instructions.{Instructions}
-use Rattle.smith_syntax.specs.declared.code.Instructions.TheVariants.{Unreachable, Arbitrary}
-use Rattle.smith_syntax.specs.declared.composite_type.SubType.{SubType}
-use Rattle.smith_syntax.specs.declared.const_instr.ConstInstr.{ConstInstr}
-use Rattle.smith_syntax.specs.declared.segments.Elements.{Elements}
-use Rattle.smith_syntax.specs.declared.segments.Elements.TheVariants.{Functions, Expressions}
-use Rattle.smith_config.specs.declared.config.Config.{Config}
+use Rattle.smith_types.specs.Syntax.code.Instructions.{Instructions}
+use Rattle.smith_types.specs.Syntax.code.Instructions.TheVariants.{Unreachable, Arbitrary}
+use Rattle.smith_module_rules.specs.Common.{Config, ConstInstr, SubType}
+use Rattle.smith_types.specs.Syntax.segments.Elements.{Elements}
+use Rattle.smith_types.specs.Syntax.segments.Elements.TheVariants.{Functions, Expressions}
 
 -- the expressions of an element segment
 abbrev pub expressions_of : Elements → List (List ConstInstr)

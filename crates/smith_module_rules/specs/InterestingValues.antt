@@ -2,11 +2,9 @@
 -- try them first. The choice is a rule of this project.
 use Rattle.std.specs.Prelude.{◌≡◌, ◌⊎◌, ℕ, ◌+◌, ◌-◌, ◌*◌, ◌^◌, ◌<◌, Bool, true, false, List, [], ◌∷◌, Option, option_to_list, min}
 use Rattle.std.specs.Prelude.{if◌then◌else◌}
-use Rattle.std.specs.List.{All, Any, Contains}
+use Rattle.smith_module_rules.specs.Common.{All, Any, Contains, MemoryType, TableType}
 use Rattle.std.specs.List.Sorted.{IsStrictlyIncreasing}
 use Rattle.smith_types.specs.Entities.{page_log2}
-use Rattle.smith_syntax.specs.declared.entity_type.TableType.{TableType}
-use Rattle.smith_syntax.specs.declared.entity_type.MemoryType.{MemoryType}
 use Rattle.smith_module_rules.specs.Module.{ModuleParts}
 
 -- a number is a power of two below 2^64, its 64-bit negative, or one less than either

@@ -1,3 +1,4 @@
+pub mod Common
 pub mod Bounds
 pub mod CollectedValues
 pub mod ExportedItems

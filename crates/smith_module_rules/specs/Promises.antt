@@ -3,20 +3,15 @@ use Rattle.std.specs.Prelude.{◌≡◌, ℕ, ◌<◌, Bool, false, IsTrue, List
 use Rattle.std.specs.List.{flat_map}
 use Rattle.smith_types.specs.Floats.{IsNoFloat, GivesNoFloat}
 use Rattle.smith_types.specs.HeldValues.{values_in}
-use Rattle.smith_types.specs.Imports.{flattened}
+use Rattle.smith_module_rules.specs.Common.{Config, ConstInstr, ElementSegment, FixesExports, flattened, Import, SubType}
 use Rattle.smith_types.specs.ValidTypes.{values_of}
 use Rattle.smith_types.specs.Exports.{AreDistinct}
 use Rattle.smith_types.specs.Segments.{IsElementInside, IsDataInside}
-use Rattle.smith_syntax.specs.declared.value_type.ValType.{ValType}
-use Rattle.smith_syntax.specs.declared.value_type.ValType.TheVariants.{Ref}
-use Rattle.smith_syntax.specs.declared.composite_type.SubType.{SubType}
-use Rattle.smith_syntax.specs.declared.entity_type.GlobalType.{GlobalType}
-use Rattle.smith_syntax.specs.declared.imports.Import.{Import}
-use Rattle.smith_syntax.specs.declared.const_instr.ConstInstr.{ConstInstr}
-use Rattle.smith_syntax.specs.declared.segments.ElementSegment.{ElementSegment}
-use Rattle.smith_syntax.specs.declared.code.Code.{Code}
-use Rattle.smith_config.specs.declared.config.Config.{Config}
-use Rattle.smith_config.specs.InUse.{HasNoShapes, FixesImports, FixesExports}
+use Rattle.smith_types.specs.Syntax.value_type.ValType.{ValType}
+use Rattle.smith_types.specs.Syntax.value_type.ValType.TheVariants.{Ref}
+use Rattle.smith_types.specs.Syntax.entity_type.GlobalType.{GlobalType}
+use Rattle.smith_types.specs.Syntax.code.Code.{Code}
+use Rattle.smith_config.specs.InUse.{FixesImports, HasNoShapes}
 use Rattle.smith_config.specs.Granted.{IsGranted}
 use Rattle.smith_module_rules.specs.ExportedItems.{AreAllExported}
 use Rattle.smith_module_rules.specs.Held.{expressions_of}

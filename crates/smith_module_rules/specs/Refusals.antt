@@ -1,18 +1,14 @@
 -- Conditions for refusing a module, and for never refusing it. Rules of this project.
 use Rattle.std.specs.Prelude.{◌≡◌, ◌*◌, ◌+◌, ◌<◌, ◌≤◌, ◌⊎◌, false, IsTrue, IfSome, IsSome, IsSomeAnd, Option}
-use Rattle.std.specs.List.{Any}
+use Rattle.smith_module_rules.specs.Common.{Any, Config, Count, FixesExports, Shape, shapes_of}
 use Rattle.smith_bytes.specs.declared.error.Error.{Error}
 use Rattle.smith_bytes.specs.declared.error.Error.TheVariants as errors
 use Rattle.smith_bytes.specs.declared.error.Why.{Why}
 use Rattle.smith_bytes.specs.declared.error.Why.TheVariants as reasons
-use Rattle.smith_bytes.specs.declared.error.Count.{Count}
 use Rattle.smith_bytes.specs.declared.error.Count.TheVariants as counts
 use Rattle.smith_bytes.specs.declared.error.Which.{Which}
 use Rattle.smith_bytes.specs.declared.error.Which.TheVariants as which
-use Rattle.smith_config.specs.declared.config.Config.{Config}
-use Rattle.smith_config.specs.declared.shape.Shape.{Shape}
 use Rattle.smith_config.specs.Faults.{BoundsApply, IsFirstFault, Passes, minimum_of}
-use Rattle.smith_config.specs.InUse.{shapes_of, FixesExports}
 use Rattle.smith_config.specs.Shapes.{IsShapeValid, shape_values}
 use Rattle.smith_config.specs.ShapeFaults.{HasShapeFault}
 use Rattle.smith_config.specs.Granted.{IsNonNullable}

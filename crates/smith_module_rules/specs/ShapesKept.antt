@@ -2,15 +2,10 @@
 use Rattle.std.specs.Prelude.{◌≡◌, ℕ, IsTrue, IfSome, List, [], None, Some, slice_get}
 use Rattle.std.specs.List.{AllZip}
 use Rattle.smith_types.specs.Grown.{Extends}
-use Rattle.smith_types.specs.Imports.{EntitySpaces, flattened}
+use Rattle.smith_module_rules.specs.Common.{Config, EntitySpaces, EntityType, flattened, Shape, shape_imports, shapes_of, SubType}
 use Rattle.smith_types.specs.Exports.{IsEntityAt}
-use Rattle.smith_syntax.specs.declared.composite_type.SubType.{SubType}
-use Rattle.smith_syntax.specs.declared.entity_type.EntityType.{EntityType}
-use Rattle.smith_syntax.specs.declared.entity_type.EntityType.TheVariants as entity
-use Rattle.smith_config.specs.declared.config.Config.{Config}
-use Rattle.smith_config.specs.declared.shape.Shape.{Shape}
-use Rattle.smith_config.specs.InUse.{shapes_of}
-use Rattle.smith_config.specs.Shapes.{space_of, shape_types, shape_imports, shape_spaces}
+use Rattle.smith_types.specs.Syntax.entity_type.EntityType.TheVariants as entity
+use Rattle.smith_config.specs.Shapes.{shape_spaces, shape_types, space_of}
 use Rattle.smith_module_rules.specs.ShapeImports.{kept_groups, taken_from}
 use Rattle.smith_module_rules.specs.Module.{ModuleParts, module_spaces}
 use Rattle.smith_module_rules.specs.ExportedItems.{Export}

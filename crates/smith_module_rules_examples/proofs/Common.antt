@@ -54,27 +54,27 @@ pub use Rattle.smith_types.specs.Entities.{IsFuncAt, IsFuncTypeIndex, IsGlobalVa
 pub use Rattle.smith_types.specs.ExampleTypes.{anyref, empty_struct, eqref, not_null, nullable, plain}
 pub use Rattle.smith_types.specs.Exports.{AreDistinct, AreExportsValid, IsEntityAt, IsStartValid}
 pub use Rattle.smith_types.specs.Expressions.{Context, HasType, IsConstExpr, IsVisible, reference_to}
-pub use Rattle.smith_syntax.specs.Features.{Features}
+pub use Rattle.smith_types.specs.Syntax.Features.{Features}
 pub use Rattle.smith_types.specs.Flags.{funcref, IsInstrEnabled}
 pub use Rattle.smith_types.specs.Floats.{GivesNoFloat}
 pub use Rattle.smith_types.specs.Grounded.{IsGrounded}
 pub use Rattle.smith_types.specs.Imports.{IsImportsValid}
-pub use Rattle.smith_syntax.specs.Kinds.{shared}
+pub use Rattle.smith_types.specs.Syntax.Kinds.{shared}
 pub use Rattle.smith_types.specs.Segments.{IsDataInside, IsDataValid, IsElementInside, IsElementSegmentValid, IsItem}
 pub use Rattle.smith_types.specs.Subtyping.{IsRefBelow, IsValBelow, itself}
 pub use Rattle.smith_types.specs.ValidTypes.{AreTypesValid, IsGroupValid, IsSupertypeValid, IsTypeValid, IsValTypeValid}
-pub use Rattle.smith_syntax.specs.declared.composite_type.CompositeInnerType.{CompositeInnerType}
-pub use Rattle.smith_syntax.specs.declared.composite_type.SubType.{SubType}
-pub use Rattle.smith_syntax.specs.declared.const_instr.ConstInstr.{ConstInstr}
-pub use Rattle.smith_syntax.specs.declared.const_instr.ConstInstr.TheVariants.{F32Const, F64Const, GlobalGet, I32Const, RefFunc, RefNull}
-pub use Rattle.smith_syntax.specs.declared.entity_type.EntityType.{EntityType}
-pub use Rattle.smith_syntax.specs.declared.entity_type.ExportKind.{ExportKind}
-pub use Rattle.smith_syntax.specs.declared.entity_type.GlobalType.{GlobalType}
-pub use Rattle.smith_syntax.specs.declared.entity_type.MemoryType.{MemoryType}
-pub use Rattle.smith_syntax.specs.declared.entity_type.TableType.{TableType}
-pub use Rattle.smith_syntax.specs.declared.imports.Imports.TheVariants.{Compact2}
-pub use Rattle.smith_syntax.specs.declared.segments.Elements.TheVariants.{Expressions}
-pub use Rattle.smith_syntax.specs.declared.segments.Offset.TheVariants.{Const32, Global}
-pub use Rattle.smith_syntax.specs.declared.value_type.HeapType.TheVariants.{Concrete, Exact}
-pub use Rattle.smith_syntax.specs.declared.value_type.ValType.{ValType}
-pub use Rattle.smith_syntax.specs.declared.value_type.ValType.TheVariants.{F32, I32, I64, Ref}
+pub use Rattle.smith_types.specs.Syntax.composite_type.CompositeInnerType.{CompositeInnerType}
+pub use Rattle.smith_types.specs.Syntax.composite_type.SubType.{SubType}
+pub use Rattle.smith_types.specs.Syntax.const_instr.ConstInstr.{ConstInstr}
+pub use Rattle.smith_types.specs.Syntax.const_instr.ConstInstr.TheVariants.{F32Const, F64Const, GlobalGet, I32Const, RefFunc, RefNull}
+pub use Rattle.smith_types.specs.Syntax.entity_type.EntityType.{EntityType}
+pub use Rattle.smith_types.specs.Syntax.entity_type.ExportKind.{ExportKind}
+pub use Rattle.smith_types.specs.Syntax.entity_type.GlobalType.{GlobalType}
+pub use Rattle.smith_types.specs.Syntax.entity_type.MemoryType.{MemoryType}
+pub use Rattle.smith_types.specs.Syntax.entity_type.TableType.{TableType}
+pub use Rattle.smith_types.specs.Syntax.imports.Imports.TheVariants.{Compact2}
+pub use Rattle.smith_types.specs.Syntax.segments.Elements.TheVariants.{Expressions}
+pub use Rattle.smith_types.specs.Syntax.segments.Offset.TheVariants.{Const32, Global}
+pub use Rattle.smith_types.specs.Syntax.value_type.HeapType.TheVariants.{Concrete, Exact}
+pub use Rattle.smith_types.specs.Syntax.value_type.ValType.{ValType}
+pub use Rattle.smith_types.specs.Syntax.value_type.ValType.TheVariants.{F32, I32, I64, Ref}

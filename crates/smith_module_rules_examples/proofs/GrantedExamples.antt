@@ -2,7 +2,7 @@
 use Rattle.smith_module_rules_examples.proofs.Common.{ℕ, zero, suc, List, [], ◌∷◌, length, refl, ap, ◌∙◌, inl, inr, same_Some, ValType, Ref}
 use Rattle.smith_module_rules_examples.proofs.Common.{SubType, GlobalType, plain, not_null, Context, Features, IsGrounded, IsGranted, final}
 use Rattle.smith_module_rules_examples.proofs.Common.{taking, ModuleParts, module_features, module_imports, with_references}
-use Rattle.smith_syntax.specs.declared.value_type.AbstractHeapType.TheVariants as heap
+use Rattle.smith_types.specs.Syntax.value_type.AbstractHeapType.TheVariants as heap
 
 -- a non-nullable reference to anything
 abbrev pub to_any : ValType

@@ -4,8 +4,8 @@ use Rattle.smith_module_rules_examples.proofs.Common.{All-head, not_null, plain,
 use Rattle.smith_module_rules_examples.proofs.Common.{TableType, Expressions, Config, default_config, AreDefinitionsValid, module_spaces}
 use Rattle.smith_module_rules_examples.proofs.Common.{segment_context, table, no_function, passive_elements, exported_twice}
 use Rattle.smith_module_rules_examples.proofs.Common.{null_of_no_null, two_elements, passive_bytes}
-use Rattle.smith_syntax.specs.declared.value_type.AbstractHeapType.TheVariants as heap
-use Rattle.smith_syntax.specs.declared.segments.DataSegmentKind.TheVariants as data_kind
+use Rattle.smith_types.specs.Syntax.value_type.AbstractHeapType.TheVariants as heap
+use Rattle.smith_types.specs.Syntax.segments.DataSegmentKind.TheVariants as data_kind
 
 abbrev without_bulk_memory : Config
 without_bulk_memory = record default_config { bulk_memory_enabled = false }

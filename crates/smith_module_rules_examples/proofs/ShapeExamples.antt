@@ -5,9 +5,9 @@ use Rattle.smith_module_rules_examples.proofs.Common.{Shape, default_config, Fix
 use Rattle.smith_module_rules_examples.proofs.Common.{foo_type, quux_type, ModuleParts, module_spaces, IsSameExport, IsSameType}
 use Rattle.smith_module_rules_examples.proofs.Common.{IsSameFuncType, KeepsAvailableImports, KeepsExports, is_fitting, memory, table}
 use Rattle.smith_module_rules_examples.proofs.Common.{global, one_of_each, environment, with_environment, five_exports}
-use Rattle.smith_syntax.specs.declared.value_type.AbstractHeapType.TheVariants as heap
-use Rattle.smith_syntax.specs.declared.entity_type.EntityType.TheVariants as entity
-use Rattle.smith_syntax.specs.declared.entity_type.ExportKind.TheVariants as kind
+use Rattle.smith_types.specs.Syntax.value_type.AbstractHeapType.TheVariants as heap
+use Rattle.smith_types.specs.Syntax.entity_type.EntityType.TheVariants as entity
+use Rattle.smith_types.specs.Syntax.entity_type.ExportKind.TheVariants as kind
 
 -- without shapes neither exports nor imports are fixed
 pub no_exports_fixed : FixesExports default_config → ⊥

@@ -1,26 +1,19 @@
 -- Modules of the examples, for stated inputs: each list has a module that a generator should
 -- produce.
 use Rattle.std.specs.Prelude.{ℕ, Bool, true, false, pos, negsuc, List, [], ◌∷◌, Some, None, codes, replicate}
-use Rattle.smith_types.specs.Flags.{funcref}
+use Rattle.smith_module_rules_examples.specs.Common.{Config, ConstInstr, default_config, funcref, I32, MemoryType, ModuleParts, Single}
 use Rattle.smith_types.specs.ExampleTypes.{anyref, variable}
-use Rattle.smith_syntax.specs.declared.value_type.ValType.TheVariants.{I32}
-use Rattle.smith_syntax.specs.declared.composite_type.StorageType.TheVariants.{Val}
-use Rattle.smith_syntax.specs.declared.composite_type.CompositeInnerType.TheVariants.{Array}
-use Rattle.smith_syntax.specs.declared.entity_type.EntityType.TheVariants as entity
-use Rattle.smith_syntax.specs.declared.entity_type.ExportKind.TheVariants as kind
-use Rattle.smith_syntax.specs.declared.entity_type.MemoryType.{MemoryType}
-use Rattle.smith_syntax.specs.declared.imports.Imports.{Imports}
-use Rattle.smith_syntax.specs.declared.imports.Imports.TheVariants.{Single}
-use Rattle.smith_syntax.specs.declared.const_instr.ConstInstr.{ConstInstr}
-use Rattle.smith_syntax.specs.declared.const_instr.ConstInstr.TheVariants.{I32Const}
-use Rattle.smith_syntax.specs.declared.segments.Elements.TheVariants.{Expressions}
-use Rattle.smith_syntax.specs.declared.code.Code.{Code}
-use Rattle.smith_syntax.specs.declared.code.Instructions.TheVariants.{Arbitrary}
-use Rattle.smith_config.specs.declared.config.Config.{Config}
-use Rattle.smith_config.specs.Config.{default_config}
+use Rattle.smith_types.specs.Syntax.composite_type.StorageType.TheVariants.{Val}
+use Rattle.smith_types.specs.Syntax.composite_type.CompositeInnerType.TheVariants.{Array}
+use Rattle.smith_types.specs.Syntax.entity_type.EntityType.TheVariants as entity
+use Rattle.smith_types.specs.Syntax.entity_type.ExportKind.TheVariants as kind
+use Rattle.smith_types.specs.Syntax.imports.Imports.{Imports}
+use Rattle.smith_types.specs.Syntax.const_instr.ConstInstr.TheVariants.{I32Const}
+use Rattle.smith_types.specs.Syntax.segments.Elements.TheVariants.{Expressions}
+use Rattle.smith_types.specs.Syntax.code.Code.{Code}
+use Rattle.smith_types.specs.Syntax.code.Instructions.TheVariants.{Arbitrary}
 use Rattle.smith_config.specs.ExampleMembers.{final, struct_of, taking_a_number, one_of_each_without_gc, nothing_may_be, a_type}
 use Rattle.smith_config.specs.ExampleMembers.{bytes_array}
-use Rattle.smith_module_rules.specs.Module.{ModuleParts}
 use Rattle.smith_module_rules_examples.specs.ExampleParts.{memory, shared_memory, table, global, number, import_named, no_function}
 use Rattle.smith_module_rules_examples.specs.ExampleParts.{passive_elements, trapping}
 use Rattle.smith_module_rules_examples.specs.ExampleModules.{empty_module, group_of, types_together, types_apart, two_imports, last_bytes}

@@ -1,31 +1,27 @@
 -- Modules of the examples.
 use Rattle.std.specs.Prelude.{ℕ, Bool, true, false, pos, negsuc, List, [], ◌∷◌, Some, None, codes, length}
-use Rattle.smith_types.specs.Flags.{funcref}
+use Rattle.smith_module_rules_examples.specs.Common.{Config, ConstInstr, default_config, funcref, I32, MemoryType, ModuleParts, not_null}
+use Rattle.smith_module_rules_examples.specs.Common.{nullable, plain, Ref, Single}
 pub use Rattle.smith_types.specs.ExampleTypes.{range as group_of}
-use Rattle.smith_types.specs.ExampleTypes.{nullable, not_null, constant, plain}
-use Rattle.smith_syntax.specs.declared.value_type.HeapType.TheVariants.{Concrete}
-use Rattle.smith_syntax.specs.declared.value_type.AbstractHeapType.TheVariants as heap
-use Rattle.smith_syntax.specs.declared.value_type.ValType.TheVariants.{I32, Ref, F32}
-use Rattle.smith_syntax.specs.declared.composite_type.StorageType.TheVariants.{Val}
-use Rattle.smith_syntax.specs.declared.composite_type.CompositeInnerType.{CompositeInnerType}
-use Rattle.smith_syntax.specs.declared.composite_type.CompositeInnerType.TheVariants.{Struct}
-use Rattle.smith_syntax.specs.declared.composite_type.SubType.{SubType}
-use Rattle.smith_syntax.specs.declared.entity_type.EntityType.TheVariants as entity
-use Rattle.smith_syntax.specs.declared.entity_type.ExportKind.{ExportKind}
-use Rattle.smith_syntax.specs.declared.entity_type.ExportKind.TheVariants as kind
-use Rattle.smith_syntax.specs.declared.entity_type.MemoryType.{MemoryType}
-use Rattle.smith_syntax.specs.declared.imports.Imports.TheVariants.{Single, Compact1, Compact2}
-use Rattle.smith_syntax.specs.declared.const_instr.ConstInstr.{ConstInstr}
-use Rattle.smith_syntax.specs.declared.const_instr.ConstInstr.TheVariants.{I32Const, GlobalGet, F32Const, RefNull}
-use Rattle.smith_syntax.specs.declared.segments.Elements.{Elements}
-use Rattle.smith_syntax.specs.declared.segments.Elements.TheVariants.{Expressions}
-use Rattle.smith_syntax.specs.declared.segments.Offset.{Offset}
-use Rattle.smith_syntax.specs.declared.segments.Offset.TheVariants.{Global}
-use Rattle.smith_syntax.specs.declared.segments.DataSegmentKind.TheVariants as data_kind
-use Rattle.smith_config.specs.declared.config.Config.{Config}
-use Rattle.smith_config.specs.Config.{default_config}
+use Rattle.smith_types.specs.ExampleTypes.{constant}
+use Rattle.smith_types.specs.Syntax.value_type.HeapType.TheVariants.{Concrete}
+use Rattle.smith_types.specs.Syntax.value_type.AbstractHeapType.TheVariants as heap
+use Rattle.smith_types.specs.Syntax.value_type.ValType.TheVariants.{F32}
+use Rattle.smith_types.specs.Syntax.composite_type.StorageType.TheVariants.{Val}
+use Rattle.smith_types.specs.Syntax.composite_type.CompositeInnerType.{CompositeInnerType}
+use Rattle.smith_types.specs.Syntax.composite_type.CompositeInnerType.TheVariants.{Struct}
+use Rattle.smith_types.specs.Syntax.composite_type.SubType.{SubType}
+use Rattle.smith_types.specs.Syntax.entity_type.EntityType.TheVariants as entity
+use Rattle.smith_types.specs.Syntax.entity_type.ExportKind.{ExportKind}
+use Rattle.smith_types.specs.Syntax.entity_type.ExportKind.TheVariants as kind
+use Rattle.smith_types.specs.Syntax.imports.Imports.TheVariants.{Compact1, Compact2}
+use Rattle.smith_types.specs.Syntax.const_instr.ConstInstr.TheVariants.{I32Const, GlobalGet, F32Const, RefNull}
+use Rattle.smith_types.specs.Syntax.segments.Elements.{Elements}
+use Rattle.smith_types.specs.Syntax.segments.Elements.TheVariants.{Expressions}
+use Rattle.smith_types.specs.Syntax.segments.Offset.{Offset}
+use Rattle.smith_types.specs.Syntax.segments.Offset.TheVariants.{Global}
+use Rattle.smith_types.specs.Syntax.segments.DataSegmentKind.TheVariants as data_kind
 use Rattle.smith_config.specs.ExampleMembers.{a_type, bytes_array, plain_function, foo_type, quux_type}
-use Rattle.smith_module_rules.specs.Module.{ModuleParts}
 use Rattle.smith_module_rules_examples.specs.ExampleParts.{memory, shared_memory, table, global, number, import_named, no_function}
 use Rattle.smith_module_rules_examples.specs.ExampleParts.{passive_elements, into_a_table, active_data, trapping}
 

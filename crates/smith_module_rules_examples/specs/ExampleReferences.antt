@@ -1,16 +1,11 @@
 -- Modules of the examples whose globals begin with an imported item, or hold non-nullable
 -- references.
 use Rattle.std.specs.Prelude.{ℕ, true, false, List, [], ◌∷◌}
-use Rattle.smith_syntax.specs.declared.value_type.HeapType.{HeapType}
-use Rattle.smith_syntax.specs.declared.value_type.ValType.TheVariants.{Ref}
-use Rattle.smith_syntax.specs.declared.entity_type.EntityType.TheVariants as entity
-use Rattle.smith_syntax.specs.declared.imports.Imports.TheVariants.{Single}
-use Rattle.smith_syntax.specs.declared.const_instr.ConstInstr.TheVariants.{GlobalGet, RefFunc}
-use Rattle.smith_syntax.specs.declared.composite_type.SubType.{SubType}
-use Rattle.smith_types.specs.ExampleTypes.{nullable, not_null}
-use Rattle.smith_config.specs.declared.config.Config.{Config}
-use Rattle.smith_config.specs.Config.{default_config}
-use Rattle.smith_module_rules.specs.Module.{ModuleParts}
+use Rattle.smith_types.specs.Syntax.value_type.HeapType.{HeapType}
+use Rattle.smith_module_rules_examples.specs.Common.{Config, default_config, ModuleParts, not_null, nullable, Ref, Single}
+use Rattle.smith_types.specs.Syntax.entity_type.EntityType.TheVariants as entity
+use Rattle.smith_types.specs.Syntax.const_instr.ConstInstr.TheVariants.{GlobalGet, RefFunc}
+use Rattle.smith_types.specs.Syntax.composite_type.SubType.{SubType}
 use Rattle.smith_module_rules_examples.specs.ExampleModules.{empty_module, one_function, one_import}
 use Rattle.smith_module_rules_examples.specs.ExampleParts.{global, number, import_named}
 

@@ -1,21 +1,17 @@
 -- Shapes of the examples, and modules that keep them or not.
 use Rattle.std.specs.Prelude.{ℕ, true, false, List, [], ◌∷◌, Some, None, codes, map}
-use Rattle.smith_types.specs.Flags.{funcref}
-use Rattle.smith_types.specs.ExampleTypes.{plain, nullable, not_null}
-use Rattle.smith_syntax.specs.declared.value_type.AbstractHeapType.TheVariants as heap
-use Rattle.smith_syntax.specs.declared.value_type.HeapType.TheVariants.{Concrete}
-use Rattle.smith_syntax.specs.declared.value_type.ValType.TheVariants.{F32, Ref}
-use Rattle.smith_syntax.specs.declared.entity_type.EntityType.TheVariants as entity
-use Rattle.smith_syntax.specs.declared.entity_type.ExportKind.{ExportKind}
-use Rattle.smith_syntax.specs.declared.entity_type.ExportKind.TheVariants as kind
-use Rattle.smith_syntax.specs.declared.imports.Import.{Import}
-use Rattle.smith_syntax.specs.declared.imports.Imports.TheVariants.{Single, Compact1, Compact2}
-use Rattle.smith_config.specs.declared.config.Config.{Config}
-use Rattle.smith_config.specs.Config.{default_config}
+use Rattle.smith_module_rules_examples.specs.Common.{Config, default_config, funcref, ModuleParts, not_null, nullable, plain, Ref, Single}
+use Rattle.smith_types.specs.Syntax.value_type.AbstractHeapType.TheVariants as heap
+use Rattle.smith_types.specs.Syntax.value_type.HeapType.TheVariants.{Concrete}
+use Rattle.smith_types.specs.Syntax.value_type.ValType.TheVariants.{F32}
+use Rattle.smith_types.specs.Syntax.entity_type.EntityType.TheVariants as entity
+use Rattle.smith_types.specs.Syntax.entity_type.ExportKind.{ExportKind}
+use Rattle.smith_types.specs.Syntax.entity_type.ExportKind.TheVariants as kind
+use Rattle.smith_types.specs.Syntax.imports.Import.{Import}
+use Rattle.smith_types.specs.Syntax.imports.Imports.TheVariants.{Compact1, Compact2}
 pub use Rattle.smith_config.specs.ExampleShapes.{empty_shape}
 use Rattle.smith_config.specs.declared.shape.Shape.{Shape}
 use Rattle.smith_config.specs.ExampleMembers.{alone, final, taking_a_number, foo_type, quux_type, taking}
-use Rattle.smith_module_rules.specs.Module.{ModuleParts}
 use Rattle.smith_module_rules_examples.specs.ExampleParts.{import_named, memory, table, global, trapping}
 use Rattle.smith_module_rules_examples.specs.ExampleModules.{empty_module, group_of, three_memories}
 

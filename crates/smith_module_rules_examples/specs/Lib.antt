@@ -1,3 +1,4 @@
+pub mod Common
 pub mod ExampleGiven
 pub mod ExampleModules
 pub mod ExampleParts

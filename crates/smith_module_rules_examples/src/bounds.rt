@@ -1,8 +1,8 @@
 ghost use Rattle.std.specs.Prelude.{[], ◌∷◌, ◌≡◌, true, None};
 ghost use Rattle.smith_bytes.specs.declared.error.Count.TheVariants as counts;
-ghost use Rattle.smith_syntax.specs.declared.entity_type.ExportKind.TheVariants as kind;
-ghost use Rattle.smith_syntax.specs.declared.segments.Elements.TheVariants.{Functions, Expressions};
-ghost use Rattle.smith_syntax.specs.declared.const_instr.ConstInstr.TheVariants.{GlobalGet};
+ghost use Rattle.smith_types.specs.Syntax.entity_type.ExportKind.TheVariants as kind;
+ghost use Rattle.smith_types.specs.Syntax.segments.Elements.TheVariants.{Functions, Expressions};
+ghost use Rattle.smith_types.specs.Syntax.const_instr.ConstInstr.TheVariants.{GlobalGet};
 ghost use Rattle.smith_config.specs.Config.{default_config};
 ghost use Rattle.smith_config.specs.ExampleMembers.{plain_function, foo_type};
 ghost use Rattle.smith_module_rules.specs.Held.{HasNoCandidates};

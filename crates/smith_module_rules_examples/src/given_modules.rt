@@ -1,5 +1,5 @@
 ghost use Rattle.std.specs.Prelude.{[], codes, true, false, pos};
-ghost use Rattle.smith_syntax.specs.declared.const_instr.ConstInstr.TheVariants.{I32Const, GlobalGet};
+ghost use Rattle.smith_types.specs.Syntax.const_instr.ConstInstr.TheVariants.{I32Const, GlobalGet};
 ghost use Rattle.smith_module_rules.specs.Module.{IsValid};
 ghost use Rattle.smith_module_rules_examples.specs.ExampleModules.{two_exports, named_imports, two_memories};
 ghost use Rattle.smith_module_rules_examples.specs.ExampleShapes.{with_environment, with_ping};

@@ -1,4 +1,4 @@
-ghost use Rattle.smith_syntax.specs.declared.value_type.HeapType.TheVariants.{Concrete, Exact};
+ghost use Rattle.smith_types.specs.Syntax.value_type.HeapType.TheVariants.{Concrete, Exact};
 ghost use Rattle.smith_module_rules.specs.Module.{IsValid};
 ghost use Rattle.smith_module_rules_examples.specs.ExampleReferences.{imported_read, refers_to_function};
 

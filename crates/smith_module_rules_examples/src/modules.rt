@@ -1,5 +1,5 @@
 ghost use Rattle.std.specs.Prelude.{true, pos};
-ghost use Rattle.smith_syntax.specs.declared.segments.Offset.TheVariants.{Const32};
+ghost use Rattle.smith_types.specs.Syntax.segments.Offset.TheVariants.{Const32};
 ghost use Rattle.smith_config.specs.Config.{default_config};
 ghost use Rattle.smith_module_rules.specs.Module.{IsValid};
 ghost use Rattle.smith_module_rules_examples.specs.ExampleModules.{empty_module, empty_group, arrays, three_arrays, one_function};

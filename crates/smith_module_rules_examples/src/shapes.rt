@@ -1,7 +1,7 @@
 ghost use Rattle.std.specs.Prelude.{[], ◌∷◌, ◌≡◌, ◌++◌, take, drop, true, false, Some, None, codes};
-ghost use Rattle.smith_syntax.specs.declared.entity_type.EntityType.TheVariants as entity;
-ghost use Rattle.smith_syntax.specs.declared.entity_type.ExportKind.TheVariants as kind;
-ghost use Rattle.smith_syntax.specs.declared.imports.Imports.TheVariants.{Single};
+ghost use Rattle.smith_types.specs.Syntax.entity_type.EntityType.TheVariants as entity;
+ghost use Rattle.smith_types.specs.Syntax.entity_type.ExportKind.TheVariants as kind;
+ghost use Rattle.smith_types.specs.Syntax.imports.Imports.TheVariants.{Single};
 ghost use Rattle.smith_config.specs.Config.{default_config};
 ghost use Rattle.smith_config.specs.ExampleMembers.{final, taking_a_number, foo_type, quux_type};
 ghost use Rattle.smith_module_rules.specs.Module.{shown_config};

@@ -1,23 +1,18 @@
 -- A body stays typed with canonical NaNs.
-use Rattle.std.proofs.Common.{◌≡◌, ℕ, ◌+◌, Bool, Option, Some, None, List, [], ◌∷◌, ◌++◌, inl, inr, refl, sym, subst, ap, ◌∙◌, pos}
-use Rattle.std.specs.Prelude.{IsTrue}
-use Rattle.std.specs.List.{flat_map, AllZip}
-use Rattle.std.proofs.lemmas.Bool.{false≢true}
-use Rattle.std.proofs.lemmas.List.Elements.{recursion_from_All}
+use Rattle.smith_program.proofs.Common.{[], ap, AreTyped, AreValid, BodyContext, Bool, false≢true, flat_map, HasInstrType, inl, inr, Instr}
+use Rattle.smith_program.proofs.Common.{IsBodyTyped, IsStep, IsTrue, IsValid, List, Option, pos, recursion_from_All, refl, sink, Some}
+use Rattle.smith_program.proofs.Common.{Stacked, stacked, subst, sym, ValType, ℕ, ◌++◌, ◌+◌, ◌∙◌, ◌∷◌, ◌≡◌}
+use Rattle.std.proofs.Common.{None}
+use Rattle.std.specs.List.{AllZip}
 use Rattle.smith_types.specs.Subtyping.{IsValBelow}
-use Rattle.smith_syntax.specs.declared.composite_type.SubType.{SubType}
-use Rattle.smith_syntax.specs.declared.value_type.ValType.{ValType}
-use Rattle.smith_syntax.specs.declared.value_type.ValType.TheVariants as value_type
-use Rattle.smith_instr.specs.Contexts.{BodyContext, IsValid, AreValid}
-use Rattle.smith_instr.specs.InstrTypes.{sets, HasInstrType}
-use Rattle.smith_instr.specs.Sequences.{Stacked, stacked, IsStep, AreTyped, IsBodyTyped}
-use Rattle.smith_instr.specs.declared.instr.Instr.{Instr}
+use Rattle.smith_types.specs.Syntax.composite_type.SubType.{SubType}
+use Rattle.smith_types.specs.Syntax.value_type.ValType.TheVariants as value_type
+use Rattle.smith_instr.specs.InstrTypes.{sets}
 use Rattle.smith_instr.specs.declared.instr.Instr.TheVariants as instr
 use Rattle.smith_instr.specs.declared.numeric.FloatCompare.TheVariants as float_compare
 use Rattle.smith_instr.specs.declared.numeric.NumericInstr.TheVariants as numeric
 use Rattle.smith_instr.specs.declared.vector.VectorFloatBinary.TheVariants as vector_binary
 use Rattle.smith_instr.specs.declared.vector.VectorInstr.TheVariants as vector
-use Rattle.wasm_smith.specs.Sinks.{sink}
 use Rattle.smith_program.specs.Canonical.{canonical, canonical_by, canonical_if, followed}
 use Rattle.smith_program.specs.Nans.{nan_of}
 use Rattle.smith_program.specs.declared.nans.Float.{Float}

@@ -1,19 +1,13 @@
 -- The bodies of a module with canonical NaNs.
-use Rattle.std.proofs.Common.{◌≡◌, ℕ, ◌+◌, Bool, true, false, Option, Some, None, List, [], ◌∷◌, Result, Ok, Err, length, refl, sym, subst}
-use Rattle.std.proofs.Common.{arith}
-use Rattle.std.specs.Prelude.{All, IsTrue, map, slice_get}
+use Rattle.smith_program.proofs.Common.{[], All, All-append, All-cons, All-from_recursion, All-nil, All-weaker, arith, Bool, Code, Err}
+use Rattle.smith_program.proofs.Common.{Error, false, false≢true, FuncType, Instr, IsTrue, length, List, map, ModuleParts, Ok, Option}
+use Rattle.smith_program.proofs.Common.{recursion_from_All, refl, Result, sink, slice_get, Some, subst, sym, true, ValType, ℕ, ◌+◌, ◌∷◌}
+use Rattle.smith_program.proofs.Common.{◌≡◌}
+use Rattle.std.proofs.Common.{None}
 use Rattle.std.specs.List.{flat_map, AllByRecursion as Each}
-use Rattle.std.proofs.lemmas.Bool.{false≢true}
-use Rattle.std.proofs.lemmas.List.Elements.{All-nil, All-cons, All-append, All-from_recursion, All-map, All-weaker, recursion_from_All}
-use Rattle.smith_bytes.specs.declared.error.Error.{Error}
-use Rattle.smith_syntax.specs.declared.code.Code.{Code}
-use Rattle.smith_syntax.specs.declared.composite_type.FuncType.{FuncType}
-use Rattle.smith_syntax.specs.declared.value_type.ValType.{ValType}
-use Rattle.smith_syntax.specs.declared.value_type.ValType.TheVariants as value_type
-use Rattle.smith_module_rules.specs.Module.{ModuleParts}
-use Rattle.smith_instr.specs.declared.instr.Instr.{Instr}
+use Rattle.std.proofs.lemmas.List.Elements.{All-map}
+use Rattle.smith_types.specs.Syntax.value_type.ValType.TheVariants as value_type
 use Rattle.wasm_smith.specs.Scratch.{AddsScratch, has_vectors, scratch, scratch_definitions}
-use Rattle.wasm_smith.specs.Sinks.{sink}
 use Rattle.wasm_smith.proofs.ScratchLemmas.{adds_scratch_valid}
 use Rattle.smith_program.specs.Bodies.{AreBodiesOf, IsBodyAt, IsOfBody, function_context}
 use Rattle.smith_program.specs.Canonical.{AnswersCanonical, canonical, canonical_body, canonical_if, followed}

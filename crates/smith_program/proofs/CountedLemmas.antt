@@ -1,13 +1,9 @@
 -- A body stays typed with the checks of counters of fuel in it.
-use Rattle.std.proofs.Common.{◌≡◌, ℕ, List, [], ◌∷◌, ◌++◌, Some, refl, sym, subst, append_assoc, append-nil, pos}
-use Rattle.std.specs.Prelude.{slice_get}
+use Rattle.smith_program.proofs.Common.{[], append-nil, append_assoc, AreTyped, AreValid, BodyContext, I32, if_alone, Instr, IsBodyTyped}
+use Rattle.smith_program.proofs.Common.{List, nothing, pos, refl, slice_get, Some, Stacked, stacked, step, subst, sym, ValType, ℕ, ◌++◌}
+use Rattle.smith_program.proofs.Common.{◌∷◌, ◌≡◌}
 use Rattle.std.specs.List.{flat_map, AllByRecursion as Each}
-use Rattle.smith_syntax.specs.declared.value_type.ValType.{ValType}
-use Rattle.smith_syntax.specs.declared.value_type.ValType.TheVariants.{I32}
-use Rattle.smith_instr.specs.Contexts.{BodyContext, AreValid}
-use Rattle.smith_instr.specs.Sequences.{Stacked, stacked, AreTyped, IsBodyTyped, nothing, step, if_alone}
 use Rattle.smith_instr.specs.declared.control.BlockType.TheVariants as block_type
-use Rattle.smith_instr.specs.declared.instr.Instr.{Instr}
 use Rattle.smith_instr.specs.declared.instr.Instr.TheVariants as instr
 use Rattle.smith_instr.specs.declared.numeric.IntBinary.TheVariants as int_binary
 use Rattle.smith_instr.specs.declared.numeric.NumericInstr.TheVariants as numeric

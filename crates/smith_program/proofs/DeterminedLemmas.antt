@@ -1,7 +1,6 @@
 -- Two programs for the same configuration and the same bytes.
-use Rattle.std.proofs.Common.{◌≡◌, ℕ, false, List, Ok, sym, ap, ◌∙◌}
+use Rattle.smith_program.proofs.Common.{ap, false, List, ModuleParts, Ok, sym, ℕ, ◌∙◌, ◌≡◌}
 use Rattle.smith_config.specs.declared.config.Config.{Config}
-use Rattle.smith_module_rules.specs.Module.{ModuleParts}
 use Rattle.wasm_smith.proofs.DeterminedLemmas.{modules_same}
 use Rattle.smith_program.specs.DrawnBodies.{bodies_at}
 use Rattle.smith_program.specs.Generated.{IsProgram}

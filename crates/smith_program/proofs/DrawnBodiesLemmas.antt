@@ -1,17 +1,13 @@
 -- The drawn bodies are those that the bytes produce.
-use Rattle.std.proofs.Common.{◌≡◌, ℕ, zero, suc, ◌+◌, ◌<◌, ◌≤◌, List, [], ◌∷◌, ◌++◌, Some, inl, inr, length, get_or, drop, drop-cons}
-use Rattle.std.proofs.Common.{append_assoc, refl, sym, subst, ap, ◌∙◌, arith}
-use Rattle.std.specs.Prelude.{slice_get}
+use Rattle.smith_program.proofs.Common.{[], ap, append_assoc, arith, Code, drop, FuncType, get_or, get_or_from_slice_get, inl, inr, Instr}
+use Rattle.smith_program.proofs.Common.{length, List, ModuleParts, refl, slice_get, Some, subst, suc, sym, ℕ, ◌++◌, ◌+◌, ◌<◌, ◌∙◌, ◌∷◌, ◌≡◌}
+use Rattle.smith_program.proofs.Common.{◌≤◌}
+use Rattle.std.proofs.Common.{drop-cons, zero}
 use Rattle.std.proofs.lemmas.List.{append-nil, drop_all}
-use Rattle.std.proofs.lemmas.Option.{get_or_from_slice_get}
 use Rattle.smith_types.proofs.ListLemmas.{slice_get-push}
-use Rattle.smith_syntax.specs.declared.code.Code.{Code}
-use Rattle.smith_syntax.specs.declared.code.Instructions.{Instructions}
-use Rattle.smith_syntax.specs.declared.code.Instructions.TheVariants.{Arbitrary, Unreachable}
-use Rattle.smith_syntax.specs.declared.composite_type.FuncType.{FuncType}
+use Rattle.smith_types.specs.Syntax.code.Instructions.{Instructions}
+use Rattle.smith_types.specs.Syntax.code.Instructions.TheVariants.{Arbitrary, Unreachable}
 use Rattle.smith_module_rules.specs.Held.{IsRaw}
-use Rattle.smith_module_rules.specs.Module.{ModuleParts}
-use Rattle.smith_instr.specs.declared.instr.Instr.{Instr}
 use Rattle.smith_body.specs.Bodies.{body_at}
 use Rattle.smith_program.specs.Bodies.{HasDefinedType, function_context}
 use Rattle.smith_program.specs.DrawnBodies.{bodies_at, bodies_from, budget_at, defined_func_type, one_at, unless_raw}

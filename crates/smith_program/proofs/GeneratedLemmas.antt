@@ -1,11 +1,9 @@
 -- The result of drawing a module and then its bodies.
-use Rattle.std.proofs.Common.{◌≡◌, ◌∙◌, sym, subst, ℕ, List, false, Ok, Err, inl, inr}
+use Rattle.smith_program.proofs.Common.{Err, Error, false, inl, inr, List, ModuleParts, Ok, subst, sym, ℕ, ◌∙◌, ◌≡◌}
 use Rattle.std.specs.Prelude.{Result, IsErrAnd}
 use Rattle.smith_bytes.specs.Source.{KeepsPieces}
-use Rattle.smith_bytes.specs.declared.error.Error.{Error}
 use Rattle.smith_bytes.specs.declared.error.Error.TheVariants.{Memory}
 use Rattle.smith_config.specs.declared.config.Config.{Config}
-use Rattle.smith_module_rules.specs.Module.{ModuleParts}
 use Rattle.wasm_smith.specs.Generated.{IsGenerated}
 use Rattle.smith_program.specs.Bodies.{AreDrawnBodies}
 use Rattle.smith_program.specs.DrawnBodies.{bodies_at}

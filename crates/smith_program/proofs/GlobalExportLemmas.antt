@@ -1,17 +1,9 @@
 -- The bodies of a module that exports globals that are added to it.
-use Rattle.std.proofs.Common.{◌≡◌, ℕ, ◌+◌, List, [], ◌∷◌, Result, Ok, Err, refl, sym, subst, ◌∙◌, append-nil}
+use Rattle.smith_program.proofs.Common.{[], append-nil, Code, Err, Error, flat_map, flat_map-append, FuncType, Instr, IsBodyTyped, List}
+use Rattle.smith_program.proofs.Common.{ModuleParts, Ok, refl, Result, subst, sym, ValType, ℕ, ◌+◌, ◌∙◌, ◌∷◌, ◌≡◌}
 use Rattle.std.specs.Prelude.{codes}
-use Rattle.std.specs.List.{flat_map}
-use Rattle.std.proofs.lemmas.Grind.{flat_map-append}
-use Rattle.smith_bytes.specs.declared.error.Error.{Error}
-use Rattle.smith_syntax.specs.declared.code.Code.{Code}
-use Rattle.smith_syntax.specs.declared.composite_type.FuncType.{FuncType}
-use Rattle.smith_syntax.specs.declared.entity_type.ExportKind.{ExportKind}
-use Rattle.smith_syntax.specs.declared.entity_type.ExportKind.TheVariants as kind
-use Rattle.smith_syntax.specs.declared.value_type.ValType.{ValType}
-use Rattle.smith_module_rules.specs.Module.{ModuleParts}
-use Rattle.smith_instr.specs.Sequences.{IsBodyTyped}
-use Rattle.smith_instr.specs.declared.instr.Instr.{Instr}
+use Rattle.smith_types.specs.Syntax.entity_type.ExportKind.{ExportKind}
+use Rattle.smith_types.specs.Syntax.entity_type.ExportKind.TheVariants as kind
 use Rattle.wasm_smith.specs.FuelExport.{AnswersFuelExport}
 use Rattle.wasm_smith.specs.GlobalExport.{unused_name, with_global}
 use Rattle.wasm_smith.specs.SinkExports.{AnswersSinkExports, with_sinks}

@@ -1,17 +1,9 @@
 -- The bodies of a module to which globals are added whose definitions name no function.
-use Rattle.std.proofs.Common.{◌≡◌, ℕ, ◌+◌, List, [], ◌++◌, Some, length, refl, sym, subst, ap, ◌∙◌, append-nil, arith}
-use Rattle.std.specs.Prelude.{slice_get}
-use Rattle.std.specs.List.{flat_map}
-use Rattle.std.proofs.lemmas.Grind.{flat_map-append}
+use Rattle.smith_program.proofs.Common.{[], ap, append-nil, arith, Code, flat_map, flat_map-append, FuncType, GlobalType, Instr}
+use Rattle.smith_program.proofs.Common.{IsBodyTyped, length, List, ModuleParts, refl, slice_get, Some, subst, sym, ValType, ℕ, ◌++◌, ◌+◌}
+use Rattle.smith_program.proofs.Common.{◌∙◌, ◌≡◌}
 use Rattle.smith_types.proofs.ListLemmas.{slice_get-after}
-use Rattle.smith_syntax.specs.declared.code.Code.{Code}
-use Rattle.smith_syntax.specs.declared.composite_type.FuncType.{FuncType}
-use Rattle.smith_syntax.specs.declared.const_instr.ConstInstr.{ConstInstr}
-use Rattle.smith_syntax.specs.declared.entity_type.GlobalType.{GlobalType}
-use Rattle.smith_syntax.specs.declared.value_type.ValType.{ValType}
-use Rattle.smith_module_rules.specs.Module.{ModuleParts}
-use Rattle.smith_instr.specs.Sequences.{IsBodyTyped}
-use Rattle.smith_instr.specs.declared.instr.Instr.{Instr}
+use Rattle.smith_types.specs.Syntax.const_instr.ConstInstr.{ConstInstr}
 use Rattle.smith_program.specs.Bodies.{AreBodiesOf, IsBodyAt, IsOfBody, function_context}
 use Rattle.smith_program.specs.References.{named_in, references_of}
 use Rattle.smith_program.specs.declared.program.Body.{Body}

@@ -1,13 +1,8 @@
 -- A body stays typed with instructions in it that leave the stack as it is.
-use Rattle.std.proofs.Common.{◌≡◌, ◌⊎◌, ℕ, Bool, true, false, List, [], ◌∷◌, ◌++◌, inl, inr, refl, sym, subst, ap, ◌∙◌, append_assoc}
-use Rattle.std.specs.Prelude.{IsTrue}
-use Rattle.std.specs.List.{flat_map}
-use Rattle.std.proofs.lemmas.Grind.{flat_map-append}
-use Rattle.smith_syntax.specs.declared.value_type.ValType.{ValType}
-use Rattle.smith_instr.specs.Contexts.{BodyContext}
-use Rattle.smith_instr.specs.Sequences.{Stacked, stacked, IsStep, AreTyped, nothing, step, block, loop, if_alone, if_else}
-use Rattle.smith_instr.specs.Sequences.{try_table}
-use Rattle.smith_instr.specs.declared.instr.Instr.{Instr}
+use Rattle.smith_program.proofs.Common.{[], ap, append_assoc, AreTyped, block, BodyContext, Bool, false, flat_map, flat_map-append}
+use Rattle.smith_program.proofs.Common.{if_alone, if_else, inl, inr, Instr, IsStep, IsTrue, List, loop, nothing, refl, Stacked, stacked}
+use Rattle.smith_program.proofs.Common.{step, subst, sym, true, try_table, ValType, ℕ, ◌++◌, ◌∙◌, ◌∷◌, ◌≡◌}
+use Rattle.std.proofs.Common.{◌⊎◌}
 use Rattle.smith_instr.specs.declared.instr.Instr.TheVariants as instr
 
 -- instructions that can be placed before any others, whatever the stack and the labels

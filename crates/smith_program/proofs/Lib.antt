@@ -1,3 +1,4 @@
+pub mod Common
 pub mod ScopeLemmas
 pub mod DrawnBodiesLemmas
 pub mod InsertedLemmas

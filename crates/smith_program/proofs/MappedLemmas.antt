@@ -1,10 +1,9 @@
 -- The bodies of a module that are changed one by one.
-use Rattle.std.proofs.Common.{◌≡◌, ℕ, ◌<◌, List, Some, length, get_or, sym, subst, ap, ◌∙◌}
-use Rattle.std.specs.Prelude.{map, slice_get, option_map}
+use Rattle.smith_program.proofs.Common.{ap, Code, get_or, length, List, map, ModuleParts, same_Some, slice_get, slice_get-get_or}
+use Rattle.smith_program.proofs.Common.{slice_get_within, Some, subst, sym, ℕ, ◌<◌, ◌∙◌, ◌≡◌}
+use Rattle.std.specs.Prelude.{option_map}
 use Rattle.std.proofs.lemmas.List.{length-map}
-use Rattle.std.proofs.lemmas.Option.{same_Some, slice_get_within, slice_get-get_or, slice_get-map}
-use Rattle.smith_syntax.specs.declared.code.Code.{Code}
-use Rattle.smith_module_rules.specs.Module.{ModuleParts}
+use Rattle.std.proofs.lemmas.Option.{slice_get-map}
 use Rattle.smith_program.specs.Bodies.{AreBodiesOf, IsBodyAt, IsOfBody}
 use Rattle.smith_program.specs.declared.program.Body.{Body}
 

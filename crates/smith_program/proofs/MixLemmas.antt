@@ -1,16 +1,13 @@
 -- Instructions that mix the values of locals into sinks take no values and leave none.
-use Rattle.std.proofs.Common.{◌≡◌, ℕ, ◌+◌, ◌<◌, suc, List, [], ◌∷◌, ◌++◌, Some, inl, inr, length, refl, sym, subst, ◌∙◌, append_assoc}
-use Rattle.std.proofs.Common.{arith, pos, negsuc, lit<}
-use Rattle.std.specs.Prelude.{slice_get}
+use Rattle.smith_program.proofs.Common.{[], append_assoc, AreTyped, arith, BodyContext, I32, inl, inr, Instr, IsValid, length, List, pos}
+use Rattle.smith_program.proofs.Common.{refl, sink, slice_get, slice_get-grown, Some, Stacked, stacked, subst, suc, sym, ValType, ℕ, ◌++◌}
+use Rattle.smith_program.proofs.Common.{◌+◌, ◌<◌, ◌∙◌, ◌∷◌, ◌≡◌}
+use Rattle.std.proofs.Common.{lit<, negsuc}
 use Rattle.std.specs.List.{AllByRecursion as Each}
 use Rattle.std.proofs.lemmas.List.{length_push}
-use Rattle.smith_types.proofs.ListLemmas.{slice_get-grown, slice_get-last}
+use Rattle.smith_types.proofs.ListLemmas.{slice_get-last}
 use Rattle.smith_types.specs.Expressions.{IsDefaultable}
-use Rattle.smith_syntax.specs.declared.value_type.ValType.{ValType}
-use Rattle.smith_syntax.specs.declared.value_type.ValType.TheVariants.{I32, I64, F32, F64, V128, Ref}
-use Rattle.smith_instr.specs.Contexts.{BodyContext, IsValid}
-use Rattle.smith_instr.specs.Sequences.{Stacked, stacked, AreTyped}
-use Rattle.smith_instr.specs.declared.instr.Instr.{Instr}
+use Rattle.smith_types.specs.Syntax.value_type.ValType.TheVariants.{F32, F64, I64, Ref, V128}
 use Rattle.smith_instr.specs.declared.instr.Instr.TheVariants as instr
 use Rattle.smith_instr.specs.declared.numeric.Conversion.TheVariants as convert
 use Rattle.smith_instr.specs.declared.numeric.FloatCompare.TheVariants as float_compare
@@ -20,7 +17,6 @@ use Rattle.smith_instr.specs.declared.vector.LaneExtract.TheVariants as extract
 use Rattle.smith_instr.specs.declared.vector.VectorBinary.TheVariants as binary
 use Rattle.smith_instr.specs.declared.vector.VectorFloatBinary.TheVariants as float_binary
 use Rattle.smith_instr.specs.declared.vector.VectorInstr.TheVariants as vector
-use Rattle.wasm_smith.specs.Sinks.{sink}
 use Rattle.smith_program.specs.Observed.{bits32, bits64, half, mix, mix32, mix64, mixes_from}
 use Rattle.smith_program.proofs.InsertedLemmas.{IsNeutral, none_neutral, both_neutral}
 use Rattle.smith_program.proofs.StepLemmas.{chosen, joined, popped, pushed, replaced}

@@ -1,12 +1,8 @@
 -- The loops that make instructions which mix locals, and observed bodies.
-use Rattle.std.proofs.Common.{◌≡◌, ℕ, ◌+◌, ◌<◌, suc, List, [], ◌∷◌, ◌++◌, length, get_or, sym, ap, ◌∙◌}
-use Rattle.std.proofs.Common.{append_assoc, append-nil, arith, min, take}
-use Rattle.std.specs.Prelude.{if◌then◌else◌}
-use Rattle.std.specs.List.{flat_map}
-use Rattle.std.proofs.lemmas.Grind.{flat_map-append}
+use Rattle.smith_program.proofs.Common.{[], ap, append-nil, append_assoc, arith, flat_map, flat_map-append, get_or, if◌then◌else◌, Instr}
+use Rattle.smith_program.proofs.Common.{length, List, suc, sym, take, ValType, ℕ, ◌++◌, ◌+◌, ◌<◌, ◌∙◌, ◌∷◌, ◌≡◌}
+use Rattle.std.proofs.Common.{min}
 use Rattle.std.proofs.lemmas.List.{length-take, take_more}
-use Rattle.smith_syntax.specs.declared.value_type.ValType.{ValType}
-use Rattle.smith_instr.specs.declared.instr.Instr.{Instr}
 use Rattle.smith_program.specs.Observed.{after_mixes, leaves, mix, mixes_from}
 
 -- the mixes of locals, and of one more

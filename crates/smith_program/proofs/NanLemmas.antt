@@ -1,15 +1,9 @@
 -- Instructions that may give a NaN whose bits an engine chooses give one value, a float or a vector.
-use Rattle.std.proofs.Common.{◌≡◌, ℕ, Bool, true, false, Option, Some, List, [], ◌∷◌, refl, subst, ap, ◌∙◌}
-use Rattle.std.specs.Prelude.{IsTrue}
-use Rattle.std.proofs.lemmas.Bool.{false≢true}
-use Rattle.std.proofs.lemmas.Option.{same_Some}
-use Rattle.smith_syntax.specs.declared.value_type.ValType.{ValType}
-use Rattle.smith_syntax.specs.declared.value_type.ValType.TheVariants as value_type
-use Rattle.smith_instr.specs.Contexts.{BodyContext}
-use Rattle.smith_instr.specs.InstrTypes.{HasInstrType}
+use Rattle.smith_program.proofs.Common.{[], ap, BodyContext, Bool, false, false≢true, HasInstrType, Instr, IsTrue, List, Option, refl}
+use Rattle.smith_program.proofs.Common.{same_Some, Some, subst, true, ValType, ℕ, ◌∙◌, ◌∷◌, ◌≡◌}
+use Rattle.smith_types.specs.Syntax.value_type.ValType.TheVariants as value_type
 use Rattle.smith_instr.specs.NumericTypes.{signature}
 use Rattle.smith_instr.specs.VectorTypes.{HasVectorType}
-use Rattle.smith_instr.specs.declared.instr.Instr.{Instr}
 use Rattle.smith_instr.specs.declared.instr.Instr.TheVariants as instr
 use Rattle.smith_instr.specs.declared.numeric.Conversion.{Conversion}
 use Rattle.smith_instr.specs.declared.numeric.Conversion.TheVariants as convert

@@ -1,12 +1,9 @@
 -- The bodies that are observed one after another.
-use Rattle.std.proofs.Common.{◌≡◌, ℕ, ◌+◌, ◌<◌, ◌≤◌, List, [], ◌∷◌, ◌++◌, Some, inl, inr, length, get_or, sym, subst, ap, ◌∙◌, arith}
-use Rattle.std.specs.Prelude.{slice_get}
+use Rattle.smith_program.proofs.Common.{[], ap, arith, Code, FuncType, get_or, get_or_from_slice_get, inl, inr, length, List, ModuleParts}
+use Rattle.smith_program.proofs.Common.{same_Some, slice_get, slice_get-grown, slice_get_within, Some, subst, sym, ℕ, ◌++◌, ◌+◌, ◌<◌, ◌∙◌}
+use Rattle.smith_program.proofs.Common.{◌∷◌, ◌≡◌, ◌≤◌}
 use Rattle.std.proofs.Math.Nat.{eq-or-lt_of_le}
-use Rattle.std.proofs.lemmas.Option.{same_Some, slice_get_within, get_or_from_slice_get}
-use Rattle.smith_types.proofs.ListLemmas.{slice_get-grown, slice_get-last}
-use Rattle.smith_syntax.specs.declared.code.Code.{Code}
-use Rattle.smith_syntax.specs.declared.composite_type.FuncType.{FuncType}
-use Rattle.smith_module_rules.specs.Module.{ModuleParts}
+use Rattle.smith_types.proofs.ListLemmas.{slice_get-last}
 use Rattle.smith_program.specs.Bodies.{HasDefinedType}
 use Rattle.smith_program.specs.Observed.{AreObserved, observed_body}
 use Rattle.smith_program.specs.declared.program.Body.{Body}

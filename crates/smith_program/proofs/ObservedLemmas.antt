@@ -1,12 +1,9 @@
 -- A body stays typed, and its instructions enabled, if it mixes its locals into sinks.
-use Rattle.std.proofs.Common.{ℕ, Bool, true, false, List, [], ◌∷◌, refl, sym, subst, take, drop, append-nil}
-use Rattle.std.specs.Prelude.{if◌then◌else◌}
+use Rattle.smith_program.proofs.Common.{[], append-nil, AreTyped, AreValid, BodyContext, Bool, drop, false, if◌then◌else◌, Instr}
+use Rattle.smith_program.proofs.Common.{IsBodyTyped, IsValid, List, recursion_from_All, refl, stacked, subst, sym, take, true, ValType, ℕ}
+use Rattle.smith_program.proofs.Common.{◌∷◌}
 use Rattle.std.proofs.lemmas.List.{take-append-drop}
-use Rattle.std.proofs.lemmas.List.Elements.{All-take, recursion_from_All}
-use Rattle.smith_syntax.specs.declared.value_type.ValType.{ValType}
-use Rattle.smith_instr.specs.Contexts.{BodyContext, AreValid, IsValid}
-use Rattle.smith_instr.specs.Sequences.{stacked, AreTyped, IsBodyTyped}
-use Rattle.smith_instr.specs.declared.instr.Instr.{Instr}
+use Rattle.std.proofs.lemmas.List.Elements.{All-take}
 use Rattle.smith_instr.proofs.CompositionLemmas.{typed_append}
 use Rattle.smith_instr.proofs.SequenceLemmas.{finished}
 use Rattle.smith_program.specs.Observed.{after_mixes, leaves, mixes, observed}

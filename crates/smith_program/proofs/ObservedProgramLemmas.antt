@@ -1,23 +1,18 @@
 -- The bodies of a module whose locals are mixed into sinks.
-use Rattle.std.proofs.Common.{◌≡◌, ℕ, ◌+◌, ◌<◌, suc, Bool, true, false, List, [], ◌∷◌, ◌++◌, Some, Result, Ok, Err, length, get_or, refl}
-use Rattle.std.proofs.Common.{sym, subst, ◌∙◌, arith, take}
-use Rattle.std.specs.Prelude.{All, IsTrue, slice_get, if◌then◌else◌}
+use Rattle.smith_program.proofs.Common.{[], All, All-append, All-cons, All-from_recursion, All-nil, arith, Bool, Code, Err, Error, false}
+use Rattle.smith_program.proofs.Common.{Features, FuncType, get_or, get_or_from_slice_get, I32, if◌then◌else◌, Instr, IsTrue, length, List}
+use Rattle.smith_program.proofs.Common.{module_features, ModuleParts, Ok, recursion_from_All, refl, Result, same_Some, sink, slice_get}
+use Rattle.smith_program.proofs.Common.{slice_get-get_or, slice_get_within, Some, subst, suc, sym, take, true, ValType, ℕ, ◌++◌, ◌+◌, ◌<◌}
+use Rattle.smith_program.proofs.Common.{◌∙◌, ◌∷◌, ◌≡◌}
 use Rattle.std.specs.List.{flat_map, AllByRecursion as Each}
-use Rattle.std.proofs.lemmas.List.Elements.{All-nil, All-cons, All-append, All-from_recursion, All-take, recursion_from_All}
-use Rattle.std.proofs.lemmas.Option.{same_Some, slice_get_within, slice_get-get_or, get_or_from_slice_get}
-use Rattle.smith_bytes.specs.declared.error.Error.{Error}
+use Rattle.std.proofs.lemmas.List.Elements.{All-take}
 use Rattle.smith_types.specs.Bodies.{IsBodyValid}
 use Rattle.smith_types.specs.ValidTypes.{IsValTypeValid}
-use Rattle.smith_syntax.specs.Features.{Features}
-use Rattle.smith_syntax.specs.declared.code.Code.{Code}
-use Rattle.smith_syntax.specs.declared.composite_type.FuncType.{FuncType}
-use Rattle.smith_syntax.specs.declared.value_type.ValType.{ValType}
-use Rattle.smith_syntax.specs.declared.value_type.ValType.TheVariants.{I32, I64, F32, F64, V128, Ref}
-use Rattle.smith_module_rules.specs.Module.{ModuleParts, IsValid, module_features}
+use Rattle.smith_types.specs.Syntax.value_type.ValType.TheVariants.{F32, F64, I64, Ref, V128}
+use Rattle.smith_module_rules.specs.Module.{IsValid}
 use Rattle.smith_instr.specs.Enabled.{has_features}
-use Rattle.smith_instr.specs.declared.instr.Instr.{Instr}
 use Rattle.smith_body_nodes.specs.Scopes.{IsScope}
-use Rattle.wasm_smith.specs.Sinks.{AddsSinks, sink, sinks, sink_definitions}
+use Rattle.wasm_smith.specs.Sinks.{AddsSinks, sink_definitions, sinks}
 use Rattle.wasm_smith.specs.SinkExports.{with_sink_exports}
 use Rattle.wasm_smith.proofs.SinkExportLemmas.{sinks_exported_valid}
 use Rattle.wasm_smith.proofs.SinkLemmas.{adds_sinks_valid}

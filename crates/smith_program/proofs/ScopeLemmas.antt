@@ -1,36 +1,30 @@
 -- The parts of a valid module that its bodies may refer to.
-use Rattle.std.proofs.Common.{◌≡◌, ℕ, ◌+◌, ◌*◌, ◌<◌, ◌≤◌, List, [], ◌∷◌, ◌++◌, Some, length, length-append, get_or, refl, subst, ap, ◌∙◌}
-use Rattle.std.proofs.Common.{arith}
-use Rattle.std.specs.Prelude.{All, IsTrue, slice_get}
+use Rattle.smith_program.proofs.Common.{[], All, All-append, All-from_recursion, All-weaker, ap, arith, Code, ElementSegment, Features}
+use Rattle.smith_program.proofs.Common.{FuncType, get_or, get_or_from_slice_get, GlobalType, Instr, IsBodyTyped, IsTrue, length, List}
+use Rattle.smith_program.proofs.Common.{module_features, ModuleParts, recursion_from_All, refl, slice_get, slice_get-get_or}
+use Rattle.smith_program.proofs.Common.{slice_get_within, Some, subst, ValType, ℕ, ◌++◌, ◌+◌, ◌<◌, ◌∙◌, ◌∷◌, ◌≡◌, ◌≤◌}
+use Rattle.std.proofs.Common.{length-append, ◌*◌}
 use Rattle.std.specs.List.{AllByRecursion as Each}
 use Rattle.std.specs.declared.ops.Range.{Range}
-use Rattle.std.proofs.lemmas.List.Elements.{All-append, All-from_recursion, All-map, recursion_from_All, All-weaker}
+use Rattle.std.proofs.lemmas.List.Elements.{All-map}
 use Rattle.std.proofs.Math.Nat.{mul-le-mul_left}
-use Rattle.std.proofs.lemmas.Option.{slice_get_within, slice_get-get_or, slice_get_read, get_or_from_slice_get}
-use Rattle.smith_syntax.specs.Features.{Features}
+use Rattle.std.proofs.lemmas.Option.{slice_get_read}
 use Rattle.smith_types.specs.GroupedTypes.{GroupedTypes}
 use Rattle.smith_types.specs.Entities.{IsFuncAt, IsFuncTypeIndex, IsGlobalValid, IsTableValid}
 use Rattle.smith_types.specs.Segments.{IsElementSegmentValid}
 use Rattle.smith_types.specs.ValidTypes.{IsRefTypeValid, IsValTypeValid, IsGroupValid, AreTypesValid, values_of}
-use Rattle.smith_syntax.specs.declared.code.Code.{Code}
-use Rattle.smith_syntax.specs.declared.code.Instructions.{Instructions}
-use Rattle.smith_syntax.specs.declared.code.Instructions.TheVariants.{Arbitrary, Unreachable}
-use Rattle.smith_syntax.specs.declared.composite_type.CompositeInnerType.{CompositeInnerType}
-use Rattle.smith_syntax.specs.declared.composite_type.CompositeInnerType.TheVariants.{Func}
-use Rattle.smith_syntax.specs.declared.composite_type.FuncType.{FuncType}
-use Rattle.smith_syntax.specs.declared.composite_type.SubType.{SubType}
-use Rattle.smith_syntax.specs.declared.entity_type.GlobalType.{GlobalType}
-use Rattle.smith_syntax.specs.declared.entity_type.TableType.{TableType}
-use Rattle.smith_syntax.specs.declared.segments.ElementSegment.{ElementSegment}
-use Rattle.smith_syntax.specs.declared.value_type.ValType.{ValType}
+use Rattle.smith_types.specs.Syntax.code.Instructions.{Instructions}
+use Rattle.smith_types.specs.Syntax.code.Instructions.TheVariants.{Arbitrary, Unreachable}
+use Rattle.smith_types.specs.Syntax.composite_type.CompositeInnerType.{CompositeInnerType}
+use Rattle.smith_types.specs.Syntax.composite_type.CompositeInnerType.TheVariants.{Func}
+use Rattle.smith_types.specs.Syntax.composite_type.SubType.{SubType}
+use Rattle.smith_types.specs.Syntax.entity_type.TableType.{TableType}
 use Rattle.smith_types.proofs.ValidityLemmas.{ends_within, group_at}
 use Rattle.smith_types.proofs.EntityGrowthLemmas.{IsValTypeValid-later}
 use Rattle.smith_draw_consts.proofs.ConstScopeLemmas.{fields_valid}
 use Rattle.smith_module_rules.specs.Held.{IsRaw}
-use Rattle.smith_module_rules.specs.Module.{ModuleParts, IsValid, module_features, module_imports, module_types, segment_context}
+use Rattle.smith_module_rules.specs.Module.{IsValid, module_imports, module_types, segment_context}
 use Rattle.smith_instr.specs.Enabled.{IsEnabled}
-use Rattle.smith_instr.specs.Sequences.{IsBodyTyped}
-use Rattle.smith_instr.specs.declared.instr.Instr.{Instr}
 use Rattle.smith_body_nodes.specs.Scopes.{kinds_of_bodies, most, IsScope}
 use Rattle.smith_body_nodes.specs.Traps.{IsTrapless}
 use Rattle.smith_body_leaves.specs.Leaves.{longest_leaf}

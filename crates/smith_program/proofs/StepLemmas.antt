@@ -1,10 +1,8 @@
 -- Instructions that set no local, step by step.
-use Rattle.std.proofs.Common.{◌≡◌, ℕ, List, [], ◌∷◌, ◌++◌, refl, sym, subst, ◌∙◌, append_assoc, append-nil}
-use Rattle.smith_syntax.specs.declared.value_type.ValType.{ValType}
-use Rattle.smith_instr.specs.Contexts.{BodyContext, AreValid, IsValid}
-use Rattle.smith_instr.specs.InstrTypes.{sets, HasInstrType}
-use Rattle.smith_instr.specs.Sequences.{Stacked, stacked, IsFramed, IsStep, AreTyped, step}
-use Rattle.smith_instr.specs.declared.instr.Instr.{Instr}
+use Rattle.smith_program.proofs.Common.{[], append-nil, append_assoc, AreTyped, AreValid, BodyContext, HasInstrType, Instr, IsStep, IsValid}
+use Rattle.smith_program.proofs.Common.{List, refl, Stacked, stacked, step, subst, sym, ValType, ℕ, ◌++◌, ◌∙◌, ◌∷◌, ◌≡◌}
+use Rattle.smith_instr.specs.InstrTypes.{sets}
+use Rattle.smith_instr.specs.Sequences.{IsFramed}
 use Rattle.smith_instr.proofs.SequenceLemmas.{below_themselves, count_as_themselves}
 use Rattle.smith_body_nodes.proofs.NodeLemmas.{one_valid, no_valid}
 

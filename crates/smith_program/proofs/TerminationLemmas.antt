@@ -1,16 +1,11 @@
 -- The bodies of a module to which a counter of fuel is added.
-use Rattle.std.proofs.Common.{◌≡◌, ℕ, List, [], ◌∷◌, ◌++◌, Result, Ok, Err, length, refl, ap}
-use Rattle.std.specs.Prelude.{map}
+use Rattle.smith_program.proofs.Common.{[], All-weaker, ap, Code, Err, Error, FuncType, length, List, map, ModuleParts, Ok}
+use Rattle.smith_program.proofs.Common.{recursion_from_All, refl, Result, ValType, ℕ, ◌++◌, ◌∷◌, ◌≡◌}
 use Rattle.std.specs.List.{AllByRecursion as Each}
 use Rattle.std.specs.Int.{cast_signed, w32}
-use Rattle.std.proofs.lemmas.List.Elements.{recursion_from_All, All-weaker}
-use Rattle.smith_bytes.specs.declared.error.Error.{Error}
 use Rattle.smith_types.specs.Bodies.{IsCounterGlobal}
-use Rattle.smith_syntax.specs.declared.code.Code.{Code}
-use Rattle.smith_syntax.specs.declared.composite_type.FuncType.{FuncType}
-use Rattle.smith_syntax.specs.declared.const_instr.ConstInstr.TheVariants.{I32Const}
-use Rattle.smith_syntax.specs.declared.value_type.ValType.{ValType}
-use Rattle.smith_module_rules.specs.Module.{ModuleParts, IsValid, module_imports}
+use Rattle.smith_types.specs.Syntax.const_instr.ConstInstr.TheVariants.{I32Const}
+use Rattle.smith_module_rules.specs.Module.{IsValid, module_imports}
 use Rattle.wasm_smith.specs.Termination.{AddsCounter, AnswersCounter, counter}
 use Rattle.smith_program.specs.Bodies.{AreBodiesOf, IsBodyAt, IsOfBody, function_context}
 use Rattle.smith_program.specs.Counted.{counted_body}

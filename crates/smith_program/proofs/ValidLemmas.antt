@@ -1,24 +1,18 @@
 -- Programs that are valid.
-use Rattle.std.proofs.Common.{arith, ◌≡◌, ℕ, ◌<◌, List, ◌∷◌, ◌++◌, length, get_or, Ok, refl, sym, subst}
-use Rattle.std.specs.Prelude.{All, Any, IsTrue}
-use Rattle.std.proofs.lemmas.Bool.{and_parts, false≢true}
-use Rattle.std.proofs.lemmas.List.Elements.{All-nil, All-cons, All-append, All-weaker}
-use Rattle.std.proofs.lemmas.Option.{slice_get-get_or}
-use Rattle.smith_syntax.specs.Features.{Features}
-use Rattle.smith_syntax.specs.declared.code.Code.{Code}
-use Rattle.smith_syntax.specs.declared.instruction_kind.InstructionKinds.{InstructionKinds}
-use Rattle.smith_syntax.specs.declared.value_type.ValType.{ValType}
-use Rattle.smith_module_rules.specs.Module.{ModuleParts, IsValid, module_features}
+use Rattle.smith_program.proofs.Common.{All, All-append, All-cons, All-nil, All-weaker, AreTyped, arith, block, BodyContext, Code}
+use Rattle.smith_program.proofs.Common.{false≢true, Features, get_or, HasInstrType, if_alone, if_else, Instr, IsTrue, length, List, loop}
+use Rattle.smith_program.proofs.Common.{module_features, ModuleParts, nothing, Ok, refl, slice_get-get_or, Stacked, step, subst, sym}
+use Rattle.smith_program.proofs.Common.{try_table, ValType, ℕ, ◌++◌, ◌<◌, ◌∷◌, ◌≡◌}
+use Rattle.std.specs.Prelude.{Any}
+use Rattle.std.proofs.lemmas.Bool.{and_parts}
+use Rattle.smith_types.specs.Syntax.instruction_kind.InstructionKinds.{InstructionKinds}
+use Rattle.smith_module_rules.specs.Module.{IsValid}
 use Rattle.smith_instr.specs.AggregateTypes.{HasAggregateType}
-use Rattle.smith_instr.specs.Contexts.{BodyContext}
 use Rattle.smith_instr.specs.Enabled.{IsEnabled, has_features, is_enabled, is_kind_enabled, names_data}
-use Rattle.smith_instr.specs.InstrTypes.{HasInstrType}
 use Rattle.smith_instr.specs.MemoryTypes.{HasMemoryType}
 use Rattle.smith_instr.specs.ReferenceTypes.{HasReferenceType}
-use Rattle.smith_instr.specs.Sequences.{Stacked, AreTyped, nothing, step, block, loop, if_alone, if_else, try_table}
 use Rattle.smith_instr.specs.declared.aggregate.AggregateInstr.{AggregateInstr}
 use Rattle.smith_instr.specs.declared.aggregate.AggregateInstr.TheVariants as aggregate
-use Rattle.smith_instr.specs.declared.instr.Instr.{Instr}
 use Rattle.smith_instr.specs.declared.instr.Instr.TheVariants as instr
 use Rattle.smith_instr.specs.declared.memory.MemoryInstr.{MemoryInstr}
 use Rattle.smith_instr.specs.declared.memory.MemoryInstr.TheVariants as memory

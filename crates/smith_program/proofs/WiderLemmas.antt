@@ -1,30 +1,24 @@
 -- A body stays typed in a module with more globals.
-use Rattle.std.proofs.Common.{ℕ, List, ◌++◌}
-use Rattle.std.proofs.lemmas.List.Elements.{All-weaker}
-use Rattle.smith_syntax.specs.declared.entity_type.GlobalType.{GlobalType}
-use Rattle.smith_syntax.specs.declared.value_type.ValType.{ValType}
-use Rattle.smith_types.proofs.ListLemmas.{slice_get-grown}
+use Rattle.smith_program.proofs.Common.{All-weaker, AreTyped, block, BodyContext, GlobalType, HasInstrType, if_alone, if_else, Instr}
+use Rattle.smith_program.proofs.Common.{IsBodyTyped, List, loop, nothing, slice_get-grown, Stacked, step, try_table, ValType, ℕ, ◌++◌}
 use Rattle.smith_instr.specs.AggregateTypes.{HasAggregateType, IsFieldAt, IsElemOf}
-use Rattle.smith_instr.specs.Contexts.{BodyContext}
-use Rattle.smith_instr.specs.InstrTypes.{HasInstrType, IsBranchCast, IsCatch, IsFunctionTable}
+use Rattle.smith_instr.specs.InstrTypes.{IsBranchCast, IsCatch, IsFunctionTable}
 use Rattle.smith_instr.specs.MemoryTypes.{HasAtomicType, HasMemoryType}
 use Rattle.smith_instr.specs.ReferenceTypes.{HasReferenceType, HasTableType}
-use Rattle.smith_instr.specs.Sequences.{Stacked, CountsAs, IsFramed, AreTyped, IsBodyTyped, nothing, step, block, loop, if_alone, if_else}
-use Rattle.smith_instr.specs.Sequences.{try_table}
+use Rattle.smith_instr.specs.Sequences.{CountsAs, IsFramed}
 use Rattle.smith_instr.specs.declared.aggregate.AggregateInstr.{AggregateInstr}
 use Rattle.smith_instr.specs.declared.aggregate.AggregateInstr.TheVariants as aggregate
 use Rattle.smith_instr.specs.declared.atomic.AtomicAccess.{AtomicAccess}
 use Rattle.smith_instr.specs.declared.control.BranchCast.{BranchCast}
 use Rattle.smith_instr.specs.declared.control.Catch.{Catch}
 use Rattle.smith_instr.specs.declared.control.Catch.TheVariants as catch
-use Rattle.smith_instr.specs.declared.instr.Instr.{Instr}
 use Rattle.smith_instr.specs.declared.instr.Instr.TheVariants as instr
 use Rattle.smith_instr.specs.declared.memory.MemArg.{MemArg}
 use Rattle.smith_instr.specs.declared.memory.MemoryInstr.{MemoryInstr}
 use Rattle.smith_instr.specs.declared.reference.ReferenceInstr.{ReferenceInstr}
 use Rattle.smith_instr.specs.declared.table.TableInstr.{TableInstr}
-use Rattle.smith_syntax.specs.declared.composite_type.FieldType.{FieldType}
-use Rattle.smith_syntax.specs.declared.value_type.RefType.{RefType}
+use Rattle.smith_types.specs.Syntax.composite_type.FieldType.{FieldType}
+use Rattle.smith_types.specs.Syntax.value_type.RefType.{RefType}
 
 -- a context with more globals
 abbrev pub wider : BodyContext → List GlobalType → BodyContext

@@ -1,10 +1,10 @@
 -- The bodies that the input bytes give, in the order in which they are drawn. Rules of this
 -- project.
 use Rattle.std.specs.Prelude.{ℕ, suc, ◌+◌, ◌-◌, ◌/◌, min, Option, Some, None, List, [], ◌∷◌, length, slice_get}
-use Rattle.smith_syntax.specs.declared.code.Code.{Code}
-use Rattle.smith_syntax.specs.declared.code.Instructions.{Instructions}
-use Rattle.smith_syntax.specs.declared.code.Instructions.TheVariants.{Arbitrary, Unreachable}
-use Rattle.smith_syntax.specs.declared.composite_type.FuncType.{FuncType}
+use Rattle.smith_types.specs.Syntax.code.Code.{Code}
+use Rattle.smith_types.specs.Syntax.code.Instructions.{Instructions}
+use Rattle.smith_types.specs.Syntax.code.Instructions.TheVariants.{Arbitrary, Unreachable}
+use Rattle.smith_types.specs.Syntax.composite_type.FuncType.{FuncType}
 use Rattle.smith_module_rules.specs.Module.{ModuleParts, module_imports}
 use Rattle.smith_body.specs.Bodies.{body_at}
 use Rattle.smith_body_nodes.specs.Offered.{function_in}

@@ -1,6 +1,6 @@
 -- The parts of the context of bodies that are computed once for a module.
 use Rattle.std.specs.Prelude.{◌≡◌, map}
-use Rattle.smith_syntax.specs.declared.segments.ElementSegment.{ElementSegment}
+use Rattle.smith_types.specs.Syntax.segments.ElementSegment.{ElementSegment}
 use Rattle.smith_module_rules.specs.Module.{ModuleParts}
 use Rattle.smith_program.specs.References.{references_of}
 use Rattle.smith_program.specs.declared.bodies.Named.{Named}

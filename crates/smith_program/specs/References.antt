@@ -2,13 +2,13 @@
 -- WebAssembly Core Specification 3.0.
 use Rattle.std.specs.Prelude.{ℕ, Option, Some, None, List, [], ◌∷◌, ◌++◌}
 use Rattle.std.specs.List.{flat_map}
-use Rattle.smith_syntax.specs.declared.const_instr.ConstInstr.{ConstInstr}
-use Rattle.smith_syntax.specs.declared.const_instr.ConstInstr.TheVariants as constant
-use Rattle.smith_syntax.specs.declared.entity_type.ExportKind.{ExportKind}
-use Rattle.smith_syntax.specs.declared.entity_type.ExportKind.TheVariants as kind
-use Rattle.smith_syntax.specs.declared.segments.ElementSegment.{ElementSegment}
-use Rattle.smith_syntax.specs.declared.segments.Elements.{Elements}
-use Rattle.smith_syntax.specs.declared.segments.Elements.TheVariants as elements
+use Rattle.smith_types.specs.Syntax.const_instr.ConstInstr.{ConstInstr}
+use Rattle.smith_types.specs.Syntax.const_instr.ConstInstr.TheVariants as constant
+use Rattle.smith_types.specs.Syntax.entity_type.ExportKind.{ExportKind}
+use Rattle.smith_types.specs.Syntax.entity_type.ExportKind.TheVariants as kind
+use Rattle.smith_types.specs.Syntax.segments.ElementSegment.{ElementSegment}
+use Rattle.smith_types.specs.Syntax.segments.Elements.{Elements}
+use Rattle.smith_types.specs.Syntax.segments.Elements.TheVariants as elements
 use Rattle.smith_module_rules.specs.Module.{ModuleParts}
 
 -- the function that an instruction of a constant expression names, if any (Validation, Modules,

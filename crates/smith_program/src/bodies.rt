@@ -3,7 +3,7 @@ ghost use Rattle.std.specs.Prelude.{Some, length, slice_get};
 ghost use Rattle.smith_bytes.specs.Source.{KeepsPieces};
 ghost use Rattle.smith_types.specs.Entities.{IsFuncAt};
 ghost use Rattle.smith_types.specs.ValidTypes.{IsValTypeValid};
-ghost use Rattle.smith_syntax.specs.declared.code.Code.{Code as Defined};
+ghost use Rattle.smith_types.specs.Syntax.code.Code.{Code as Defined};
 ghost use Rattle.smith_module_rules.specs.Module.{IsValid, module_features, module_imports};
 ghost use Rattle.smith_instr.specs.Enabled.{IsEnabled};
 ghost use Rattle.smith_instr.specs.Sequences.{IsBodyTyped};

@@ -1,8 +1,8 @@
 ghost use Rattle.std.specs.Prelude.{◌≡◌, ◌++◌, ℕ, List, Option, map, IfOk, IfErr, OnOk};
 ghost use Rattle.std.specs.List.{flat_map};
-ghost use Rattle.smith_syntax.specs.declared.segments.ElementSegment.{ElementSegment as Segment};
-ghost use Rattle.smith_syntax.specs.declared.const_instr.ConstInstr.{ConstInstr as Constant};
-ghost use Rattle.smith_syntax.specs.declared.entity_type.ExportKind.{ExportKind as Kind};
+ghost use Rattle.smith_types.specs.Syntax.segments.ElementSegment.{ElementSegment as Segment};
+ghost use Rattle.smith_types.specs.Syntax.const_instr.ConstInstr.{ConstInstr as Constant};
+ghost use Rattle.smith_types.specs.Syntax.entity_type.ExportKind.{ExportKind as Kind};
 ghost use Rattle.smith_program.specs.References.{
   exported_by,
   named_by,

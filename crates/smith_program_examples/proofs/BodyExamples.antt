@@ -1,23 +1,19 @@
 -- Types of defined functions, and bodies at their places.
-use Rattle.std.proofs.Common.{◌≡◌, ℕ, zero, suc, inl, inr, List, [], ◌∷◌, Some, None, length, slice_get, refl, sym, subst, ◌∙◌, arith}
+use Rattle.smith_program_examples.proofs.Common.{[], arith, Body, Code, FuncType, HasDefinedType, inl, Instr, length, List, number, refl}
+use Rattle.smith_program_examples.proofs.Common.{subst, sym, trapping, ℕ, ◌∙◌, ◌∷◌, ◌≡◌}
+use Rattle.std.proofs.Common.{inr, None, slice_get, Some, suc, zero}
 use Rattle.std.proofs.lemmas.Option.{same_Some}
 use Rattle.smith_types.specs.Entities.{IsFuncAt}
 use Rattle.smith_types.specs.ExampleTypes.{final_type, giving}
-use Rattle.smith_syntax.specs.declared.code.Code.{Code}
-use Rattle.smith_syntax.specs.declared.composite_type.FuncType.{FuncType}
-use Rattle.smith_syntax.specs.declared.value_type.ValType.TheVariants.{I32}
+use Rattle.smith_types.specs.Syntax.value_type.ValType.TheVariants.{I32}
 use Rattle.smith_module_rules.specs.Module.{ModuleParts}
-use Rattle.smith_module_rules_examples.specs.ExampleParts.{trapping}
 use Rattle.smith_instr.specs.Contexts.{labelled}
 use Rattle.smith_instr.specs.Sequences.{IsBodyTyped, step}
-use Rattle.smith_instr.specs.declared.instr.Instr.{Instr}
 use Rattle.smith_instr.specs.declared.instr.Instr.TheVariants as instr
 use Rattle.smith_instr.proofs.SequenceLemmas.{one, finished}
-use Rattle.smith_instr_examples.specs.ExampleBodies.{number}
 use Rattle.smith_instr_examples.proofs.ManagedExamples.{func_alone}
 use Rattle.smith_instr_examples.proofs.SequenceExamples.{is_plain, step_of, end_height, valid_one}
-use Rattle.smith_program.specs.Bodies.{HasDefinedType, IsBodyAt, IsOfBody, AreBodiesBy, AreBodiesOf, function_context}
-use Rattle.smith_program.specs.declared.program.Body.{Body}
+use Rattle.smith_program.specs.Bodies.{AreBodiesBy, AreBodiesOf, function_context, IsBodyAt, IsOfBody}
 use Rattle.smith_program_examples.specs.ExamplePrograms.{after_an_import, narrow_function, gives_number, with_local}
 
 -- a function type with the result i32, at the start of the types and after another

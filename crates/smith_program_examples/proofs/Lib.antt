@@ -1,3 +1,4 @@
+pub mod Common
 pub mod BodyExamples
 pub mod ReferenceExamples
 pub mod SpellingExamples

@@ -1,13 +1,9 @@
 -- A body that mixes its local into a sink, and one that doesn't.
-use Rattle.std.proofs.Common.{◌≡◌, ℕ, zero, suc, [], ◌∷◌, ◌++◌, Some, slice_get, refl, sym, subst}
+use Rattle.smith_program_examples.proofs.Common.{[], Body, Code, FuncType, HasDefinedType, number, refl, subst, sym, ℕ, ◌∷◌, ◌≡◌}
+use Rattle.std.proofs.Common.{slice_get, Some, suc, zero, ◌++◌}
 use Rattle.std.proofs.lemmas.Option.{same_Some}
-use Rattle.smith_syntax.specs.declared.code.Code.{Code}
-use Rattle.smith_syntax.specs.declared.composite_type.FuncType.{FuncType}
-use Rattle.smith_syntax.specs.declared.value_type.ValType.TheVariants.{I32}
-use Rattle.smith_instr_examples.specs.ExampleBodies.{number}
-use Rattle.smith_program.specs.Bodies.{HasDefinedType}
+use Rattle.smith_types.specs.Syntax.value_type.ValType.TheVariants.{I32}
 use Rattle.smith_program.specs.Observed.{AreObserved, mix, observed_body}
-use Rattle.smith_program.specs.declared.program.Body.{Body}
 use Rattle.smith_program.specs.declared.program.Body.TheVariants as body
 use Rattle.smith_program_examples.specs.ExamplePrograms.{constant, gives_number, narrow_function, with_local}
 use Rattle.smith_program_examples.proofs.BodyExamples.{only_type, type_alone}

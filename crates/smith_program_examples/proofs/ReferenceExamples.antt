@@ -1,28 +1,22 @@
 -- Reference types in forms that are enabled, and in others.
-use Rattle.std.proofs.Common.{◌≡◌, ℕ, false, inl, inr, List, [], ◌∷◌, refl, sym, ◌∙◌}
+use Rattle.smith_program_examples.proofs.Common.{[], All-cons, All-nil, Body, Code, default_config, empty_module, false≢true, inl, List}
+use Rattle.smith_program_examples.proofs.Common.{Ref, refl, sym, trapping, ℕ, ◌∙◌, ◌∷◌, ◌≡◌}
+use Rattle.std.proofs.Common.{false, inr}
 use Rattle.std.specs.Prelude.{All}
-use Rattle.std.proofs.lemmas.Bool.{false≢true}
-use Rattle.std.proofs.lemmas.List.Elements.{All-cons, All-nil}
-use Rattle.smith_syntax.specs.Features.{Features}
-use Rattle.smith_syntax.specs.declared.code.Code.{Code}
-use Rattle.smith_syntax.specs.declared.composite_type.SubType.{SubType}
-use Rattle.smith_syntax.specs.declared.entity_type.GlobalType.{GlobalType}
-use Rattle.smith_syntax.specs.declared.entity_type.TableType.{TableType}
-use Rattle.smith_syntax.specs.declared.segments.ElementSegment.{ElementSegment}
+use Rattle.smith_types.specs.Syntax.Features.{Features}
+use Rattle.smith_types.specs.Syntax.composite_type.SubType.{SubType}
+use Rattle.smith_types.specs.Syntax.entity_type.GlobalType.{GlobalType}
+use Rattle.smith_types.specs.Syntax.entity_type.TableType.{TableType}
+use Rattle.smith_types.specs.Syntax.segments.ElementSegment.{ElementSegment}
 use Rattle.smith_types.specs.ExampleFeatures.{no_features}
 use Rattle.smith_types.specs.ValidTypes.{values_of}
-use Rattle.smith_syntax.specs.declared.value_type.ValType.TheVariants.{Ref}
-use Rattle.smith_config.specs.Config.{default_config}
 use Rattle.smith_config.specs.declared.config.Config.{Config}
 use Rattle.smith_config.specs.ExampleMembers.{without_gc}
 use Rattle.smith_config.specs.Features.{features_of}
 use Rattle.smith_module_rules.specs.Module.{ModuleParts}
-use Rattle.smith_module_rules_examples.specs.ExampleModules.{empty_module}
-use Rattle.smith_module_rules_examples.specs.ExampleParts.{trapping}
 use Rattle.smith_instr.specs.declared.control.BlockType.TheVariants as block
 use Rattle.smith_instr.specs.declared.instr.Instr.TheVariants as instr
 use Rattle.smith_program.specs.Bodies.{AreBodiesBy}
-use Rattle.smith_program.specs.declared.program.Body.{Body}
 use Rattle.smith_program_examples.specs.ExamplePrograms.{block_of, indexed}
 use Rattle.smith_program_examples.proofs.BodyExamples.{bodies_by}
 use Rattle.smith_binary_program.specs.Forms.{AreReferencesEnabled, AreValFormsEnabled, HasLongReferences, IsRefFormEnabled}

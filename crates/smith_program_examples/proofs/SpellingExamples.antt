@@ -1,5 +1,6 @@
 -- Integers, types and sections as they are written.
-use Rattle.std.proofs.Common.{◌≡◌, ℕ, ◌+◌, ◌<◌, ◌≤◌, List, [], ◌∷◌, ◌++◌, length, refl, ap, ◌∙◌, arith, length-append}
+use Rattle.smith_program_examples.proofs.Common.{[], ap, arith, length, List, refl, ℕ, ◌<◌, ◌∙◌, ◌∷◌, ◌≡◌, ◌≤◌}
+use Rattle.std.proofs.Common.{length-append, ◌++◌, ◌+◌}
 use Rattle.smith_binary.specs.Numbers.{IsUnsigned}
 use Rattle.smith_binary.specs.Pieces.{Each, Joined, IsByte, IsListIn, IsSectionIn}
 use Rattle.smith_binary.specs.Spelling.{IsPadded, Shortest}

@@ -1,25 +1,22 @@
 -- Programs that are valid, and others that aren't.
-use Rattle.std.proofs.Common.{rules, arith, List, [], ◌∷◌, refl, sym, subst}
+use Rattle.smith_program_examples.proofs.Common.{[], All-cons, All-nil, arith, Body, default_config, empty_module, HasDefinedType, Instr}
+use Rattle.smith_program_examples.proofs.Common.{List, number, refl, subst, sym, trapping, ◌∷◌}
+use Rattle.std.proofs.Common.{rules}
 use Rattle.std.specs.Prelude.{All, Any, IsTrue}
 use Rattle.std.specs.List.{AllByRecursion as Each}
 use Rattle.std.proofs.lemmas.Grind.{common_steps}
-use Rattle.std.proofs.lemmas.List.Elements.{All-nil, All-cons, All-from_recursion}
-use Rattle.smith_config.specs.Config.{default_config}
+use Rattle.std.proofs.lemmas.List.Elements.{All-from_recursion}
 use Rattle.smith_module_rules.specs.Module.{IsValid}
-use Rattle.smith_module_rules_examples.specs.ExampleModules.{empty_module, one_function}
-use Rattle.smith_module_rules_examples.specs.ExampleParts.{trapping}
+use Rattle.smith_module_rules_examples.specs.ExampleModules.{one_function}
 use Rattle.smith_module_rules_examples.proofs.PartExamples.{function_at, one_function_valid}
 use Rattle.smith_instr.specs.Contexts.{labelled}
 use Rattle.smith_instr.specs.Enabled.{names_data}
-use Rattle.smith_instr.specs.declared.instr.Instr.{Instr}
 use Rattle.smith_instr.proofs.SequenceLemmas.{finished}
-use Rattle.smith_instr_examples.specs.ExampleBodies.{number}
 use Rattle.smith_instr_examples.proofs.SequenceExamples.{one_left}
 use Rattle.smith_body_nodes.proofs.NodeLemmas.{no_valid}
-use Rattle.smith_program.specs.Bodies.{AreBodiesOf, HasDefinedType, IsBodyAt, function_context}
+use Rattle.smith_program.specs.Bodies.{AreBodiesOf, function_context, IsBodyAt}
 use Rattle.smith_program.specs.References.{references_of}
 use Rattle.smith_program.specs.Valid.{HaveAll, HasOne, IsDeclared, IsValidProgram, NameData}
-use Rattle.smith_program.specs.declared.program.Body.{Body}
 use Rattle.smith_program.specs.declared.program.Body.TheVariants as body
 use Rattle.smith_program.proofs.ValidLemmas.{Enabled}
 use Rattle.smith_program_examples.specs.ExamplePrograms.{gives_nothing}

@@ -1,17 +1,17 @@
 -- Modules and bodies of the examples, and the bytes from which such bodies are drawn.
 use Rattle.std.specs.Prelude.{ℕ, true, None, List, [], ◌∷◌}
 use Rattle.smith_types.specs.ExampleTypes.{final_type, giving, nullable, plain_func}
-use Rattle.smith_syntax.specs.declared.code.Code.{Code}
-use Rattle.smith_syntax.specs.declared.code.Instructions.TheVariants.{Arbitrary}
-use Rattle.smith_syntax.specs.declared.composite_type.CompositeInnerType.{CompositeInnerType}
-use Rattle.smith_syntax.specs.declared.composite_type.FuncType.{FuncType}
-use Rattle.smith_syntax.specs.declared.entity_type.EntityType.TheVariants as entity
-use Rattle.smith_syntax.specs.declared.imports.Imports.TheVariants.{Single}
-use Rattle.smith_syntax.specs.declared.segments.ElementSegment.{ElementSegment}
-use Rattle.smith_syntax.specs.declared.segments.Elements.TheVariants.{Functions}
-use Rattle.smith_syntax.specs.declared.value_type.HeapType.TheVariants.{Concrete}
-use Rattle.smith_syntax.specs.declared.value_type.RefType.{RefType}
-use Rattle.smith_syntax.specs.declared.value_type.ValType.TheVariants.{I32, Ref}
+use Rattle.smith_types.specs.Syntax.code.Code.{Code}
+use Rattle.smith_types.specs.Syntax.code.Instructions.TheVariants.{Arbitrary}
+use Rattle.smith_types.specs.Syntax.composite_type.CompositeInnerType.{CompositeInnerType}
+use Rattle.smith_types.specs.Syntax.composite_type.FuncType.{FuncType}
+use Rattle.smith_types.specs.Syntax.entity_type.EntityType.TheVariants as entity
+use Rattle.smith_types.specs.Syntax.imports.Imports.TheVariants.{Single}
+use Rattle.smith_types.specs.Syntax.segments.ElementSegment.{ElementSegment}
+use Rattle.smith_types.specs.Syntax.segments.Elements.TheVariants.{Functions}
+use Rattle.smith_types.specs.Syntax.value_type.HeapType.TheVariants.{Concrete}
+use Rattle.smith_types.specs.Syntax.value_type.RefType.{RefType}
+use Rattle.smith_types.specs.Syntax.value_type.ValType.TheVariants.{I32, Ref}
 use Rattle.smith_config.specs.declared.config.Config.{Config}
 use Rattle.smith_config.specs.Config.{default_config}
 use Rattle.smith_module_rules.specs.Module.{ModuleParts}

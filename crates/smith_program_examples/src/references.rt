@@ -1,9 +1,9 @@
 #![tactic(auto)]
 
 ghost use Rattle.std.specs.Prelude.{◌≡◌, true, [], ◌∷◌, None};
-ghost use Rattle.smith_syntax.specs.declared.value_type.AbstractHeapType.TheVariants as heap;
-ghost use Rattle.smith_syntax.specs.declared.value_type.HeapType.TheVariants.{Abstract, Concrete, Exact};
-ghost use Rattle.smith_syntax.specs.declared.value_type.ValType.TheVariants.{I32, Ref};
+ghost use Rattle.smith_types.specs.Syntax.value_type.AbstractHeapType.TheVariants as heap;
+ghost use Rattle.smith_types.specs.Syntax.value_type.HeapType.TheVariants.{Abstract, Concrete, Exact};
+ghost use Rattle.smith_types.specs.Syntax.value_type.ValType.TheVariants.{I32, Ref};
 ghost use Rattle.smith_types.specs.ExampleEntities.{constant_global, table};
 ghost use Rattle.smith_types.specs.ExampleFeatures.{gc_alone, no_features};
 ghost use Rattle.smith_types.specs.ExampleTypes.{not_null, nullable, plain};

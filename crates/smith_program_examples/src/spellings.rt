@@ -6,8 +6,8 @@ ghost use Rattle.smith_binary.specs.Spelling.{IsSignedIn, IsUnsignedIn};
 ghost use Rattle.smith_binary.specs.Spelling.Spelling.{any, written};
 ghost use Rattle.smith_types.specs.ExampleTypes.{final_type, not_null, nullable, plain, plain_func};
 ghost use Rattle.smith_types.specs.Flags.{funcref};
-ghost use Rattle.smith_syntax.specs.declared.value_type.AbstractHeapType.TheVariants as heap;
-ghost use Rattle.smith_syntax.specs.declared.value_type.HeapType.TheVariants.{Abstract, Concrete, Exact};
+ghost use Rattle.smith_types.specs.Syntax.value_type.AbstractHeapType.TheVariants as heap;
+ghost use Rattle.smith_types.specs.Syntax.value_type.HeapType.TheVariants.{Abstract, Concrete, Exact};
 ghost use Rattle.smith_binary_sections.specs.Types.{IsRecGroupWrittenIn, IsRefTypeIn, short_ref};
 
 // Integers, types and sections as they are written, and other spellings of them.

@@ -1,7 +1,7 @@
 #![tactic(auto)]
 
 ghost use Rattle.std.specs.Prelude.{[], ◌∷◌};
-ghost use Rattle.smith_syntax.specs.declared.composite_type.FuncType.{FuncType};
+ghost use Rattle.smith_types.specs.Syntax.composite_type.FuncType.{FuncType};
 ghost use Rattle.smith_module_rules_examples.specs.ExampleParts.{trapping};
 ghost use Rattle.smith_instr.specs.declared.instr.Instr.TheVariants as instr;
 ghost use Rattle.smith_instr_examples.specs.ExampleBodies.{number};

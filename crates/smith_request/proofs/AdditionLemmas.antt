@@ -1,12 +1,13 @@
 -- What is added to a program, and the program before and after it.
-use Rattle.std.proofs.Common.{◌≡◌, ℕ, ◌+◌, ◌<◌, ◌^◌, Bool, true, false, Option, Some, None, Result, Ok, Err, length, length-append, refl, sym}
+use Rattle.std.proofs.Common.{◌≡◌, ℕ, ◌+◌, ◌<◌, ◌^◌, Bool, true, false, Option, Some, None, Result, Ok, Err, length}
+use Rattle.std.proofs.Common.{length-append, refl, sym}
 use Rattle.std.proofs.Common.{subst, ap, ◌∙◌, arith}
 use Rattle.std.specs.Prelude.{OnOk, IfErr, if◌then◌else◌, is_some, option_map}
 use Rattle.std.specs.List.{Any}
 use Rattle.smith_bytes.specs.declared.error.Error.{Error}
 use Rattle.smith_bytes.specs.declared.error.Error.TheVariants as errors
 use Rattle.smith_bytes.specs.declared.error.Why.TheVariants.{RawBody}
-use Rattle.smith_syntax.specs.declared.code.Code.{Code}
+use Rattle.smith_types.specs.Syntax.code.Code.{Code}
 use Rattle.smith_module_rules.specs.Held.{IsRaw}
 use Rattle.smith_module_rules.specs.Module.{ModuleParts}
 use Rattle.wasm_smith.specs.FuelExport.{AnswersFuelExport}

@@ -18,7 +18,8 @@ use Rattle.smith_request.specs.declared.additions.Additions.{Additions}
 use Rattle.smith_request.specs.declared.manner.Form.{Form}
 use Rattle.smith_request.specs.declared.manner.Form.TheVariants.{Binary, Text}
 use Rattle.smith_request.specs.declared.refusal.Refusal.{Refusal}
-use Rattle.smith_request.specs.declared.refusal.Refusal.TheVariants.{NotUtf8, Config as of_config, Module, Encoding, Shape, NoChange, NoFamily}
+use Rattle.smith_request.specs.declared.refusal.Refusal.TheVariants.{NotUtf8, Config as of_config, Module, Encoding}
+use Rattle.smith_request.specs.declared.refusal.Refusal.TheVariants.{Shape, NoChange, NoFamily}
 
 -- the bytes are the encoding of the program with additions
 pub record IsExtendedBinary (additions : Additions) (program : Program) (bytes : List ℕ) : Type 0 where

@@ -10,7 +10,8 @@ use Rattle.smith_request.specs.Refusals.{IsRefusalFor}
 use Rattle.smith_request.specs.Requests.{IsBinaryFor, IsTextFor}
 use Rattle.smith_request.specs.declared.manner.Form.{Form}
 use Rattle.smith_request.specs.declared.refusal.Refusal.{Refusal}
-use Rattle.smith_request.specs.declared.refusal.Refusal.TheVariants.{NotUtf8, Config, Module, Encoding, Shape as of_shape, NoChange, NoFamily}
+use Rattle.smith_request.specs.declared.refusal.Refusal.TheVariants.{NotUtf8, Config, Module, Encoding}
+use Rattle.smith_request.specs.declared.refusal.Refusal.TheVariants.{Shape as of_shape, NoChange, NoFamily}
 use Rattle.smith_request.specs.declared.request.Request.{Request}
 use Rattle.smith_request.specs.declared.shaped.ShapeFiles.{ShapeFiles}
 

@@ -1,8 +1,8 @@
 -- The shape of a decoded module is that of its syntax.
 use Rattle.std.proofs.Common.{◌≡◌, ℕ, List, sym, subst, refl}
 use Rattle.std.proofs.lemmas.Simd.{map-map}
-use Rattle.smith_syntax.specs.declared.entity_type.GlobalType.{GlobalType}
-use Rattle.smith_syntax.specs.declared.entity_type.TableType.{TableType}
+use Rattle.smith_types.specs.Syntax.entity_type.GlobalType.{GlobalType}
+use Rattle.smith_types.specs.Syntax.entity_type.TableType.{TableType}
 use Rattle.smith_instr.specs.declared.instr.Instr.{Instr}
 use Rattle.smith_config.specs.declared.shape.Shape.{Shape}
 use Rattle.smith_decode.specs.Modules.{IsModuleBinary, global_pair, syntax_of, table_pair}

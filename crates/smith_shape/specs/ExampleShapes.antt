@@ -1,7 +1,7 @@
 -- Shapes of the examples.
 use Rattle.std.specs.Prelude.{[], ◌∷◌, false}
-use Rattle.smith_syntax.specs.declared.entity_type.GlobalType.{GlobalType}
-use Rattle.smith_syntax.specs.declared.value_type.ValType.TheVariants.{I32}
+use Rattle.smith_types.specs.Syntax.entity_type.GlobalType.{GlobalType}
+use Rattle.smith_types.specs.Syntax.value_type.ValType.TheVariants.{I32}
 use Rattle.smith_config.specs.declared.shape.Shape.{Shape}
 use Rattle.smith_decode.specs.ExampleModules.{ctz, no_item}
 use Rattle.smith_decode.specs.declared.modules.Module.{Module}

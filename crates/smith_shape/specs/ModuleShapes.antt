@@ -1,9 +1,9 @@
 -- The shape of a module: the module without bodies, initialisers, segments and the start function.
 -- The section Structure, Modules, of the WebAssembly Core Specification 3.0.
 use Rattle.std.specs.Prelude.{◌≡◌, ℕ, List, map, Err}
-use Rattle.smith_syntax.specs.Features.{every_feature}
-use Rattle.smith_syntax.specs.declared.entity_type.GlobalType.{GlobalType}
-use Rattle.smith_syntax.specs.declared.entity_type.TableType.{TableType}
+use Rattle.smith_types.specs.Syntax.Features.{every_feature}
+use Rattle.smith_types.specs.Syntax.entity_type.GlobalType.{GlobalType}
+use Rattle.smith_types.specs.Syntax.entity_type.TableType.{TableType}
 use Rattle.smith_instr.specs.declared.instr.Instr.{Instr}
 use Rattle.smith_types.specs.Imports.{flattened}
 use Rattle.smith_config.specs.declared.shape.Shape.{Shape}

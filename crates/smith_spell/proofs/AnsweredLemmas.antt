@@ -1,12 +1,9 @@
 -- The lists that cannot be spelled, and the result for other lists.
-use Rattle.std.proofs.Common.{◌≡◌, ℕ, List, [], length}
+use Rattle.smith_spell.proofs.Common.{[], Config, length, List, sanitized, SubType, ℕ, ◌≡◌}
 use Rattle.std.specs.Prelude.{◌≤◌, Option, Some, None, Result, Ok, Err, IfOk, IfErr, OnErr, MatchOption}
 use Rattle.smith_bytes.specs.declared.error.Error.{Error}
 use Rattle.smith_bytes.specs.declared.error.Error.TheVariants.{Memory}
-use Rattle.smith_syntax.specs.declared.composite_type.SubType.{SubType}
-use Rattle.smith_config.specs.declared.config.Config.{Config}
 use Rattle.smith_config.specs.Faults.{Passes}
-use Rattle.smith_config.specs.Sanitized.{sanitized}
 use Rattle.smith_spell.specs.Family.{IsInFamily}
 use Rattle.smith_spell.specs.Spelling.{SpellsMember}
 use Rattle.smith_spell.specs.SpellAnswers.{IsSpellable, AnswersSpelling}

@@ -1,13 +1,12 @@
 -- Minimums one by one, and the minimums, shapes and export-everything that sanitising keeps.
-use Rattle.std.proofs.Common.{◌≡◌, ℕ, ◌∙◌, sym, map, rules}
-use Rattle.std.specs.Prelude.{All, slice_index_or}
+use Rattle.smith_spell.proofs.Common.{All, Config, rules, sanitized, sym, ℕ, ◌∙◌, ◌≡◌}
+use Rattle.std.proofs.Common.{map}
+use Rattle.std.specs.Prelude.{slice_index_or}
 use Rattle.std.proofs.lemmas.List.Elements.{All-map, recursion_from_All}
 use Rattle.smith_bytes.specs.declared.error.Count.{Count}
 use Rattle.smith_bytes.specs.declared.error.Count.TheVariants.{Types, Imports, Tags, Funcs, Globals, Exports, ElementSegments, Elements}
 use Rattle.smith_bytes.specs.declared.error.Count.TheVariants.{DataSegments, Memories, Tables}
-use Rattle.smith_config.specs.declared.config.Config.{Config}
 use Rattle.smith_config.specs.Faults.{counts, minimum_of}
-use Rattle.smith_config.specs.Sanitized.{sanitized}
 use Rattle.smith_config.specs.Minimums.{HasNoMinimums}
 use Rattle.smith_spell.specs.Decided.{AsksForNothing}
 

@@ -1,10 +1,11 @@
 -- The base-256 digits of a number, most significant first.
-use Rattle.std.proofs.Common.{◌≡◌, ℕ, zero, suc, ◌+◌, ◌-◌, ◌*◌, ◌/◌, ◌%◌, ◌<◌, ◌≤◌, ◌^◌, List, [], ◌∷◌, ◌++◌, refl, ap, ◌∙◌, arith}
-use Rattle.std.proofs.Common.{length-append, append_assoc}
+use Rattle.smith_spell.proofs.Common.{[], ap, append_assoc, arith, length-append, List, refl, SpellsNumber, suc, zero, ℕ, ◌++◌, ◌+◌, ◌-◌}
+use Rattle.smith_spell.proofs.Common.{◌<◌, ◌∙◌, ◌∷◌, ◌≡◌, ◌≤◌}
+use Rattle.std.proofs.Common.{◌%◌, ◌*◌, ◌/◌, ◌^◌}
 use Rattle.std.proofs.Math.Nat.{pow-succ', mod-eq_of_lt}
 use Rattle.std.proofs.lemmas.List.Sums.{fold-append}
 use Rattle.smith_bytes.specs.Draws.{big_endian, digit_count, digit_count_within}
-use Rattle.smith_bytes.specs.Spelling.{SpellsNumber, SpellsRefusal}
+use Rattle.smith_bytes.specs.Spelling.{SpellsRefusal}
 use Rattle.smith_spell.specs.Written.{SpellsDigits, Writes}
 
 -- counting one more digit changes nothing if there is no further digit

@@ -1,9 +1,7 @@
 -- The walk over groups, and the types after them, to the type with an index.
-use Rattle.std.proofs.Common.{◌≡◌, ◌∙◌, ℕ, zero, suc, ◌+◌, ◌-◌, ◌<◌, ◌≤◌, List, [], ◌∷◌, ◌++◌, Option, Some, length, drop, get_or, sym, ap}
-use Rattle.std.proofs.Common.{subst, arith, append_assoc, length-append}
-use Rattle.std.specs.Prelude.{slice_get}
-use Rattle.std.proofs.Math.ListN.{drop_of_length-le}
-use Rattle.smith_syntax.specs.declared.composite_type.SubType.{SubType}
+use Rattle.smith_spell.proofs.Common.{[], ap, append_assoc, arith, drop, drop_of_length-le, get_or, length, length-append, List, slice_get}
+use Rattle.smith_spell.proofs.Common.{Some, subst, SubType, suc, sym, zero, ℕ, ◌++◌, ◌+◌, ◌-◌, ◌<◌, ◌∙◌, ◌∷◌, ◌≡◌, ◌≤◌}
+use Rattle.std.proofs.Common.{Option}
 use Rattle.smith_types.proofs.ListLemmas.{slice_get-grown}
 use Rattle.smith_spell.proofs.GroupsWrittenLoop.{at_place}
 use Rattle.smith_spell.proofs.MemberLemmas.{all_types, from_place}

@@ -1,16 +1,13 @@
 -- The places of types among those that functions may have.
-use Rattle.std.proofs.Common.{◌≡◌, ℕ, zero, suc, ◌+◌, ◌<◌, ◌≤◌, Bool, true, false, cond, List, [], ◌∷◌, ◌++◌, Some, length, take, drop}
-use Rattle.std.proofs.Common.{get_or, refl, sym, ap, ◌∙◌, arith, append-nil}
-use Rattle.std.specs.Prelude.{slice_get, All, if◌then◌else◌}
-use Rattle.std.proofs.Math.ListN.{drop_of_length-le}
-use Rattle.std.proofs.lemmas.Option.{same_Some, slice_get_within, get_or_from_slice_get}
-use Rattle.smith_bytes.specs.Spelling.{Listed}
+use Rattle.smith_spell.proofs.Common.{[], All, ap, append-nil, arith, Bool, Config, drop, drop_of_length-le, false, func_types, get_or}
+use Rattle.smith_spell.proofs.Common.{length, List, Listed, refl, same_Some, slice_get, slice_get_within, Some, SpellsFuncs, SubType, suc}
+use Rattle.smith_spell.proofs.Common.{sym, take, true, zero, ℕ, ◌++◌, ◌+◌, ◌<◌, ◌∙◌, ◌∷◌, ◌≡◌, ◌≤◌}
+use Rattle.std.proofs.Common.{cond}
+use Rattle.std.specs.Prelude.{if◌then◌else◌}
+use Rattle.std.proofs.lemmas.Option.{get_or_from_slice_get}
 use Rattle.smith_types.specs.Entities.{IsFuncTypeIndex}
-use Rattle.smith_syntax.specs.declared.composite_type.SubType.{SubType}
-use Rattle.smith_config.specs.declared.config.Config.{Config}
-use Rattle.smith_draw_types.specs.TypeUses.{is_unshared_function, places_from, may_be_used, func_types}
+use Rattle.smith_draw_types.specs.TypeUses.{is_unshared_function, may_be_used, places_from}
 use Rattle.smith_draw_types.specs.declared.type_use.TypeUse.TheVariants.{DefinedFunc}
-use Rattle.smith_draw_types.specs.SpelledParts.{SpellsFuncs}
 use Rattle.smith_spell.specs.Written.{ArePlaces}
 
 -- for each item, the number of items before it that pass a test, plus n

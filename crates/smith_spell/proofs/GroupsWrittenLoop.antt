@@ -1,19 +1,14 @@
 -- Groups written one after another: each iteration adds the types of one to those before.
-use Rattle.std.proofs.Common.{◌≡◌, ℕ, zero, suc, ◌+◌, ◌<◌, ◌≤◌, Bool, true, false, nat_lt, ◌-◌, List, [], ◌∷◌, ◌++◌, Some, length, take}
-use Rattle.std.proofs.Common.{drop, get_or, refl, sym, ap, ◌∙◌, subst, add-one, arith, length-append, drop-cons}
-use Rattle.std.specs.Prelude.{slice_get, All}
-use Rattle.std.specs.List.{flat_map}
+use Rattle.smith_spell.proofs.Common.{[], add-one, All, ap, arith, Bool, Config, drop, drop-cons, drop_of_length-le, false, flat_map}
+use Rattle.smith_spell.proofs.Common.{get_or, length, length-append, List, nat_lt, refl, slice_get, Some, space_of, SpellsBool}
+use Rattle.smith_spell.proofs.Common.{SpellsGroups, SpellsSubTypes, subst, SubType, suc, sym, take, true, Where, zero, ℕ, ◌++◌, ◌+◌, ◌-◌}
+use Rattle.smith_spell.proofs.Common.{◌<◌, ◌∙◌, ◌∷◌, ◌≡◌, ◌≤◌}
 use Rattle.std.proofs.Math.Seq.{take-suc}
-use Rattle.std.proofs.Math.ListN.{drop_of_length-le}
 use Rattle.std.proofs.lemmas.List.{length-take}
-use Rattle.smith_bytes.specs.Spelling.{SpellsBool, Where}
-use Rattle.smith_types.specs.Groups.{space_of}
 use Rattle.smith_types.specs.GroupedTypes.{GroupedTypes}
-use Rattle.smith_syntax.specs.declared.composite_type.SubType.{SubType}
 use Rattle.smith_types.proofs.GroupsAddedLemmas.{space_of_push, groups_cut}
 use Rattle.smith_types.proofs.ListLemmas.{slice_get-grown}
-use Rattle.smith_config.specs.declared.config.Config.{Config}
-use Rattle.smith_draw_types.specs.Spelling.{SpellsGroup, SpellsGroups, SpellsSize, SpellsSubTypes}
+use Rattle.smith_draw_types.specs.Spelling.{SpellsGroup, SpellsSize}
 use Rattle.smith_spell.specs.Family.{IsMemberType}
 use Rattle.smith_spell.specs.declared.sub_types.Before.{Before}
 use Rattle.smith_spell.specs.Written.{Writes, IsSummary, OverSome, AreMembers}

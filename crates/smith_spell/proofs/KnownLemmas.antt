@@ -1,19 +1,19 @@
 -- The heap types that struct types without supertypes ground, by the facts about the types.
-use Rattle.std.proofs.Common.{◌≡◌, ◌∙◌, ℕ, zero, suc, ◌+◌, ◌<◌, Bool, true, false, ◌&&◌, ◌||◌, List, [], ◌∷◌, ◌++◌, Some, None, IsTrue}
-use Rattle.std.proofs.Common.{length, refl, sym, ap, subst, arith, length-append}
-use Rattle.std.specs.Prelude.{◌↔◌, slice_get, if◌then◌else◌}
+use Rattle.smith_spell.proofs.Common.{[], Abstract, AbstractHeapType, ap, arith, Bool, Concrete, false, length, length-append, List, refl}
+use Rattle.smith_spell.proofs.Common.{slice_get, slice_get_within, Some, subst, SubType, suc, sym, true, zero, ℕ, ◌++◌, ◌+◌, ◌<◌, ◌∙◌, ◌∷◌}
+use Rattle.smith_spell.proofs.Common.{◌≡◌}
+use Rattle.std.proofs.Common.{IsTrue, None, ◌&&◌, ◌||◌}
+use Rattle.std.specs.Prelude.{if◌then◌else◌, ◌↔◌}
 use Rattle.std.specs.List.{All, list_any}
 use Rattle.std.proofs.lemmas.List.Elements.{All-push}
-use Rattle.std.proofs.lemmas.Option.{slice_get_within, get_or_from_slice_get}
+use Rattle.std.proofs.lemmas.Option.{get_or_from_slice_get}
 use Rattle.smith_types.specs.Subtyping.{is_abstract_below, IsBelow, itself}
 use Rattle.smith_types.specs.Grounded.{IsGroundedByStructs}
 use Rattle.smith_types.specs.Grounds.{is_ground, is_ground_of, kind_at, AreGroundKinds}
 use Rattle.smith_types.specs.declared.ground.GroundKinds.{GroundKinds}
-use Rattle.smith_syntax.specs.declared.value_type.AbstractHeapType.{AbstractHeapType}
-use Rattle.smith_syntax.specs.declared.value_type.AbstractHeapType.TheVariants.{Struct}
-use Rattle.smith_syntax.specs.declared.value_type.HeapType.{HeapType}
-use Rattle.smith_syntax.specs.declared.value_type.HeapType.TheVariants.{Abstract, Concrete, Exact}
-use Rattle.smith_syntax.specs.declared.composite_type.SubType.{SubType}
+use Rattle.smith_types.specs.Syntax.value_type.AbstractHeapType.TheVariants.{Struct}
+use Rattle.smith_types.specs.Syntax.value_type.HeapType.{HeapType}
+use Rattle.smith_types.specs.Syntax.value_type.HeapType.TheVariants.{Exact}
 use Rattle.smith_types.proofs.GroundedLemmas.{grounded_at, grounded_is, abstract_read}
 use Rattle.smith_types.proofs.PathLemmas.{exact_below}
 use Rattle.smith_types.proofs.WalkLemmas.{Reaches, here, up, by_cases_from_below}

@@ -1,3 +1,4 @@
+pub mod Common
 pub mod FamilyFitLemmas
 pub mod WrittenLemmas
 pub mod DigitLemmas

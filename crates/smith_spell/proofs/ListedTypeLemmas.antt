@@ -1,15 +1,12 @@
 -- The abstract heap types that are listed are those that are drawn.
-use Rattle.std.proofs.Common.{◌≡◌, ℕ, zero, suc, ◌+◌, Bool, true, false, Some, List, [], ◌∷◌, refl, ap, arith}
-use Rattle.std.specs.Prelude.{IsTrue, slice_get}
+use Rattle.smith_spell.proofs.Common.{[], abstract_heap_types, AbstractHeapType, ap, arith, Bool, Config, enabled, false, List, refl}
+use Rattle.smith_spell.proofs.Common.{slice_get, Some, suc, true, zero, ℕ, ◌+◌, ◌∷◌, ◌≡◌}
+use Rattle.std.specs.Prelude.{IsTrue}
 use mir.Val.{bool_byte}
 use Rattle.std.specs.List.{Contains, AllByRecursion as ByRecursion}
 use Rattle.std.proofs.lemmas.List.Elements.{All-contains, All-from_recursion}
-use Rattle.smith_syntax.specs.declared.value_type.AbstractHeapType.{AbstractHeapType}
-use Rattle.smith_syntax.specs.declared.value_type.AbstractHeapType.TheVariants.{Func, Extern, Any, None, NoExtern, NoFunc, Eq, Struct}
-use Rattle.smith_syntax.specs.declared.value_type.AbstractHeapType.TheVariants.{Array, I31, Exn, NoExn}
-use Rattle.smith_config.specs.declared.config.Config.{Config}
-use Rattle.smith_draw_types.specs.Choices.{enabled}
-use Rattle.smith_draw_types.specs.ValueTypes.{abstract_heap_types}
+use Rattle.smith_types.specs.Syntax.value_type.AbstractHeapType.TheVariants.{Func, Extern, Any, None, NoExtern, NoFunc, Eq, Struct}
+use Rattle.smith_types.specs.Syntax.value_type.AbstractHeapType.TheVariants.{Array, I31, Exn, NoExn}
 use Rattle.smith_draw_types.proofs.EnabledLemmas.{enabled_all}
 use Rattle.smith_spell.specs.Decided.{IsOffered}
 

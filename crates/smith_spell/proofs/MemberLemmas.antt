@@ -1,14 +1,10 @@
 -- Types one after another are members if each is, and lists of the family by their parts.
-use Rattle.std.proofs.Common.{◌≡◌, ℕ, zero, suc, ◌+◌, ◌<◌, List, [], ◌∷◌, ◌++◌, Some, length, take, drop, get_or, refl, sym, ap, ◌∙◌, subst}
-use Rattle.std.proofs.Common.{rules, arith, add-one, drop-cons, append_assoc, append-nil}
-use Rattle.std.specs.Prelude.{◌≤◌, ◌↔◌, slice_get, All}
-use Rattle.std.specs.List.{flat_map}
+use Rattle.smith_spell.proofs.Common.{[], add-one, All, ap, append-nil, append_assoc, arith, Config, drop, drop-cons, flat_map, get_or}
+use Rattle.smith_spell.proofs.Common.{length, List, refl, rules, same_Some, slice_get, Some, space_of, subst, SubType, suc, sym, take, zero}
+use Rattle.smith_spell.proofs.Common.{ℕ, ◌++◌, ◌+◌, ◌<◌, ◌∙◌, ◌∷◌, ◌≡◌}
+use Rattle.std.specs.Prelude.{◌↔◌, ◌≤◌}
 use Rattle.std.proofs.lemmas.List.{take_more}
-use Rattle.std.proofs.lemmas.Option.{same_Some}
-use Rattle.smith_syntax.specs.declared.composite_type.SubType.{SubType}
-use Rattle.smith_config.specs.declared.config.Config.{Config}
 use Rattle.smith_types.specs.Entities.{IsFuncTypeIndex}
-use Rattle.smith_types.specs.Groups.{space_of}
 use Rattle.smith_spell.specs.Family.{IsMemberType, IsInFamily}
 use Rattle.smith_spell.specs.Decided.{AreMembersAfter, AreGroupsInFamily}
 

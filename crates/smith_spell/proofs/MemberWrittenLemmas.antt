@@ -1,17 +1,14 @@
 -- A member of the family, written by its parts.
-use Rattle.std.proofs.Common.{◌≡◌, ℕ, suc, Bool, true, false, nat_lt, cond, List, [], ◌∷◌, length, get_or, refl, arith}
-use Rattle.std.specs.Prelude.{All, ◌||◌}
+use Rattle.smith_spell.proofs.Common.{[], All, arith, Bool, Config, false, get_or, Joined, length, List, lt-ltb, nat_lt, refl, space_of}
+use Rattle.smith_spell.proofs.Common.{SpellsFuncs, SpellsGroups, SubType, suc, true, ℕ, ◌∷◌, ◌≡◌}
+use Rattle.std.proofs.Common.{cond}
+use Rattle.std.specs.Prelude.{◌||◌}
 use Rattle.std.specs.List.{list_any}
-use Rattle.std.proofs.lemmas.Bool.{lt-ltb}
-use Rattle.smith_bytes.specs.Spelling.{SpellsAnyByte, Joined, SpellsNone}
-use Rattle.smith_types.specs.Groups.{space_of}
-use Rattle.smith_syntax.specs.declared.composite_type.SubType.{SubType}
-use Rattle.smith_config.specs.declared.config.Config.{Config}
+use Rattle.smith_bytes.specs.Spelling.{SpellsAnyByte, SpellsNone}
 use Rattle.smith_draw_types.specs.TypeUses.{places_from}
-use Rattle.smith_draw_types.specs.Spelling.{SpellsGroups}
 use Rattle.smith_spell.specs.Family.{IsInFamily}
 use Rattle.smith_spell.specs.Spelling.{SpellsMember}
-use Rattle.smith_draw_types.specs.SpelledParts.{SpellsNoTag, SpellsFuncs}
+use Rattle.smith_draw_types.specs.SpelledParts.{SpellsNoTag}
 use Rattle.smith_spell.specs.Written.{Writes}
 use Rattle.smith_spell.proofs.WrittenLemmas.{joined_written, regrouped, written_as}
 use Rattle.smith_spell.proofs.GroupsWrittenLoop.{at_place}

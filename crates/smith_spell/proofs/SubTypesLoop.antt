@@ -1,13 +1,11 @@
 -- Types written one after another: each iteration adds one to those before.
-use Rattle.std.proofs.Common.{◌≡◌, ℕ, ◌+◌, ◌<◌, ◌≤◌, Bool, true, false, List, [], ◌∷◌, ◌++◌, length, take, drop, get_or, refl, subst}
-use Rattle.std.proofs.Common.{add-one, append_assoc, drop-cons}
+use Rattle.smith_spell.proofs.Common.{[], add-one, append_assoc, Bool, Config, drop, drop-cons, drop_of_length-le, false, get_or, length}
+use Rattle.smith_spell.proofs.Common.{List, refl, SpellsBool, SpellsSubTypes, subst, SubType, take, true, Where, ℕ, ◌++◌, ◌+◌, ◌<◌, ◌∷◌}
+use Rattle.smith_spell.proofs.Common.{◌≡◌, ◌≤◌}
 use Rattle.std.proofs.Math.Seq.{take-suc}
-use Rattle.std.proofs.Math.ListN.{drop_of_length-le}
 use Rattle.std.proofs.lemmas.List.{take_all}
-use Rattle.smith_bytes.specs.Spelling.{SpellsBool, SpellsRefusal, Where}
-use Rattle.smith_syntax.specs.declared.composite_type.SubType.{SubType}
-use Rattle.smith_config.specs.declared.config.Config.{Config}
-use Rattle.smith_draw_types.specs.Spelling.{SpellsUnshared, SpellsInner, SpellsDeclared, SpellsForm, SpellsSubType, SpellsSubTypes}
+use Rattle.smith_bytes.specs.Spelling.{SpellsRefusal}
+use Rattle.smith_draw_types.specs.Spelling.{SpellsDeclared, SpellsForm, SpellsInner, SpellsSubType, SpellsUnshared}
 use Rattle.smith_spell.specs.Family.{IsMemberType}
 use Rattle.smith_spell.specs.declared.sub_types.Before.{Before}
 use Rattle.smith_spell.specs.Written.{Writes, IsSummary, OverSome}

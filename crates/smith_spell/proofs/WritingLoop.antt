@@ -1,9 +1,6 @@
 -- Loops that write: each iteration writes one piece and leads to the rest.
-use Rattle.std.proofs.Common.{◌≡◌, ℕ, zero, suc, ◌+◌, ◌-◌, ◌<◌, ◌≤◌, true, false, nat_lt, List, [], ◌∷◌, length, drop, get_or, refl}
-use Rattle.std.proofs.Common.{add-one, arith, drop-cons}
-use Rattle.std.proofs.Math.ListN.{drop_of_length-le}
-use Rattle.std.proofs.lemmas.Bool.{lt-ltb}
-use Rattle.smith_bytes.specs.Spelling.{SpellsBool, Where, Joined, Each, Listed}
+use Rattle.smith_spell.proofs.Common.{[], add-one, arith, drop, drop-cons, drop_of_length-le, Each, false, get_or, Joined, length, List}
+use Rattle.smith_spell.proofs.Common.{Listed, lt-ltb, nat_lt, refl, SpellsBool, suc, true, Where, zero, ℕ, ◌+◌, ◌-◌, ◌<◌, ◌∷◌, ◌≡◌, ◌≤◌}
 use Rattle.smith_spell.specs.Written.{Writes}
 use Rattle.smith_spell.proofs.WrittenLemmas.{nothing_written, joined_written, written_as}
 

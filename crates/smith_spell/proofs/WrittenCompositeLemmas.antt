@@ -1,12 +1,10 @@
 -- Fields and composite types, written by their parts.
-use Rattle.std.proofs.Common.{ℕ, List, length}
-use Rattle.smith_bytes.specs.Spelling.{SpellsBool, SpellsNumber, Each, Listed}
-use Rattle.smith_syntax.specs.declared.composite_type.FieldType.{FieldType}
-use Rattle.smith_syntax.specs.declared.composite_type.FuncType.{FuncType}
-use Rattle.smith_syntax.specs.declared.composite_type.StructType.{StructType}
-use Rattle.smith_config.specs.declared.config.Config.{Config}
+use Rattle.smith_spell.proofs.Common.{Config, Each, length, List, Listed, SpellsBool, SpellsField, SpellsNumber, SpellsValType, ℕ}
+use Rattle.smith_types.specs.Syntax.composite_type.FieldType.{FieldType}
+use Rattle.smith_types.specs.Syntax.composite_type.FuncType.{FuncType}
+use Rattle.smith_types.specs.Syntax.composite_type.StructType.{StructType}
 use Rattle.smith_draw_types.specs.CompositeTypes.{most_results}
-use Rattle.smith_draw_types.specs.Spelling.{SpellsValType, SpellsStorage, SpellsField, SpellsFuncType, SpellsStructType}
+use Rattle.smith_draw_types.specs.Spelling.{SpellsFuncType, SpellsStorage, SpellsStructType}
 use Rattle.smith_spell.specs.Written.{Writes}
 use Rattle.smith_spell.proofs.WrittenLemmas.{joined_written}
 

@@ -1,6 +1,5 @@
 -- Pieces written one after another.
-use Rattle.std.proofs.Common.{◌≡◌, ℕ, List, [], ◌∷◌, ◌++◌, refl, sym, subst, ap, ◌∙◌, append_assoc, append-nil}
-use Rattle.smith_bytes.specs.Spelling.{Joined}
+use Rattle.smith_spell.proofs.Common.{[], ap, append-nil, append_assoc, Joined, List, refl, subst, sym, ℕ, ◌++◌, ◌∙◌, ◌∷◌, ◌≡◌}
 use Rattle.smith_spell.specs.Written.{Writes}
 
 -- nothing is written if no byte spells the item

@@ -1,19 +1,14 @@
 -- Value types, written by their parts.
-use Rattle.std.proofs.Common.{◌≡◌, ℕ, ◌-◌, ◌<◌, ◌≤◌, Bool, true, false, nat_lt, Some, List, [], ◌∷◌, length, refl, arith}
-use Rattle.std.specs.Prelude.{IsTrue, slice_get}
-use Rattle.std.proofs.lemmas.Bool.{lt-ltb}
-use Rattle.std.proofs.lemmas.Option.{slice_get_within}
-use Rattle.smith_bytes.specs.Spelling.{SpellsNumber}
-use Rattle.smith_syntax.specs.declared.value_type.AbstractHeapType.{AbstractHeapType}
-use Rattle.smith_syntax.specs.declared.value_type.HeapType.TheVariants.{Abstract, Concrete}
-use Rattle.smith_syntax.specs.declared.value_type.RefType.{RefType}
-use Rattle.smith_syntax.specs.declared.value_type.ValType.{ValType}
-use Rattle.smith_syntax.specs.declared.value_type.ValType.TheVariants as vals
-use Rattle.smith_config.specs.declared.config.Config.{Config}
-use Rattle.smith_draw_types.specs.Choices.{enabled}
-use Rattle.smith_draw_types.specs.ValueTypes.{value_classes, abstract_heap_types}
-use Rattle.smith_draw_types.specs.Spelling.{SpellsPlace, SpellsConcrete, SpellsUnshared, SpellsHeapType, SpellsNullable, SpellsRefType}
-use Rattle.smith_draw_types.specs.Spelling.{SpellsAfterClass, SpellsValType, class_of}
+use Rattle.smith_spell.proofs.Common.{[], Abstract, abstract_heap_types, AbstractHeapType, arith, Bool, Concrete, Config, enabled, false}
+use Rattle.smith_spell.proofs.Common.{length, List, lt-ltb, nat_lt, refl, slice_get, slice_get_within, Some, SpellsNumber, SpellsPlace}
+use Rattle.smith_spell.proofs.Common.{SpellsValType, true, ℕ, ◌-◌, ◌<◌, ◌∷◌, ◌≡◌, ◌≤◌}
+use Rattle.std.specs.Prelude.{IsTrue}
+use Rattle.smith_types.specs.Syntax.value_type.RefType.{RefType}
+use Rattle.smith_types.specs.Syntax.value_type.ValType.{ValType}
+use Rattle.smith_types.specs.Syntax.value_type.ValType.TheVariants as vals
+use Rattle.smith_draw_types.specs.ValueTypes.{value_classes}
+use Rattle.smith_draw_types.specs.Spelling.{SpellsConcrete, SpellsHeapType, SpellsNullable, SpellsRefType, SpellsUnshared}
+use Rattle.smith_draw_types.specs.Spelling.{class_of, SpellsAfterClass}
 use Rattle.smith_spell.specs.Written.{Writes}
 use Rattle.smith_spell.proofs.WrittenLemmas.{nothing_written, joined_written, written_as}
 

@@ -3,10 +3,10 @@ use Rattle.std.specs.Prelude.{◌≡◌, ◌<◌, ◌≤◌, false, IsTrue, List
 use Rattle.std.specs.List.{list_any}
 use Rattle.smith_types.specs.Grounds.{is_ground_of}
 use Rattle.smith_types.specs.Groups.{space_of}
-use Rattle.smith_syntax.specs.declared.value_type.AbstractHeapType.{AbstractHeapType}
-use Rattle.smith_syntax.specs.declared.value_type.AbstractHeapType.TheVariants.{Func, Extern, Any, None, NoExtern, NoFunc, Eq, Struct}
-use Rattle.smith_syntax.specs.declared.value_type.AbstractHeapType.TheVariants.{Array, I31, Exn, NoExn}
-use Rattle.smith_syntax.specs.declared.composite_type.SubType.{SubType}
+use Rattle.smith_types.specs.Syntax.value_type.AbstractHeapType.{AbstractHeapType}
+use Rattle.smith_types.specs.Syntax.value_type.AbstractHeapType.TheVariants.{Func, Extern, Any, None, NoExtern, NoFunc, Eq, Struct}
+use Rattle.smith_types.specs.Syntax.value_type.AbstractHeapType.TheVariants.{Array, I31, Exn, NoExn}
+use Rattle.smith_types.specs.Syntax.composite_type.SubType.{SubType}
 use Rattle.smith_config.specs.declared.config.Config.{Config}
 use Rattle.smith_config.specs.InUse.{HasNoShapes}
 use Rattle.smith_draw_types.specs.Spelling.{IsRoot}

@@ -3,7 +3,7 @@
 -- Lists may have several spellings.
 use Rattle.std.specs.Prelude.{◌≡◌, ℕ, ◌≤◌, ◌==◌, false, if◌then◌else◌, ℤ, List, [], length}
 use Rattle.smith_bytes.specs.Spelling.{SpellsAnyByte, SpellsNone, Where, Joined, Listed}
-use Rattle.smith_syntax.specs.declared.composite_type.SubType.{SubType}
+use Rattle.smith_types.specs.Syntax.composite_type.SubType.{SubType}
 use Rattle.smith_config.specs.declared.config.Config.{Config}
 use Rattle.smith_config.specs.Shapes.{space_of}
 use Rattle.smith_draw_types.specs.Spelling.{SpellsGroups}

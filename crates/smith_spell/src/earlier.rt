@@ -1,8 +1,8 @@
 ghost use Rattle.std.specs.Prelude.{◌≡◌, ◌↔◌, ◌+◌, ◌++◌, ◌<◌, ◌^◌, List, [], ◌∷◌, IsTrue, Some};
 ghost use Rattle.std.specs.Prelude.{length, slice_get};
 ghost use Rattle.std.specs.List.{flat_map};
-ghost use Rattle.smith_syntax.specs.declared.composite_type.SubType.{SubType as Sub};
-ghost use Rattle.smith_syntax.specs.declared.value_type.AbstractHeapType.TheVariants.{Struct};
+ghost use Rattle.smith_types.specs.Syntax.composite_type.SubType.{SubType as Sub};
+ghost use Rattle.smith_types.specs.Syntax.value_type.AbstractHeapType.TheVariants.{Struct};
 ghost use Rattle.smith_types.specs.Grounded.{IsGroundedByStructs};
 ghost use Rattle.smith_types.specs.Grounds.{is_ground};
 ghost use Rattle.smith_types.specs.Subtyping.{is_abstract_below};
@@ -60,7 +60,7 @@ pub(crate) struct Earlier<'a> {
 impl<'a> Model for Earlier<'a> {
     ghost use Rattle.std.specs.Prelude.{List, ◌++◌};
     ghost use Rattle.std.specs.List.{flat_map};
-    ghost use Rattle.smith_syntax.specs.declared.composite_type.SubType.{SubType as Sub};
+    ghost use Rattle.smith_types.specs.Syntax.composite_type.SubType.{SubType as Sub};
     ghost use Rattle.smith_spell.specs.Decided.{IsKnown};
 
     ghost Value = { List Sub };

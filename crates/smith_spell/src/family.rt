@@ -2,7 +2,7 @@ ghost use Rattle.std.specs.Prelude.{◌≡◌, ◌↔◌, ◌<◌, ◌≤◌, �
 ghost use Rattle.std.specs.Prelude.{IfOk, IfErr, OnErr, MatchOption, All, length};
 ghost use Rattle.std.specs.List.{flat_map};
 ghost use Rattle.smith_types.specs.Groups.{space_of};
-ghost use Rattle.smith_syntax.specs.declared.composite_type.SubType.{SubType as Sub};
+ghost use Rattle.smith_types.specs.Syntax.composite_type.SubType.{SubType as Sub};
 ghost use Rattle.smith_spell.specs.Family.{IsInFamily};
 ghost use Rattle.smith_spell.specs.Decided.{AreMembersAfter, IsKnown, AreGroupsInFamily};
 

@@ -1,7 +1,7 @@
 ghost use Rattle.std.specs.Prelude.{◌≡◌, ◌≤◌, false, OnOk, IfOk, IfErr, length, All};
 ghost use Rattle.smith_bytes.specs.declared.error.Error.TheVariants.{Memory};
 ghost use Rattle.smith_types.specs.Entities.{IsFuncTypeIndex};
-ghost use Rattle.smith_syntax.specs.declared.composite_type.SubType.{SubType as Sub};
+ghost use Rattle.smith_types.specs.Syntax.composite_type.SubType.{SubType as Sub};
 ghost use Rattle.smith_draw_types.specs.TypeUses.{is_unshared_function, func_types};
 ghost use Rattle.smith_draw_types.specs.SpelledParts.{SpellsFuncs};
 ghost use Rattle.smith_spell.specs.Written.{Writes, ArePlaces};

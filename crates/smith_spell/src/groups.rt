@@ -1,7 +1,7 @@
 ghost use Rattle.std.specs.Prelude.{◌≡◌, ◌+◌, ◌++◌, ◌-◌, ◌<◌, ◌≤◌, ◌^◌, false, List, [], OnOk};
 ghost use Rattle.std.specs.Prelude.{IfOk, IfErr, length, All};
 ghost use Rattle.smith_bytes.specs.declared.error.Error.TheVariants.{Memory};
-ghost use Rattle.smith_syntax.specs.declared.composite_type.SubType.{SubType as Sub};
+ghost use Rattle.smith_types.specs.Syntax.composite_type.SubType.{SubType as Sub};
 ghost use Rattle.smith_types.specs.Groups.{space_of};
 ghost use Rattle.smith_draw_types.specs.Spelling.{SpellsSize, SpellsGroup, SpellsGroups};
 ghost use Rattle.smith_spell.specs.Family.{IsMemberType};

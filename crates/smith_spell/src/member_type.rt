@@ -1,6 +1,6 @@
 ghost use Rattle.std.specs.Prelude.{◌≡◌, ◌↔◌, IsTrue, All};
 ghost use Rattle.std.specs.List.{Contains};
-ghost use Rattle.smith_syntax.specs.declared.value_type.ValType.TheVariants.{Ref};
+ghost use Rattle.smith_types.specs.Syntax.value_type.ValType.TheVariants.{Ref};
 ghost use Rattle.smith_draw_types.specs.Choices.{enabled};
 ghost use Rattle.smith_draw_types.specs.ValueTypes.{abstract_heap_types};
 ghost use Rattle.smith_draw_types.specs.CompositeTypes.{most_results};

@@ -3,8 +3,8 @@ ghost use Rattle.std.specs.Prelude.{OnOk, IfErr, length, slice_get, All};
 ghost use Rattle.std.specs.List.{Contains};
 ghost use Rattle.smith_bytes.specs.declared.error.Error.TheVariants.{Memory};
 ghost use Rattle.smith_bytes.specs.Spelling.{Where, Listed, SpellsBool};
-ghost use Rattle.smith_syntax.specs.declared.value_type.ValType.TheVariants.{Ref};
-ghost use Rattle.smith_syntax.specs.declared.composite_type.SubType.{SubType as Sub};
+ghost use Rattle.smith_types.specs.Syntax.value_type.ValType.TheVariants.{Ref};
+ghost use Rattle.smith_types.specs.Syntax.composite_type.SubType.{SubType as Sub};
 ghost use Rattle.smith_draw_types.specs.Choices.{enabled};
 ghost use Rattle.smith_draw_types.specs.ValueTypes.{value_classes, abstract_heap_types};
 ghost use Rattle.smith_draw_types.specs.Spelling.{

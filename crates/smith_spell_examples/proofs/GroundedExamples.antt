@@ -1,21 +1,18 @@
 -- The heap types that the types of the examples ground.
-use Rattle.std.proofs.Common.{◌&&◌, Bool, false, [], refl, ap, arith}
+use Rattle.smith_spell_examples.proofs.Common.{[], All-from_recursion, alone, ap, arith, Bool, Concrete, false, final, plain, refl}
+use Rattle.std.proofs.Common.{◌&&◌}
 use Rattle.std.specs.Prelude.{IsTrue, ◌↔◌}
 use Rattle.std.specs.List.{list_any}
-use Rattle.std.proofs.lemmas.List.Elements.{All-from_recursion}
 use Rattle.std.proofs.lemmas.Option.{same_Some}
 use Rattle.smith_types.specs.Grounded.{IsGroundedByStructs}
 use Rattle.smith_types.specs.Grounds.{is_ground, is_ground_of}
 use Rattle.smith_types.specs.Subtyping.{is_abstract_below}
-use Rattle.smith_syntax.specs.declared.value_type.AbstractHeapType.{AbstractHeapType}
-use Rattle.smith_syntax.specs.declared.value_type.AbstractHeapType.TheVariants.{Struct}
-use Rattle.smith_syntax.specs.declared.value_type.HeapType.{HeapType}
-use Rattle.smith_syntax.specs.declared.value_type.HeapType.TheVariants.{Concrete}
-use Rattle.smith_syntax.specs.declared.composite_type.CompositeInnerType.{CompositeInnerType}
-use Rattle.smith_types.specs.ExampleTypes.{plain}
+use Rattle.smith_types.specs.Syntax.value_type.AbstractHeapType.{AbstractHeapType}
+use Rattle.smith_types.specs.Syntax.value_type.AbstractHeapType.TheVariants.{Struct}
+use Rattle.smith_types.specs.Syntax.value_type.HeapType.{HeapType}
+use Rattle.smith_types.specs.Syntax.composite_type.CompositeInnerType.{CompositeInnerType}
 use Rattle.smith_draw_types.specs.Spelling.{IsRoot}
 use Rattle.smith_spell.specs.Decided.{IsKnown}
-use Rattle.smith_config.specs.ExampleMembers.{final, alone}
 use Rattle.smith_spell.proofs.KnownLemmas.{abstract_known, concrete_known}
 
 -- facts about one type

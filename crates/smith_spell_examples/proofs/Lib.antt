@@ -1,3 +1,4 @@
+pub mod Common
 pub mod SpelledExamples
 pub mod GroundedExamples
 pub mod SpellExamples

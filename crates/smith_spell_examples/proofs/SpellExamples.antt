@@ -1,17 +1,14 @@
 -- Facts that the examples of spelled lists share.
-use Rattle.std.proofs.Common.{rules, arith, List, [], ◌∷◌, take, refl, inr, false}
-use Rattle.std.proofs.lemmas.List.Elements.{All-from_recursion}
+use Rattle.smith_spell_examples.proofs.Common.{[], All-from_recursion, alone, arith, Concrete, default_config, false, final, inr, List}
+use Rattle.smith_spell_examples.proofs.Common.{not_null, one_function_type, Ref, refl, rules, struct_of_bytes, struct_with, SubType, Val}
+use Rattle.smith_spell_examples.proofs.Common.{with_non_nullable, ◌∷◌}
+use Rattle.std.proofs.Common.{take}
 use Rattle.smith_types.specs.Entities.{IsFuncTypeIndex}
-use Rattle.smith_syntax.specs.declared.value_type.HeapType.TheVariants.{Concrete}
-use Rattle.smith_syntax.specs.declared.value_type.ValType.TheVariants.{Ref}
-use Rattle.smith_syntax.specs.declared.composite_type.StorageType.TheVariants.{Val}
-use Rattle.smith_syntax.specs.declared.composite_type.SubType.{SubType}
-use Rattle.smith_types.specs.ExampleTypes.{constant, not_null}
-use Rattle.smith_config.specs.Config.{default_config}
+use Rattle.smith_types.specs.ExampleTypes.{constant}
 use Rattle.smith_spell.specs.Family.{IsMemberField, IsMemberType, IsInFamily}
 use Rattle.smith_spell.specs.SpellAnswers.{IsSpellable}
-use Rattle.smith_config.specs.ExampleMembers.{final, alone, one_function_type, plain_function, struct_of_bytes, struct_with}
-use Rattle.smith_config.specs.ExampleMembers.{struct_and_holder, with_non_nullable}
+use Rattle.smith_config.specs.ExampleMembers.{plain_function}
+use Rattle.smith_config.specs.ExampleMembers.{struct_and_holder}
 use Rattle.smith_types.proofs.EachPlaceLemmas.{each_place}
 use Rattle.smith_spell_examples.proofs.GroundedExamples.{grounds_itself}
 

@@ -1,22 +1,18 @@
 -- Pieces of bytes that form a spelling, and the first byte of a spelling.
-use Rattle.std.proofs.Common.{arith, ◌≡◌, ℕ, suc, ◌+◌, ◌-◌, ◌%◌, ◌<◌, Bool, true, false, List, [], ◌∷◌, ◌++◌, length, refl, ap, sym, ◌∙◌}
-use Rattle.std.proofs.Common.{subst, append_assoc}
+use Rattle.smith_spell_examples.proofs.Common.{[], ap, arith, Bool, Concrete, default_config, digit_count, enabled, false, is_tag_type}
+use Rattle.smith_spell_examples.proofs.Common.{is_unshared_function, Joined, List, Listed, one_function_type, refl, SpellsAnyByte}
+use Rattle.smith_spell_examples.proofs.Common.{SpellsBool, SpellsFuncType, SpellsGlobal, SpellsGroup, SpellsGroups, SpellsMember}
+use Rattle.smith_spell_examples.proofs.Common.{SpellsNumber, SpellsPlace, SpellsSubTypes, subst, sym, true, ℕ, ◌%◌, ◌+◌, ◌<◌, ◌∙◌, ◌∷◌, ◌≡◌}
+use Rattle.std.proofs.Common.{length, suc, ◌++◌, ◌-◌}
+use Rattle.std.proofs.Common.{append_assoc}
 use Rattle.std.specs.Prelude.{ℤ, Some, slice_get, if◌then◌else◌}
 use Rattle.std.specs.Int.{cast_signed, w32}
-use Rattle.smith_bytes.specs.Draws.{big_endian, little_endian, digit_count}
-use Rattle.smith_bytes.specs.Spelling.{SpellsBool, SpellsNumber, SpellsAnyByte, SpellsRefusal, Joined, Listed}
-use Rattle.smith_syntax.specs.declared.value_type.HeapType.TheVariants.{Concrete}
-use Rattle.smith_config.specs.Config.{default_config}
+use Rattle.smith_bytes.specs.Draws.{big_endian, little_endian}
+use Rattle.smith_bytes.specs.Spelling.{SpellsRefusal}
 use Rattle.smith_config.specs.declared.config.Config.{Config}
-use Rattle.smith_draw_types.specs.Choices.{enabled}
 use Rattle.smith_draw_types.specs.ValueTypes.{value_classes}
-use Rattle.smith_draw_types.specs.Spelling.{SpellsPlace, SpellsNullable, SpellsRefType, SpellsUnshared, SpellsGroups, SpellsGroup}
-use Rattle.smith_draw_types.specs.Spelling.{SpellsSubTypes, SpellsFuncType}
+use Rattle.smith_draw_types.specs.Spelling.{SpellsNullable, SpellsRefType, SpellsUnshared}
 use Rattle.smith_draw_types.specs.SpelledConstants.{SpellsI32, SpellsConstant}
-use Rattle.smith_draw_types.specs.TypeUses.{is_tag_type, is_unshared_function}
-use Rattle.smith_spell.specs.Spelling.{SpellsMember}
-use Rattle.smith_draw_types.specs.SpelledParts.{SpellsGlobal}
-use Rattle.smith_config.specs.ExampleMembers.{one_function_type}
 use Rattle.smith_spell.proofs.WrittenLemmas.{regrouped}
 
 -- one piece after another

@@ -1,28 +1,25 @@
 -- The groups that are drawn from bytes that spell types and functions, and the bytes left.
-use Rattle.std.proofs.Common.{◌≡◌, ℕ, ◌+◌, ◌*◌, ◌^◌, Bool, true, false, List, [], length, refl, ap, sym, subst, ◌∙◌}
+use Rattle.smith_spell_examples.proofs.Common.{[], ap, Bool, Concrete, false, GroupedTypes, GroupsFit, I32, Joined, List, Ref, refl}
+use Rattle.smith_spell_examples.proofs.Common.{space_of, SpellsAnyByte, SpellsMember, subst, SubType, sym, true, Val, ℕ, ◌+◌, ◌∙◌, ◌≡◌}
+use Rattle.std.proofs.Common.{length, ◌*◌, ◌^◌}
 use Rattle.std.specs.Prelude.{fold, if◌then◌else◌}
 use Rattle.std.proofs.Math.Dec.{T, eqb, eqb_refl}
-use Rattle.smith_bytes.specs.Spelling.{Joined, SpellsAnyByte, SpellsNone}
+use Rattle.smith_bytes.specs.Spelling.{SpellsNone}
 use Rattle.smith_types.specs.Expressions.{Context}
-use Rattle.smith_types.specs.GroupedTypes.{GroupedTypes}
-use Rattle.smith_syntax.specs.declared.value_type.HeapType.{HeapType}
-use Rattle.smith_syntax.specs.declared.value_type.HeapType.TheVariants.{Abstract, Concrete, Exact}
-use Rattle.smith_syntax.specs.declared.value_type.ValType.{ValType}
-use Rattle.smith_syntax.specs.declared.value_type.ValType.TheVariants.{I32, I64, F32, F64, V128, Ref}
-use Rattle.smith_syntax.specs.declared.composite_type.StorageType.{StorageType}
-use Rattle.smith_syntax.specs.declared.composite_type.StorageType.TheVariants.{I8, I16, Val}
-use Rattle.smith_syntax.specs.declared.composite_type.FieldType.{FieldType}
-use Rattle.smith_syntax.specs.declared.composite_type.CompositeInnerType.{CompositeInnerType}
-use Rattle.smith_syntax.specs.declared.composite_type.CompositeInnerType.TheVariants.{Array, Func, Struct}
-use Rattle.smith_syntax.specs.declared.composite_type.SubType.{SubType}
+use Rattle.smith_types.specs.Syntax.value_type.HeapType.{HeapType}
+use Rattle.smith_types.specs.Syntax.value_type.HeapType.TheVariants.{Abstract, Exact}
+use Rattle.smith_types.specs.Syntax.value_type.ValType.{ValType}
+use Rattle.smith_types.specs.Syntax.value_type.ValType.TheVariants.{F32, F64, I64, V128}
+use Rattle.smith_types.specs.Syntax.composite_type.StorageType.{StorageType}
+use Rattle.smith_types.specs.Syntax.composite_type.StorageType.TheVariants.{I16, I8}
+use Rattle.smith_types.specs.Syntax.composite_type.FieldType.{FieldType}
+use Rattle.smith_types.specs.Syntax.composite_type.CompositeInnerType.{CompositeInnerType}
+use Rattle.smith_types.specs.Syntax.composite_type.CompositeInnerType.TheVariants.{Array, Func, Struct}
 use Rattle.smith_config.specs.declared.config.Config.{Config}
 use Rattle.smith_config.specs.Features.{features_of}
 use Rattle.smith_config.specs.Sanitized.{IsSanitized}
-use Rattle.smith_config.specs.Shapes.{space_of}
 use Rattle.smith_draw_types.specs.RecGroups.{types_at}
-use Rattle.smith_draw_types.specs.Spelling.{GroupsFit}
 use Rattle.smith_draw_types.proofs.SpelledGroupLemmas.{types_read}
-use Rattle.smith_spell.specs.Spelling.{SpellsMember}
 use Rattle.smith_draw_types.specs.SpelledParts.{SpellsNoTag, SpellsFuncs}
 
 -- the bytes after the groups

@@ -1,9 +1,9 @@
 ghost use Rattle.std.specs.Prelude.{[], ◌∷◌, true, false, pos, negsuc};
 ghost use Rattle.smith_config.specs.Config.{default_config};
-ghost use Rattle.smith_syntax.specs.declared.value_type.AbstractHeapType.TheVariants as heap;
-ghost use Rattle.smith_syntax.specs.declared.value_type.HeapType.TheVariants.{Concrete, Exact};
-ghost use Rattle.smith_syntax.specs.declared.value_type.ValType.TheVariants.{Ref};
-ghost use Rattle.smith_syntax.specs.declared.composite_type.StorageType.TheVariants.{I8, I16};
+ghost use Rattle.smith_types.specs.Syntax.value_type.AbstractHeapType.TheVariants as heap;
+ghost use Rattle.smith_types.specs.Syntax.value_type.HeapType.TheVariants.{Concrete, Exact};
+ghost use Rattle.smith_types.specs.Syntax.value_type.ValType.TheVariants.{Ref};
+ghost use Rattle.smith_types.specs.Syntax.composite_type.StorageType.TheVariants.{I8, I16};
 ghost use Rattle.smith_types.specs.ExampleTypes.{plain, not_null};
 ghost use Rattle.smith_draw_types.specs.Spelling.{SpellsGroups, SpellsStorage, SpellsHeapType, SpellsUnshared, SpellsSize};
 ghost use Rattle.smith_draw_types.specs.Spelling.{SpellsAfterClass};

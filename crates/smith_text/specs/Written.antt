@@ -1,7 +1,7 @@
 -- Lower bounds on the text that is written. `has sink count` says that a destination has at least `count` bytes.
 use Rattle.std.specs.Prelude.{ℕ, ◌+◌, ◌≤◌, List, length}
-use Rattle.smith_syntax.specs.declared.code.Instructions.{Instructions}
-use Rattle.smith_syntax.specs.declared.code.Instructions.TheVariants.{Unreachable, Arbitrary}
+use Rattle.smith_types.specs.Syntax.code.Instructions.{Instructions}
+use Rattle.smith_types.specs.Syntax.code.Instructions.TheVariants.{Unreachable, Arbitrary}
 
 -- no byte is lost: the new destination has at least the bytes of the old one
 abbrev pub Keeps : {S : Type 0} → (S → ℕ → Type 0) → S → S → Type 0

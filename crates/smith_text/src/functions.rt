@@ -1,6 +1,6 @@
 ghost use Rattle.std.specs.Prelude.{◌≡◌, ℕ, List, false, is_err, OnOk};
 ghost use Rattle.smith_text.specs.Written.{Keeps, Writes, own_size};
-ghost use Rattle.smith_syntax.specs.declared.code.Code.{Code};
+ghost use Rattle.smith_types.specs.Syntax.code.Code.{Code};
 
 use crate::sink::Sink;
 use crate::text_form::{Listed, TextForm};

@@ -2,7 +2,7 @@
 use Rattle.std.specs.Prelude.{ℕ, ◌+◌, List, length, Option, Some, None}
 use Rattle.smith_program.specs.declared.program.Body.{Body}
 use Rattle.smith_program.specs.declared.program.Body.TheVariants.{Drawn, Raw}
-use Rattle.smith_syntax.specs.declared.code.Code.{Code}
+use Rattle.smith_types.specs.Syntax.code.Code.{Code}
 use Rattle.smith_text.specs.Written.{own_size}
 use Rattle.smith_text_program.specs.Lines.{checks_size, lines_size}
 

@@ -4,7 +4,7 @@ ghost use Rattle.smith_instr.specs.declared.instr.Instr.TheVariants as instr;
 ghost use Rattle.smith_program.specs.declared.program.Body.TheVariants as body;
 ghost use Rattle.smith_text_program.specs.Bodies.{body_size};
 ghost use Rattle.smith_text_program.specs.Lines.{lines_size};
-ghost use Rattle.smith_syntax.specs.declared.code.Instructions.TheVariants.{Arbitrary, Unreachable};
+ghost use Rattle.smith_types.specs.Syntax.code.Instructions.TheVariants.{Arbitrary, Unreachable};
 
 // The least lengths of some texts. The clauses are proved, and nothing calls these functions.
 #[tactic(auto, unfolding(crate::specs::Lines::lines_size))]

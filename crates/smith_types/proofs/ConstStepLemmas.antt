@@ -1,14 +1,12 @@
 -- Constant expressions, built instruction by instruction.
-use Rattle.std.proofs.Common.{List, [], ◌∷◌, ◌++◌, refl, ℤ}
+use Rattle.smith_types.proofs.Common.{[], All, I32, List, refl, ValType, ◌++◌, ◌∷◌}
+use Rattle.std.proofs.Common.{ℤ}
 use Rattle.std.specs.List.{AllZip}
-use Rattle.std.specs.Prelude.{All}
 use Rattle.std.proofs.lemmas.List.Elements.{All-nil, All-cons}
-use Rattle.smith_syntax.specs.declared.value_type.ValType.{ValType}
 use Rattle.smith_syntax.specs.declared.const_instr.ConstInstr.{ConstInstr}
 use Rattle.smith_types.specs.Flags.{IsInstrEnabled}
 use Rattle.smith_types.specs.Subtyping.{IsValBelow}
 use Rattle.smith_types.specs.Expressions.{Context, HasType, IsStackStep, IsConstExpr}
-use Rattle.smith_syntax.specs.declared.value_type.ValType.TheVariants.{I32}
 use Rattle.smith_syntax.specs.declared.const_instr.ConstInstr.TheVariants.{I32Const}
 
 -- one instruction takes its operands from the top and leaves the rest

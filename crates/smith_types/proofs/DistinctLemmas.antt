@@ -1,6 +1,6 @@
 -- Lists without repeated items.
-use Rattle.std.proofs.Common.{◌≡◌, ◌⊎◌, ℕ, List, [], ◌∷◌, ◌++◌, length, sym, inl, inr, ◌∙◌}
-use Rattle.std.specs.Prelude.{slice_get, Some}
+use Rattle.smith_types.proofs.Common.{[], inl, inr, length, List, slice_get, sym, ℕ, ◌++◌, ◌∙◌, ◌∷◌, ◌≡◌, ◌⊎◌}
+use Rattle.std.specs.Prelude.{Some}
 use Rattle.smith_types.specs.Exports.{AreDistinct}
 use Rattle.smith_types.proofs.ListLemmas.{slice_get-push}
 

@@ -1,7 +1,5 @@
 -- A property of each item of a list, with its place.
-use Rattle.std.proofs.Common.{◌≡◌, ℕ, zero, suc, List, [], ◌∷◌, Some, refl, subst}
-use Rattle.std.specs.Prelude.{slice_get}
-use Rattle.std.proofs.lemmas.Option.{same_Some}
+use Rattle.smith_types.proofs.Common.{[], List, refl, same_Some, slice_get, Some, subst, suc, zero, ℕ, ◌∷◌, ◌≡◌}
 use Rattle.smith_types.specs.Exports.{AreDistinct}
 
 -- the items of a list, of which the first has this place, one by one

@@ -1,15 +1,8 @@
 -- Valid value types and entities stay valid when types are added.
-use Rattle.std.proofs.Common.{ℕ, ◌≤◌, List, ◌++◌, length, arith, length-append}
-use Rattle.std.proofs.lemmas.List.Elements.{All-weaker}
-use Rattle.smith_syntax.specs.Features.{Features}
-use Rattle.smith_syntax.specs.declared.value_type.HeapType.{HeapType}
-use Rattle.smith_syntax.specs.declared.value_type.HeapType.TheVariants.{Abstract, Concrete, Exact}
-use Rattle.smith_syntax.specs.declared.value_type.RefType.{RefType}
-use Rattle.smith_syntax.specs.declared.value_type.ValType.{ValType}
-use Rattle.smith_syntax.specs.declared.value_type.ValType.TheVariants.{I32, I64, F32, F64, V128, Ref}
+use Rattle.smith_types.proofs.Common.{Abstract, All-weaker, arith, Concrete, Exact, F32, F64, Features, GlobalType, HeapType, I32, I64}
+use Rattle.smith_types.proofs.Common.{length, List, Ref, RefType, SubType, V128, ValType, ℕ, ◌++◌, ◌≤◌}
+use Rattle.std.proofs.Common.{length-append}
 use Rattle.smith_syntax.specs.declared.composite_type.FuncType.{FuncType}
-use Rattle.smith_syntax.specs.declared.composite_type.SubType.{SubType}
-use Rattle.smith_syntax.specs.declared.entity_type.GlobalType.{GlobalType}
 use Rattle.smith_syntax.specs.declared.entity_type.TableType.{TableType}
 use Rattle.smith_types.specs.ValidTypes.{IsHeapTypeValid, IsRefTypeValid, IsValTypeValid}
 use Rattle.smith_types.specs.Imports.{EntitySpaces}

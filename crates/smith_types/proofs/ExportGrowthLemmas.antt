@@ -1,11 +1,8 @@
 -- Exported entities and start functions exist in grown index spaces.
-use Rattle.std.proofs.Common.{◌≡◌, ℕ, List, [], ◌++◌, Some, None, Option, subst, sym}
-use Rattle.std.specs.Prelude.{slice_get}
-use Rattle.std.proofs.lemmas.List.Elements.{All-weaker}
+use Rattle.smith_types.proofs.Common.{[], All-weaker, List, None, Option, slice_get, Some, subst, SubType, sym, ℕ, ◌++◌, ◌≡◌}
 use Rattle.smith_syntax.specs.declared.entity_type.EntityType.{EntityType}
 use Rattle.smith_syntax.specs.declared.entity_type.ExportKind.{ExportKind}
 use Rattle.smith_syntax.specs.declared.entity_type.ExportKind.TheVariants as kind
-use Rattle.smith_syntax.specs.declared.composite_type.SubType.{SubType}
 use Rattle.smith_types.specs.Imports.{EntitySpaces}
 use Rattle.smith_types.specs.Exports.{IsEntityAt, AreExportsValid, IsStartValid}
 use Rattle.smith_types.specs.Grown.{Extends, AreSpacesGrown}

@@ -1,11 +1,11 @@
 -- The direct subtypes of the types of a space, as types are added.
-use Rattle.std.proofs.Common.{◌≡◌, ◌⊎◌, ℕ, zero, suc, ◌+◌, ◌^◌, ◌<◌, ◌≤◌, Bool, true, false, List, [], ◌∷◌, ◌++◌, Some, None, get_or, set}
-use Rattle.std.proofs.Common.{length, refl, sym, ◌∙◌, ap, subst, inl, inr, arith}
-use Rattle.std.specs.Prelude.{slice_get, if◌then◌else◌}
-use Rattle.std.proofs.lemmas.Bool.{eq-eqb, ne_eqb, cases_eq}
-use Rattle.std.proofs.lemmas.Option.{slice_get_within, slice_get-get_or, get_or_from_slice_get, same_Some}
-use Rattle.std.proofs.lemmas.List.{append-nil, length-append, length-set, get_or-set_same, get_or-set_other}
-use Rattle.smith_syntax.specs.declared.composite_type.SubType.{SubType}
+use Rattle.smith_types.proofs.Common.{[], ap, append-nil, arith, Bool, cases_eq, false, get_or, if◌then◌else◌, inl, inr, length}
+use Rattle.smith_types.proofs.Common.{length-append, length-set, List, None, refl, same_Some, set, slice_get, slice_get-get_or}
+use Rattle.smith_types.proofs.Common.{slice_get_within, Some, subst, SubType, suc, sym, true, zero, ℕ, ◌++◌, ◌+◌, ◌<◌, ◌^◌, ◌∙◌, ◌∷◌, ◌≡◌}
+use Rattle.smith_types.proofs.Common.{◌≤◌, ◌⊎◌}
+use Rattle.std.proofs.lemmas.Bool.{eq-eqb, ne_eqb}
+use Rattle.std.proofs.lemmas.Option.{get_or_from_slice_get}
+use Rattle.std.proofs.lemmas.List.{get_or-set_other, get_or-set_same}
 use Rattle.smith_types.specs.declared.family.Family.{Family}
 use Rattle.smith_types.specs.GroupedTypes.{MayFollow}
 use Rattle.smith_types.specs.KindCounts.{indices_from}

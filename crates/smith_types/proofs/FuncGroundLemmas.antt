@@ -1,23 +1,14 @@
 -- The record of functions that ground heap types, as functions are noted.
-use Rattle.std.proofs.Common.{◌≡◌, ℕ, zero, suc, ◌<◌, Bool, true, false, List, [], ◌∷◌, ◌++◌, Some, IsTrue, ◌↔◌, get_or, set, length, refl}
-use Rattle.std.proofs.Common.{sym, ◌∙◌, ap, subst, inl, inr, arith}
-use Rattle.std.specs.Prelude.{◌⊎◌, slice_get, replicate, ◌&&◌, ◌||◌, if◌then◌else◌}
-use Rattle.std.proofs.lemmas.Bool.{cases_eq}
-use Rattle.std.proofs.lemmas.List.{length-set}
-use Rattle.std.proofs.lemmas.Option.{slice_get_within, same_Some}
-use Rattle.smith_syntax.specs.declared.value_type.AbstractHeapType.{AbstractHeapType}
+use Rattle.smith_types.proofs.Common.{[], Abstract, AbstractHeapType, ap, arith, Array, Bool, cases_eq, CompositeInnerType, Concrete, Exact}
+use Rattle.smith_types.proofs.Common.{false, Func, get_or, HeapType, if◌then◌else◌, inl, inr, IsTrue, kind, kind_of, length, length-set}
+use Rattle.smith_types.proofs.Common.{List, refl, same_Some, set, shared, slice_get, slice_get_within, Some, Struct, subst, SubType, suc}
+use Rattle.smith_types.proofs.Common.{sym, true, ValType, zero, ℕ, ◌&&◌, ◌++◌, ◌<◌, ◌↔◌, ◌∙◌, ◌∷◌, ◌≡◌}
+use Rattle.std.specs.Prelude.{replicate, ◌||◌, ◌⊎◌}
 use Rattle.smith_syntax.specs.declared.value_type.AbstractHeapType.TheVariants as heap
-use Rattle.smith_syntax.specs.declared.value_type.HeapType.{HeapType}
-use Rattle.smith_syntax.specs.declared.value_type.HeapType.TheVariants.{Abstract, Concrete, Exact}
-use Rattle.smith_syntax.specs.declared.value_type.ValType.{ValType}
-use Rattle.smith_syntax.specs.declared.composite_type.CompositeInnerType.{CompositeInnerType}
-use Rattle.smith_syntax.specs.declared.composite_type.CompositeInnerType.TheVariants.{Array, Func, Struct}
-use Rattle.smith_syntax.specs.declared.composite_type.SubType.{SubType}
 use Rattle.smith_types.specs.declared.ground.Ground.{Ground}
 use Rattle.smith_types.specs.declared.noted_kinds.Kinds.{Kinds}
 use Rattle.smith_types.specs.declared.noted_kinds.NotedKinds.{NotedKinds}
 use Rattle.smith_types.specs.declared.func_grounds.FuncGrounds.{FuncGrounds}
-use Rattle.smith_syntax.specs.Kinds.{kind_of, kind, shared}
 use Rattle.smith_types.specs.Types.{IsOrderly}
 use Rattle.smith_types.specs.Subtyping.{is_abstract_below, IsBelow, IsRefBelow, IsValBelow, IsInRange}
 use Rattle.smith_types.specs.Expressions.{Context, reference_to, function_reference}

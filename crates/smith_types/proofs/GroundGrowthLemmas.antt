@@ -1,14 +1,9 @@
 -- A grounded heap type stays grounded as types and functions are added.
-use Rattle.std.proofs.Common.{◌≡◌, ℕ, ◌+◌, ◌<◌, Bool, List, ◌++◌, Some, length, refl, sym, ◌∙◌, ap, subst, inl, inr, arith}
-use Rattle.std.specs.Prelude.{slice_get, nat_le, if◌then◌else◌}
+use Rattle.smith_types.proofs.Common.{ap, arith, Bool, Concrete, Exact, Features, HeapType, if◌then◌else◌, inl, inr, length, length-append}
+use Rattle.smith_types.proofs.Common.{List, refl, slice_get, slice_get_within, Some, subst, SubType, sym, ValType, ℕ, ◌++◌, ◌+◌, ◌<◌, ◌∙◌}
+use Rattle.smith_types.proofs.Common.{◌≡◌}
+use Rattle.std.specs.Prelude.{nat_le}
 use Rattle.std.proofs.lemmas.Bool.{lt-leb}
-use Rattle.std.proofs.lemmas.List.{length-append}
-use Rattle.std.proofs.lemmas.Option.{slice_get_within}
-use Rattle.smith_syntax.specs.declared.value_type.HeapType.{HeapType}
-use Rattle.smith_syntax.specs.declared.value_type.HeapType.TheVariants.{Concrete, Exact}
-use Rattle.smith_syntax.specs.declared.value_type.ValType.{ValType}
-use Rattle.smith_syntax.specs.declared.composite_type.SubType.{SubType}
-use Rattle.smith_syntax.specs.Features.{Features}
 use Rattle.smith_types.specs.Subtyping.{IsValBelow}
 use Rattle.smith_types.specs.Expressions.{Context, reference_to, function_reference}
 use Rattle.smith_types.specs.Grounded.{IsGroundedByStructs, IsGroundedByFuncs, IsGrounded}

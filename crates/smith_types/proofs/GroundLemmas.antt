@@ -1,13 +1,9 @@
 -- The marks of grounding struct types in a type space, as types are added.
-use Rattle.std.proofs.Common.{◌≡◌, ℕ, ◌+◌, ◌<◌, Bool, true, false, List, [], ◌∷◌, ◌++◌, Option, Some, None, IsTrue, length, refl, sym, ◌∙◌}
-use Rattle.std.proofs.Common.{ap, subst, inl, inr, arith}
-use Rattle.std.specs.Prelude.{slice_get, if◌then◌else◌}
-use Rattle.std.proofs.lemmas.Bool.{cases_eq, cases_lt}
+use Rattle.smith_types.proofs.Common.{[], ap, arith, Bool, cases_eq, Concrete, false, if◌then◌else◌, inl, inr, IsTrue, length}
+use Rattle.smith_types.proofs.Common.{length-append, List, None, none-some, Option, refl, slice_get, slice_get_within, Some, subst, SubType}
+use Rattle.smith_types.proofs.Common.{sym, true, ℕ, ◌++◌, ◌+◌, ◌<◌, ◌∙◌, ◌∷◌, ◌≡◌}
+use Rattle.std.proofs.lemmas.Bool.{cases_lt}
 use Rattle.std.proofs.lemmas.Bool.Decides.{same_from_decides}
-use Rattle.std.proofs.lemmas.Option.{slice_get_within, none-some}
-use Rattle.std.proofs.lemmas.List.{length-append}
-use Rattle.smith_syntax.specs.declared.composite_type.SubType.{SubType}
-use Rattle.smith_syntax.specs.declared.value_type.HeapType.TheVariants.{Concrete}
 use Rattle.smith_types.specs.declared.ground.Ground.{Ground}
 use Rattle.smith_types.specs.Types.{IsOrderly}
 use Rattle.smith_types.specs.GroupedTypes.{MayFollow}

@@ -1,24 +1,15 @@
 -- The marks of a type space decide which heap types structs ground.
-use Rattle.std.proofs.Common.{◌≡◌, ◌↔◌, ℕ, zero, suc, ◌+◌, ◌<◌, ◌≤◌, Bool, true, false, List, [], ◌∷◌, Some, IsTrue, get_or, length, refl}
-use Rattle.std.proofs.Common.{sym, ◌∙◌, ap, subst, arith}
-use Rattle.std.specs.Prelude.{slice_get, All, not, ◌&&◌, ◌||◌, if◌then◌else◌}
+use Rattle.smith_types.proofs.Common.{[], Abstract, AbstractHeapType, All, All-from_recursion, ap, arith, Array, Bool, CompositeInnerType}
+use Rattle.smith_types.proofs.Common.{Concrete, Exact, F32, F64, false, FieldType, Func, get_or, HeapType, I32, I64, if◌then◌else◌, IsTrue}
+use Rattle.smith_types.proofs.Common.{kind_of, length, List, not, recursion_from_All, Ref, refl, same_Some, shared, slice_get}
+use Rattle.smith_types.proofs.Common.{slice_get-get_or, slice_get_within, Some, Struct, subst, SubType, suc, sym, true, V128, ValType, zero}
+use Rattle.smith_types.proofs.Common.{ℕ, ◌&&◌, ◌+◌, ◌<◌, ◌↔◌, ◌∙◌, ◌∷◌, ◌≡◌, ◌≤◌}
+use Rattle.std.specs.Prelude.{◌||◌}
 use Rattle.std.specs.List.{list_any, AllByRecursion as Each}
-use Rattle.std.proofs.lemmas.List.Elements.{All-from_recursion, recursion_from_All}
 use Rattle.std.proofs.lemmas.Bool.Decides.{same_from_decides}
-use Rattle.std.proofs.lemmas.Option.{same_Some, slice_get-get_or, slice_get_within}
-use Rattle.smith_syntax.specs.declared.value_type.AbstractHeapType.{AbstractHeapType}
 use Rattle.smith_syntax.specs.declared.value_type.AbstractHeapType.TheVariants as heap
-use Rattle.smith_syntax.specs.declared.value_type.HeapType.{HeapType}
-use Rattle.smith_syntax.specs.declared.value_type.HeapType.TheVariants.{Abstract, Concrete, Exact}
-use Rattle.smith_syntax.specs.declared.value_type.ValType.{ValType}
-use Rattle.smith_syntax.specs.declared.value_type.ValType.TheVariants.{I32, I64, F32, F64, V128, Ref}
-use Rattle.smith_syntax.specs.declared.composite_type.FieldType.{FieldType}
-use Rattle.smith_syntax.specs.declared.composite_type.CompositeInnerType.{CompositeInnerType}
-use Rattle.smith_syntax.specs.declared.composite_type.CompositeInnerType.TheVariants.{Array, Func, Struct}
-use Rattle.smith_syntax.specs.declared.composite_type.SubType.{SubType}
 use Rattle.smith_types.specs.declared.ground.Ground.{Ground}
 use Rattle.smith_types.specs.declared.ground.GroundKinds.{GroundKinds}
-use Rattle.smith_syntax.specs.Kinds.{kind_of, shared}
 use Rattle.smith_types.specs.Types.{IsOrderly}
 use Rattle.smith_types.specs.Subtyping.{is_abstract_below, IsBelow, itself, IsInRange}
 use Rattle.smith_types.specs.Expressions.{IsDefaultable, field_values, unpacked}

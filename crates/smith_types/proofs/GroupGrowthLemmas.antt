@@ -1,20 +1,15 @@
 -- A group under construction: types are added one at a time, and the finished group is valid.
-use Rattle.std.proofs.Common.{◌≡◌, ℕ, ◌+◌, ◌<◌, ◌≤◌, false, List, [], ◌∷◌, ◌++◌, Some, length, refl, subst, arith, length-append, inl, inr}
-use Rattle.std.specs.Prelude.{slice_get, slice_index_or}
+use Rattle.smith_types.proofs.Common.{[], Abstract, All-from_recursion, All-weaker, arith, Concrete, Exact, F32, F64, false, Features}
+use Rattle.smith_types.proofs.Common.{HeapType, I32, I64, inl, inr, length, List, Range, recursion_from_All, Ref, refl, slice_get}
+use Rattle.smith_types.proofs.Common.{slice_get_within, slice_index_or, Some, subst, SubType, V128, ValType, ℕ, ◌++◌, ◌+◌, ◌<◌, ◌∷◌, ◌≡◌}
+use Rattle.smith_types.proofs.Common.{◌≤◌}
+use Rattle.std.proofs.Common.{length-append}
 use Rattle.std.specs.List.{AllByRecursion as ByRecursion}
-use Rattle.std.specs.declared.ops.Range.{Range}
-use Rattle.std.proofs.lemmas.List.Elements.{All-weaker, All-push, All-from_recursion, recursion_from_All}
-use Rattle.std.proofs.lemmas.Option.{slice_get_within}
-use Rattle.smith_syntax.specs.Features.{Features}
+use Rattle.std.proofs.lemmas.List.Elements.{All-push}
 use Rattle.smith_types.specs.GroupedTypes.{GroupedTypes}
 use Rattle.smith_types.specs.Types.{IsAlike, next_start, next_group}
 use Rattle.smith_types.specs.ValidTypes.{IsHeapTypeValid, IsValTypeValid, IsTypeValid, IsGroupValid, AreTypesValid, values_of}
 use Rattle.smith_types.specs.OpenTypes.{AreTypesOpen}
-use Rattle.smith_syntax.specs.declared.composite_type.SubType.{SubType}
-use Rattle.smith_syntax.specs.declared.value_type.ValType.{ValType}
-use Rattle.smith_syntax.specs.declared.value_type.ValType.TheVariants.{I32, I64, F32, F64, V128, Ref}
-use Rattle.smith_syntax.specs.declared.value_type.HeapType.{HeapType}
-use Rattle.smith_syntax.specs.declared.value_type.HeapType.TheVariants.{Abstract, Concrete, Exact}
 use Rattle.smith_types.proofs.ListLemmas.{slice_get-push}
 use Rattle.smith_types.proofs.SpaceLemmas.{IsOrderly-push, AreConsecutive-push, next_start-push}
 use Rattle.smith_types.proofs.ValidityLemmas.{IsTypeValid-grown, IsGroupValid-grown, ends_within, group_at, before_or_not}

@@ -1,17 +1,13 @@
 -- Types added to a space group by group.
-use Rattle.std.proofs.Common.{◌≡◌, ℕ, suc, ◌+◌, ◌^◌, ◌<◌, List, [], ◌∷◌, ◌++◌, length, take, drop, get_or, refl, sym, ap, subst, ◌∙◌}
-use Rattle.std.proofs.Common.{append-nil, length-append, arith, add-one}
-use Rattle.std.specs.List.{flat_map}
-use Rattle.std.specs.declared.ops.Range.{Range}
+use Rattle.smith_types.proofs.Common.{[], add-one, ap, arith, drop, Features, flat_map, get_or, length, List, Range, refl, slice_get_within}
+use Rattle.smith_types.proofs.Common.{subst, SubType, suc, sym, take, ℕ, ◌++◌, ◌+◌, ◌<◌, ◌^◌, ◌∙◌, ◌∷◌, ◌≡◌}
+use Rattle.std.proofs.Common.{append-nil, length-append}
 use Rattle.std.proofs.Math.Seq.{split_at, take-suc}
 use Rattle.std.proofs.lemmas.Grind.{flat_map-append}
-use Rattle.std.proofs.lemmas.Option.{slice_get_within}
-use Rattle.smith_syntax.specs.Features.{Features}
 use Rattle.smith_types.specs.GroupedTypes.{GroupedTypes, MayFollow}
 use Rattle.smith_types.specs.Types.{next_group, end_from}
 use Rattle.smith_types.specs.ValidTypes.{AreTypesValid}
 use Rattle.smith_types.specs.Groups.{ranges_from, space_of, AreFollowing}
-use Rattle.smith_syntax.specs.declared.composite_type.SubType.{SubType}
 use Rattle.smith_types.proofs.ListLemmas.{slice_get-grown, slice_get-front, slice_get-last}
 use Rattle.smith_types.proofs.GroupGrowthLemmas.{AreTypesOpen-at, AreTypesOpen-start}
 

@@ -1,18 +1,10 @@
 -- Subtyping and matching are reflexive and transitive, and survive growth of the list of types.
-use Rattle.std.proofs.Common.{rules, List, [], ◌∷◌, ◌++◌, refl}
-use Rattle.smith_syntax.specs.declared.value_type.HeapType.{HeapType}
-use Rattle.smith_syntax.specs.declared.value_type.HeapType.TheVariants.{Abstract, Concrete, Exact}
-use Rattle.smith_syntax.specs.declared.value_type.RefType.{RefType}
-use Rattle.smith_syntax.specs.declared.value_type.ValType.{ValType}
-use Rattle.smith_syntax.specs.declared.value_type.ValType.TheVariants.{Ref}
+use Rattle.smith_types.proofs.Common.{[], Abstract, Array, CompositeInnerType, Concrete, Exact, FieldType, Func, HeapType, List, Ref, refl}
+use Rattle.smith_types.proofs.Common.{RefType, rules, Struct, SubType, ValType, ◌++◌, ◌∷◌}
 use Rattle.smith_syntax.specs.declared.composite_type.StorageType.{StorageType}
 use Rattle.smith_syntax.specs.declared.composite_type.StorageType.TheVariants.{Val}
-use Rattle.smith_syntax.specs.declared.composite_type.FieldType.{FieldType}
 use Rattle.smith_syntax.specs.declared.composite_type.FuncType.{FuncType}
-use Rattle.smith_syntax.specs.declared.composite_type.CompositeInnerType.{CompositeInnerType}
-use Rattle.smith_syntax.specs.declared.composite_type.CompositeInnerType.TheVariants.{Array, Func, Struct}
 use Rattle.smith_syntax.specs.declared.composite_type.CompositeType.{CompositeType}
-use Rattle.smith_syntax.specs.declared.composite_type.SubType.{SubType}
 use Rattle.smith_types.specs.Subtyping.{IsStep, IsBelow, itself, by_step, IsRefBelow, IsValBelow}
 use Rattle.smith_types.specs.Matching.{IsStorageMatch, IsFieldMatch, AreFieldsMatched, AreBelow, IsFuncMatch, IsInnerMatch}
 use Rattle.smith_types.specs.Matching.{IsCompositeMatch}

@@ -1,8 +1,8 @@
 -- Index spaces extended import by import are the index spaces of the imports.
-use Rattle.std.proofs.Common.{◌≡◌, ℕ, List, [], ◌∷◌, ◌++◌, refl, sym, ap, ◌∙◌, append_assoc, append-nil, drop, get_or, length, suc, ◌+◌}
-use Rattle.std.proofs.Common.{◌<◌, add-one}
+use Rattle.smith_types.proofs.Common.{[], add-one, ap, drop, flat_map, get_or, length, List, refl, suc, sym, ℕ, ◌++◌, ◌+◌, ◌<◌, ◌∙◌, ◌∷◌}
+use Rattle.smith_types.proofs.Common.{◌≡◌}
+use Rattle.std.proofs.Common.{append-nil, append_assoc}
 use Rattle.std.proofs.Math.Seq.{drop-cons}
-use Rattle.std.specs.List.{flat_map}
 use Rattle.std.proofs.lemmas.Grind.{flat_map-append}
 use Rattle.std.proofs.lemmas.List.Folds.{flat_map-map}
 use Rattle.smith_types.specs.Imports.{EntitySpaces, imported_spaces, flattened, imports_of, import_of, imported, tag_of, func_of, table_of}

@@ -1,16 +1,10 @@
 -- Types of a set: their counts as types are added, and the index of one of them.
-use Rattle.std.proofs.Common.{rules, ◌≡◌, ℕ, zero, suc, ◌+◌, ◌-◌, ◌<◌, ◌≤◌, Bool, true, false, List, [], ◌∷◌, ◌++◌, Some, length, take}
-use Rattle.std.proofs.Common.{refl, sym, ◌∙◌, ap, subst, arith}
-use Rattle.std.proofs.lemmas.List.{take_all}
-use Rattle.std.specs.Prelude.{slice_get, if◌then◌else◌}
-use Rattle.smith_syntax.specs.declared.value_type.AbstractHeapType.{AbstractHeapType}
-use Rattle.smith_syntax.specs.declared.composite_type.CompositeInnerType.{CompositeInnerType}
-use Rattle.smith_syntax.specs.declared.composite_type.CompositeInnerType.TheVariants.{Array, Func, Struct}
-use Rattle.smith_syntax.specs.declared.composite_type.SubType.{SubType}
+use Rattle.smith_types.proofs.Common.{[], AbstractHeapType, ap, arith, Array, Bool, CompositeInnerType, false, Func, if◌then◌else◌, length}
+use Rattle.smith_types.proofs.Common.{List, refl, rules, shared, slice_get, Some, Struct, subst, SubType, suc, sym, take, take_all, true}
+use Rattle.smith_types.proofs.Common.{zero, ℕ, ◌++◌, ◌+◌, ◌-◌, ◌<◌, ◌∙◌, ◌∷◌, ◌≡◌, ◌≤◌}
 use Rattle.smith_types.specs.declared.kind_counts.KindCounts.{KindCounts}
 use Rattle.smith_types.specs.declared.kind_counts.TypeSet.{TypeSet}
 use Rattle.smith_types.specs.declared.kind_counts.TypeSet.TheVariants.{OfKind, Functions, WithoutResults}
-use Rattle.smith_syntax.specs.Kinds.{shared}
 use Rattle.smith_types.specs.KindCounts.{is_inner_of_kind, is_function, gives_nothing, is_in, indices_from, indices_in, count_where}
 use Rattle.smith_types.specs.KindCounts.{kind_count_at, count_in, one_more_if, counts_with, AreCounts}
 

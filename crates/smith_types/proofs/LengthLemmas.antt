@@ -1,8 +1,5 @@
 -- Lengths of lists that match.
-use Rattle.std.proofs.Common.{◌≡◌, ◌≤◌, List, [], ◌∷◌, length, refl, ap, suc, arith}
-use Rattle.smith_syntax.specs.declared.value_type.ValType.{ValType}
-use Rattle.smith_syntax.specs.declared.composite_type.FieldType.{FieldType}
-use Rattle.smith_syntax.specs.declared.composite_type.SubType.{SubType}
+use Rattle.smith_types.proofs.Common.{[], ap, arith, FieldType, length, List, refl, SubType, suc, ValType, ◌∷◌, ◌≡◌, ◌≤◌}
 use Rattle.smith_types.specs.Matching.{AreBelow, AreFieldsMatched}
 
 pub AreBelow-length : (types : List SubType) (xs ys : List ValType) → AreBelow types xs ys → length xs ≡ length ys

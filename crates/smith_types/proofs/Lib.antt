@@ -1,3 +1,4 @@
+pub mod Common
 pub mod ListLemmas
 pub mod ResultLemmas
 pub mod GrowthLemmas

@@ -1,9 +1,9 @@
 -- Positions of items in a list that grows at its end.
-use Rattle.std.proofs.Common.{◌≡◌, ◌+◌, ◌<◌, ◌⊎◌, ℕ, suc, zero, List, [], ◌∷◌, ◌++◌, Some, length, take, get_or, refl, sym, ◌∙◌, inl, inr}
-use Rattle.std.proofs.Common.{ap, arith}
-use Rattle.std.specs.Prelude.{slice_get, map}
+use Rattle.smith_types.proofs.Common.{[], ap, arith, get_or, inl, inr, length, List, refl, slice_get, Some, suc, sym, take, take_all, zero}
+use Rattle.smith_types.proofs.Common.{ℕ, ◌++◌, ◌+◌, ◌<◌, ◌∙◌, ◌∷◌, ◌≡◌, ◌⊎◌}
+use Rattle.std.specs.Prelude.{map}
 use Rattle.std.specs.List.{AllZip}
-use Rattle.std.proofs.lemmas.List.{take-append-le, take_all, get_or-append-add}
+use Rattle.std.proofs.lemmas.List.{get_or-append-add, take-append-le}
 
 -- an item keeps its position when items are appended
 pub slice_get-grown : {A : Type 0} (xs more : List A) (i : ℕ) (x : A) → slice_get xs i ≡ Some x → slice_get (xs ++ more) i ≡ Some x

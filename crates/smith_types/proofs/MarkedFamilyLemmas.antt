@@ -1,11 +1,11 @@
 -- The marked direct subtypes of the types of a space, as types are added.
-use Rattle.std.proofs.Common.{◌≡◌, ℕ, ◌+◌, ◌<◌, Bool, true, false, ◌&&◌, List, [], ◌∷◌, ◌++◌, Option, Some, None, get_or, set, length, refl}
-use Rattle.std.proofs.Common.{sym, ◌∙◌, ap, inl, inr, arith}
-use Rattle.std.specs.Prelude.{slice_get, if◌then◌else◌, Vec, vec_len, vec_capacity}
+use Rattle.smith_types.proofs.Common.{[], ap, append-nil, arith, Bool, false, get_or, if◌then◌else◌, inl, inr, length, length-append}
+use Rattle.smith_types.proofs.Common.{length-set, List, None, Option, refl, set, slice_get, slice_get-get_or, Some, SubType, sym, true}
+use Rattle.smith_types.proofs.Common.{vec_capacity, ℕ, ◌++◌, ◌+◌, ◌<◌, ◌∙◌, ◌∷◌, ◌≡◌}
+use Rattle.std.proofs.Common.{◌&&◌}
+use Rattle.std.specs.Prelude.{Vec, vec_len}
 use Rattle.std.specs.declared.alloc.Global.{Global}
-use Rattle.std.proofs.lemmas.Option.{slice_get-get_or}
-use Rattle.std.proofs.lemmas.List.{append-nil, length-append, length-set, get_or-set_same}
-use Rattle.smith_syntax.specs.declared.composite_type.SubType.{SubType}
+use Rattle.std.proofs.lemmas.List.{get_or-set_same}
 use Rattle.smith_types.specs.declared.ground.Ground.{Ground}
 use Rattle.smith_types.specs.Families.{is_directly_below}
 use Rattle.smith_types.specs.Grounds.{below_at, indices_where}

@@ -1,12 +1,10 @@
 -- The indices of marked types, as types are added.
-use Rattle.std.proofs.Common.{◌≡◌, ◌↔◌, ℕ, zero, suc, ◌+◌, ◌<◌, ◌≤◌, Bool, true, false, not, ◌&&◌, List, [], ◌∷◌, ◌++◌, Option, Some, None}
-use Rattle.std.proofs.Common.{IsTrue, get_or, length, refl, sym, ◌∙◌, ap, subst, inl, inr, arith}
-use Rattle.std.specs.Prelude.{slice_get, if◌then◌else◌}
-use Rattle.std.proofs.lemmas.List.{append-nil}
-use Rattle.smith_syntax.specs.declared.composite_type.SubType.{SubType}
+use Rattle.smith_types.proofs.Common.{[], ap, append-nil, arith, Bool, false, get_or, if◌then◌else◌, inl, inr, IsTrue, length, List, None}
+use Rattle.smith_types.proofs.Common.{Option, refl, shared, slice_get, Some, subst, SubType, suc, sym, true, zero, ℕ, ◌++◌, ◌+◌, ◌<◌, ◌↔◌}
+use Rattle.smith_types.proofs.Common.{◌∙◌, ◌∷◌, ◌≡◌, ◌≤◌}
+use Rattle.std.proofs.Common.{not, ◌&&◌}
 use Rattle.smith_types.specs.declared.ground.Ground.{Ground}
 use Rattle.smith_types.specs.declared.marked_types.MarkedTypes.{MarkedTypes}
-use Rattle.smith_syntax.specs.Kinds.{shared}
 use Rattle.smith_types.specs.Grounds.{below_at, is_shared_as, is_shared_in, is_shared_at, is_marked, indices_where, AreMarkedTypes}
 use Rattle.smith_types.proofs.ListLemmas.{slice_get-grown, slice_get-last}
 use Rattle.smith_types.proofs.MarkLemmas.{said_is}

@@ -1,11 +1,8 @@
 -- Subtyping, a lemma for each row of the rules.
-use Rattle.std.proofs.Common.{rules, ◌≡◌, ℕ, Bool, List, Some, IsTrue, refl}
-use Rattle.std.specs.Prelude.{slice_get}
-use Rattle.smith_syntax.specs.declared.value_type.AbstractHeapType.{AbstractHeapType}
+use Rattle.smith_types.proofs.Common.{Abstract, AbstractHeapType, Bool, Concrete, Exact, IsTrue, kind, List, refl, rules, shared, slice_get}
+use Rattle.smith_types.proofs.Common.{Some, SubType, ℕ, ◌≡◌}
 use Rattle.smith_syntax.specs.declared.value_type.AbstractHeapType.TheVariants as heap
-use Rattle.smith_syntax.specs.declared.value_type.HeapType.TheVariants.{Abstract, Concrete, Exact}
-use Rattle.smith_syntax.specs.declared.composite_type.SubType.{SubType}
-use Rattle.smith_syntax.specs.Kinds.{kind, bottom, shared}
+use Rattle.smith_syntax.specs.Kinds.{bottom}
 use Rattle.smith_types.specs.Subtyping.{is_abstract_step, is_abstract_below, IsBelow, itself, by_step}
 use Rattle.smith_types.proofs.GrowthLemmas.{IsBelow-trans}
 

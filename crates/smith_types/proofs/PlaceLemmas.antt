@@ -1,18 +1,15 @@
 -- The places of types, as types are added, and the supertypes that they lead to.
-use Rattle.std.proofs.Common.{◌≡◌, ◌↔◌, ℕ, suc, ◌+◌, ◌-◌, ◌^◌, ◌<◌, ◌≤◌, List, [], ◌∷◌, ◌++◌, Some, None, Bool, false, IsTrue, get_or, take}
-use Rattle.std.proofs.Common.{length, refl, sym, ◌∙◌, subst, inl, inr, arith, ap, add-one}
+use Rattle.smith_types.proofs.Common.{[], add-one, ap, arith, Bool, Concrete, false, get_or, inl, inr, IsTrue, length, length-append, List}
+use Rattle.smith_types.proofs.Common.{None, refl, shared, slice_get-get_or, slice_get_within, Some, subst, SubType, suc, sym, take}
+use Rattle.smith_types.proofs.Common.{take_all, ℕ, ◌++◌, ◌+◌, ◌-◌, ◌<◌, ◌^◌, ◌↔◌, ◌∙◌, ◌∷◌, ◌≡◌, ◌≤◌}
 use Rattle.std.specs.Prelude.{nat_eq}
 use Rattle.std.proofs.lemmas.Bool.{eqb-true, eq-eqb}
-use Rattle.std.proofs.lemmas.Option.{slice_get_within, slice_get-get_or}
-use Rattle.std.proofs.lemmas.List.{length-append, length-map, length-take-le, take-append-le, take_all, get_or-map}
-use Rattle.smith_syntax.specs.declared.composite_type.SubType.{SubType}
+use Rattle.std.proofs.lemmas.List.{get_or-map, length-map, length-take-le, take-append-le}
 use Rattle.smith_types.specs.declared.place.Place.{Place}
-use Rattle.smith_syntax.specs.declared.value_type.HeapType.TheVariants.{Concrete}
 use Rattle.smith_types.specs.Types.{IsOrderly}
 use Rattle.smith_types.specs.GroupedTypes.{MayFollow, HasDepth, root, deeper, AreDepths}
 use Rattle.smith_types.specs.declared.kind_counts.KindCounts.{KindCounts}
 use Rattle.smith_types.specs.declared.kind_counts.TypeSet.{TypeSet}
-use Rattle.smith_syntax.specs.Kinds.{shared}
 use Rattle.smith_types.specs.KindCounts.{is_in, indices_in, count_where, count_in, counts_with, AreCounts}
 use Rattle.smith_types.proofs.KindCountLemmas.{AreCounts-push, AreCounts-none, count_most, length_indices}
 use Rattle.smith_types.specs.Places.{last_counts_from, last_counts, IsAncestor, IsLink, IsPlace, ArePlaces, IsClimb, depths_in}

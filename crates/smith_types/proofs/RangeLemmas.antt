@@ -1,9 +1,6 @@
 -- Heap types that exist because a subtype or supertype does.
-use Rattle.std.proofs.Common.{ℕ, ◌<◌, List, length, sym, subst, arith}
-use Rattle.std.proofs.lemmas.Option.{slice_get_within}
-use Rattle.smith_syntax.specs.declared.value_type.HeapType.{HeapType}
-use Rattle.smith_syntax.specs.declared.value_type.HeapType.TheVariants.{Abstract, Concrete, Exact}
-use Rattle.smith_syntax.specs.declared.composite_type.SubType.{SubType}
+use Rattle.smith_types.proofs.Common.{Abstract, arith, Concrete, Exact, HeapType, length, List, slice_get_within, subst, SubType, sym, ℕ}
+use Rattle.smith_types.proofs.Common.{◌<◌}
 use Rattle.smith_types.specs.Types.{IsOrderly}
 use Rattle.smith_types.specs.Subtyping.{IsStep, IsBelow, itself, by_step, IsInRange}
 

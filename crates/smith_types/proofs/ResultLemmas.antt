@@ -1,5 +1,6 @@
 -- Properties of a result after a test of its variant.
-use Rattle.std.proofs.Common.{◌≡◌, true, false, Result, Ok, Err}
+use Rattle.smith_types.proofs.Common.{false, true, ◌≡◌}
+use Rattle.std.proofs.Common.{Err, Ok, Result}
 use Rattle.std.specs.Prelude.{is_err, OnOk, OnErr}
 
 pub ok_of : {A E P : Type 0} (r : Result A E) → is_err r ≡ false → OnOk r P → P

@@ -1,10 +1,5 @@
 -- Valid segments stay valid when types, functions, globals, tables and memories are added.
-use Rattle.std.proofs.Common.{ℕ, ◌≤◌, Bool, List, ◌++◌, Some, None, length, subst}
-use Rattle.std.proofs.lemmas.List.Elements.{All-weaker}
-use Rattle.smith_syntax.specs.declared.value_type.RefType.{RefType}
-use Rattle.smith_syntax.specs.declared.value_type.ValType.TheVariants.{Ref}
-use Rattle.smith_syntax.specs.declared.composite_type.SubType.{SubType}
-use Rattle.smith_syntax.specs.declared.entity_type.GlobalType.{GlobalType}
+use Rattle.smith_types.proofs.Common.{All-weaker, Bool, GlobalType, length, List, None, Ref, RefType, Some, subst, SubType, ℕ, ◌++◌, ◌≤◌}
 use Rattle.smith_syntax.specs.declared.entity_type.MemoryType.{MemoryType}
 use Rattle.smith_syntax.specs.declared.entity_type.TableType.{TableType}
 use Rattle.smith_syntax.specs.declared.segments.Elements.{Elements}

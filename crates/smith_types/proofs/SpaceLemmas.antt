@@ -1,11 +1,8 @@
 -- The properties of a type space are preserved by one more type or group.
-use Rattle.std.proofs.Common.{◌≡◌, ℕ, suc, ◌+◌, ◌-◌, ◌^◌, ◌<◌, ◌≤◌, List, [], ◌∷◌, ◌++◌, Some, get_or, length, refl, sym, ◌∙◌, subst, inl}
-use Rattle.std.proofs.Common.{inr, arith, ap}
-use Rattle.std.specs.Prelude.{Bool, true, false, not, ◌&&◌, nat_lt, if◌then◌else◌, slice_get}
-use Rattle.std.specs.declared.ops.Range.{Range}
-use Rattle.std.proofs.lemmas.Option.{slice_get_within, same_Some}
-use Rattle.std.proofs.lemmas.List.{length-append}
-use Rattle.smith_syntax.specs.declared.composite_type.SubType.{SubType}
+use Rattle.smith_types.proofs.Common.{[], ap, arith, get_or, if◌then◌else◌, inl, inr, length, length-append, List, not, Range, refl}
+use Rattle.smith_types.proofs.Common.{same_Some, slice_get, slice_get_within, Some, subst, SubType, suc, sym, ℕ, ◌&&◌, ◌++◌, ◌+◌, ◌-◌, ◌<◌}
+use Rattle.smith_types.proofs.Common.{◌^◌, ◌∙◌, ◌∷◌, ◌≡◌, ◌≤◌}
+use Rattle.std.specs.Prelude.{Bool, false, nat_lt, true}
 use Rattle.smith_types.specs.Types.{IsAlike, IsOrderly, end_from, next_start, next_group, AreConsecutive, AreCovered}
 use Rattle.smith_types.specs.GroupedTypes.{IsSound, MayFollow, HasDepth, root, deeper, extensible_from}
 use Rattle.smith_types.proofs.ListLemmas.{slice_get-grown, slice_get-push}

@@ -1,13 +1,10 @@
 -- Valid types stay valid when whole groups are appended.
-use Rattle.std.proofs.Common.{◌≡◌, ℕ, ◌≤◌, List, [], ◌∷◌, ◌++◌, length, subst, sym, ◌∙◌, refl, arith}
-use Rattle.std.specs.Prelude.{slice_index_or, All}
-use Rattle.std.proofs.lemmas.List.Elements.{All-append, All-from_recursion}
-use Rattle.std.specs.declared.ops.Range.{Range}
-use Rattle.smith_syntax.specs.Features.{Features}
+use Rattle.smith_types.proofs.Common.{[], All, All-from_recursion, arith, Features, length, List, Range, refl, slice_index_or, subst}
+use Rattle.smith_types.proofs.Common.{SubType, sym, ℕ, ◌++◌, ◌∙◌, ◌∷◌, ◌≡◌, ◌≤◌}
+use Rattle.std.proofs.lemmas.List.Elements.{All-append}
 use Rattle.smith_types.specs.Types.{AreConsecutive, end_from, next_start}
 use Rattle.smith_types.specs.ValidTypes.{IsGroupValid, AreTypesValid}
 use Rattle.smith_types.specs.Grown.{AreGroupsAdded}
-use Rattle.smith_syntax.specs.declared.composite_type.SubType.{SubType}
 use Rattle.smith_types.proofs.ListLemmas.{slice_get-front}
 use Rattle.smith_types.proofs.ValidityLemmas.{IsTypeValid-grown, ends_within}
 

@@ -1,20 +1,14 @@
 -- Valid types stay valid when types are added, and one more group of one valid type is valid.
-use Rattle.std.proofs.Common.{◌≡◌, ◌⊎◌, ℕ, zero, suc, ◌+◌, ◌<◌, ◌≤◌, List, [], ◌∷◌, ◌++◌, Some, length, refl, sym, subst, arith}
-use Rattle.std.proofs.Common.{length-append, inl, inr}
-use Rattle.std.specs.Prelude.{slice_get, slice_index_or, All}
+use Rattle.smith_types.proofs.Common.{[], Abstract, All, All-from_recursion, All-weaker, arith, Concrete, Exact, F32, F64, Features}
+use Rattle.smith_types.proofs.Common.{HeapType, I32, I64, inl, inr, length, List, Range, recursion_from_All, Ref, refl, slice_get}
+use Rattle.smith_types.proofs.Common.{slice_get_within, slice_index_or, Some, subst, SubType, suc, sym, V128, ValType, zero, ℕ, ◌++◌, ◌+◌}
+use Rattle.smith_types.proofs.Common.{◌<◌, ◌∷◌, ◌≡◌, ◌≤◌, ◌⊎◌}
+use Rattle.std.proofs.Common.{length-append}
 use Rattle.std.specs.List.{AllByRecursion as ByRecursion}
-use Rattle.std.specs.declared.ops.Range.{Range}
-use Rattle.std.proofs.lemmas.List.Elements.{All-nil, All-weaker, All-push, All-from_recursion, recursion_from_All}
-use Rattle.std.proofs.lemmas.Option.{slice_get_within}
-use Rattle.smith_syntax.specs.Features.{Features}
+use Rattle.std.proofs.lemmas.List.Elements.{All-nil, All-push}
 use Rattle.smith_types.specs.GroupedTypes.{GroupedTypes}
 use Rattle.smith_types.specs.Types.{IsOrderly, AreConsecutive, end_from, next_start, next_group}
 use Rattle.smith_types.specs.ValidTypes.{IsHeapTypeShared, IsShareable, IsTypeValid, IsGroupValid, AreTypesValid, values_of}
-use Rattle.smith_syntax.specs.declared.composite_type.SubType.{SubType}
-use Rattle.smith_syntax.specs.declared.value_type.ValType.{ValType}
-use Rattle.smith_syntax.specs.declared.value_type.ValType.TheVariants.{I32, I64, F32, F64, V128, Ref}
-use Rattle.smith_syntax.specs.declared.value_type.HeapType.{HeapType}
-use Rattle.smith_syntax.specs.declared.value_type.HeapType.TheVariants.{Abstract, Concrete, Exact}
 use Rattle.smith_types.proofs.GrowthLemmas.{IsCompositeMatch-grown}
 use Rattle.smith_types.proofs.ListLemmas.{slice_get-grown, slice_get-push}
 use Rattle.smith_types.proofs.SpaceLemmas.{AreConsecutive-push, next_start-push}

@@ -1,15 +1,10 @@
 -- Subtyping of heap types by cases, as in the test, and its equivalence with the closure of the
 -- steps.
-use Rattle.std.proofs.Common.{rules, ◌≡◌, ◌<◌, ◌≤◌, ℕ, Bool, List, Some, None, IsTrue, ◌↔◌, get_or, length, refl, sym, ◌∙◌, ap, subst}
-use Rattle.std.proofs.Common.{arith}
-use Rattle.std.specs.Prelude.{slice_get}
-use Rattle.std.proofs.lemmas.Option.{same_Some, none-some, slice_get_within, slice_get-get_or, slice_get_read}
-use Rattle.smith_syntax.specs.declared.value_type.AbstractHeapType.{AbstractHeapType}
-use Rattle.smith_syntax.specs.declared.value_type.HeapType.{HeapType}
-use Rattle.smith_syntax.specs.declared.value_type.HeapType.TheVariants.{Abstract, Concrete, Exact}
-use Rattle.smith_syntax.specs.declared.composite_type.CompositeInnerType.{CompositeInnerType}
-use Rattle.smith_syntax.specs.declared.composite_type.SubType.{SubType}
-use Rattle.smith_syntax.specs.Kinds.{kind, bottom, shared, kind_of, bottom_of}
+use Rattle.smith_types.proofs.Common.{Abstract, AbstractHeapType, ap, arith, Bool, CompositeInnerType, Concrete, Exact, get_or, HeapType}
+use Rattle.smith_types.proofs.Common.{IsTrue, kind, kind_of, length, List, None, none-some, refl, rules, same_Some, shared, slice_get}
+use Rattle.smith_types.proofs.Common.{slice_get-get_or, slice_get_within, Some, subst, SubType, sym, ℕ, ◌<◌, ◌↔◌, ◌∙◌, ◌≡◌, ◌≤◌}
+use Rattle.std.proofs.lemmas.Option.{slice_get_read}
+use Rattle.smith_syntax.specs.Kinds.{bottom, bottom_of}
 use Rattle.smith_types.specs.Types.{IsOrderly}
 use Rattle.smith_types.specs.GroupedTypes.{HasDepth, root, deeper}
 use Rattle.smith_types.specs.Subtyping.{IsStep, is_abstract_step, is_abstract_below, IsBelow, itself, by_step, IsInRange}

@@ -3,17 +3,10 @@
 -- project.
 use Rattle.std.specs.Prelude.{◌≡◌, ℕ, ◌-◌, ◌/◌, ◌^◌, ◌<◌, ◌≤◌, ◌⊎◌, min, Bool, IsTrue, IsSome, IfSome, List, [], Option, Some, None, length}
 use Rattle.std.specs.Prelude.{slice_get, All, if◌then◌else◌}
-use Rattle.smith_syntax.specs.Features.{Features}
+use Rattle.smith_types.specs.Common.{Features, Func, FuncType, GlobalType, MemoryType, Ref, SubType, TableType}
 use Rattle.smith_types.specs.Flags.{IsElementTypeEnabled}
 use Rattle.smith_types.specs.Imports.{EntitySpaces}
 use Rattle.smith_types.specs.ValidTypes.{IsRefTypeValid, IsValTypeValid, IsShareable}
-use Rattle.smith_syntax.specs.declared.value_type.ValType.TheVariants.{Ref}
-use Rattle.smith_syntax.specs.declared.composite_type.CompositeInnerType.TheVariants.{Func}
-use Rattle.smith_syntax.specs.declared.composite_type.FuncType.{FuncType}
-use Rattle.smith_syntax.specs.declared.composite_type.SubType.{SubType}
-use Rattle.smith_syntax.specs.declared.entity_type.GlobalType.{GlobalType}
-use Rattle.smith_syntax.specs.declared.entity_type.MemoryType.{MemoryType}
-use Rattle.smith_syntax.specs.declared.entity_type.TableType.{TableType}
 
 -- the minimum is at most the maximum, and neither exceeds `most` (Validation, Limits)
 pub record AreLimitsValid (most minimum : ℕ) (maximum : Option ℕ) : Type 0 where

@@ -2,10 +2,7 @@
 use Rattle.std.specs.Prelude.{List, [], ◌∷◌, ◌++◌, map}
 use Rattle.smith_types.specs.Imports.{EntitySpaces as EntityLists}
 use Rattle.smith_types.specs.declared.entity_spaces.EntitySpaces.{EntitySpaces}
-use Rattle.smith_syntax.specs.declared.imports.ImportItem.{ImportItem}
-use Rattle.smith_syntax.specs.declared.imports.Imports.{Imports}
-use Rattle.smith_syntax.specs.declared.imports.Imports.TheVariants.{Single, Compact1, Compact2}
-use Rattle.smith_syntax.specs.declared.entity_type.EntityType.{EntityType}
+use Rattle.smith_types.specs.Common.{Compact1, Compact2, EntityType, ImportItem, Imports, Single}
 use Rattle.smith_syntax.specs.declared.entity_type.EntityType.TheVariants as entity
 
 -- the lists of the index spaces

@@ -1,11 +1,7 @@
 -- Contexts used by the examples.
 use Rattle.std.specs.Prelude.{ℕ, List, [], ◌∷◌}
 use Rattle.smith_syntax.specs.declared.value_type.AbstractHeapType.TheVariants as heap
-use Rattle.smith_syntax.specs.declared.value_type.ValType.TheVariants.{I32, I64, Ref}
-use Rattle.smith_syntax.specs.declared.composite_type.StorageType.TheVariants.{I8, I16, Val}
-use Rattle.smith_syntax.specs.declared.composite_type.CompositeInnerType.TheVariants.{Array}
-use Rattle.smith_syntax.specs.declared.composite_type.SubType.{SubType}
-use Rattle.smith_syntax.specs.Features.{Features}
+use Rattle.smith_types.specs.Common.{Array, Features, I16, I32, I64, I8, Ref, SubType, Val}
 use Rattle.smith_types.specs.Expressions.{Context}
 use Rattle.smith_types.specs.ExampleTypes.{final_type, plain_func, struct, constant, variable, not_null, plain}
 use Rattle.smith_types.specs.ExampleEntities.{constant_global, variable_global}

@@ -1,15 +1,8 @@
 -- Entities used by the examples.
 use Rattle.std.specs.Prelude.{ℕ, ◌^◌, true, false, List, [], ◌∷◌, Option, None}
-use Rattle.smith_syntax.specs.declared.value_type.RefType.{RefType}
-use Rattle.smith_syntax.specs.declared.value_type.ValType.{ValType}
-use Rattle.smith_syntax.specs.declared.value_type.ValType.TheVariants.{I32}
-use Rattle.smith_syntax.specs.declared.entity_type.GlobalType.{GlobalType}
-use Rattle.smith_syntax.specs.declared.entity_type.MemoryType.{MemoryType}
-use Rattle.smith_syntax.specs.declared.entity_type.TableType.{TableType}
-use Rattle.smith_syntax.specs.declared.entity_type.EntityType.{EntityType}
+use Rattle.smith_types.specs.Common.{EntityType, GlobalType, I32, ImportItem, MemoryType, RefType, TableType, ValType}
 use Rattle.smith_syntax.specs.declared.entity_type.EntityType.TheVariants as entity
 use Rattle.smith_syntax.specs.declared.imports.Import.{Import}
-use Rattle.smith_syntax.specs.declared.imports.ImportItem.{ImportItem}
 use Rattle.smith_types.specs.Flags.{funcref}
 use Rattle.smith_types.specs.Imports.{EntitySpaces, import_of}
 

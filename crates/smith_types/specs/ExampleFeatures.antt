@@ -1,6 +1,7 @@
 -- Features used by the examples.
 use Rattle.std.specs.Prelude.{true, false}
-use Rattle.smith_syntax.specs.Features.{Features, every_feature}
+use Rattle.smith_types.specs.Common.{Features}
+use Rattle.smith_syntax.specs.Features.{every_feature}
 
 -- all features except exact references
 abbrev pub usual_features : Features

@@ -1,6 +1,6 @@
 -- The direct subtypes of a type, and how a type space represents them.
 use Rattle.std.specs.Prelude.{◌≡◌, ℕ, suc, ◌<◌, ◌≤◌, Bool, false, ◌==◌, Option, Some, None, List, [], length, slice_get}
-use Rattle.smith_syntax.specs.declared.composite_type.SubType.{SubType}
+use Rattle.smith_types.specs.Common.{SubType}
 use Rattle.smith_types.specs.declared.family.Family.{Family}
 use Rattle.smith_types.specs.KindCounts.{indices_from}
 

@@ -1,12 +1,8 @@
 -- Types without floats. Rules of this project.
 use Rattle.std.specs.Prelude.{All}
-use Rattle.smith_syntax.specs.declared.value_type.ValType.{ValType}
-use Rattle.smith_syntax.specs.declared.value_type.ValType.TheVariants.{F32, F64}
-use Rattle.smith_syntax.specs.declared.composite_type.SubType.{SubType}
+use Rattle.smith_types.specs.Common.{ConstInstr, F32, F64, GlobalType, SubType, ValType}
 use Rattle.smith_types.specs.ValidTypes.{values_of}
-use Rattle.smith_syntax.specs.declared.const_instr.ConstInstr.{ConstInstr}
 use Rattle.smith_syntax.specs.declared.const_instr.ConstInstr.TheVariants.{F32Const, F64Const}
-use Rattle.smith_syntax.specs.declared.entity_type.GlobalType.{GlobalType}
 
 -- a value type is not a float
 abbrev pub IsNoFloat : ValType → Type 0

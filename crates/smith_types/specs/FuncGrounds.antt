@@ -5,13 +5,9 @@ use Rattle.smith_types.specs.Subtyping.{is_abstract_below, IsInRange}
 use Rattle.smith_types.specs.Expressions.{Context, reference_to, function_reference}
 use Rattle.smith_types.specs.Grounded.{IsGroundedByFuncs}
 use Rattle.smith_types.specs.Grounds.{own_at, below_at, IsFrom}
-use Rattle.smith_syntax.specs.declared.value_type.AbstractHeapType.{AbstractHeapType}
+use Rattle.smith_types.specs.Common.{Abstract, AbstractHeapType, Array, CompositeInnerType, Concrete, Exact, Func, HeapType, Struct}
+use Rattle.smith_types.specs.Common.{SubType}
 use Rattle.smith_syntax.specs.declared.value_type.AbstractHeapType.TheVariants as heap
-use Rattle.smith_syntax.specs.declared.value_type.HeapType.{HeapType}
-use Rattle.smith_syntax.specs.declared.value_type.HeapType.TheVariants.{Abstract, Concrete, Exact}
-use Rattle.smith_syntax.specs.declared.composite_type.CompositeInnerType.{CompositeInnerType}
-use Rattle.smith_syntax.specs.declared.composite_type.CompositeInnerType.TheVariants.{Array, Func, Struct}
-use Rattle.smith_syntax.specs.declared.composite_type.SubType.{SubType}
 use Rattle.smith_types.specs.declared.ground.Ground.{Ground}
 use Rattle.smith_types.specs.declared.noted_kinds.Kinds.{Kinds}
 use Rattle.smith_types.specs.declared.noted_kinds.NotedKinds.{NotedKinds}

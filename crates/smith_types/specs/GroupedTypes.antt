@@ -2,8 +2,7 @@
 -- far.
 use Rattle.std.specs.Prelude.{◌≡◌, ℕ, suc, ◌+◌, ◌^◌, ◌<◌, ◌≤◌, not, ◌&&◌, nat_lt, List, [], ◌∷◌, Some, None, length, slice_get, slice_index}
 use Rattle.std.specs.Prelude.{if◌then◌else◌}
-use Rattle.std.specs.declared.ops.Range.{Range}
-use Rattle.smith_syntax.specs.declared.composite_type.SubType.{SubType}
+use Rattle.smith_types.specs.Common.{Range, SubType}
 use Rattle.smith_types.specs.Types.{IsAlike, IsOrderly, AreConsecutive, next_start}
 
 -- the types of a type space, and the ranges of indices of its groups (Structure, Recursive Types)

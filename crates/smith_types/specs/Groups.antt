@@ -1,11 +1,9 @@
 -- Types given in their groups, as lists of lists: the section Structure, Types, Recursive Types, of
 -- the WebAssembly Core Specification 3.0.
 use Rattle.std.specs.Prelude.{◌≡◌, ℕ, ◌+◌, ◌<◌, List, [], ◌∷◌, Some, length, slice_get}
-use Rattle.std.specs.List.{flat_map}
-use Rattle.std.specs.declared.ops.Range.{Range}
+use Rattle.smith_types.specs.Common.{flat_map, Range, SubType}
 use Rattle.smith_types.specs.GroupedTypes.{GroupedTypes}
 use Rattle.smith_types.specs.Types.{IsAlike}
-use Rattle.smith_syntax.specs.declared.composite_type.SubType.{SubType}
 
 -- the ranges of consecutive groups (Structure, Recursive Types)
 abbrev pub ranges_from : ℕ → List (List SubType) → List (Range ℕ)

@@ -1,13 +1,11 @@
 -- Growth of a module under construction. Lists grow at their ends, so that indices keep their
 -- meaning.
 use Rattle.std.specs.Prelude.{◌≡◌, ℕ, ◌≤◌, List, ◌++◌, length, All}
-use Rattle.std.specs.declared.ops.Range.{Range}
-use Rattle.smith_syntax.specs.Features.{Features}
+use Rattle.smith_types.specs.Common.{Features, Range, SubType}
 use Rattle.smith_types.specs.Types.{IsOrderly, AreConsecutive, end_from}
 use Rattle.smith_types.specs.ValidTypes.{IsGroupValid}
 use Rattle.smith_types.specs.Imports.{EntitySpaces}
 use Rattle.smith_types.specs.Expressions.{Context}
-use Rattle.smith_syntax.specs.declared.composite_type.SubType.{SubType}
 
 -- `new` is `old` with a possibly empty list appended
 pub record Extends {A : Type 0} (old new : List A) : Type 0 where

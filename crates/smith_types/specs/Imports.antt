@@ -2,18 +2,11 @@
 -- and Validation, Imports, of the WebAssembly Core Specification 3.0. The compact imports proposal
 -- defines groups of imports.
 use Rattle.std.specs.Prelude.{◌≡◌, ℕ, ◌<◌, List, [], ◌∷◌, ◌++◌, map, length}
-use Rattle.std.specs.List.{flat_map}
-use Rattle.smith_syntax.specs.Features.{Features}
+use Rattle.smith_types.specs.Common.{Compact1, Compact2, EntityType, Features, flat_map, GlobalType, ImportItem, Imports, MemoryType}
+use Rattle.smith_types.specs.Common.{Single, TableType}
 use Rattle.smith_types.specs.Flags.{IsImportsEnabled}
-use Rattle.smith_syntax.specs.declared.entity_type.EntityType.{EntityType}
 use Rattle.smith_syntax.specs.declared.entity_type.EntityType.TheVariants as entity
-use Rattle.smith_syntax.specs.declared.entity_type.TableType.{TableType}
-use Rattle.smith_syntax.specs.declared.entity_type.MemoryType.{MemoryType}
-use Rattle.smith_syntax.specs.declared.entity_type.GlobalType.{GlobalType}
 use Rattle.smith_syntax.specs.declared.imports.Import.{Import}
-use Rattle.smith_syntax.specs.declared.imports.ImportItem.{ImportItem}
-use Rattle.smith_syntax.specs.declared.imports.Imports.{Imports}
-use Rattle.smith_syntax.specs.declared.imports.Imports.TheVariants.{Single, Compact1, Compact2}
 
 -- an import with these names and this type (Structure, Imports)
 abbrev pub import_of : List ℕ → List ℕ → EntityType → Import

@@ -1,15 +1,10 @@
 -- Laws of subtyping, of matching, and of validity under growth.
 use Rattle.std.specs.Prelude.{ℕ, List, ◌++◌, Option}
-use Rattle.std.specs.declared.ops.Range.{Range}
-use Rattle.smith_syntax.specs.declared.value_type.HeapType.{HeapType}
-use Rattle.smith_syntax.specs.declared.value_type.HeapType.TheVariants.{Concrete, Exact}
-use Rattle.smith_syntax.specs.declared.value_type.RefType.{RefType}
-use Rattle.smith_syntax.specs.declared.value_type.ValType.{ValType}
+use Rattle.smith_types.specs.Common.{Concrete, ConstInstr, EntityType, Exact, Features, GlobalType, HeapType, MemoryType, Range, RefType}
+use Rattle.smith_types.specs.Common.{SubType, TableType, ValType}
 use Rattle.smith_syntax.specs.declared.composite_type.CompositeType.{CompositeType}
-use Rattle.smith_syntax.specs.declared.composite_type.SubType.{SubType}
 use Rattle.smith_types.specs.Subtyping.{IsBelow, IsRefBelow, IsValBelow}
 use Rattle.smith_types.specs.Matching.{IsCompositeMatch}
-use Rattle.smith_syntax.specs.Features.{Features}
 use Rattle.smith_types.specs.ValidTypes.{AreTypesValid}
 use Rattle.smith_types.specs.Imports.{EntitySpaces}
 use Rattle.smith_types.specs.Entities.{IsTableValid, IsGlobalValid, IsTagValid, IsFuncTypeIndex, AreEntitiesValid}
@@ -18,12 +13,7 @@ use Rattle.smith_types.specs.Segments.{IsElementSegmentValid, IsDataValid}
 use Rattle.smith_types.specs.Exports.{IsEntityAt, AreExportsValid, IsStartValid}
 use Rattle.smith_types.specs.Grounded.{IsGrounded}
 use Rattle.smith_types.specs.Grown.{IsContextGrown, AreImportsGrown, AreSpacesGrown, AreGroupsAdded}
-use Rattle.smith_syntax.specs.declared.entity_type.EntityType.{EntityType}
 use Rattle.smith_syntax.specs.declared.entity_type.ExportKind.{ExportKind}
-use Rattle.smith_syntax.specs.declared.entity_type.GlobalType.{GlobalType}
-use Rattle.smith_syntax.specs.declared.entity_type.MemoryType.{MemoryType}
-use Rattle.smith_syntax.specs.declared.entity_type.TableType.{TableType}
-use Rattle.smith_syntax.specs.declared.const_instr.ConstInstr.{ConstInstr}
 use Rattle.smith_syntax.specs.declared.segments.DataSegment.{DataSegment}
 use Rattle.smith_syntax.specs.declared.segments.ElementSegment.{ElementSegment}
 

@@ -1,3 +1,4 @@
+pub mod Common
 pub mod Bodies
 pub mod Entities
 pub mod EntitySpaces
@@ -27,5 +28,6 @@ pub mod Places
 pub mod Segments
 pub mod Sizes
 pub mod Subtyping
+pub mod Syntax
 pub mod Types
 pub mod ValidTypes

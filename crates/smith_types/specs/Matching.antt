@@ -1,15 +1,9 @@
 -- Matching of storage, field and composite types. Sections are those of the WebAssembly Core
 -- Specification 3.0. Subtyping of value types follows the own rules of `Subtyping`.
 use Rattle.std.specs.Prelude.{◌≡◌, IsTrue, List, [], ◌∷◌, All}
-use Rattle.smith_syntax.specs.declared.value_type.ValType.{ValType}
-use Rattle.smith_syntax.specs.declared.composite_type.StorageType.{StorageType}
-use Rattle.smith_syntax.specs.declared.composite_type.StorageType.TheVariants.{I8, I16, Val}
-use Rattle.smith_syntax.specs.declared.composite_type.FieldType.{FieldType}
-use Rattle.smith_syntax.specs.declared.composite_type.FuncType.{FuncType}
-use Rattle.smith_syntax.specs.declared.composite_type.CompositeInnerType.{CompositeInnerType}
-use Rattle.smith_syntax.specs.declared.composite_type.CompositeInnerType.TheVariants.{Array, Func, Struct}
+use Rattle.smith_types.specs.Common.{Array, CompositeInnerType, FieldType, Func, FuncType, I16, I8, StorageType, Struct, SubType, Val}
+use Rattle.smith_types.specs.Common.{ValType}
 use Rattle.smith_syntax.specs.declared.composite_type.CompositeType.{CompositeType}
-use Rattle.smith_syntax.specs.declared.composite_type.SubType.{SubType}
 use Rattle.smith_types.specs.Subtyping.{IsValBelow, IsValInRange}
 
 -- one storage type matches another: a packed type matches only itself (Validation, Matching, Field

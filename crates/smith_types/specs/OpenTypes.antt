@@ -1,8 +1,7 @@
 -- Valid types while a group is under construction. Type validation, in the section Validation,
 -- Types, of the WebAssembly Core Specification 3.0.
 use Rattle.std.specs.Prelude.{◌≡◌, ℕ, ◌≤◌, Some, length, slice_get, All}
-use Rattle.smith_syntax.specs.declared.composite_type.SubType.{SubType}
-use Rattle.smith_syntax.specs.Features.{Features}
+use Rattle.smith_types.specs.Common.{Features, SubType}
 use Rattle.smith_types.specs.GroupedTypes.{GroupedTypes}
 use Rattle.smith_types.specs.Types.{IsOrderly, AreConsecutive, next_start}
 use Rattle.smith_types.specs.ValidTypes.{IsTypeValid, IsGroupValid}

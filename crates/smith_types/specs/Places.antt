@@ -1,10 +1,9 @@
 -- The entry of each type in a type space: its depth, the counts up to it, and links to two of its
 -- supertypes, which lead to a supertype of any depth.
 use Rattle.std.specs.Prelude.{◌≡◌, ℕ, suc, ◌-◌, ◌<◌, ◌≤◌, List, [], ◌∷◌, Some, length, map, take, slice_get, Vec, vec_len, vec_capacity}
-use Rattle.smith_syntax.specs.declared.composite_type.SubType.{SubType}
+use Rattle.smith_types.specs.Common.{Concrete, SubType}
 use Rattle.std.specs.declared.alloc.Global.{Global}
 use Rattle.smith_types.specs.declared.place.Place.{Place}
-use Rattle.smith_syntax.specs.declared.value_type.HeapType.TheVariants.{Concrete}
 use Rattle.smith_types.specs.GroupedTypes.{HasDepth}
 use Rattle.smith_types.specs.declared.kind_counts.KindCounts.{KindCounts}
 use Rattle.smith_types.specs.KindCounts.{AreCounts}

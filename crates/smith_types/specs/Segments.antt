@@ -8,11 +8,7 @@ use Rattle.smith_types.specs.Subtyping.{IsRefBelow, IsValBelow}
 use Rattle.smith_types.specs.ValidTypes.{IsRefTypeValid}
 use Rattle.smith_types.specs.Entities.{page_log2}
 use Rattle.smith_types.specs.Expressions.{Context, IsVisible, IsConstExpr, function_reference}
-use Rattle.smith_syntax.specs.declared.value_type.RefType.{RefType}
-use Rattle.smith_syntax.specs.declared.value_type.ValType.{ValType}
-use Rattle.smith_syntax.specs.declared.value_type.ValType.TheVariants.{I32, I64, Ref}
-use Rattle.smith_syntax.specs.declared.entity_type.MemoryType.{MemoryType}
-use Rattle.smith_syntax.specs.declared.entity_type.TableType.{TableType}
+use Rattle.smith_types.specs.Common.{I32, I64, MemoryType, Ref, RefType, TableType, ValType}
 use Rattle.smith_syntax.specs.declared.segments.Elements.{Elements}
 use Rattle.smith_syntax.specs.declared.segments.Elements.TheVariants.{Functions, Expressions}
 use Rattle.smith_syntax.specs.declared.segments.ElementKind.{ElementKind}

@@ -1,10 +1,8 @@
 -- The sizes of the imported and exported entities of a module.
 use Rattle.std.specs.Prelude.{ℕ, ◌+◌, ◌<◌, List, length, slice_get}
 use Rattle.std.specs.Option.{option_map, unwrap_or}
-use Rattle.smith_syntax.specs.declared.composite_type.CompositeInnerType.{CompositeInnerType}
+use Rattle.smith_types.specs.Common.{CompositeInnerType, EntityType, SubType}
 use Rattle.smith_syntax.specs.declared.composite_type.CompositeInnerType.TheVariants as inner
-use Rattle.smith_syntax.specs.declared.composite_type.SubType.{SubType}
-use Rattle.smith_syntax.specs.declared.entity_type.EntityType.{EntityType}
 use Rattle.smith_syntax.specs.declared.entity_type.EntityType.TheVariants.{Func}
 
 -- the number of parameters and results of a function type, and 0 for other types (own rule)

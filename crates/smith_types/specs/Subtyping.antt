@@ -3,16 +3,11 @@
 -- equivalence: types of equal groups are different, so that fewer types are subtypes than in the
 -- standard.
 use Rattle.std.specs.Prelude.{◌≡◌, ◌<◌, Bool, true, false, IsTrue, List, length, Some, slice_get}
-use Rattle.smith_syntax.specs.declared.value_type.AbstractHeapType.{AbstractHeapType}
+use Rattle.smith_types.specs.Common.{Abstract, AbstractHeapType, Concrete, Exact, F32, F64, HeapType, I32, I64, Ref, RefType, shared}
+use Rattle.smith_types.specs.Common.{SubType, V128, ValType}
 use Rattle.smith_syntax.specs.declared.value_type.AbstractHeapType.TheVariants.{Func, Extern, Any, None, NoExtern, NoFunc, Eq, Struct}
 use Rattle.smith_syntax.specs.declared.value_type.AbstractHeapType.TheVariants.{Array, I31, Exn, NoExn}
-use Rattle.smith_syntax.specs.declared.value_type.HeapType.{HeapType}
-use Rattle.smith_syntax.specs.declared.value_type.HeapType.TheVariants.{Abstract, Concrete, Exact}
-use Rattle.smith_syntax.specs.declared.value_type.RefType.{RefType}
-use Rattle.smith_syntax.specs.declared.value_type.ValType.{ValType}
-use Rattle.smith_syntax.specs.declared.value_type.ValType.TheVariants.{I32, I64, F32, F64, V128, Ref}
-use Rattle.smith_syntax.specs.declared.composite_type.SubType.{SubType}
-use Rattle.smith_syntax.specs.Kinds.{kind, bottom, shared}
+use Rattle.smith_syntax.specs.Kinds.{bottom, kind}
 
 -- one abstract heap type is directly below another (Validation, Matching, Heap Types)
 abbrev pub is_abstract_step : AbstractHeapType → AbstractHeapType → Bool

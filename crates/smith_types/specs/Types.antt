@@ -1,8 +1,7 @@
 -- Lists of types, and their groups. Sections are those of the WebAssembly Core Specification 3.0.
 use Rattle.std.specs.Prelude.{◌≡◌, ℕ, ◌<◌, ◌≤◌, List, [], ◌∷◌, Some, length, slice_get}
-use Rattle.std.specs.declared.ops.Range.{Range}
-use Rattle.smith_syntax.specs.declared.composite_type.SubType.{SubType}
-use Rattle.smith_syntax.specs.Kinds.{kind, shared}
+use Rattle.smith_types.specs.Common.{Range, shared, SubType}
+use Rattle.smith_syntax.specs.Kinds.{kind}
 
 -- two types have the same kind and sharedness (sharedness: own rule)
 pub record IsAlike (t u : SubType) : Type 0 where

@@ -2,25 +2,13 @@
 -- Specification 3.0. The conditions on features and sharedness are rules of this project. Matching
 -- follows the own rules of `Subtyping`.
 use Rattle.std.specs.Prelude.{◌≡◌, ℕ, ◌+◌, ◌<◌, ◌≤◌, false, IsTrue, List, [], ◌∷◌, ◌++◌, slice_get, Some, All}
-use Rattle.std.specs.List.{flat_map}
-use Rattle.std.specs.declared.ops.Range.{Range}
-use Rattle.smith_syntax.specs.Features.{Features}
+use Rattle.smith_types.specs.Common.{Abstract, Array, CompositeInnerType, Concrete, Exact, F32, F64, Features, FieldType, flat_map, Func}
+use Rattle.smith_types.specs.Common.{FuncType, HeapType, I16, I32, I64, I8, Range, Ref, RefType, StorageType, Struct, SubType, V128, Val}
+use Rattle.smith_types.specs.Common.{ValType}
 use Rattle.smith_types.specs.GroupedTypes.{GroupedTypes}
 use Rattle.smith_types.specs.Types.{IsOrderly, AreCovered}
 use Rattle.smith_types.specs.Matching.{IsCompositeMatch}
 use Rattle.smith_types.specs.Flags.{IsHeapTypeEnabled, IsInnerEnabled, IsSubTypeEnabled}
-use Rattle.smith_syntax.specs.declared.value_type.ValType.{ValType}
-use Rattle.smith_syntax.specs.declared.value_type.ValType.TheVariants.{I32, I64, F32, F64, V128, Ref}
-use Rattle.smith_syntax.specs.declared.value_type.RefType.{RefType}
-use Rattle.smith_syntax.specs.declared.value_type.HeapType.{HeapType}
-use Rattle.smith_syntax.specs.declared.value_type.HeapType.TheVariants.{Abstract, Concrete, Exact}
-use Rattle.smith_syntax.specs.declared.composite_type.StorageType.{StorageType}
-use Rattle.smith_syntax.specs.declared.composite_type.StorageType.TheVariants.{I8, I16, Val}
-use Rattle.smith_syntax.specs.declared.composite_type.FieldType.{FieldType}
-use Rattle.smith_syntax.specs.declared.composite_type.FuncType.{FuncType}
-use Rattle.smith_syntax.specs.declared.composite_type.CompositeInnerType.{CompositeInnerType}
-use Rattle.smith_syntax.specs.declared.composite_type.CompositeInnerType.TheVariants.{Array, Func, Struct}
-use Rattle.smith_syntax.specs.declared.composite_type.SubType.{SubType}
 
 -- a heap type is valid: it refers only to types below `end` (Validation, Heap Types), and is
 -- enabled (own rule)

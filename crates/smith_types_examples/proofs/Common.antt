@@ -23,30 +23,30 @@ pub use Rattle.smith_types.specs.ExampleTypes.{range, referring, referring_type,
 pub use Rattle.smith_types.specs.ExampleTypes.{variable}
 pub use Rattle.smith_types.specs.Exports.{AreDistinct, IsEntityAt}
 pub use Rattle.smith_types.specs.Expressions.{Context, IsArrayAt, IsConstExpr, IsStructAt, seeing}
-pub use Rattle.smith_syntax.specs.Features.{every_feature, Features}
+pub use Rattle.smith_types.specs.Syntax.Features.{every_feature, Features}
 pub use Rattle.smith_types.specs.Flags.{funcref}
 pub use Rattle.smith_types.specs.Grounded.{IsGrounded}
 pub use Rattle.smith_types.specs.Grounds.{AreGroundKinds, is_ground, is_ground_of, kind_at}
 pub use Rattle.smith_types.specs.GroupedTypes.{deeper, extensible_from, HasDepth, root}
-pub use Rattle.smith_syntax.specs.Kinds.{bottom, kind, shared}
+pub use Rattle.smith_types.specs.Syntax.Kinds.{bottom, kind, shared}
 pub use Rattle.smith_types.specs.Matching.{IsFieldInRange}
 pub use Rattle.smith_types.specs.Segments.{IsActiveElementSegment, IsItem, IsOffsetValid}
 pub use Rattle.smith_types.specs.Subtyping.{is_abstract_below, IsBelow, IsRefBelow, IsValBelow, itself}
 pub use Rattle.smith_types.specs.Types.{IsAlike, IsOrderly}
 pub use Rattle.smith_types.specs.ValidTypes.{AreTypesValid, IsGroupValid, IsShareable, IsSupertypeValid, IsTypeValid, IsValTypeValid}
-pub use Rattle.smith_syntax.specs.declared.composite_type.CompositeInnerType.TheVariants.{Array, Func}
-pub use Rattle.smith_syntax.specs.declared.composite_type.StorageType.TheVariants.{I16, I8, Val}
-pub use Rattle.smith_syntax.specs.declared.composite_type.SubType.{SubType}
-pub use Rattle.smith_syntax.specs.declared.const_instr.ConstInstr.TheVariants.{ExternConvertAny, GlobalGet, I32Add, I32Const, RefFunc}
-pub use Rattle.smith_syntax.specs.declared.const_instr.ConstInstr.TheVariants.{RefI31, RefNull, StructNew, StructNewDefault}
-pub use Rattle.smith_syntax.specs.declared.entity_type.EntityType.{EntityType}
-pub use Rattle.smith_syntax.specs.declared.entity_type.ExportKind.{ExportKind}
-pub use Rattle.smith_syntax.specs.declared.entity_type.GlobalType.{GlobalType}
-pub use Rattle.smith_syntax.specs.declared.entity_type.TableType.{TableType}
+pub use Rattle.smith_types.specs.Syntax.composite_type.CompositeInnerType.TheVariants.{Array, Func}
+pub use Rattle.smith_types.specs.Syntax.composite_type.StorageType.TheVariants.{I16, I8, Val}
+pub use Rattle.smith_types.specs.Syntax.composite_type.SubType.{SubType}
+pub use Rattle.smith_types.specs.Syntax.const_instr.ConstInstr.TheVariants.{ExternConvertAny, GlobalGet, I32Add, I32Const, RefFunc}
+pub use Rattle.smith_types.specs.Syntax.const_instr.ConstInstr.TheVariants.{RefI31, RefNull, StructNew, StructNewDefault}
+pub use Rattle.smith_types.specs.Syntax.entity_type.EntityType.{EntityType}
+pub use Rattle.smith_types.specs.Syntax.entity_type.ExportKind.{ExportKind}
+pub use Rattle.smith_types.specs.Syntax.entity_type.GlobalType.{GlobalType}
+pub use Rattle.smith_types.specs.Syntax.entity_type.TableType.{TableType}
 pub use Rattle.smith_types.specs.declared.ground.GroundKinds.{GroundKinds}
-pub use Rattle.smith_syntax.specs.declared.segments.Offset.{Offset}
-pub use Rattle.smith_syntax.specs.declared.value_type.AbstractHeapType.{AbstractHeapType}
-pub use Rattle.smith_syntax.specs.declared.value_type.HeapType.TheVariants.{Abstract, Concrete, Exact}
-pub use Rattle.smith_syntax.specs.declared.value_type.RefType.{RefType}
-pub use Rattle.smith_syntax.specs.declared.value_type.ValType.{ValType}
-pub use Rattle.smith_syntax.specs.declared.value_type.ValType.TheVariants.{I32, I64, Ref}
+pub use Rattle.smith_types.specs.Syntax.segments.Offset.{Offset}
+pub use Rattle.smith_types.specs.Syntax.value_type.AbstractHeapType.{AbstractHeapType}
+pub use Rattle.smith_types.specs.Syntax.value_type.HeapType.TheVariants.{Abstract, Concrete, Exact}
+pub use Rattle.smith_types.specs.Syntax.value_type.RefType.{RefType}
+pub use Rattle.smith_types.specs.Syntax.value_type.ValType.{ValType}
+pub use Rattle.smith_types.specs.Syntax.value_type.ValType.TheVariants.{I32, I64, Ref}

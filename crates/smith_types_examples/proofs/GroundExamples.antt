@@ -5,7 +5,7 @@ use Rattle.smith_types_examples.proofs.Common.{Exact, SubType, GroundKinds, IsOr
 use Rattle.smith_types_examples.proofs.Common.{is_ground, is_ground_of, kind_at, AreGroundKinds, Ref, Val, usual_features, open_type}
 use Rattle.smith_types_examples.proofs.Common.{final_type, struct, empty_struct, constant, not_null, plain, context_of, same_Some}
 use Rattle.smith_types_examples.proofs.Common.{below_alone, concrete_not_below_exact, grounded_is, abstract_grounded}
-use Rattle.smith_syntax.specs.declared.value_type.AbstractHeapType.TheVariants as heap
+use Rattle.smith_types.specs.Syntax.value_type.AbstractHeapType.TheVariants as heap
 
 -- the kinds of grounding structs among these types
 abbrev kinds_of : List SubType → GroundKinds

@@ -8,7 +8,7 @@ use Rattle.smith_types_examples.proofs.Common.{referring_type, in_one_group, bel
 use Rattle.smith_types_examples.proofs.Common.{Abstract, below_declared, itself, TableType, GlobalType, ValType, Context, RefType, Offset}
 use Rattle.smith_types_examples.proofs.Common.{IsRefBelow, IsOffsetValid, IsActiveElementSegment, ◌<◌, kind, shared, bottom, IsUnder}
 use Rattle.smith_types_examples.proofs.Common.{IsBottomAt}
-use Rattle.smith_syntax.specs.declared.value_type.AbstractHeapType.TheVariants as heap
+use Rattle.smith_types.specs.Syntax.value_type.AbstractHeapType.TheVariants as heap
 
 -- abstract types, by the table
 pub abstract_apart : (s r : Bool) (a b : AbstractHeapType) → ¬ ((s ≡ r) × IsTrue (is_abstract_below a b))

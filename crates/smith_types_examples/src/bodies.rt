@@ -1,7 +1,7 @@
 ghost use Rattle.std.specs.Prelude.{[], ◌∷◌, true, false, replicate};
-ghost use Rattle.smith_syntax.specs.declared.value_type.HeapType.TheVariants.{Concrete};
-ghost use Rattle.smith_syntax.specs.declared.value_type.ValType.TheVariants.{I32, I64, Ref};
-ghost use Rattle.smith_syntax.specs.declared.code.Instructions.TheVariants.{Unreachable, Arbitrary};
+ghost use Rattle.smith_types.specs.Syntax.value_type.HeapType.TheVariants.{Concrete};
+ghost use Rattle.smith_types.specs.Syntax.value_type.ValType.TheVariants.{I32, I64, Ref};
+ghost use Rattle.smith_types.specs.Syntax.code.Instructions.TheVariants.{Unreachable, Arbitrary};
 ghost use Rattle.smith_types.specs.Bodies.{AreInstructionsValid, IsBodyValid, IsCounterGlobal};
 ghost use Rattle.smith_types.specs.ExampleFeatures.{usual_features};
 ghost use Rattle.smith_types.specs.ExampleTypes.{nullable};

@@ -1,7 +1,7 @@
 ghost use Rattle.std.specs.Prelude.{ℕ, [], ◌∷◌, Some, None, codes};
-ghost use Rattle.smith_syntax.specs.declared.value_type.ValType.TheVariants.{I32, I64};
-ghost use Rattle.smith_syntax.specs.declared.entity_type.EntityType.TheVariants as entity;
-ghost use Rattle.smith_syntax.specs.declared.entity_type.ExportKind.TheVariants as kind;
+ghost use Rattle.smith_types.specs.Syntax.value_type.ValType.TheVariants.{I32, I64};
+ghost use Rattle.smith_types.specs.Syntax.entity_type.EntityType.TheVariants as entity;
+ghost use Rattle.smith_types.specs.Syntax.entity_type.ExportKind.TheVariants as kind;
 ghost use Rattle.smith_types.specs.Flags.{funcref};
 ghost use Rattle.smith_types.specs.Exports.{IsEntityAt, AreDistinct, AreExportsStanding, AreExportsValid, IsStartValid};
 ghost use Rattle.smith_types.specs.ExampleTypes.{final_type, empty_struct, plain_func, giving, taking};

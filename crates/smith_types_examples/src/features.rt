@@ -1,6 +1,6 @@
 ghost use Rattle.std.specs.Prelude.{◌≡◌, true, false, IsTrue};
-ghost use Rattle.smith_syntax.specs.FeatureBits.{has, joined};
-ghost use Rattle.smith_syntax.specs.Features.{every_feature};
+ghost use Rattle.smith_types.specs.Syntax.FeatureBits.{has, joined};
+ghost use Rattle.smith_types.specs.Syntax.Features.{every_feature};
 ghost use Rattle.smith_types.specs.ExampleFeatures.{no_features};
 ghost use Rattle.smith_types_examples.specs.ExampleTables.{AreIn};
 

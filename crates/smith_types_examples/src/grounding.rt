@@ -1,9 +1,9 @@
 ghost use Rattle.std.specs.Prelude.{[], ◌∷◌, true, Some, None};
-ghost use Rattle.smith_syntax.specs.declared.value_type.AbstractHeapType.TheVariants as heap;
-ghost use Rattle.smith_syntax.specs.declared.value_type.HeapType.TheVariants.{Abstract, Concrete, Exact};
-ghost use Rattle.smith_syntax.specs.declared.value_type.ValType.TheVariants.{I64, Ref};
-ghost use Rattle.smith_syntax.specs.declared.composite_type.StorageType.TheVariants.{I8, Val};
-ghost use Rattle.smith_syntax.specs.Features.{every_feature};
+ghost use Rattle.smith_types.specs.Syntax.value_type.AbstractHeapType.TheVariants as heap;
+ghost use Rattle.smith_types.specs.Syntax.value_type.HeapType.TheVariants.{Abstract, Concrete, Exact};
+ghost use Rattle.smith_types.specs.Syntax.value_type.ValType.TheVariants.{I64, Ref};
+ghost use Rattle.smith_types.specs.Syntax.composite_type.StorageType.TheVariants.{I8, Val};
+ghost use Rattle.smith_types.specs.Syntax.Features.{every_feature};
 ghost use Rattle.smith_types.specs.Grounded.{IsGrounded};
 ghost use Rattle.smith_types.specs.ExampleFeatures.{usual_features};
 ghost use Rattle.smith_types.specs.ExampleTypes.{open_type, final_type, shared_type, struct, array, empty_struct, plain_func, plain};

@@ -1,9 +1,9 @@
 // Types in groups, index spaces that grow, and the value types in both.
 
 ghost use Rattle.std.specs.Prelude.{◌≡◌, [], ◌∷◌, Some, None, codes};
-ghost use Rattle.smith_syntax.specs.declared.entity_type.EntityType.TheVariants as entity;
-ghost use Rattle.smith_syntax.specs.declared.imports.Imports.TheVariants.{Single, Compact1, Compact2};
-ghost use Rattle.smith_syntax.specs.declared.value_type.ValType.TheVariants.{I32, I64, Ref};
+ghost use Rattle.smith_types.specs.Syntax.entity_type.EntityType.TheVariants as entity;
+ghost use Rattle.smith_types.specs.Syntax.imports.Imports.TheVariants.{Single, Compact1, Compact2};
+ghost use Rattle.smith_types.specs.Syntax.value_type.ValType.TheVariants.{I32, I64, Ref};
 ghost use Rattle.smith_types.specs.Flags.{funcref};
 ghost use Rattle.smith_types.specs.Groups.{ranges_from, space_of, AreFollowing};
 ghost use Rattle.smith_types.specs.HeldValues.{values_in};

@@ -1,10 +1,10 @@
 // The name of each kind of instructions.
 
 ghost use Rattle.std.specs.Prelude.{◌≡◌, codes};
-ghost use Rattle.smith_syntax.specs.declared.instruction_kind.InstructionKind.TheVariants.{NumericInt, Numeric, VectorInt, Vector};
-ghost use Rattle.smith_syntax.specs.declared.instruction_kind.InstructionKind.TheVariants.{Reference, Parametric, Variable, Table};
-ghost use Rattle.smith_syntax.specs.declared.instruction_kind.InstructionKind.TheVariants.{MemoryInt, Memory, Control, Aggregate};
-ghost use Rattle.smith_syntax.specs.Instructions.{IsNamed};
+ghost use Rattle.smith_types.specs.Syntax.instruction_kind.InstructionKind.TheVariants.{NumericInt, Numeric, VectorInt, Vector};
+ghost use Rattle.smith_types.specs.Syntax.instruction_kind.InstructionKind.TheVariants.{Reference, Parametric, Variable, Table};
+ghost use Rattle.smith_types.specs.Syntax.instruction_kind.InstructionKind.TheVariants.{MemoryInt, Memory, Control, Aggregate};
+ghost use Rattle.smith_types.specs.Syntax.Instructions.{IsNamed};
 
 fn kind_names()
     ensures whole_numbers { IsNamed (codes "numeric_non_float") NumericInt }

@@ -1,6 +1,6 @@
 // Types that only one rule refuses: they satisfy the other rules, and a neighbour of each is valid.
 ghost use Rattle.std.specs.Prelude.{◌≡◌, [], ◌∷◌, false, Some};
-ghost use Rattle.smith_syntax.specs.declared.value_type.HeapType.TheVariants.{Concrete};
+ghost use Rattle.smith_types.specs.Syntax.value_type.HeapType.TheVariants.{Concrete};
 ghost use Rattle.smith_types.specs.Types.{IsOrderly, AreCovered};
 ghost use Rattle.smith_types.specs.Matching.{AreBelow, IsCompositeMatch};
 ghost use Rattle.smith_types.specs.Flags.{IsHeapTypeEnabled};

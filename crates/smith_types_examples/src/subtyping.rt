@@ -1,11 +1,11 @@
 ghost use Rattle.std.specs.Prelude.{◌≡◌, [], ◌∷◌, true, IsTrue, Some, None};
 ghost use Rattle.std.specs.List.{AllByRecursion as Each};
-ghost use Rattle.smith_syntax.specs.declared.value_type.AbstractHeapType.{AbstractHeapType};
-ghost use Rattle.smith_syntax.specs.declared.value_type.AbstractHeapType.TheVariants as heap;
-ghost use Rattle.smith_syntax.specs.declared.value_type.HeapType.TheVariants.{Abstract, Concrete, Exact};
-ghost use Rattle.smith_syntax.specs.declared.value_type.ValType.TheVariants.{I32, I64, F32, F64, V128, Ref};
-ghost use Rattle.smith_syntax.specs.declared.composite_type.StorageType.TheVariants.{I8};
-ghost use Rattle.smith_syntax.specs.Kinds.{kind, bottom, shared};
+ghost use Rattle.smith_types.specs.Syntax.value_type.AbstractHeapType.{AbstractHeapType};
+ghost use Rattle.smith_types.specs.Syntax.value_type.AbstractHeapType.TheVariants as heap;
+ghost use Rattle.smith_types.specs.Syntax.value_type.HeapType.TheVariants.{Abstract, Concrete, Exact};
+ghost use Rattle.smith_types.specs.Syntax.value_type.ValType.TheVariants.{I32, I64, F32, F64, V128, Ref};
+ghost use Rattle.smith_types.specs.Syntax.composite_type.StorageType.TheVariants.{I8};
+ghost use Rattle.smith_types.specs.Syntax.Kinds.{kind, bottom, shared};
 ghost use Rattle.smith_types.specs.Subtyping.{IsBelow, IsRefBelow, IsValBelow, IsInRange, IsValInRange};
 ghost use Rattle.smith_types.specs.ExampleTypes.{open_type, final_type, shared_type, array, empty_struct, plain_func, struct_and_below};
 ghost use Rattle.smith_types.specs.ExampleTypes.{plain, nullable, not_null, anyref, eqref, variable, tops, kinds_of_values};

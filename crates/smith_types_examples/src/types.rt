@@ -1,5 +1,5 @@
 ghost use Rattle.std.specs.Prelude.{◌≡◌, ◌+◌, ◌^◌, List, [], ◌∷◌, Some, None, length};
-ghost use Rattle.smith_syntax.specs.declared.composite_type.SubType.{SubType};
+ghost use Rattle.smith_types.specs.Syntax.composite_type.SubType.{SubType};
 ghost use Rattle.smith_types.specs.Types.{IsAlike, IsOrderly, AreConsecutive, AreCovered, end_from, next_start, next_group};
 ghost use Rattle.smith_types.specs.GroupedTypes.{IsSound, MayFollow, HasDepth, AreDepths, AreExtensible, extensible_from};
 ghost use Rattle.smith_types.specs.ExampleTypes.{open_type, final_type, shared_type, empty_struct, plain_func, struct_and_below};

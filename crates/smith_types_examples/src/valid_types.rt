@@ -1,12 +1,12 @@
 ghost use Rattle.std.specs.Prelude.{◌≡◌, [], ◌∷◌, true, false, Some, None};
-ghost use Rattle.smith_syntax.specs.declared.value_type.AbstractHeapType.TheVariants as heap;
-ghost use Rattle.smith_syntax.specs.declared.value_type.HeapType.TheVariants.{Abstract, Concrete, Exact};
-ghost use Rattle.smith_syntax.specs.declared.value_type.ValType.TheVariants.{I32, I64, F32, F64, V128, Ref};
-ghost use Rattle.smith_syntax.specs.declared.composite_type.StorageType.TheVariants.{I8, I16, Val};
-ghost use Rattle.smith_syntax.specs.declared.composite_type.CompositeInnerType.TheVariants.{Func};
+ghost use Rattle.smith_types.specs.Syntax.value_type.AbstractHeapType.TheVariants as heap;
+ghost use Rattle.smith_types.specs.Syntax.value_type.HeapType.TheVariants.{Abstract, Concrete, Exact};
+ghost use Rattle.smith_types.specs.Syntax.value_type.ValType.TheVariants.{I32, I64, F32, F64, V128, Ref};
+ghost use Rattle.smith_types.specs.Syntax.composite_type.StorageType.TheVariants.{I8, I16, Val};
+ghost use Rattle.smith_types.specs.Syntax.composite_type.CompositeInnerType.TheVariants.{Func};
 ghost use Rattle.smith_types.specs.ValidTypes.{IsHeapTypeValid, IsHeapTypeShared, IsRefTypeValid, IsValTypeValid, IsShareable};
 ghost use Rattle.smith_types.specs.ValidTypes.{IsFuncTypeValid, IsSupertypeValid, IsTypeValid, IsGroupValid, AreTypesValid, values_of};
-ghost use Rattle.smith_syntax.specs.Features.{every_feature};
+ghost use Rattle.smith_types.specs.Syntax.Features.{every_feature};
 ghost use Rattle.smith_types.specs.ExampleFeatures.{usual_features, without_gc, no_features, gc_alone};
 ghost use Rattle.smith_types.specs.ExampleTypes.{open_type, final_type, shared_type, array, struct, empty_struct, plain_func};
 ghost use Rattle.smith_types.specs.ExampleTypes.{struct_and_below, below_final, referring, range, plain, nullable, not_null, anyref, eqref};

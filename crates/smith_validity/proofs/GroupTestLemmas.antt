@@ -6,11 +6,11 @@ use Rattle.std.specs.List.{AllByRecursion as Each}
 use Rattle.std.specs.declared.ops.Range.{Range}
 use Rattle.std.proofs.lemmas.List.Elements.{All-from_recursion}
 use Rattle.std.proofs.lemmas.Option.{slice_get-get_or, same_Some}
-use Rattle.smith_syntax.specs.Features.{Features}
+use Rattle.smith_types.specs.Syntax.Features.{Features}
 use Rattle.smith_types.specs.Types.{AreConsecutive, end_from, next_start}
 use Rattle.smith_validity.specs.Decided.{AreMembersValid}
 use Rattle.smith_types.specs.ValidTypes.{IsTypeValid}
-use Rattle.smith_syntax.specs.declared.composite_type.SubType.{SubType}
+use Rattle.smith_types.specs.Syntax.composite_type.SubType.{SubType}
 
 -- the members before `i` are valid
 abbrev pub AreBeforeValid : Features → List SubType → Range ℕ → ℕ → Type 0

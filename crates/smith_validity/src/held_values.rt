@@ -3,11 +3,11 @@ ghost use Rattle.smith_types.specs.EntitySpaces.{spaces_in};
 ghost use Rattle.smith_types.specs.HeldValues.{values_in};
 ghost use Rattle.smith_validity.specs.Decided.{IsStored, AreHeld, AreNamed};
 ghost use Rattle.smith_types.specs.ValidTypes.{values_of};
-ghost use Rattle.smith_syntax.specs.declared.value_type.ValType.TheVariants.{Ref};
-ghost use Rattle.smith_syntax.specs.declared.composite_type.FieldType.{FieldType as Field};
-ghost use Rattle.smith_syntax.specs.declared.composite_type.SubType.{SubType as Sub};
-ghost use Rattle.smith_syntax.specs.declared.entity_type.GlobalType.{GlobalType as Global};
-ghost use Rattle.smith_syntax.specs.declared.entity_type.TableType.{TableType as Table};
+ghost use Rattle.smith_types.specs.Syntax.value_type.ValType.TheVariants.{Ref};
+ghost use Rattle.smith_types.specs.Syntax.composite_type.FieldType.{FieldType as Field};
+ghost use Rattle.smith_types.specs.Syntax.composite_type.SubType.{SubType as Sub};
+ghost use Rattle.smith_types.specs.Syntax.entity_type.GlobalType.{GlobalType as Global};
+ghost use Rattle.smith_types.specs.Syntax.entity_type.TableType.{TableType as Table};
 
 use crate::predicate::{Predicate, all_hold};
 use smith_types::{

@@ -2,7 +2,7 @@ ghost use Rattle.std.specs.Prelude.{◌≡◌, ◌↔◌, IsTrue};
 ghost use Rattle.smith_types.specs.EntitySpaces.{spaces_in};
 ghost use Rattle.smith_types.specs.Exports.{IsEntityAt};
 ghost use Rattle.smith_validity.specs.Decided.{count_at, AreExportsFound};
-ghost use Rattle.smith_syntax.specs.declared.entity_type.EntityType.{EntityType};
+ghost use Rattle.smith_types.specs.Syntax.entity_type.EntityType.{EntityType};
 
 use crate::predicate::{Predicate, all_hold};
 use smith_types::{EntitySpaces, ExportKind, Name};

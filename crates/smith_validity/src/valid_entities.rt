@@ -1,5 +1,5 @@
 ghost use Rattle.std.specs.Prelude.{◌≡◌, ◌↔◌, ◌⊎◌, IsTrue, IfSome, All, Some, slice_get};
-ghost use Rattle.smith_syntax.specs.FeatureBits.{features_in};
+ghost use Rattle.smith_types.specs.Syntax.FeatureBits.{features_in};
 ghost use Rattle.smith_types.specs.EntitySpaces.{spaces_in};
 ghost use Rattle.smith_types.specs.Flags.{IsElementTypeEnabled, funcref};
 ghost use Rattle.smith_types.specs.ValidTypes.{IsShareable};
@@ -16,7 +16,7 @@ ghost use Rattle.smith_types.specs.Entities.{
   AreEntitiesValid,
 };
 ghost use Rattle.smith_validity.specs.Decided.{IsTagType, AreTagsValid, AreFuncsValid, AreListsValid};
-ghost use Rattle.smith_syntax.specs.declared.composite_type.SubType.{SubType};
+ghost use Rattle.smith_types.specs.Syntax.composite_type.SubType.{SubType};
 
 use crate::predicate::{Predicate, all_hold};
 use crate::valid_values::{ShareableValue, is_ref_type_valid, is_val_type_valid};

@@ -1,6 +1,6 @@
 ghost use Rattle.std.specs.Prelude.{◌≡◌, ◌↔◌, ◌≤◌, ◌+◌, ℕ, IsTrue, All, false, length, Some};
 ghost use Rattle.std.specs.Prelude.{slice_get};
-ghost use Rattle.smith_syntax.specs.FeatureBits.{features_in};
+ghost use Rattle.smith_types.specs.Syntax.FeatureBits.{features_in};
 ghost use Rattle.smith_types.specs.Flags.{IsInnerEnabled, IsSubTypeEnabled};
 ghost use Rattle.smith_types.specs.Types.{AreConsecutive, next_start};
 ghost use Rattle.smith_types.specs.Subtyping.{IsValInRange};
@@ -13,7 +13,7 @@ ghost use Rattle.smith_types.specs.ValidTypes.{
   AreTypesValid,
 };
 ghost use Rattle.smith_validity.specs.Decided.{AreInRange, AreMembersValid};
-ghost use Rattle.smith_syntax.specs.declared.composite_type.SubType.{SubType};
+ghost use Rattle.smith_types.specs.Syntax.composite_type.SubType.{SubType};
 
 use crate::held_values::all_values_hold;
 use crate::valid_values::{ShareableValue, StandingValue, ValidValue};

@@ -1,5 +1,5 @@
 ghost use Rattle.std.specs.Prelude.{◌≡◌, ◌↔◌, IsTrue, Some, slice_get};
-ghost use Rattle.smith_syntax.specs.FeatureBits.{features_in};
+ghost use Rattle.smith_types.specs.Syntax.FeatureBits.{features_in};
 ghost use Rattle.smith_types.specs.Flags.{IsAbstractEnabled};
 ghost use Rattle.smith_types.specs.Subtyping.{IsValInRange};
 ghost use Rattle.smith_types.specs.ValidTypes.{
@@ -9,7 +9,7 @@ ghost use Rattle.smith_types.specs.ValidTypes.{
   IsHeapTypeShared,
   IsShareable,
 };
-ghost use Rattle.smith_syntax.specs.declared.composite_type.SubType.{SubType};
+ghost use Rattle.smith_types.specs.Syntax.composite_type.SubType.{SubType};
 
 use crate::predicate::Predicate;
 use smith_types::{AbstractHeapType, HeapType, RefType, SubType, ValType, WasmFeatures};

@@ -3,7 +3,7 @@ use Rattle.std.proofs.Common.{◌≡◌, ◌⊎◌, inl, inr, ℕ, List, Option,
 use Rattle.std.specs.List.{Contains}
 use Rattle.smith_config.specs.Features.{features_of}
 use Rattle.smith_config.specs.declared.config.Config.{Config}
-use Rattle.smith_syntax.specs.Features.{Features}
+use Rattle.smith_types.specs.Syntax.Features.{Features}
 use Rattle.smith_binary_program.specs.Valid.{IsValidBinary}
 use Rattle.smith_binary_program.proofs.ValidLemmas.{encoded_valid}
 use Rattle.smith_judge.specs.declared.answer.Answer.{Answer}

@@ -11,7 +11,7 @@ use Rattle.smith_program.specs.Parts.{ProgramParts}
 use Rattle.smith_binary_program.specs.Long.{IsLongProgram}
 use Rattle.smith_binary_program.specs.Programs.{IsEncoded}
 use Rattle.smith_binary_program.specs.Valid.{IsValidBinary}
-use Rattle.smith_syntax.specs.Features.{Features}
+use Rattle.smith_types.specs.Syntax.Features.{Features}
 use Rattle.smith_judge.specs.Answers.{IsAnswer}
 use Rattle.smith_judge.specs.Files.{IsValidFile}
 use Rattle.smith_judge.specs.declared.answer.Answer.{Answer}

@@ -1,34 +1,28 @@
 -- A valid module stays valid with one more global, or several.
-use Rattle.std.proofs.Common.{rules, arith, ◌≡◌, ℕ, ◌+◌, ◌≤◌, Bool, true, false, List, [], ◌∷◌, ◌++◌, Some, length, inl, inr, refl, sym}
-use Rattle.std.proofs.Common.{subst, ap, ◌∙◌}
-use Rattle.std.specs.Prelude.{slice_get, if◌then◌else◌}
+use Rattle.wasm_smith.proofs.Common.{[], All-append, All-cons, All-nil, All-weaker, all_kept, ap, AreExportsValid-grown, AreSpacesGrown}
+use Rattle.wasm_smith.proofs.Common.{arith, Bool, ConstInstr, Context, ElementSegment, false, Features, GlobalType, if◌then◌else◌, inl, inr}
+use Rattle.wasm_smith.proofs.Common.{IsConstExpr, IsContextGrown, IsCounterGlobal, IsValid, length, List, module_features, module_imports}
+use Rattle.wasm_smith.proofs.Common.{module_spaces, ModuleParts, refl, rules, slice_get, subst, sym, true, ValType, ℕ, ◌++◌, ◌+◌, ◌∙◌, ◌∷◌}
+use Rattle.wasm_smith.proofs.Common.{◌≡◌, ◌≤◌}
+use Rattle.std.proofs.Common.{Some}
 use Rattle.std.specs.List.{All}
 use Rattle.std.proofs.lemmas.List.{length-append, append_assoc}
-use Rattle.std.proofs.lemmas.List.Elements.{All-nil, All-cons, All-head, All-tail, All-append, All-weaker}
-use Rattle.smith_syntax.specs.Features.{Features}
-use Rattle.smith_types.specs.Grown.{IsContextGrown, AreSpacesGrown}
+use Rattle.std.proofs.lemmas.List.Elements.{All-head, All-tail}
 use Rattle.smith_types.specs.Imports.{Defines}
 use Rattle.smith_types.specs.Entities.{IsGlobalValid}
 use Rattle.smith_types.specs.ValidTypes.{IsValTypeValid}
-use Rattle.smith_types.specs.Expressions.{Context, IsConstExpr, seeing, seen_by_tables, seen_by_global, seen_by_segments}
+use Rattle.smith_types.specs.Expressions.{seeing, seen_by_global, seen_by_segments, seen_by_tables}
 use Rattle.smith_types.specs.Segments.{IsElementSegmentValid, IsDataValid}
-use Rattle.smith_types.specs.Bodies.{IsCounterGlobal}
-use Rattle.smith_syntax.specs.declared.const_instr.ConstInstr.{ConstInstr}
-use Rattle.smith_syntax.specs.declared.entity_type.GlobalType.{GlobalType}
-use Rattle.smith_syntax.specs.declared.value_type.ValType.{ValType}
-use Rattle.smith_syntax.specs.declared.segments.ElementSegment.{ElementSegment}
-use Rattle.smith_syntax.specs.declared.segments.DataSegment.{DataSegment}
+use Rattle.smith_types.specs.Syntax.segments.DataSegment.{DataSegment}
 use Rattle.smith_types.proofs.ListLemmas.{slice_get-grown, slice_get-last, slice_get-push}
 use Rattle.smith_types.proofs.EntityGrowthLemmas.{no_fewer}
 use Rattle.smith_types.proofs.ExpressionGrowthLemmas.{IsConstExpr-grown}
 use Rattle.smith_types.proofs.SegmentGrowthLemmas.{IsElementSegmentValid-grown, IsDataValid-grown}
-use Rattle.smith_types.proofs.ExportGrowthLemmas.{AreExportsValid-grown}
-use Rattle.smith_module_rules.specs.Module.{module_context, ModuleParts, IsValid, IsGlobalDefined, module_features, module_spaces}
-use Rattle.smith_module_rules.specs.Module.{module_imports, table_context, global_context, segment_context}
+use Rattle.smith_module_rules.specs.Module.{IsGlobalDefined, module_context}
+use Rattle.smith_module_rules.specs.Module.{global_context, segment_context, table_context}
 use Rattle.wasm_smith.specs.Termination.{counter}
 use Rattle.wasm_smith.specs.Sinks.{sink}
 use Rattle.wasm_smith.specs.AddedGlobals.{added_types, added_definitions}
-use Rattle.smith_draw_definitions.proofs.ExtensionLemmas.{all_kept}
 use Rattle.smith_module_rules.proofs.InitialLemmas.{IsTableInitialised-grown}
 
 -- a module with one more global of a type, defined by this initialiser, and with these counters

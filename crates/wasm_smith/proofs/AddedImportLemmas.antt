@@ -1,38 +1,25 @@
 -- The state after imports that no shape fixes are added.
-use Rattle.std.proofs.Common.{◌≡◌, ◌∙◌, Bool, false, List, [], length, inl, inr, refl, sym, ap, subst, arith}
-use Rattle.std.specs.Prelude.{ℕ, All, IfErr, IsSome, OnOk, Option, Result, Ok, Err, Some, None, is_some}
-use Rattle.smith_bytes.specs.declared.error.Error.{Error}
+use Rattle.wasm_smith.proofs.Common.{[], All, all_kept, ap, AreExportsValid-grown, AreSpacesGrown, arith, Bool, Config, Context}
+use Rattle.wasm_smith.proofs.Common.{EntitySpaces, Err, Error, Extends, false, FixesImports, flattened, HasGroundedElements}
+use Rattle.wasm_smith.proofs.Common.{HasGroundedValue, HoldsUngroundedField, IfErr, Imported, imported_spaces, inl, inr, is_memory, is_some}
+use Rattle.wasm_smith.proofs.Common.{IsSanitized, IsSome, items_of_shapes, length, List, MayRefuseImports, None, Ok, OnOk, Option, Passes}
+use Rattle.wasm_smith.proofs.Common.{refl, Result, Returns, ReturnsWhy, Shape, Some, spaces_in, subst, sym, then_with, Why, ◌∙◌, ◌≡◌}
+use Rattle.std.specs.Prelude.{ℕ}
 use Rattle.smith_bytes.specs.declared.error.Count.TheVariants as counts
-use Rattle.smith_bytes.specs.declared.error.Why.{Why}
-use Rattle.smith_bytes.specs.Steps.{Returns, ReturnsWhy, is_memory}
-use Rattle.smith_syntax.specs.declared.imports.Imports.{Imports}
-use Rattle.smith_types.specs.Grown.{Extends, AreImportsGrown, AreSpacesGrown}
-use Rattle.smith_types.specs.Expressions.{Context}
-use Rattle.smith_types.specs.Imports.{EntitySpaces, flattened, imported_spaces}
-use Rattle.smith_types.specs.EntitySpaces.{spaces_in}
-use Rattle.smith_types.proofs.ExportGrowthLemmas.{AreExportsValid-grown}
-use Rattle.smith_config.specs.declared.config.Config.{Config}
-use Rattle.smith_config.specs.declared.shape.Shape.{Shape}
-use Rattle.smith_config.specs.Faults.{Passes}
-use Rattle.smith_config.specs.InUse.{FixesImports}
-use Rattle.smith_config.specs.Sanitized.{IsSanitized}
+use Rattle.smith_types.specs.Syntax.imports.Imports.{Imports}
+use Rattle.smith_types.specs.Grown.{AreImportsGrown}
 use Rattle.smith_types.specs.Floats.{HasNoFloatValue}
-use Rattle.smith_config.specs.Granted.{HasGroundedElements, HasGroundedValue, AreTypesGranted}
-use Rattle.smith_draw_imports.specs.Imported.{IsImported, MayImport, MayRefuseImports}
+use Rattle.smith_config.specs.Granted.{AreTypesGranted}
+use Rattle.smith_draw_imports.specs.Imported.{IsImported, MayImport}
 use Rattle.smith_draw_imports.specs.Importing.{imports_at}
 use Rattle.smith_draw_imports.specs.ImportedEntities.{import_scope}
-use Rattle.smith_draw_types.specs.HeldFields.{HoldsUngroundedField}
 use Rattle.smith_draw_types.proofs.FilledLemmas.{fields_imported}
 use Rattle.smith_draw_imports.proofs.ImportsGrownLemmas.{ungrounded_imported}
-use Rattle.smith_draw_imports.specs.declared.imports_so_far.Imported.{Imported}
 use Rattle.wasm_smith.specs.Build.{imported_at}
 use Rattle.wasm_smith.specs.DrawnContents.{in_full}
 use Rattle.wasm_smith.specs.FirstParts.{ModuleSoFar, module_so_far}
-use Rattle.smith_module_rules.specs.Bounds.{items_of_shapes}
 use Rattle.wasm_smith.specs.DrawnSteps.{AreImportsDrawn, AreTypesDrawn, HoldsGrounded, IsBeyond, drawn_next}
 use Rattle.wasm_smith.specs.declared.build.parts_so_far.PartsSoFar.{PartsSoFar}
-use Rattle.smith_draw_definitions.specs.RequiredExports.{then_with}
-use Rattle.smith_draw_definitions.proofs.ExtensionLemmas.{all_kept}
 use Rattle.smith_draw_definitions.proofs.DefinedGrowthLemmas.{none_float}
 use Rattle.wasm_smith.proofs.FreelyImportedLemmas.{freely_stands}
 use Rattle.wasm_smith.proofs.GrantedLaterLemmas.{types_later}

@@ -1,25 +1,17 @@
 -- The requirements of exports, segments, a start function and interesting values on types, imports
 -- and definitions.
-use Rattle.std.proofs.Common.{◌≡◌, ℕ, ◌^◌, ◌<◌, ◌≤◌, false, length, Option, Some, None, arith, inl, inr}
-use Rattle.std.specs.Prelude.{◌⊎◌, All, IfSome, IsTrue}
-use Rattle.std.proofs.lemmas.List.Elements.{All-weaker}
+use Rattle.wasm_smith.proofs.Common.{All, All-weaker, arith, Config, defined_end, EntitySpaces, false, Features, features_of, FixesExports}
+use Rattle.wasm_smith.proofs.Common.{GroupedTypes, IfSome, inl, inr, IsTrue, length, MemoryType, spaces_in, ℕ, ◌<◌, ◌^◌, ◌≡◌, ◌≤◌}
+use Rattle.std.proofs.Common.{None, Option, Some}
+use Rattle.std.specs.Prelude.{◌⊎◌}
 use Rattle.smith_bytes.specs.declared.error.Count.TheVariants as counts
 use Rattle.smith_types.specs.Entities.{IsMemoryValid, page_log2}
-use Rattle.smith_syntax.specs.Features.{Features}
-use Rattle.smith_types.specs.Imports.{EntitySpaces}
-use Rattle.smith_types.specs.GroupedTypes.{GroupedTypes}
-use Rattle.smith_syntax.specs.declared.entity_type.MemoryType.{MemoryType}
-use Rattle.smith_config.specs.declared.config.Config.{Config}
-use Rattle.smith_config.specs.Features.{features_of}
-use Rattle.smith_config.specs.InUse.{FixesExports}
 use Rattle.smith_draw_consts.specs.ConstScopes.{AreSpacesValid}
 use Rattle.smith_draw_types.specs.declared.spaces.Spaces.{Spaces}
-use Rattle.smith_types.specs.EntitySpaces.{spaces_in}
 use Rattle.wasm_smith.specs.Contents.{MayHoldContents, AreSpacesOver}
 use Rattle.wasm_smith.specs.DrawnContents.{TellsImported, imported_in}
 use Rattle.wasm_smith.specs.DrawnSteps.{AreExportsDrawn}
 use Rattle.wasm_smith.specs.declared.build.parts_so_far.PartsSoFar.{PartsSoFar}
-use Rattle.smith_draw_definitions.proofs.StandsAfterLemmas.{defined_end}
 use Rattle.smith_draw_contents.specs.DrawnElements.{MayDrawElements}
 use Rattle.smith_draw_contents.specs.Exported.{MayExport, MayExportFreely, MayDrawExports}
 

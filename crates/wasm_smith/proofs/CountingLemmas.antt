@@ -1,15 +1,10 @@
 -- A valid module stays valid with one more global, which counts fuel.
-use Rattle.std.proofs.Common.{ℕ, [], ◌∷◌, ◌++◌, length, sym, subst, arith}
-use Rattle.std.specs.Prelude.{Result, Ok, Err}
+use Rattle.wasm_smith.proofs.Common.{[], All-append, All-cons, All-nil, arith, Err, Error, I32Const, IsCounterGlobal, IsValid, length}
+use Rattle.wasm_smith.proofs.Common.{module_imports, ModuleParts, Ok, Result, subst, sym, ℕ, ◌++◌, ◌∷◌}
 use Rattle.std.specs.Int.{cast_signed, w32}
 use Rattle.std.specs.List.{All}
-use Rattle.std.proofs.lemmas.List.Elements.{All-nil, All-cons, All-append}
-use Rattle.smith_bytes.specs.declared.error.Error.{Error}
-use Rattle.smith_types.specs.Bodies.{IsCounterGlobal}
-use Rattle.smith_syntax.specs.declared.const_instr.ConstInstr.TheVariants.{I32Const}
 use Rattle.smith_types.proofs.ConstStepLemmas.{number_given}
 use Rattle.smith_types.proofs.ListLemmas.{slice_get-last}
-use Rattle.smith_module_rules.specs.Module.{ModuleParts, IsValid, module_imports}
 use Rattle.wasm_smith.specs.Termination.{counter, AddsCounter, AnswersCounter}
 use Rattle.wasm_smith.proofs.AddedGlobalLemmas.{all_globals, defined_valid, still_counters}
 

@@ -1,11 +1,9 @@
 -- Two modules for the same configuration and the same bytes.
-use Rattle.std.proofs.Common.{arith, ◌≡◌, ◌⊎◌, inl, inr, ℕ, Bool, zero, suc, ◌<◌, List, [], ◌∷◌, Ok, Err, Result, refl, sym, subst, ap, ◌∙◌}
-use Rattle.std.specs.List.{Contains}
-use Rattle.std.proofs.lemmas.List.Elements.{All-contains, Contains-append_cases, Contains-append_right, Contains-push_cases}
-use Rattle.smith_bytes.specs.declared.error.Error.{Error}
-use Rattle.smith_config.specs.declared.config.Config.{Config}
-use Rattle.smith_module_rules.specs.InterestingValues.{AreAll, HasInterestingValues, IsInteresting32, IsInteresting64}
-use Rattle.smith_module_rules.specs.Module.{ModuleParts}
+use Rattle.wasm_smith.proofs.Common.{[], All-contains, ap, arith, Bool, Config, Contains, Error, HasInterestingValues, inl, inr, List}
+use Rattle.wasm_smith.proofs.Common.{ModuleParts, refl, subst, suc, sym, zero, ℕ, ◌<◌, ◌∙◌, ◌∷◌, ◌≡◌, ◌⊎◌}
+use Rattle.std.proofs.Common.{Err, Ok, Result}
+use Rattle.std.proofs.lemmas.List.Elements.{Contains-append_cases, Contains-append_right, Contains-push_cases}
+use Rattle.smith_module_rules.specs.InterestingValues.{AreAll, IsInteresting32, IsInteresting64}
 use Rattle.smith_module_rules.proofs.MergeLemmas.{Rises, rises_from}
 use Rattle.wasm_smith.specs.Build.{as_drawn}
 use Rattle.wasm_smith.specs.Generated.{IsGenerated}

@@ -1,26 +1,18 @@
 -- A module made of drawn parts keeps its bounds and meets its minimums.
-use Rattle.std.proofs.Common.{◌≡◌, ℕ, ◌+◌, ◌≤◌, Bool, List, Option, Some, None, inl, inr, refl, arith, max}
-use Rattle.std.specs.Prelude.{is_some, ◌||◌, sum_by, if◌then◌else◌}
-use Rattle.smith_bytes.specs.declared.error.Count.{Count}
+use Rattle.wasm_smith.proofs.Common.{arith, Bool, Config, Count, EntitySpaces, Export, ExportKind, Exports, flattened, if◌then◌else◌, inl}
+use Rattle.wasm_smith.proofs.Common.{inr, is_some, items_of_export_shape, items_of_shapes, List, max, maximum_of, minimum_of, module_spaces}
+use Rattle.wasm_smith.proofs.Common.{ModuleParts, refl, Shape, spaces_in, SubType, sum_by, ℕ, ◌+◌, ◌≡◌, ◌≤◌}
+use Rattle.std.proofs.Common.{None, Option, Some}
+use Rattle.std.specs.Prelude.{◌||◌}
 use Rattle.smith_bytes.specs.declared.error.Count.TheVariants as counts
-use Rattle.smith_types.specs.Imports.{flattened}
-use Rattle.smith_syntax.specs.declared.entity_type.ExportKind.{ExportKind}
-use Rattle.smith_syntax.specs.declared.entity_type.ExportKind.TheVariants as kind
-use Rattle.smith_config.specs.declared.config.Config.{Config}
-use Rattle.smith_config.specs.declared.shape.Shape.{Shape}
-use Rattle.smith_config.specs.Faults.{minimum_of, maximum_of}
-use Rattle.smith_module_rules.specs.Bounds.{KeepsBounds, MeetsMinimums, MaximumApplies, MinimumApplies, count_of, items_of_shapes}
-use Rattle.smith_module_rules.specs.Bounds.{items_of_export_shape, export_size, imports_size, exports_size}
-use Rattle.smith_types.specs.Imports.{EntitySpaces}
-use Rattle.smith_types.specs.EntitySpaces.{spaces_in}
-use Rattle.smith_syntax.specs.declared.composite_type.SubType.{SubType}
-use Rattle.smith_draw_contents.specs.declared.exports_so_far.Exports.{Exports}
+use Rattle.smith_types.specs.Syntax.entity_type.ExportKind.TheVariants as kind
+use Rattle.smith_module_rules.specs.Bounds.{count_of, KeepsBounds, MaximumApplies, MeetsMinimums, MinimumApplies}
+use Rattle.smith_module_rules.specs.Bounds.{export_size, exports_size, imports_size}
 use Rattle.wasm_smith.specs.FirstParts.{size_of_imports}
 use Rattle.wasm_smith.specs.Build.{parts_of}
 use Rattle.wasm_smith.specs.DrawnContents.{AreExportsMade}
 use Rattle.wasm_smith.specs.DrawnParts.{IsDrawnFor}
-use Rattle.smith_module_rules.specs.ExportedItems.{Export, item_size, exported_size}
-use Rattle.smith_module_rules.specs.Module.{ModuleParts, module_spaces}
+use Rattle.smith_module_rules.specs.ExportedItems.{exported_size, item_size}
 use Rattle.wasm_smith.specs.declared.build.parts_so_far.PartsSoFar.{PartsSoFar}
 use Rattle.wasm_smith.proofs.MadeExportsLemmas.{exports_free}
 

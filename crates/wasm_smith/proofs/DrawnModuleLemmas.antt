@@ -1,16 +1,12 @@
 -- A module made of drawn parts is valid.
-use Rattle.std.proofs.Common.{◌≡◌, ℕ, ◌+◌, Bool, List, Some, length, arith, ap, ◌∙◌, length-append}
-use Rattle.std.specs.Prelude.{slice_get, Option}
-use Rattle.std.proofs.lemmas.List.Elements.{All-nil}
-use Rattle.smith_types.specs.Bodies.{IsCounterGlobal}
-use Rattle.smith_syntax.specs.declared.const_instr.ConstInstr.{ConstInstr}
-use Rattle.smith_config.specs.declared.config.Config.{Config}
+use Rattle.wasm_smith.proofs.Common.{All-nil, ap, arith, Bool, Config, ConstInstr, defined_end, IsCounterGlobal, IsValid, length}
+use Rattle.wasm_smith.proofs.Common.{length-append, List, module_imports, ModuleParts, Option, slice_get, ℕ, ◌+◌, ◌∙◌, ◌≡◌}
+use Rattle.std.proofs.Common.{Some}
 use Rattle.wasm_smith.specs.Bodies.{HasBodies}
 use Rattle.wasm_smith.specs.Build.{parts_of}
 use Rattle.wasm_smith.specs.DrawnParts.{IsDrawnFor}
-use Rattle.smith_module_rules.specs.Module.{ModuleParts, IsValid, AreSpacesMade, IsTableDefined, IsGlobalDefined, module_imports}
+use Rattle.smith_module_rules.specs.Module.{AreSpacesMade, IsGlobalDefined, IsTableDefined}
 use Rattle.wasm_smith.specs.declared.build.parts_so_far.PartsSoFar.{PartsSoFar}
-use Rattle.smith_draw_definitions.proofs.StandsAfterLemmas.{defined_end}
 
 -- a valid module has a body for each function that it defines
 pub bodies_there : (m : ModuleParts) → IsValid m → HasBodies m.num_defined_funcs m.funcs m.code

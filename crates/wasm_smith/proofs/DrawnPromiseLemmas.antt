@@ -1,9 +1,7 @@
 -- A module made of drawn parts keeps its promises.
-use Rattle.std.proofs.Common.{refl, Bool}
-use Rattle.smith_config.specs.declared.config.Config.{Config}
+use Rattle.wasm_smith.proofs.Common.{Bool, Config, HasInterestingValues, refl}
 use Rattle.wasm_smith.specs.Build.{parts_of}
 use Rattle.wasm_smith.specs.DrawnParts.{IsDrawnFor}
-use Rattle.smith_module_rules.specs.InterestingValues.{HasInterestingValues}
 use Rattle.smith_module_rules.specs.Promises.{KeepsPromises}
 use Rattle.wasm_smith.specs.declared.build.parts_so_far.PartsSoFar.{PartsSoFar}
 use Rattle.wasm_smith.proofs.GrantedModuleLemmas.{granted_drawn, locals_drawn}

@@ -1,33 +1,19 @@
 -- More may be drawn over the parts after entities are defined after imports, and defining is
 -- refused only as a module may be.
-use Rattle.std.proofs.Common.{◌≡◌, ◌≤◌, ◌^◌, ℕ, [], inl, inr, refl, subst, sym, arith}
-use Rattle.std.specs.Prelude.{false, All, Result, Ok, Err, OnOk}
-use Rattle.smith_bytes.specs.declared.error.Count.{Count}
+use Rattle.wasm_smith.proofs.Common.{[], All, all_kept, AreShapesValid, arith, Config, Context, Count, count_in, defined_end, Definitions}
+use Rattle.wasm_smith.proofs.Common.{drawn_beside, EntitySpaces, Err, Error, flattened, HasGroundedElements, HasGroundedValue, HasNoFloat}
+use Rattle.wasm_smith.proofs.Common.{HasRoom, HoldsNonNullable, HoldsUngroundedField, imported_spaces, inl, inr, IsContextGrown}
+use Rattle.wasm_smith.proofs.Common.{IsSanitized, MayRefuse, minimum_of, Ok, OnOk, Passes, refl, Result, spaces_in, subst, sym}
+use Rattle.wasm_smith.proofs.Common.{ungrounded_before, ℕ, ◌^◌, ◌≡◌, ◌≤◌}
+use Rattle.std.specs.Prelude.{false}
 use Rattle.smith_bytes.specs.declared.error.Count.TheVariants as counts
-use Rattle.smith_bytes.specs.declared.error.Error.{Error}
-use Rattle.smith_types.specs.Expressions.{Context}
-use Rattle.smith_types.specs.Floats.{HasNoFloat}
-use Rattle.smith_types.specs.Grown.{IsContextGrown}
-use Rattle.smith_types.specs.Imports.{EntitySpaces, flattened, imported_spaces}
-use Rattle.smith_types.specs.EntitySpaces.{spaces_in}
 use Rattle.smith_types.specs.declared.entity_spaces.EntitySpaces.{EntitySpaces as Held}
-use Rattle.smith_config.specs.declared.config.Config.{Config}
-use Rattle.smith_config.specs.Faults.{Passes, minimum_of}
-use Rattle.smith_config.specs.Sanitized.{IsSanitized}
-use Rattle.smith_draw_types.specs.HeldFields.{HoldsUngroundedField}
-use Rattle.smith_draw_types.proofs.FilledLemmas.{fields_before, ungrounded_before}
-use Rattle.smith_config.specs.Granted.{HasGroundedElements, HasGroundedValue}
-use Rattle.smith_module_rules.specs.ShapeImports.{count_in}
+use Rattle.smith_draw_types.proofs.FilledLemmas.{fields_before}
 use Rattle.wasm_smith.specs.FirstParts.{IsOfEntities, StandsSoFar}
-use Rattle.smith_draw_definitions.specs.Defined.{AreDefinedMore, AreFilled, HasRoom, HaveNoFloats, MayDefine, MayRefuseDefined}
-use Rattle.smith_draw_definitions.specs.Defined.{drawn_beside}
+use Rattle.smith_draw_definitions.specs.Defined.{AreDefinedMore, AreFilled, HaveNoFloats, MayDefine, MayRefuseDefined}
 use Rattle.wasm_smith.specs.DrawnSteps.{AreEntitiesDrawn, AreImportsDrawn, HoldsGrounded, MayGoOn, drawn_next}
-use Rattle.smith_module_rules.specs.Refusals.{AreShapesValid, HoldsNonNullable, MayRefuse}
-use Rattle.smith_draw_definitions.specs.declared.definitions.Definitions.{Definitions}
 use Rattle.wasm_smith.specs.declared.build.parts_so_far.PartsSoFar.{PartsSoFar}
 use Rattle.wasm_smith.proofs.ShapeItemLemmas.{few_items_of_shapes}
-use Rattle.smith_draw_definitions.proofs.ExtensionLemmas.{all_kept}
-use Rattle.smith_draw_definitions.proofs.StandsAfterLemmas.{defined_end}
 use Rattle.smith_draw_definitions.proofs.DefinedLemmas.{all_after}
 use Rattle.smith_draw_definitions.proofs.DefinedGrowthLemmas.{filled_grown, may_define_after}
 use Rattle.wasm_smith.proofs.ExportsGrownLemmas.{exports_grown}

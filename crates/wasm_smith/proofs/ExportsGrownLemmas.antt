@@ -2,12 +2,9 @@
 use Rattle.std.specs.Prelude.{List}
 use Rattle.std.specs.List.{AllZip}
 use Rattle.smith_types.specs.Exports.{AreExportsValid}
-use Rattle.smith_types.specs.Grown.{AreSpacesGrown}
-use Rattle.smith_types.specs.Imports.{EntitySpaces}
-use Rattle.smith_syntax.specs.declared.entity_type.EntityType.{EntityType}
-use Rattle.smith_types.proofs.ExportGrowthLemmas.{AreExportsValid-grown, IsEntityAt-grown}
+use Rattle.wasm_smith.proofs.Common.{AreExportsValid-grown, AreSpacesGrown, EntitySpaces, EntityType, Export}
+use Rattle.smith_types.proofs.ExportGrowthLemmas.{IsEntityAt-grown}
 use Rattle.smith_types.proofs.ListLemmas.{AllZip-weaker}
-use Rattle.smith_module_rules.specs.ExportedItems.{Export}
 use Rattle.smith_module_rules.specs.ShapesKept.{IsSameExport}
 
 -- valid exports stay valid

@@ -1,36 +1,19 @@
 -- The first parts of a module: imports of a shape are valid and within the bounds, and the results
 -- of steps.
-use Rattle.std.proofs.Common.{◌≡◌, ◌⊎◌, ℕ, ◌+◌, ◌<◌, ◌≤◌, ◌^◌, Bool, true, false, List, [], ◌∷◌, ◌++◌, length, inl, inr, refl, sym, ap}
-use Rattle.std.proofs.Common.{subst, arith, lt-ltb, length-append, append-nil}
-use Rattle.std.specs.Prelude.{All, IsTrue, IfSome, Option, Some, None, Result, Err, IsErrAnd}
-use Rattle.std.specs.List.{Contains}
-use Rattle.std.proofs.lemmas.List.Elements.{All-weaker, Contains-append_left}
-use Rattle.smith_bytes.specs.declared.error.Count.{Count}
+use Rattle.wasm_smith.proofs.Common.{[], AddsLimitsOf, All, All-weaker, ap, AreNumbersWithin, AreShapesValid, AreTypesValid, arith, Bool}
+use Rattle.wasm_smith.proofs.Common.{Config, Contains, Contains-append_left, Count, count_in, EntitySpaces, EntityType, Err, Error, false}
+use Rattle.wasm_smith.proofs.Common.{features_of, GroupedTypes, HasRoom, IfSome, Import, imported_spaces, inl, inr, is_memory, IsErrAnd}
+use Rattle.wasm_smith.proofs.Common.{IsSanitized, IsShapeValid, IsTrue, items_of_exports, items_of_module_shape, length, length-append}
+use Rattle.wasm_smith.proofs.Common.{List, None, nothing_defined, Option, refl, Result, Returns, Shape, shape_for, shape_imports}
+use Rattle.wasm_smith.proofs.Common.{shape_spaces, shape_types, Some, space_of, StandsAfter, subst, sym, then_with, true, ℕ, ◌++◌, ◌+◌, ◌<◌}
+use Rattle.wasm_smith.proofs.Common.{◌^◌, ◌∷◌, ◌≡◌, ◌≤◌, ◌⊎◌}
+use Rattle.std.proofs.Common.{append-nil, lt-ltb}
 use Rattle.smith_bytes.specs.declared.error.Count.TheVariants as counts
-use Rattle.smith_bytes.specs.declared.error.Error.{Error}
 use Rattle.smith_bytes.specs.declared.error.Which.TheVariants.{AvailableImports, ModuleShape}
 use Rattle.smith_types.specs.Entities.{AreEntitiesValid, AreCountsEnabled}
-use Rattle.smith_types.specs.Imports.{EntitySpaces, Defines, imported, imported_spaces, tag_of, func_of, table_of, memory_of, global_of}
-use Rattle.smith_types.specs.GroupedTypes.{GroupedTypes}
-use Rattle.smith_types.specs.ValidTypes.{AreTypesValid}
-use Rattle.smith_syntax.specs.declared.entity_type.EntityType.{EntityType}
-use Rattle.smith_syntax.specs.declared.entity_type.EntityType.TheVariants as entity
-use Rattle.smith_syntax.specs.declared.imports.Import.{Import}
-use Rattle.smith_config.specs.declared.config.Config.{Config}
-use Rattle.smith_config.specs.declared.shape.Shape.{Shape}
-use Rattle.smith_config.specs.Features.{features_of}
-use Rattle.smith_config.specs.Sanitized.{IsSanitized}
-use Rattle.smith_config.specs.Shapes.{IsShapeValid, shape_imports, shape_spaces, shape_types, space_of}
-use Rattle.smith_draw_imports.specs.Imported.{AreNumbersWithin}
-use Rattle.smith_module_rules.specs.ShapeImports.{count_in}
-use Rattle.smith_draw_definitions.specs.Defined.{nothing_defined}
-use Rattle.smith_module_rules.specs.Bounds.{items_of_module_shape, items_of_exports}
-use Rattle.smith_draw_definitions.specs.Defined.{HasRoom}
-use Rattle.smith_module_rules.specs.Refusals.{AreShapesValid, shape_for}
-use Rattle.smith_draw_definitions.specs.Defined.{StandsAfter}
-use Rattle.smith_draw_definitions.specs.Required.{AddsLimitsOf, MayDefineMore}
-use Rattle.smith_bytes.specs.Steps.{Returns, is_memory}
-use Rattle.smith_draw_definitions.specs.RequiredExports.{then_with}
+use Rattle.smith_types.specs.Imports.{Defines, func_of, global_of, imported, memory_of, table_of, tag_of}
+use Rattle.smith_types.specs.Syntax.entity_type.EntityType.TheVariants as entity
+use Rattle.smith_draw_definitions.specs.Required.{MayDefineMore}
 use Rattle.smith_draw_definitions.proofs.RequiredExportsLoop.{refused_by}
 
 -- there are no more of one kind than imports

@@ -1,28 +1,17 @@
 -- The parts of a module after it begins with its shapes are valid, and no more than these and the
 -- configuration allow.
-use Rattle.std.proofs.Common.{◌≡◌, ◌∙◌, ℕ, ◌≤◌, List, [], length, inl, inr, refl, sym, ap, subst, arith}
-use Rattle.std.specs.Prelude.{All, IfSome, IsSome, Option, Some, None}
-use Rattle.std.specs.List.{Contains}
-use Rattle.std.proofs.lemmas.List.Elements.{All-nil, All-weaker, Contains-append_left}
-use Rattle.smith_bytes.specs.declared.error.Count.{Count}
+use Rattle.wasm_smith.proofs.Common.{[], All, All-nil, All-weaker, ap, AreNumbersWithin, arith, Config, Contains, Contains-append_left}
+use Rattle.wasm_smith.proofs.Common.{Count, count_in, EntitySpaces, features_of, flattened, GroupedTypes, IfSome, Import, imported_spaces}
+use Rattle.wasm_smith.proofs.Common.{inl, inr, IsFuncTypeIndex, IsSome, items_of_module_shape, items_of_shapes, length, List, maximum_of}
+use Rattle.wasm_smith.proofs.Common.{None, Option, refl, Shape, shape_spaces, Some, spaces_in, subst, sym, ℕ, ◌∙◌, ◌≡◌, ◌≤◌}
 use Rattle.smith_bytes.specs.declared.error.Count.TheVariants as counts
-use Rattle.smith_types.specs.Entities.{AreEntitiesValid, AreCountsEnabled, IsTagValid, IsFuncTypeIndex, IsTableValid, IsMemoryValid}
+use Rattle.smith_types.specs.Entities.{AreCountsEnabled, AreEntitiesValid, IsMemoryValid, IsTableValid, IsTagValid}
 use Rattle.smith_types.specs.Entities.{IsGlobalValid}
-use Rattle.smith_types.specs.Imports.{EntitySpaces, IsImportsValid, flattened, imported_spaces}
-use Rattle.smith_types.specs.EntitySpaces.{spaces_in}
-use Rattle.smith_types.specs.GroupedTypes.{GroupedTypes}
-use Rattle.smith_syntax.specs.declared.imports.Import.{Import}
+use Rattle.smith_types.specs.Imports.{IsImportsValid}
 use Rattle.smith_types.proofs.ValidityLemmas.{no_types}
-use Rattle.smith_config.specs.declared.config.Config.{Config}
-use Rattle.smith_config.specs.declared.shape.Shape.{Shape}
-use Rattle.smith_config.specs.Faults.{maximum_of}
-use Rattle.smith_config.specs.Features.{features_of}
-use Rattle.smith_config.specs.Shapes.{shape_spaces}
-use Rattle.smith_draw_imports.specs.Imported.{AreNumbersWithin}
-use Rattle.smith_module_rules.specs.ShapeImports.{count_in}
 use Rattle.wasm_smith.specs.FirstParts.{ModuleSoFar, HasNothing, AreFirstParts, AreFirstPartsByModule, AreFirstPartsByImports, IsOfEntities}
 use Rattle.wasm_smith.specs.FirstParts.{IsTableKept, IsMemoryKept, StandsSoFar}
-use Rattle.smith_module_rules.specs.Bounds.{items_of_shapes, items_of_module_shape, items_of_available_imports}
+use Rattle.smith_module_rules.specs.Bounds.{items_of_available_imports}
 use Rattle.wasm_smith.specs.declared.build.parts_so_far.PartsSoFar.{PartsSoFar}
 use Rattle.wasm_smith.proofs.FirstPartsLemmas.{stands_alone}
 

@@ -1,36 +1,19 @@
 -- More may be drawn over the first parts of a module, with types drawn after those of its shapes.
-use Rattle.std.proofs.Common.{rules, ◌≡◌, ℕ, ◌≤◌, max, List, [], length, inl, inr, refl, sym, ap, subst, arith, false}
-use Rattle.std.specs.Prelude.{All, IfSome, OnOk, Option, Some, None, Result, Ok, Err}
-use Rattle.std.specs.List.{Contains}
-use Rattle.std.proofs.lemmas.List.Elements.{All-contains, All-nil, All-weaker}
-use Rattle.smith_bytes.specs.declared.error.Error.{Error}
+use Rattle.wasm_smith.proofs.Common.{[], All, All-contains, All-nil, All-weaker, all_kept, ap, AreShapesValid, AreTypesValid, arith, Config}
+use Rattle.wasm_smith.proofs.Common.{Contains, Context, EntitySpaces, EntityType, Err, Error, ExportKind, Extends, false, features_of}
+use Rattle.wasm_smith.proofs.Common.{FixesImports, GroupedTypes, HasGranted, HasGroundedElements, HasGroundedValue, HasNoFloat}
+use Rattle.wasm_smith.proofs.Common.{HoldsNonNullable, HoldsUngroundedField, IfSome, inl, inr, IsContextGrown, length, List, max, None, Ok}
+use Rattle.wasm_smith.proofs.Common.{OnOk, Option, refl, Result, rules, Shape, shape_spaces, shape_types, Some, space_of, spaces_in, subst}
+use Rattle.wasm_smith.proofs.Common.{SubType, sym, ungrounded_before, ℕ, ◌≡◌, ◌≤◌}
 use Rattle.smith_bytes.specs.declared.error.Which.TheVariants as which
 use Rattle.smith_types.specs.Exports.{AreExportsValid, IsEntityAt}
-use Rattle.smith_types.specs.Expressions.{Context}
-use Rattle.smith_types.specs.Floats.{HasNoFloat}
-use Rattle.smith_types.specs.Grown.{Extends, IsContextGrown}
-use Rattle.smith_types.specs.Imports.{EntitySpaces}
-use Rattle.smith_types.specs.EntitySpaces.{spaces_in}
-use Rattle.smith_types.specs.GroupedTypes.{GroupedTypes}
-use Rattle.smith_types.specs.ValidTypes.{AreTypesValid}
-use Rattle.smith_syntax.specs.declared.composite_type.SubType.{SubType}
-use Rattle.smith_syntax.specs.declared.entity_type.EntityType.{EntityType}
-use Rattle.smith_syntax.specs.declared.entity_type.ExportKind.{ExportKind}
-use Rattle.smith_config.specs.declared.config.Config.{Config}
-use Rattle.smith_config.specs.declared.shape.Shape.{Shape}
-use Rattle.smith_config.specs.Features.{features_of}
-use Rattle.smith_config.specs.InUse.{FixesImports}
-use Rattle.smith_config.specs.Shapes.{most_listed, shape_spaces, shape_types, space_of}
-use Rattle.smith_draw_types.specs.HeldFields.{HoldsUngroundedField}
+use Rattle.smith_config.specs.Shapes.{most_listed}
 use Rattle.smith_draw_types.specs.FuncSizes.{HasFewValues, IsSmall}
-use Rattle.smith_config.specs.Granted.{AreTypesGranted, HasGranted, HasGroundedElements, HasGroundedValue}
+use Rattle.smith_config.specs.Granted.{AreTypesGranted}
 use Rattle.smith_draw_types.specs.Grounding.{over}
-use Rattle.smith_draw_types.proofs.FilledLemmas.{ungrounded_before}
 use Rattle.smith_draw_types.proofs.FuncSizeLemmas.{shape_few}
 use Rattle.wasm_smith.specs.FirstParts.{ModuleSoFar, HasNothing, AreFirstParts, AreFirstPartsByModule, AreFirstPartsByImports}
 use Rattle.wasm_smith.specs.DrawnSteps.{AreTypesDrawn, HoldsGrounded, drawn_next}
-use Rattle.smith_draw_definitions.proofs.ExtensionLemmas.{all_kept}
-use Rattle.smith_module_rules.specs.Refusals.{AreShapesValid, HoldsNonNullable}
 use Rattle.wasm_smith.specs.declared.build.parts_so_far.PartsSoFar.{PartsSoFar}
 use Rattle.wasm_smith.proofs.FirstPartsLemmas.{module_used, imports_used}
 use Rattle.wasm_smith.proofs.FirstPartsStandLemmas.{first_parts_stand}

@@ -1,16 +1,10 @@
 -- The parts after imports are drawn, if no shape fixes them, are valid and no more than the
 -- configuration allows.
-use Rattle.std.proofs.Common.{◌≡◌, Bool, inr, subst, sym, arith}
-use Rattle.std.specs.Prelude.{All, None}
-use Rattle.std.proofs.lemmas.List.Elements.{All-weaker}
-use Rattle.smith_types.specs.Imports.{EntitySpaces, flattened, imported_spaces}
-use Rattle.smith_config.specs.declared.config.Config.{Config}
-use Rattle.smith_config.specs.Sanitized.{IsSanitized}
+use Rattle.wasm_smith.proofs.Common.{All, All-weaker, AreNumbersWithin, arith, Bool, Config, EntitySpaces, flattened, Imported}
+use Rattle.wasm_smith.proofs.Common.{imported_spaces, inr, IsSanitized, None, nothing_defined, subst, sym, ◌≡◌}
 use Rattle.smith_config.specs.EntityBounds.{IsTableWithin, IsMemoryWithin}
-use Rattle.smith_draw_imports.specs.Imported.{AreNumbersWithin, AreSpacesWithin, IsImported, spaces_of}
-use Rattle.smith_draw_imports.specs.declared.imports_so_far.Imported.{Imported}
+use Rattle.smith_draw_imports.specs.Imported.{AreSpacesWithin, IsImported, spaces_of}
 use Rattle.wasm_smith.specs.FirstParts.{IsMemoryKept, IsTableKept, StandsSoFar}
-use Rattle.smith_draw_definitions.specs.Defined.{nothing_defined}
 use Rattle.wasm_smith.specs.declared.build.parts_so_far.PartsSoFar.{PartsSoFar}
 use Rattle.wasm_smith.proofs.FirstPartsLemmas.{stands_alone, taken_enabled}
 use Rattle.wasm_smith.proofs.FirstPartsStandLemmas.{taken_most}

@@ -1,10 +1,6 @@
 -- The export of a counter of fuel has a new name, and a valid module stays valid with it.
-use Rattle.std.proofs.Common.{◌≡◌, ℕ, ◌<◌, false, List, length, sym, subst, arith}
-use Rattle.std.specs.Prelude.{codes, Result, Ok, Err}
-use Rattle.smith_bytes.specs.declared.error.Error.{Error}
-use Rattle.smith_module_rules.specs.ExportedItems.{Export}
-use Rattle.smith_module_rules.specs.Module.{ModuleParts, IsValid}
-use Rattle.smith_draw_contents.specs.Exporting.{is_exported}
+use Rattle.wasm_smith.proofs.Common.{arith, codes, Err, Error, Export, false, is_exported, IsValid, length, List, ModuleParts, Ok, Result}
+use Rattle.wasm_smith.proofs.Common.{subst, sym, ℕ, ◌<◌, ◌≡◌}
 use Rattle.wasm_smith.specs.FuelExport.{AnswersFuelExport, fuel_name}
 use Rattle.wasm_smith.proofs.GlobalExportLemmas.{exporting_valid, unused_is_new}
 

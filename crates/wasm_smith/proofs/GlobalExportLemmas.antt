@@ -1,14 +1,14 @@
 -- The export of a global has a new name, and a valid module stays valid with it.
-use Rattle.std.proofs.Common.{◌≡◌, ℕ, zero, suc, ◌<◌, ◌≤◌, Bool, true, false, List, [], ◌++◌, length, length-append, get_or, refl, ap}
-use Rattle.std.proofs.Common.{append-nil, arith}
-use Rattle.std.specs.Prelude.{codes, if◌then◌else◌}
+use Rattle.wasm_smith.proofs.Common.{[], ap, arith, Bool, codes, Export, false, if◌then◌else◌, is_exported, IsValid, length, length-append}
+use Rattle.wasm_smith.proofs.Common.{List, module_spaces, ModuleParts, refl, suc, true, zero, ℕ, ◌++◌, ◌<◌, ◌≡◌, ◌≤◌}
+use Rattle.std.proofs.Common.{get_or}
+use Rattle.std.proofs.Common.{append-nil}
 use Rattle.std.specs.List.{repeat}
 use Rattle.std.proofs.lemmas.Option.{slice_get-get_or}
-use Rattle.smith_syntax.specs.declared.entity_type.ExportKind.TheVariants as kind
-use Rattle.smith_syntax.specs.declared.entity_type.EntityType.TheVariants as entity
-use Rattle.smith_module_rules.specs.ExportedItems.{Export, IsStanding}
-use Rattle.smith_module_rules.specs.Module.{ModuleParts, IsValid, module_spaces}
-use Rattle.smith_draw_contents.specs.Exporting.{is_exported, longest_export}
+use Rattle.smith_types.specs.Syntax.entity_type.ExportKind.TheVariants as kind
+use Rattle.smith_types.specs.Syntax.entity_type.EntityType.TheVariants as entity
+use Rattle.smith_module_rules.specs.ExportedItems.{IsStanding}
+use Rattle.smith_draw_contents.specs.Exporting.{longest_export}
 use Rattle.smith_draw_contents.proofs.ExportNameLemmas.{exported_short}
 use Rattle.smith_draw_contents.proofs.ExportsFitLemmas.{valid_push}
 use Rattle.wasm_smith.specs.GlobalExport.{unused_name, with_global}

@@ -1,17 +1,8 @@
 -- References granted in one context are granted in another, if it has no ungrounded reference that
 -- the first did not have.
-use Rattle.std.proofs.Common.{List}
-use Rattle.std.specs.Prelude.{All}
-use Rattle.std.proofs.lemmas.List.Elements.{All-weaker}
-use Rattle.smith_types.specs.Expressions.{Context}
-use Rattle.smith_types.specs.ValidTypes.{values_of}
-use Rattle.smith_syntax.specs.declared.composite_type.SubType.{SubType}
-use Rattle.smith_syntax.specs.declared.entity_type.GlobalType.{GlobalType}
-use Rattle.smith_syntax.specs.declared.entity_type.TableType.{TableType}
-use Rattle.smith_syntax.specs.declared.value_type.ValType.{ValType}
-use Rattle.smith_syntax.specs.declared.value_type.ValType.TheVariants.{Ref}
-use Rattle.smith_config.specs.declared.config.Config.{Config}
-use Rattle.smith_config.specs.Granted.{IsUngrounded, HasGranted, IsGranted, HasGroundedElements, HasGroundedValue}
+use Rattle.wasm_smith.proofs.Common.{All, All-weaker, Config, Context, GlobalType, HasGranted, HasGroundedElements, HasGroundedValue}
+use Rattle.wasm_smith.proofs.Common.{IsGranted, IsUngrounded, List, SubType, TableType, ValType, values_of}
+use Rattle.smith_types.specs.Syntax.value_type.ValType.TheVariants.{Ref}
 
 module _ (config : Config) (old new : Context)
     (before : (value : ValType) → IsUngrounded config new value → IsUngrounded config old value) where

@@ -1,18 +1,13 @@
 -- A module holds no ungrounded non-nullable reference if the drawn parts hold none.
-use Rattle.std.proofs.Common.{ℕ, subst}
+use Rattle.wasm_smith.proofs.Common.{All-weaker, Config, Context, ElementSegment, IsGranted, IsUngrounded, ModuleParts, spaces_in, subst}
+use Rattle.wasm_smith.proofs.Common.{ValType, ℕ}
 use Rattle.std.specs.List.{flat_map}
-use Rattle.std.proofs.lemmas.List.Elements.{All-weaker}
-use Rattle.smith_types.specs.Expressions.{Context}
 use Rattle.smith_types.specs.Grounded.{IsGrounded}
-use Rattle.smith_types.specs.EntitySpaces.{spaces_in}
-use Rattle.smith_syntax.specs.declared.code.Code.{Code}
-use Rattle.smith_syntax.specs.declared.segments.ElementSegment.{ElementSegment}
-use Rattle.smith_syntax.specs.declared.value_type.ValType.{ValType}
-use Rattle.smith_syntax.specs.declared.value_type.ValType.TheVariants as vals
+use Rattle.smith_types.specs.Syntax.code.Code.{Code}
+use Rattle.smith_types.specs.Syntax.value_type.ValType.TheVariants as vals
 use Rattle.smith_validity.proofs.HeldValueLemmas.{all_values_joined}
-use Rattle.smith_config.specs.declared.config.Config.{Config}
-use Rattle.smith_config.specs.Granted.{IsUngrounded, IsGranted, HasGroundedItems}
-use Rattle.smith_module_rules.specs.Module.{ModuleParts, module_context}
+use Rattle.smith_config.specs.Granted.{HasGroundedItems}
+use Rattle.smith_module_rules.specs.Module.{module_context}
 use Rattle.smith_module_rules.specs.Promises.{HasGrantedLocals, HoldsGranted}
 use Rattle.smith_draw_definitions.proofs.StandsAfterLemmas.{left_over}
 use Rattle.wasm_smith.specs.FirstParts.{StandsWhole}

@@ -1,24 +1,16 @@
 -- The sizes of imports, and the properties of the state, stay the same as types are added after the
 -- existing ones.
-use Rattle.std.proofs.Common.{◌≡◌, ◌∙◌, ℕ, zero, suc, ◌+◌, ◌<◌, ◌≤◌, max, List, [], ◌∷◌, ◌++◌, length, refl, sym, ap, arith}
-use Rattle.std.specs.Prelude.{All, Option, option_map, slice_get, sum_by, unwrap_or, is_some, if◌then◌else◌}
+use Rattle.wasm_smith.proofs.Common.{[], All, ap, AreTypesValid, arith, Config, EntityType, Extends, features_of, flattened, GroupedTypes}
+use Rattle.wasm_smith.proofs.Common.{if◌then◌else◌, Import, imported_spaces, is_some, IsFuncTypeIndex, length, List, max, Option, refl}
+use Rattle.wasm_smith.proofs.Common.{slice_get, spaces_in, SubType, suc, sum_by, sym, zero, ℕ, ◌++◌, ◌+◌, ◌<◌, ◌∙◌, ◌∷◌, ◌≡◌, ◌≤◌}
+use Rattle.std.specs.Prelude.{option_map, unwrap_or}
 use Rattle.std.proofs.lemmas.List.Elements.{All-head}
 use Rattle.std.proofs.lemmas.List.Sums.{sum_by-cons}
 use Rattle.std.proofs.lemmas.Option.{slice_get_within}
-use Rattle.smith_types.specs.Entities.{IsFuncTypeIndex}
-use Rattle.smith_types.specs.Grown.{Extends}
-use Rattle.smith_types.specs.Imports.{flattened, imported, imported_spaces, func_of}
-use Rattle.smith_types.specs.EntitySpaces.{spaces_in}
+use Rattle.smith_types.specs.Imports.{func_of, imported}
 use Rattle.smith_types.specs.Sizes.{IsTyped, size_in, value_count}
-use Rattle.smith_types.specs.GroupedTypes.{GroupedTypes}
-use Rattle.smith_types.specs.ValidTypes.{AreTypesValid}
-use Rattle.smith_syntax.specs.declared.composite_type.SubType.{SubType}
-use Rattle.smith_syntax.specs.declared.entity_type.EntityType.{EntityType}
-use Rattle.smith_syntax.specs.declared.entity_type.EntityType.TheVariants as entity
-use Rattle.smith_syntax.specs.declared.imports.Import.{Import}
+use Rattle.smith_types.specs.Syntax.entity_type.EntityType.TheVariants as entity
 use Rattle.smith_validity.proofs.HeldValueLemmas.{all_apart}
-use Rattle.smith_config.specs.declared.config.Config.{Config}
-use Rattle.smith_config.specs.Features.{features_of}
 use Rattle.wasm_smith.specs.FirstParts.{StandsSoFar, size_of_imports}
 use Rattle.wasm_smith.specs.declared.build.parts_so_far.PartsSoFar.{PartsSoFar}
 use Rattle.smith_draw_definitions.proofs.StandsAfterLemmas.{stands_over}

@@ -1,24 +1,16 @@
 -- The shapes that a module begins with are kept by the later draws, and by the finished module.
-use Rattle.std.proofs.Common.{◌≡◌, ◌∙◌, ℕ, suc, Bool, List, [], ◌∷◌, ◌++◌, Option, Some, None, inl, inr, refl, ap, subst, sym}
-use Rattle.std.specs.Prelude.{◌&&◌, IfSome, if◌then◌else◌}
+use Rattle.wasm_smith.proofs.Common.{[], ap, Bool, Config, Count, EntityType, Export, IfSome, if◌then◌else◌, Import, inl, inr, List}
+use Rattle.wasm_smith.proofs.Common.{maximum_of, refl, Shape, shape_imports, shape_spaces, shape_types, shapes_of, spaces_in, subst}
+use Rattle.wasm_smith.proofs.Common.{SubType, suc, sym, ℕ, ◌++◌, ◌∙◌, ◌∷◌, ◌≡◌}
+use Rattle.std.proofs.Common.{None, Option, Some}
+use Rattle.std.specs.Prelude.{◌&&◌}
 use Rattle.std.specs.List.{AllZip}
-use Rattle.smith_bytes.specs.declared.error.Count.{Count}
 use Rattle.smith_bytes.specs.declared.error.Count.TheVariants as counts
-use Rattle.smith_types.specs.EntitySpaces.{spaces_in}
-use Rattle.smith_syntax.specs.declared.composite_type.SubType.{SubType}
-use Rattle.smith_syntax.specs.declared.entity_type.EntityType.{EntityType}
-use Rattle.smith_syntax.specs.declared.entity_type.EntityType.TheVariants as entity
-use Rattle.smith_syntax.specs.declared.imports.Import.{Import}
-use Rattle.smith_config.specs.declared.config.Config.{Config}
-use Rattle.smith_config.specs.declared.shape.Shape.{Shape}
-use Rattle.smith_config.specs.Faults.{maximum_of}
-use Rattle.smith_config.specs.InUse.{shapes_of}
-use Rattle.smith_config.specs.Shapes.{shape_imports, shape_spaces, shape_types}
+use Rattle.smith_types.specs.Syntax.entity_type.EntityType.TheVariants as entity
 use Rattle.smith_module_rules.specs.ShapeImports.{count_for, is_allowed, is_fitting, is_picked, taken_from}
 use Rattle.wasm_smith.specs.FirstParts.{ModuleSoFar, module_so_far}
 use Rattle.wasm_smith.specs.Build.{parts_of}
 use Rattle.wasm_smith.specs.DrawnSteps.{BeginsWithTypes, IsBeyond, KeepsShapesSoFar, KeepsImportsSoFar, KeepsModuleSoFar}
-use Rattle.smith_module_rules.specs.ExportedItems.{Export}
 use Rattle.smith_module_rules.specs.ShapesKept.{IsSameExport, IsSameType, KeepsAvailableImports, KeepsModuleShape, KeepsShapes}
 use Rattle.wasm_smith.specs.declared.build.parts_so_far.PartsSoFar.{PartsSoFar}
 use Rattle.wasm_smith.proofs.ExportsGrownLemmas.{same_exports_grown}

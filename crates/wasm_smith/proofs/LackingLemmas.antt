@@ -1,46 +1,36 @@
 -- A non-nullable reference occurs in the types or the tables of a shape only if it is among the
 -- shape's values. So a module begins with one, or is refused because of one, only if a shape in use
 -- holds one.
-use Rattle.std.proofs.Common.{◌≡◌, ◌⊎◌, ◌<◌, List, [], inl, inr, refl, sym, subst, arith}
-use Rattle.std.specs.Prelude.{All, IsSomeAnd, Option, Some, None}
+use Rattle.wasm_smith.proofs.Common.{[], All, All-cons, All-contains, All-nil, All-weaker, arith, Config, Context, Count, drawn_beside}
+use Rattle.wasm_smith.proofs.Common.{EntitySpaces, Error, GlobalType, HasGranted, HasGroundedElements, HasGroundedValue, HoldsNonNullable}
+use Rattle.wasm_smith.proofs.Common.{imported_spaces, inl, inr, IsGranted, IsSomeAnd, IsUngrounded, items_of_module_shape, List, MayRefuse}
+use Rattle.wasm_smith.proofs.Common.{None, nothing_defined, Option, refl, Shape, shape_for, shape_imports, shape_spaces, shape_types, Some}
+use Rattle.wasm_smith.proofs.Common.{subst, SubType, sym, TableType, ValType, values_of, Which, ◌<◌, ◌≡◌, ◌⊎◌}
 use Rattle.std.specs.List.{Any}
-use Rattle.std.proofs.lemmas.List.Elements.{All-cons, All-contains, All-map, All-nil, All-weaker, Contains-get_or}
-use Rattle.smith_bytes.specs.declared.error.Count.{Count}
+use Rattle.std.proofs.lemmas.List.Elements.{All-map, Contains-get_or}
 use Rattle.smith_bytes.specs.declared.error.Count.TheVariants as counts
-use Rattle.smith_bytes.specs.declared.error.Error.{Error}
 use Rattle.smith_bytes.specs.declared.error.Error.TheVariants as errors
-use Rattle.smith_bytes.specs.declared.error.Which.{Which}
 use Rattle.smith_bytes.specs.declared.error.Which.TheVariants as which
 use Rattle.smith_bytes.specs.declared.error.Why.TheVariants.{SeveralMemories, SeveralTables}
 use Rattle.smith_validity.specs.Decided.{IsStored, AreHeld}
-use Rattle.smith_types.specs.Expressions.{Context, field_values, unpacked}
+use Rattle.smith_types.specs.Expressions.{field_values, unpacked}
 use Rattle.smith_types.specs.HeldValues.{values_in}
-use Rattle.smith_types.specs.Imports.{EntitySpaces, imported_spaces}
-use Rattle.smith_types.specs.ValidTypes.{values_of}
-use Rattle.smith_syntax.specs.declared.composite_type.CompositeInnerType.{CompositeInnerType}
-use Rattle.smith_syntax.specs.declared.composite_type.CompositeInnerType.TheVariants.{Array, Func, Struct}
-use Rattle.smith_syntax.specs.declared.composite_type.FieldType.{FieldType}
-use Rattle.smith_syntax.specs.declared.composite_type.StorageType.{StorageType}
-use Rattle.smith_syntax.specs.declared.composite_type.StorageType.TheVariants.{I8, I16, Val}
-use Rattle.smith_syntax.specs.declared.composite_type.SubType.{SubType}
-use Rattle.smith_syntax.specs.declared.entity_type.GlobalType.{GlobalType}
-use Rattle.smith_syntax.specs.declared.entity_type.TableType.{TableType}
-use Rattle.smith_syntax.specs.declared.value_type.ValType.{ValType}
-use Rattle.smith_syntax.specs.declared.value_type.ValType.TheVariants.{Ref}
+use Rattle.smith_types.specs.Syntax.composite_type.CompositeInnerType.{CompositeInnerType}
+use Rattle.smith_types.specs.Syntax.composite_type.CompositeInnerType.TheVariants.{Array, Func, Struct}
+use Rattle.smith_types.specs.Syntax.composite_type.FieldType.{FieldType}
+use Rattle.smith_types.specs.Syntax.composite_type.StorageType.{StorageType}
+use Rattle.smith_types.specs.Syntax.composite_type.StorageType.TheVariants.{I8, I16, Val}
+use Rattle.smith_types.specs.Syntax.value_type.ValType.TheVariants.{Ref}
 use Rattle.smith_validity.proofs.HeldValueLemmas.{held_from_values, all_values_apart}
-use Rattle.smith_config.specs.declared.config.Config.{Config}
-use Rattle.smith_config.specs.declared.shape.Shape.{Shape}
-use Rattle.smith_config.specs.Shapes.{shape_imports, shape_spaces, shape_types, shape_values}
-use Rattle.smith_config.specs.Granted.{IsNonNullable, IsUngrounded, HasGranted, IsGranted, HasGroundedElements, HasGroundedValue}
+use Rattle.smith_config.specs.Shapes.{shape_values}
+use Rattle.smith_config.specs.Granted.{IsNonNullable}
 use Rattle.smith_draw_types.specs.HeldFields.{fields_of}
 use Rattle.smith_draw_types.specs.Grounding.{over}
 use Rattle.smith_draw_types.proofs.FilledLemmas.{any_weaker}
 use Rattle.smith_draw_types.proofs.NullableLemmas.{ungrounded_not_null}
 use Rattle.wasm_smith.specs.FirstParts.{MayRefuseFirstParts}
-use Rattle.smith_module_rules.specs.Bounds.{items_of_module_shape}
 use Rattle.wasm_smith.specs.DrawnSteps.{HoldsGrounded}
-use Rattle.smith_draw_definitions.specs.Defined.{drawn_beside, nothing_defined}
-use Rattle.smith_module_rules.specs.Refusals.{Brings, HoldsNonNullable, MayRefuse, shape_for}
+use Rattle.smith_module_rules.specs.Refusals.{Brings}
 use Rattle.smith_draw_definitions.specs.Required.{MayLackIn, MayRefuseRequired}
 use Rattle.wasm_smith.proofs.NonNullableLemmas.{holds_or_not}
 

@@ -1,3 +1,4 @@
+pub mod Common
 pub mod AddedGlobalLemmas
 pub mod AddedImportLemmas
 pub mod ContentsLemmas

@@ -1,54 +1,34 @@
 -- The state after the exports of a module are made: those of a module shape, those of a shape for
 -- exports, or drawn ones.
-use Rattle.std.proofs.Common.{◌≡◌, ◌∙◌, ◌⊎◌, ℕ, ◌+◌, ◌<◌, ◌≤◌, ◌^◌, ◌||◌, false, true, List, [], length, inl, inr, refl, subst, sym, ap}
-use Rattle.std.proofs.Common.{arith}
-use Rattle.std.specs.Prelude.{All, IfErr, IfOk, IfSome, IsSome, IsTrue, Option, Some, None, Result, Ok, Err, is_some, if◌then◌else◌}
-use Rattle.std.proofs.lemmas.List.Elements.{All-contains}
-use Rattle.std.proofs.lemmas.Result.{IfErr-weaker}
-use Rattle.smith_bytes.specs.declared.error.Count.{Count}
+use Rattle.wasm_smith.proofs.Common.{[], AddsLimitsOf, All, All-contains, all_kept, ap, AreShapesValid, AreSpacesGrown, arith, Config}
+use Rattle.wasm_smith.proofs.Common.{Count, count_in, defined_end, Definitions, drawn_beside, Err, Error, Export, Exports, Extends, false}
+use Rattle.wasm_smith.proofs.Common.{FixesExports, flattened, GroupedTypes, HasGranted, HasGroundedElements, HasGroundedValue}
+use Rattle.wasm_smith.proofs.Common.{HoldsNonNullable, HoldsUngroundedField, IfErr, IfErr-weaker, IfSome, if◌then◌else◌, imported_spaces}
+use Rattle.wasm_smith.proofs.Common.{inl, inr, is_memory, is_some, IsContextGrown, IsSanitized, IsShapeValid, IsSome, IsTrue}
+use Rattle.wasm_smith.proofs.Common.{items_of_exports, length, List, MayRefuse, MayRefuseExports, None, Ok, Option, Passes, refl, Result}
+use Rattle.wasm_smith.proofs.Common.{Returns, ReturnsWhy, Shape, shape_for, shape_spaces, shape_types, Some, spaces_in, StandsAfter, subst}
+use Rattle.wasm_smith.proofs.Common.{SubType, sym, true, ungrounded_before, ℕ, ◌+◌, ◌<◌, ◌^◌, ◌∙◌, ◌≡◌, ◌≤◌, ◌⊎◌}
+use Rattle.std.proofs.Common.{◌||◌}
+use Rattle.std.specs.Prelude.{IfOk}
 use Rattle.smith_bytes.specs.declared.error.Count.TheVariants as counts
-use Rattle.smith_bytes.specs.declared.error.Error.{Error}
 use Rattle.smith_bytes.specs.declared.error.Error.TheVariants as errors
 use Rattle.smith_bytes.specs.declared.error.Which.TheVariants as which
-use Rattle.smith_bytes.specs.Steps.{Returns, ReturnsWhy, is_memory}
 use Rattle.smith_bytes.specs.declared.error.Why.TheVariants.{SeveralMemories, SeveralTables}
-use Rattle.smith_types.specs.Grown.{Extends, IsContextGrown, AreSpacesGrown}
-use Rattle.smith_types.specs.Imports.{flattened, imported_spaces}
-use Rattle.smith_types.specs.EntitySpaces.{spaces_in}
-use Rattle.smith_types.specs.GroupedTypes.{GroupedTypes}
-use Rattle.smith_syntax.specs.declared.composite_type.SubType.{SubType}
 use Rattle.smith_types.specs.declared.entity_spaces.EntitySpaces.{EntitySpaces as Held}
 use Rattle.smith_types.proofs.EntityGrowthLemmas.{no_fewer}
-use Rattle.smith_config.specs.declared.config.Config.{Config}
-use Rattle.smith_config.specs.declared.shape.Shape.{Shape}
-use Rattle.smith_config.specs.Faults.{Passes}
-use Rattle.smith_config.specs.InUse.{FixesExports}
-use Rattle.smith_config.specs.Sanitized.{IsSanitized}
-use Rattle.smith_config.specs.Shapes.{IsShapeValid, most_listed, shape_spaces, shape_types}
-use Rattle.smith_draw_types.specs.HeldFields.{HoldsUngroundedField}
+use Rattle.smith_config.specs.Shapes.{most_listed}
 use Rattle.smith_draw_types.specs.FuncSizes.{HasFewValues}
-use Rattle.smith_config.specs.Granted.{HasGranted, HasGroundedElements, HasGroundedValue}
-use Rattle.smith_draw_types.proofs.FilledLemmas.{ungrounded_before}
-use Rattle.smith_module_rules.specs.ShapeImports.{count_in}
-use Rattle.smith_module_rules.specs.ExportedItems.{Export, exported_size}
-use Rattle.smith_draw_contents.specs.declared.exports_so_far.Exports.{Exports}
+use Rattle.smith_module_rules.specs.ExportedItems.{exported_size}
 use Rattle.smith_draw_contents.specs.AllExports.{exports_at}
-use Rattle.smith_draw_contents.specs.Exported.{MayRefuseExports}
 use Rattle.smith_draw_contents.proofs.SizedLemmas.{few_sized}
 use Rattle.wasm_smith.specs.FirstParts.{ModuleSoFar, IsOfEntities, StandsSoFar, module_so_far, size_of_imports}
-use Rattle.smith_module_rules.specs.Bounds.{items_of_exports}
 use Rattle.wasm_smith.specs.Build.{exported_at, exported_for, exports_of, size_so_far}
 use Rattle.wasm_smith.specs.Contents.{MayHoldContents}
-use Rattle.smith_draw_definitions.specs.Defined.{StandsAfter, drawn_beside}
 use Rattle.wasm_smith.specs.DrawnSteps.{AreEntitiesDrawn, AreExportsDrawn, HoldsGrounded, IsBeyond, MayGoOn, drawn_next}
-use Rattle.smith_module_rules.specs.Refusals.{AreShapesValid, HoldsNonNullable, MayRefuse, shape_for}
-use Rattle.smith_draw_definitions.specs.Required.{AddsLimitsOf, AddsTypesOf, MayDefineMore, MayLackIn, MayRefuseRequired}
-use Rattle.smith_draw_definitions.specs.declared.definitions.Definitions.{Definitions}
+use Rattle.smith_draw_definitions.specs.Required.{AddsTypesOf, MayDefineMore, MayLackIn, MayRefuseRequired}
 use Rattle.wasm_smith.specs.declared.build.parts_so_far.PartsSoFar.{PartsSoFar}
 use Rattle.wasm_smith.proofs.ShapeItemLemmas.{few_items_of_export_shape, few_items_of_shapes}
-use Rattle.smith_draw_definitions.proofs.ExtensionLemmas.{all_kept}
 use Rattle.smith_draw_definitions.proofs.DefinedGrowthLemmas.{stands_within}
-use Rattle.smith_draw_definitions.proofs.StandsAfterLemmas.{defined_end}
 use Rattle.wasm_smith.proofs.GrantedLaterLemmas.{elements_later, globals_later, types_later}
 use Rattle.wasm_smith.proofs.LackingLemmas.{shape_granted}
 use Rattle.wasm_smith.proofs.NonNullableLemmas.{holds_or_not}

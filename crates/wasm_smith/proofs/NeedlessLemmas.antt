@@ -1,27 +1,19 @@
 -- If nothing prevents a module, the only refusal is lack of memory; and the refusals of the first
 -- shape that fails its check.
-use Rattle.std.proofs.Common.{◌≡◌, ◌<◌, ℕ, refl, sym, arith, inl, inr, subst}
-use Rattle.std.specs.Prelude.{IsSome, IsSomeAnd, IfSome, Option, Some, None}
-use Rattle.smith_bytes.specs.declared.error.Error.{Error}
+use Rattle.wasm_smith.proofs.Common.{AreShapesValid, arith, AsksNothingImpossible, Config, Count, Error, IfSome, inl, inr, IsShapeValid}
+use Rattle.wasm_smith.proofs.Common.{IsSome, IsSomeAnd, items_of_exports, items_of_module_shape, MayRefuse, minimum_of, None, Option, refl}
+use Rattle.wasm_smith.proofs.Common.{Shape, shape_for, shapes_of, Some, subst, sym, Which, Why, ℕ, ◌<◌, ◌≡◌}
 use Rattle.smith_bytes.specs.declared.error.Error.TheVariants as errors
 use Rattle.smith_bytes.specs.declared.error.ShapeFault.{ShapeFault}
-use Rattle.smith_bytes.specs.declared.error.Why.{Why}
 use Rattle.smith_bytes.specs.declared.error.Why.TheVariants as reasons
-use Rattle.smith_bytes.specs.declared.error.Count.{Count}
 use Rattle.smith_bytes.specs.declared.error.Count.TheVariants as counts
-use Rattle.smith_bytes.specs.declared.error.Which.{Which}
 use Rattle.smith_bytes.specs.declared.error.Which.TheVariants as which
-use Rattle.smith_config.specs.declared.config.Config.{Config}
-use Rattle.smith_config.specs.declared.shape.Shape.{Shape}
-use Rattle.smith_config.specs.Faults.{minimum_of}
-use Rattle.smith_config.specs.InUse.{shapes_of}
 use Rattle.smith_config.specs.ShapeFaults.{HasShapeFault, IsRefused}
-use Rattle.smith_config.specs.Shapes.{IsShapeValid}
 use Rattle.smith_config.proofs.FaultLemmas.{no_fault}
 use Rattle.smith_config.proofs.ShapeLemmas.{no_fault as no_shape_fault}
-use Rattle.smith_module_rules.specs.Bounds.{where_given, items_of_exports, items_of_module_shape}
+use Rattle.smith_module_rules.specs.Bounds.{where_given}
 use Rattle.wasm_smith.specs.CheckedShapes.{IsFirstFaulty}
-use Rattle.smith_module_rules.specs.Refusals.{AreShapesValid, AsksNothingImpossible, Brings, HasShape, MayRefuse, shape_for}
+use Rattle.smith_module_rules.specs.Refusals.{Brings, HasShape}
 
 given_some : (of_shape : Shape → ℕ) (given : Option Shape) → 0 < where_given of_shape given → IsSome given
 given_some of_shape (Some shape) some = refl

@@ -1,16 +1,11 @@
 -- A module is without floats if the drawn parts are.
-use Rattle.std.proofs.Common.{ℕ, List, [], ◌∷◌, ◌++◌, map}
-use Rattle.std.specs.Prelude.{All}
+use Rattle.wasm_smith.proofs.Common.{[], All, All-append, All-nil, Config, ConstInstr, ElementSegment, GlobalType, HasNoFloat, List}
+use Rattle.wasm_smith.proofs.Common.{SubType, values_of, ℕ, ◌++◌, ◌∷◌}
+use Rattle.std.proofs.Common.{map}
 use Rattle.std.specs.List.{flat_map, AllByRecursion as Each}
-use Rattle.std.proofs.lemmas.List.Elements.{All-nil, All-append, All-map, recursion_from_All}
-use Rattle.smith_types.specs.Floats.{IsNoFloat, HasNoFloat, GivesNoFloat}
-use Rattle.smith_types.specs.ValidTypes.{values_of}
-use Rattle.smith_syntax.specs.declared.composite_type.SubType.{SubType}
-use Rattle.smith_syntax.specs.declared.entity_type.GlobalType.{GlobalType}
-use Rattle.smith_syntax.specs.declared.const_instr.ConstInstr.{ConstInstr}
-use Rattle.smith_syntax.specs.declared.segments.ElementSegment.{ElementSegment}
-use Rattle.smith_syntax.specs.declared.code.Code.{Code}
-use Rattle.smith_config.specs.declared.config.Config.{Config}
+use Rattle.std.proofs.lemmas.List.Elements.{All-map, recursion_from_All}
+use Rattle.smith_types.specs.Floats.{GivesNoFloat, IsNoFloat}
+use Rattle.smith_types.specs.Syntax.code.Code.{Code}
 use Rattle.wasm_smith.specs.Build.{parts_of}
 use Rattle.wasm_smith.specs.DrawnParts.{HasNoFloatParts}
 use Rattle.smith_module_rules.specs.Held.{expressions_of}

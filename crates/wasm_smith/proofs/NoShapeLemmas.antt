@@ -1,13 +1,8 @@
 -- Configurations without shapes.
-use Rattle.std.proofs.Common.{◌≡◌, None, Option, ap, subst}
-use Rattle.std.specs.Prelude.{IsSomeAnd}
-use Rattle.smith_bytes.specs.declared.error.Which.{Which}
+use Rattle.wasm_smith.proofs.Common.{ap, AreShapesValid, Config, HasNoShapes, IsSomeAnd, Shape, shape_for, shapes_of, subst, Which, ◌≡◌}
+use Rattle.std.proofs.Common.{None, Option}
 use Rattle.smith_bytes.specs.declared.error.Which.TheVariants as which
-use Rattle.smith_config.specs.declared.config.Config.{Config}
-use Rattle.smith_config.specs.declared.shape.Shape.{Shape}
-use Rattle.smith_config.specs.InUse.{HasNoShapes, shapes_of}
 use Rattle.smith_config.specs.Shapes.{Shapes, in_use, no_shapes}
-use Rattle.smith_module_rules.specs.Refusals.{AreShapesValid, shape_for}
 
 none_in_use : (config : Config) → HasNoShapes config → shapes_of config ≡ no_shapes
 none_in_use config none =

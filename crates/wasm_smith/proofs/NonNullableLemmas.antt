@@ -1,17 +1,13 @@
 -- Whether a shape in use holds a non-nullable reference is decidable.
-use Rattle.std.proofs.Common.{rules, ◌≡◌, ◌⊎◌, Bool, true, false, not, List, inl, inr, refl}
-use Rattle.std.specs.Prelude.{IsSomeAnd, Option, Some, None}
+use Rattle.wasm_smith.proofs.Common.{Bool, Config, false, HoldsNonNullable, inl, inr, IsSomeAnd, List, None, Option, refl, rules, Shape}
+use Rattle.wasm_smith.proofs.Common.{shape_for, Some, true, ValType, Which, ◌≡◌, ◌⊎◌}
+use Rattle.std.proofs.Common.{not}
 use Rattle.std.specs.List.{Any, list_any}
 use Rattle.std.proofs.lemmas.List.Folds.{Any-from_list_any, list_any-from_Any}
-use Rattle.smith_bytes.specs.declared.error.Which.{Which}
 use Rattle.smith_bytes.specs.declared.error.Which.TheVariants as which
-use Rattle.smith_syntax.specs.declared.value_type.ValType.{ValType}
-use Rattle.smith_syntax.specs.declared.value_type.ValType.TheVariants as value
-use Rattle.smith_config.specs.declared.config.Config.{Config}
-use Rattle.smith_config.specs.declared.shape.Shape.{Shape}
+use Rattle.smith_types.specs.Syntax.value_type.ValType.TheVariants as value
 use Rattle.smith_config.specs.Shapes.{shape_values}
 use Rattle.smith_config.specs.Granted.{IsNonNullable}
-use Rattle.smith_module_rules.specs.Refusals.{HoldsNonNullable, shape_for}
 
 never_null : ValType → Bool
 never_null (value.Ref reference) = not reference.nullable

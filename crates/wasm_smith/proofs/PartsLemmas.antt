@@ -1,22 +1,15 @@
 -- The steps of drawing a module, one after another, produce the module of the bytes, and parts with
 -- the properties of each step.
-use Rattle.std.proofs.Common.{◌≡◌, ◌∙◌, ℕ, ◌<◌, Bool, false, List, length, refl, sym, subst}
-use Rattle.std.specs.Prelude.{IsTrue, Result, Ok, Err, IsErrAnd}
-use Rattle.smith_bytes.specs.declared.error.Error.{Error}
+use Rattle.wasm_smith.proofs.Common.{Bool, Config, Err, Error, Exports, false, FixesImports, flattened, HasNoShapes, Imported}
+use Rattle.wasm_smith.proofs.Common.{imported_spaces, is_memory, IsErrAnd, IsTrue, length, List, ModuleParts, Ok, refl, Result, Returns}
+use Rattle.wasm_smith.proofs.Common.{spaces_in, subst, sym, ℕ, ◌<◌, ◌∙◌, ◌≡◌}
 use Rattle.smith_bytes.specs.declared.error.Error.TheVariants as errors
-use Rattle.smith_types.specs.Imports.{flattened, imported_spaces}
-use Rattle.smith_types.specs.EntitySpaces.{spaces_in}
-use Rattle.smith_config.specs.declared.config.Config.{Config}
-use Rattle.smith_config.specs.InUse.{FixesImports, HasNoShapes}
-use Rattle.smith_bytes.specs.Steps.{section_flag_at, Returns, is_memory}
-use Rattle.smith_draw_imports.specs.declared.imports_so_far.Imported.{Imported}
-use Rattle.smith_draw_contents.specs.declared.exports_so_far.Exports.{Exports}
+use Rattle.smith_bytes.specs.Steps.{section_flag_at}
 use Rattle.wasm_smith.specs.FirstParts.{ModuleSoFar, StandsWhole}
 use Rattle.wasm_smith.specs.Build.{first_parts_typed_at, defined_at, exported_at, exports_of, imported_at, module_at, module_of}
 use Rattle.wasm_smith.specs.DrawnContents.{AreContents, HasGrantedContents, HasNoFloatContents, after_exports_at, imported_in}
 use Rattle.wasm_smith.specs.DrawnParts.{IsDrawnFor}
 use Rattle.wasm_smith.specs.DrawnSteps.{AreExportsDrawn, AreFreeImports, HasSameImports, drawn_next}
-use Rattle.smith_module_rules.specs.Module.{ModuleParts}
 use Rattle.smith_module_rules.specs.InterestingValues.{AreAll, IsInteresting32, IsInteresting64}
 use Rattle.wasm_smith.specs.declared.build.contents.Contents.{Contents}
 use Rattle.wasm_smith.specs.declared.build.parts_so_far.PartsSoFar.{PartsSoFar}

@@ -1,9 +1,8 @@
 -- Globals that are pushed one by one.
-use Rattle.std.proofs.Common.{◌≡◌, ℕ, ◌+◌, ◌<◌, List, [], ◌∷◌, ◌++◌, length, get_or, take, refl, sym, ap, ◌∙◌, arith}
+use Rattle.wasm_smith.proofs.Common.{[], ap, arith, ConstInstr, GlobalType, length, List, refl, sym, ValType, ℕ, ◌++◌, ◌+◌, ◌<◌, ◌∙◌, ◌∷◌}
+use Rattle.wasm_smith.proofs.Common.{◌≡◌}
+use Rattle.std.proofs.Common.{get_or, take}
 use Rattle.std.proofs.lemmas.List.{append_assoc, length-append, take_more, map-append, length-map, length-take}
-use Rattle.smith_syntax.specs.declared.entity_type.GlobalType.{GlobalType}
-use Rattle.smith_syntax.specs.declared.value_type.ValType.{ValType}
-use Rattle.smith_syntax.specs.declared.const_instr.ConstInstr.{ConstInstr}
 use Rattle.wasm_smith.specs.Sinks.{sink}
 use Rattle.wasm_smith.specs.AddedGlobals.{added_types, added_definitions}
 

@@ -1,27 +1,17 @@
 -- From a source that begins with bytes that spell types and functions, a module with these is
 -- drawn; and if bytes follow that spell globals and passive data, a module with only these in
 -- addition.
-use Rattle.std.proofs.Common.{◌≡◌, ℕ, ℤ, Bool, true, false, cond, List, [], ◌∷◌, ◌++◌, length, map, Option, Some, None, refl, ap, subst}
-use Rattle.std.specs.Prelude.{Result, Ok, Err, IfOk, IfErr, MatchResult, IsSome, IsSomeAnd, ⊤, ◌==◌}
+use Rattle.wasm_smith.proofs.Common.{[], ap, AsksNothingImpossible, Bool, Config, ConstInstr, Definitions, EntitySpaces, Err, Error, Export}
+use Rattle.wasm_smith.proofs.Common.{Exports, false, flattened, GlobalType, GroupedTypes, HasNoShapes, I32Const, IfErr, imported_spaces}
+use Rattle.wasm_smith.proofs.Common.{is_memory, IsSanitized, IsSome, IsSomeAnd, length, List, MemoryType, ModuleParts, nothing_defined, Ok}
+use Rattle.wasm_smith.proofs.Common.{refl, Result, Returns, space_of, subst, SubType, TableType, then_with, true, Why, ℕ, ◌++◌, ◌∷◌, ◌≡◌}
+use Rattle.std.proofs.Common.{cond, map, None, Option, Some, ℤ}
+use Rattle.std.specs.Prelude.{IfOk, MatchResult, ⊤, ◌==◌}
 use Rattle.smith_bytes.specs.Draws.{bool_at}
 use Rattle.smith_bytes.specs.Spelling.{SpellsAnyByte, Where, Joined, Listed, SpellsNone}
 use Rattle.smith_bytes.specs.declared.error.Count.TheVariants as counts
-use Rattle.smith_bytes.specs.declared.error.Error.{Error}
 use Rattle.smith_bytes.specs.declared.error.Error.TheVariants as errors
-use Rattle.smith_bytes.specs.declared.error.Why.{Why}
 use Rattle.smith_bytes.proofs.SpelledLemmas.{joined_parts}
-use Rattle.smith_types.specs.Imports.{EntitySpaces, flattened, imported_spaces}
-use Rattle.smith_types.specs.GroupedTypes.{GroupedTypes}
-use Rattle.smith_syntax.specs.declared.composite_type.SubType.{SubType}
-use Rattle.smith_syntax.specs.declared.entity_type.GlobalType.{GlobalType}
-use Rattle.smith_syntax.specs.declared.entity_type.MemoryType.{MemoryType}
-use Rattle.smith_syntax.specs.declared.entity_type.TableType.{TableType}
-use Rattle.smith_syntax.specs.declared.const_instr.ConstInstr.{ConstInstr}
-use Rattle.smith_syntax.specs.declared.const_instr.ConstInstr.TheVariants.{I32Const}
-use Rattle.smith_config.specs.declared.config.Config.{Config}
-use Rattle.smith_config.specs.InUse.{HasNoShapes}
-use Rattle.smith_config.specs.Sanitized.{IsSanitized}
-use Rattle.smith_config.specs.Shapes.{space_of}
 use Rattle.smith_draw_types.specs.SpelledGlobals.{mutable_i32}
 use Rattle.smith_draw_types.proofs.SpelledGroupLemmas.{types_read}
 use Rattle.smith_spell.specs.Family.{IsInFamily}
@@ -31,24 +21,17 @@ use Rattle.smith_spell.specs.Spelling.{SpellsMember, SpellsRest, SpellsSegments}
 use Rattle.smith_draw_types.specs.SpelledParts.{SpellsNoTag, SpellsFuncs, SpellsGlobal, SpellsNoStart}
 use Rattle.smith_spell.proofs.FamilyFitLemmas.{family_fits}
 use Rattle.wasm_smith.specs.FirstParts.{ModuleSoFar, first_parts_at, nothing_so_far}
-use Rattle.smith_bytes.specs.Steps.{Returns, is_memory, ◌>>=◌, section_flag_at}
+use Rattle.smith_bytes.specs.Steps.{section_flag_at, ◌>>=◌}
 use Rattle.wasm_smith.specs.Build.{IsGiven, as_drawn, size_so_far, first_parts_typed_at, defined_at, exported_at, exported_for, exports_of}
 use Rattle.wasm_smith.specs.Build.{functions_so_far, module_at, module_of, with_types_at}
-use Rattle.smith_draw_definitions.specs.Defined.{nothing_defined}
 use Rattle.smith_draw_definitions.specs.Definitions.{defined_in, definitions_at, scope_over, tables_at, memories_at, globals_at}
 use Rattle.wasm_smith.specs.DrawnContents.{segment_scope, all_segments_at, after_exports_at, in_full}
 use Rattle.smith_draw_consts.proofs.TriedStepLemmas.{following, following_so}
 use Rattle.wasm_smith.specs.Members.{HasMember, HasRest}
-use Rattle.smith_module_rules.specs.Module.{ModuleParts}
 use Rattle.smith_draw_contents.specs.PassiveData.{passive_data}
 use Rattle.wasm_smith.specs.Reached.{ReachesMembers, ReachesRests}
-use Rattle.smith_module_rules.specs.Refusals.{AsksNothingImpossible}
-use Rattle.smith_draw_definitions.specs.RequiredExports.{then_with}
 use Rattle.smith_draw_contents.specs.AllExports.{exports_at}
-use Rattle.smith_module_rules.specs.ExportedItems.{Export}
-use Rattle.smith_draw_contents.specs.declared.exports_so_far.Exports.{Exports}
 use Rattle.wasm_smith.specs.declared.build.contents.Contents.{Contents}
-use Rattle.smith_draw_definitions.specs.declared.definitions.Definitions.{Definitions}
 use Rattle.smith_draw_definitions.proofs.DefinedMemoryLemmas.{no_memory_read}
 use Rattle.smith_draw_definitions.proofs.DefinedTableLemmas.{no_table_read}
 use Rattle.wasm_smith.proofs.AddedImportLemmas.{freely_imported}

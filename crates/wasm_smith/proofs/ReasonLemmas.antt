@@ -1,17 +1,10 @@
 -- Steps that give a reason for each refusal but lack of memory: there is always something to choose
 -- from.
-use Rattle.std.proofs.Common.{◌≡◌, ℕ, List, refl, subst, inl, inr}
-use Rattle.std.specs.Prelude.{Result, Ok, Err, IfErr, IsErrAnd}
-use Rattle.smith_bytes.specs.declared.error.Error.{Error}
+use Rattle.wasm_smith.proofs.Common.{Config, Err, Error, IfErr, inl, inr, is_memory, IsErrAnd, List, MayRefuseExports, MayRefuseImports, Ok}
+use Rattle.wasm_smith.proofs.Common.{refl, Result, Returns, ReturnsWhy, subst, then_with, Why, ℕ, ◌≡◌}
 use Rattle.smith_bytes.specs.declared.error.Error.TheVariants as errors
-use Rattle.smith_bytes.specs.declared.error.Why.{Why}
-use Rattle.smith_bytes.specs.Steps.{Returns, ReturnsWhy, is_memory}
-use Rattle.smith_config.specs.declared.config.Config.{Config}
 use Rattle.smith_draw_consts.proofs.TriedStepLemmas.{refused_with}
 use Rattle.smith_draw_contents.specs.DataTargets.{MayRefuseData}
-use Rattle.smith_draw_contents.specs.Exported.{MayRefuseExports}
-use Rattle.smith_draw_definitions.specs.RequiredExports.{then_with}
-use Rattle.smith_draw_imports.specs.Imported.{MayRefuseImports}
 use Rattle.wasm_smith.specs.DrawnContents.{in_full}
 
 pub imports_choose : (config : Config) (e : Error) → MayRefuseImports config e → e ≡ errors.EmptyChoose → ⊥

@@ -1,23 +1,15 @@
 -- The refusals of imports, exports and contents.
-use Rattle.std.proofs.Common.{◌≡◌, ◌⊎◌, List, refl, sym, subst, inl, inr}
-use Rattle.std.specs.Prelude.{Option, Some, None, Result, Ok, Err, IfErr, All}
-use Rattle.smith_types.specs.Expressions.{Context}
-use Rattle.smith_types.specs.Imports.{EntitySpaces}
-use Rattle.smith_syntax.specs.declared.entity_type.TableType.{TableType}
-use Rattle.smith_config.specs.declared.config.Config.{Config}
-use Rattle.smith_config.specs.declared.shape.Shape.{Shape}
-use Rattle.smith_config.specs.InUse.{FixesImports, FixesExports, HasNoShapes}
-use Rattle.smith_bytes.specs.declared.error.Error.{Error}
+use Rattle.wasm_smith.proofs.Common.{All, Config, Context, EntitySpaces, Err, Error, FixesExports, FixesImports, HasGroundedElements}
+use Rattle.wasm_smith.proofs.Common.{HasNoShapes, HoldsNonNullable, IfErr, inl, inr, List, MayRefuse, MayRefuseExports, MayRefuseImports}
+use Rattle.wasm_smith.proofs.Common.{None, Ok, Option, refl, Result, Shape, Some, subst, sym, TableType, ◌≡◌, ◌⊎◌}
 use Rattle.smith_bytes.specs.declared.error.Error.TheVariants as errors
 use Rattle.smith_bytes.specs.declared.error.Which.TheVariants as which
 use Rattle.smith_draw_contents.specs.DrawnElements.{HasUngroundedElements, MayLackItem, MayRefuseElements}
-use Rattle.smith_draw_contents.specs.Exported.{MayRunOut, MayRefuseExports}
+use Rattle.smith_draw_contents.specs.Exported.{MayRunOut}
 use Rattle.wasm_smith.proofs.NonNullableLemmas.{holds_or_not}
 use Rattle.wasm_smith.specs.Contents.{MayRefuseContents}
-use Rattle.smith_config.specs.Granted.{HasGroundedElements}
-use Rattle.smith_draw_imports.specs.Imported.{MayRefuseImports}
 use Rattle.wasm_smith.specs.DrawnSteps.{HoldsGrounded}
-use Rattle.smith_module_rules.specs.Refusals.{HasShape, HoldsNonNullable, MayLackExports, MayRefuse}
+use Rattle.smith_module_rules.specs.Refusals.{HasShape, MayLackExports}
 
 -- a configuration has no shapes, or a shape that is used
 shapes_by : (config : Config) (of_module available exports : Option Shape) → config.module_shape ≡ of_module → config.available_imports

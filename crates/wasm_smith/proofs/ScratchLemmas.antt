@@ -1,18 +1,13 @@
 -- A valid module stays valid with the scratch globals.
-use Rattle.std.proofs.Common.{◌≡◌, ℕ, pos, ◌+◌, Bool, true, false, List, [], ◌∷◌, ◌++◌, length, refl, sym, subst, arith}
-use Rattle.std.specs.Prelude.{Result, Ok, Err, All, IsTrue}
-use Rattle.std.proofs.lemmas.List.Elements.{All-nil, All-cons}
-use Rattle.smith_bytes.specs.declared.error.Error.{Error}
-use Rattle.smith_syntax.specs.Features.{Features}
-use Rattle.smith_types.specs.Expressions.{Context, IsConstExpr, HasType}
+use Rattle.wasm_smith.proofs.Common.{[], All, All-cons, All-nil, arith, Bool, ConstInstr, Context, Err, Error, false, Features, IsConstExpr}
+use Rattle.wasm_smith.proofs.Common.{IsTrue, IsValid, length, List, module_features, ModuleParts, Ok, pos, refl, Result, subst, sym, true}
+use Rattle.wasm_smith.proofs.Common.{ValType, ℕ, ◌++◌, ◌+◌, ◌∷◌, ◌≡◌}
+use Rattle.smith_types.specs.Expressions.{HasType}
 use Rattle.smith_types.specs.Flags.{IsInstrEnabled}
 use Rattle.smith_types.specs.Subtyping.{IsValBelow}
-use Rattle.smith_syntax.specs.declared.value_type.ValType.{ValType}
-use Rattle.smith_syntax.specs.declared.value_type.ValType.TheVariants.{F32, F64, V128}
-use Rattle.smith_syntax.specs.declared.const_instr.ConstInstr.{ConstInstr}
-use Rattle.smith_syntax.specs.declared.const_instr.ConstInstr.TheVariants.{F32Const, F64Const, V128Const}
+use Rattle.smith_types.specs.Syntax.value_type.ValType.TheVariants.{F32, F64, V128}
+use Rattle.smith_types.specs.Syntax.const_instr.ConstInstr.TheVariants.{F32Const, F64Const, V128Const}
 use Rattle.smith_types.proofs.ConstStepLemmas.{alone}
-use Rattle.smith_module_rules.specs.Module.{ModuleParts, IsValid, module_features}
 use Rattle.wasm_smith.specs.Scratch.{scratch, scratch_definitions, has_vectors, AddsScratch, AnswersScratch}
 use Rattle.wasm_smith.specs.AddedGlobals.{added_definitions}
 use Rattle.wasm_smith.proofs.AddedGlobalLemmas.{IsAddable, all_added_valid}

@@ -1,17 +1,9 @@
 -- The scope of segments, after all imports and definitions, and the refusals of segments in it.
-use Rattle.std.proofs.Common.{◌≡◌, ℕ, Bool, true, false, ◌&&◌, cond, List, length, refl, subst}
-use Rattle.std.specs.Prelude.{Result, Ok, Err, IsErrAnd}
-use Rattle.smith_bytes.specs.declared.error.Error.{Error}
-use Rattle.smith_bytes.specs.Steps.{Returns, ReturnsWhy, is_memory}
-use Rattle.smith_syntax.specs.declared.composite_type.SubType.{SubType}
-use Rattle.smith_syntax.specs.declared.entity_type.MemoryType.{MemoryType}
-use Rattle.smith_syntax.specs.declared.entity_type.TableType.{TableType}
-use Rattle.smith_syntax.specs.declared.segments.DataSegment.{DataSegment}
-use Rattle.smith_syntax.specs.declared.segments.ElementSegment.{ElementSegment}
-use Rattle.smith_types.specs.Expressions.{Context}
-use Rattle.smith_types.specs.Imports.{EntitySpaces}
-use Rattle.smith_types.specs.GroupedTypes.{GroupedTypes}
-use Rattle.smith_config.specs.declared.config.Config.{Config}
+use Rattle.wasm_smith.proofs.Common.{Bool, Config, Context, ElementSegment, EntitySpaces, Err, Error, false, GroupedTypes, is_memory}
+use Rattle.wasm_smith.proofs.Common.{IsErrAnd, length, List, MemoryType, Ok, refl, Result, Returns, ReturnsWhy, subst, SubType, TableType}
+use Rattle.wasm_smith.proofs.Common.{true, ℕ, ◌≡◌}
+use Rattle.std.proofs.Common.{cond, ◌&&◌}
+use Rattle.smith_types.specs.Syntax.segments.DataSegment.{DataSegment}
 use Rattle.smith_draw_consts.specs.ConstScopes.{seen_by}
 use Rattle.smith_draw_consts.proofs.TriedStepLemmas.{refused_with}
 use Rattle.smith_draw_types.specs.declared.spaces.Spaces.{Spaces}

@@ -1,23 +1,16 @@
 -- Accepted shapes add few items of each kind.
-use Rattle.std.proofs.Common.{ℕ, ◌+◌, ◌-◌, ◌≤◌, ◌^◌, List, [], ◌∷◌, length, arith}
-use Rattle.std.specs.Prelude.{IfSome, Option, Some, None, sum_by}
+use Rattle.wasm_smith.proofs.Common.{[], AreShapesValid, arith, Config, Count, count_in, Export, ExportKind, HasRoom, IfSome, Import}
+use Rattle.wasm_smith.proofs.Common.{imported_spaces, IsShapeValid, items_of_export_shape, items_of_exports, items_of_module_shape}
+use Rattle.wasm_smith.proofs.Common.{items_of_shapes, length, List, None, Option, Shape, shape_for, shape_imports, Some, sum_by, ℕ, ◌+◌}
+use Rattle.wasm_smith.proofs.Common.{◌^◌, ◌∷◌, ◌≤◌}
+use Rattle.std.proofs.Common.{◌-◌}
 use Rattle.std.proofs.lemmas.List.Sums.{sum_by-cons}
-use Rattle.smith_bytes.specs.declared.error.Count.{Count}
 use Rattle.smith_bytes.specs.declared.error.Count.TheVariants as counts
 use Rattle.smith_bytes.specs.declared.error.Which.TheVariants as which
-use Rattle.smith_types.specs.Imports.{imported_spaces}
-use Rattle.smith_syntax.specs.declared.entity_type.ExportKind.{ExportKind}
-use Rattle.smith_syntax.specs.declared.entity_type.ExportKind.TheVariants as kind
-use Rattle.smith_syntax.specs.declared.imports.Import.{Import}
-use Rattle.smith_config.specs.declared.config.Config.{Config}
-use Rattle.smith_config.specs.declared.shape.Shape.{Shape}
-use Rattle.smith_config.specs.Shapes.{IsShapeValid, IsShort, in_use, shape_imports}
-use Rattle.smith_module_rules.specs.ShapeImports.{count_in}
-use Rattle.smith_module_rules.specs.Bounds.{items_of_export_shape, items_of_shapes, items_of_available_imports, items_of_module_shape}
-use Rattle.smith_module_rules.specs.Bounds.{counts_as, items_of_exports, where_given}
-use Rattle.smith_draw_definitions.specs.Defined.{HasRoom}
-use Rattle.smith_module_rules.specs.Refusals.{AreShapesValid, shape_for}
-use Rattle.smith_module_rules.specs.ExportedItems.{Export}
+use Rattle.smith_types.specs.Syntax.entity_type.ExportKind.TheVariants as kind
+use Rattle.smith_config.specs.Shapes.{in_use, IsShort}
+use Rattle.smith_module_rules.specs.Bounds.{items_of_available_imports}
+use Rattle.smith_module_rules.specs.Bounds.{counts_as, where_given}
 use Rattle.wasm_smith.proofs.FirstPartsLemmas.{imported_room}
 
 -- an export is at most one item of a kind

@@ -1,8 +1,5 @@
 -- A valid module stays valid with exports of its sinks.
-use Rattle.std.proofs.Common.{ℕ, ◌+◌, ◌<◌, length, sym, subst, arith}
-use Rattle.std.specs.Prelude.{codes, Result, Ok, Err}
-use Rattle.smith_bytes.specs.declared.error.Error.{Error}
-use Rattle.smith_module_rules.specs.Module.{ModuleParts, IsValid}
+use Rattle.wasm_smith.proofs.Common.{arith, codes, Err, Error, IsValid, length, ModuleParts, Ok, Result, subst, sym, ℕ, ◌+◌, ◌<◌}
 use Rattle.wasm_smith.specs.GlobalExport.{with_global}
 use Rattle.wasm_smith.specs.SinkExports.{AnswersSinkExports, with_sink_exports}
 use Rattle.wasm_smith.proofs.GlobalExportLemmas.{exporting_valid}

@@ -1,17 +1,11 @@
 -- A valid module stays valid with the sinks.
-use Rattle.std.proofs.Common.{◌≡◌, ℕ, pos, ◌+◌, List, [], ◌∷◌, length, refl, sym, subst, arith}
-use Rattle.std.specs.Prelude.{Result, Ok, Err, All}
-use Rattle.std.proofs.lemmas.List.Elements.{All-nil, All-cons}
-use Rattle.smith_bytes.specs.declared.error.Error.{Error}
-use Rattle.smith_syntax.specs.Features.{Features}
-use Rattle.smith_types.specs.Expressions.{Context, IsConstExpr}
+use Rattle.wasm_smith.proofs.Common.{[], All, All-cons, All-nil, arith, ConstInstr, Context, Err, Error, Features, I32Const, IsConstExpr}
+use Rattle.wasm_smith.proofs.Common.{IsValid, length, List, module_features, ModuleParts, Ok, pos, refl, Result, subst, sym, ValType, ℕ}
+use Rattle.wasm_smith.proofs.Common.{◌+◌, ◌∷◌, ◌≡◌}
 use Rattle.smith_types.specs.Flags.{IsInstrEnabled}
-use Rattle.smith_syntax.specs.declared.value_type.ValType.{ValType}
-use Rattle.smith_syntax.specs.declared.value_type.ValType.TheVariants.{I32, I64}
-use Rattle.smith_syntax.specs.declared.const_instr.ConstInstr.{ConstInstr}
-use Rattle.smith_syntax.specs.declared.const_instr.ConstInstr.TheVariants.{I32Const, I64Const}
+use Rattle.smith_types.specs.Syntax.value_type.ValType.TheVariants.{I32, I64}
+use Rattle.smith_types.specs.Syntax.const_instr.ConstInstr.TheVariants.{I64Const}
 use Rattle.smith_types.proofs.ConstStepLemmas.{alone, number_given}
-use Rattle.smith_module_rules.specs.Module.{ModuleParts, IsValid, module_features}
 use Rattle.wasm_smith.specs.Sinks.{sink_definitions, AddsSinks, AnswersSinks}
 use Rattle.wasm_smith.specs.AddedGlobals.{added_definitions}
 use Rattle.wasm_smith.proofs.AddedGlobalLemmas.{IsAddable, all_added_valid}

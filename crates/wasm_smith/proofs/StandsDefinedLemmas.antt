@@ -1,18 +1,12 @@
 -- The parts after entities are defined after the existing ones are valid, and no more than shapes
 -- and configuration allow.
-use Rattle.std.proofs.Common.{◌≤◌, max, inr, arith}
-use Rattle.smith_bytes.specs.declared.error.Count.{Count}
+use Rattle.wasm_smith.proofs.Common.{arith, Config, Count, count_in, Definitions, EntitySpaces, flattened, imported_spaces, inr, max}
+use Rattle.wasm_smith.proofs.Common.{maximum_of, spaces_in, ◌≤◌}
 use Rattle.smith_bytes.specs.declared.error.Count.TheVariants as counts
-use Rattle.smith_types.specs.Imports.{EntitySpaces, flattened, imported_spaces}
-use Rattle.smith_types.specs.EntitySpaces.{spaces_in}
 use Rattle.smith_types.specs.declared.entity_spaces.EntitySpaces.{EntitySpaces as Held}
-use Rattle.smith_config.specs.declared.config.Config.{Config}
-use Rattle.smith_config.specs.Faults.{maximum_of}
 use Rattle.smith_config.specs.EntityBounds.{IsTableWithin, IsMemoryWithin}
-use Rattle.smith_module_rules.specs.ShapeImports.{count_in}
 use Rattle.wasm_smith.specs.FirstParts.{IsMemoryKept, IsOfEntities, IsTableKept, StandsSoFar}
 use Rattle.smith_draw_definitions.specs.Defined.{AreDefinedMore, AreFilled}
-use Rattle.smith_draw_definitions.specs.declared.definitions.Definitions.{Definitions}
 use Rattle.wasm_smith.specs.declared.build.parts_so_far.PartsSoFar.{PartsSoFar}
 use Rattle.smith_draw_definitions.proofs.DefinedLemmas.{added_weaker, all_after}
 

@@ -1,27 +1,14 @@
 -- The parts after the exports of a shape are made are valid, and no more than shapes and
 -- configuration allow.
-use Rattle.std.proofs.Common.{◌≡◌, ◌∙◌, ◌⊎◌, ◌+◌, ◌≤◌, List, [], ◌++◌, length, inl, inr, refl, sym, arith}
-use Rattle.std.specs.Prelude.{All, Some, None}
-use Rattle.std.specs.List.{Contains}
-use Rattle.std.proofs.lemmas.List.Elements.{All-contains, All-weaker, Contains-append_left, Contains-append_right}
-use Rattle.smith_bytes.specs.declared.error.Count.{Count}
+use Rattle.wasm_smith.proofs.Common.{[], AddsLimitsOf, All, All-contains, All-weaker, arith, Config, Contains, Contains-append_left, Count}
+use Rattle.wasm_smith.proofs.Common.{count_in, Definitions, Extends, flattened, GroupedTypes, imported_spaces, inl, inr, IsFuncTypeIndex}
+use Rattle.wasm_smith.proofs.Common.{items_of_export_shape, items_of_exports, length, List, None, refl, Shape, shape_spaces, Some}
+use Rattle.wasm_smith.proofs.Common.{spaces_in, StandsAfter, sym, ◌++◌, ◌+◌, ◌∙◌, ◌≡◌, ◌≤◌, ◌⊎◌}
+use Rattle.std.proofs.lemmas.List.Elements.{Contains-append_right}
 use Rattle.smith_bytes.specs.declared.error.Count.TheVariants as counts
-use Rattle.smith_types.specs.Entities.{IsFuncTypeIndex}
-use Rattle.smith_types.specs.Grown.{Extends}
-use Rattle.smith_types.specs.Imports.{flattened, imported_spaces}
-use Rattle.smith_types.specs.EntitySpaces.{spaces_in}
-use Rattle.smith_types.specs.GroupedTypes.{GroupedTypes}
 use Rattle.smith_types.specs.declared.entity_spaces.EntitySpaces.{EntitySpaces as Held}
 use Rattle.smith_validity.proofs.HeldValueLemmas.{all_apart}
-use Rattle.smith_config.specs.declared.config.Config.{Config}
-use Rattle.smith_config.specs.declared.shape.Shape.{Shape}
-use Rattle.smith_config.specs.Shapes.{shape_spaces}
-use Rattle.smith_module_rules.specs.ShapeImports.{count_in}
 use Rattle.wasm_smith.specs.FirstParts.{IsMemoryKept, IsOfEntities, IsTableKept, StandsSoFar, StandsWhole}
-use Rattle.smith_module_rules.specs.Bounds.{items_of_export_shape, items_of_exports}
-use Rattle.smith_draw_definitions.specs.Defined.{StandsAfter}
-use Rattle.smith_draw_definitions.specs.Required.{AddsLimitsOf}
-use Rattle.smith_draw_definitions.specs.declared.definitions.Definitions.{Definitions}
 use Rattle.wasm_smith.specs.declared.build.parts_so_far.PartsSoFar.{PartsSoFar}
 use Rattle.wasm_smith.proofs.GrownSizeLemmas.{imports_grown}
 

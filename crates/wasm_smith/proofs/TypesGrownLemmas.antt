@@ -1,18 +1,15 @@
 -- Existing types are unchanged when types are drawn after them; if there are as many types as
 -- allowed, none is drawn.
-use Rattle.std.proofs.Common.{◌≡◌, ℕ, zero, suc, ◌+◌, ◌≤◌, Bool, true, false, nat_lt, List, [], ◌∷◌, ◌++◌, length, refl, arith}
+use Rattle.wasm_smith.proofs.Common.{[], all_kept, arith, Bool, Config, Context, Extends, false, GroupedTypes, length, List, refl, suc}
+use Rattle.wasm_smith.proofs.Common.{true, zero, ℕ, ◌++◌, ◌+◌, ◌∷◌, ◌≡◌, ◌≤◌}
+use Rattle.std.proofs.Common.{nat_lt}
 use Rattle.std.proofs.lemmas.Bool.{ltb-true}
 use Rattle.smith_bytes.specs.Growth.{goes_at, grow_at}
 use Rattle.smith_bytes.proofs.GrownLemmas.{cond_both}
-use Rattle.smith_types.specs.Expressions.{Context}
-use Rattle.smith_types.specs.Grown.{Extends}
-use Rattle.smith_types.specs.GroupedTypes.{GroupedTypes}
-use Rattle.smith_config.specs.declared.config.Config.{Config}
 use Rattle.smith_draw_types.specs.RecGroups.{types_until_at, new_group_at, clone_rec_group_at, clone_wanted_at, cloned_or_new_at}
 use Rattle.smith_draw_types.specs.RecGroups.{rec_group_at, least_types_at, more_types_at, types_at, with_clone, may_be_cloned, members}
 use Rattle.smith_draw_types.specs.Choices.{chosen_at}
 use Rattle.smith_draw_types.proofs.RecGroupLemmas.{least_keeps, more_keeps}
-use Rattle.smith_draw_definitions.proofs.ExtensionLemmas.{all_kept}
 use Rattle.smith_draw_definitions.proofs.RequiredExportsLoop.{extends_both}
 use Rattle.smith_draw_definitions.proofs.StandsAfterLemmas.{one_more}
 

@@ -1,9 +1,8 @@
 -- Globals that are added after all others, each given by its type and its initialiser. Rules of
 -- this project.
 use Rattle.std.specs.Prelude.{ℕ, ◌+◌, List, [], ◌∷◌, map}
-use Rattle.smith_syntax.specs.declared.value_type.ValType.{ValType}
-use Rattle.smith_syntax.specs.declared.entity_type.GlobalType.{GlobalType}
-use Rattle.smith_syntax.specs.declared.const_instr.ConstInstr.{ConstInstr}
+use Rattle.smith_types.specs.Syntax.value_type.ValType.{ValType}
+use Rattle.wasm_smith.specs.Common.{ConstInstr, GlobalType}
 use Rattle.wasm_smith.specs.Sinks.{sink}
 
 -- the types of the globals, which are mutable and unshared

@@ -2,12 +2,8 @@
 -- for `exact` of `Module::new`. The properties of a module are stated separately and do not depend
 -- on it.
 use Rattle.std.specs.Prelude.{ℕ, ◌+◌, ◌-◌, Bool, true, ◌||◌, is_some, Option, Some, None, List, [], length, Result, Ok, if◌then◌else◌}
-use Rattle.smith_bytes.specs.declared.error.Error.{Error}
-use Rattle.smith_types.specs.Expressions.{Context}
-use Rattle.smith_types.specs.Imports.{EntitySpaces, flattened, imported_spaces}
-use Rattle.smith_config.specs.declared.config.Config.{Config}
-use Rattle.smith_config.specs.declared.shape.Shape.{Shape}
-use Rattle.smith_config.specs.Features.{features_of}
+use Rattle.wasm_smith.specs.Common.{Config, Context, Definitions, EntitySpaces, Error, features_of, flattened, imported_spaces, ModuleParts}
+use Rattle.wasm_smith.specs.Common.{Shape}
 use Rattle.smith_draw_types.specs.RecGroups.{types_at}
 use Rattle.smith_draw_imports.specs.Importing.{imports_at}
 use Rattle.smith_bytes.specs.Steps.{◌>>=◌, section_flag_at, Returns, is_memory}
@@ -17,11 +13,9 @@ use Rattle.smith_draw_contents.specs.declared.exports_so_far.Exports.{Exports}
 use Rattle.wasm_smith.specs.FirstParts.{ModuleSoFar, first_parts_at, module_so_far, size_of_imports}
 use Rattle.smith_draw_definitions.specs.Definitions.{definitions_at}
 use Rattle.wasm_smith.specs.DrawnContents.{after_exports_at, in_full}
-use Rattle.smith_module_rules.specs.Module.{ModuleParts}
 use Rattle.smith_module_rules.specs.Refusals.{MayGive}
 use Rattle.smith_draw_definitions.specs.RequiredExports.{Required, required_at, then_with}
 use Rattle.wasm_smith.specs.declared.build.contents.Contents.{Contents}
-use Rattle.smith_draw_definitions.specs.declared.definitions.Definitions.{Definitions}
 use Rattle.wasm_smith.specs.declared.build.parts_so_far.PartsSoFar.{PartsSoFar}
 
 -- the context of these functions, `imported` of them imported, without types and globals

@@ -1,10 +1,8 @@
 -- The first shape of a configuration that fails its check, and the error. Rules of this project.
 use Rattle.std.specs.Prelude.{⊤, IfSome, IsSomeAnd, Option}
-use Rattle.smith_bytes.specs.declared.error.Error.{Error}
+use Rattle.wasm_smith.specs.Common.{Config, Error, Shape}
 use Rattle.smith_bytes.specs.declared.error.Which.{Which}
 use Rattle.smith_bytes.specs.declared.error.Which.TheVariants as which
-use Rattle.smith_config.specs.declared.config.Config.{Config}
-use Rattle.smith_config.specs.declared.shape.Shape.{Shape}
 use Rattle.smith_config.specs.ShapeFaults.{IsRefused}
 use Rattle.smith_config.specs.Shapes.{IsShapeValid}
 use Rattle.smith_module_rules.specs.Refusals.{shape_for}

@@ -1,18 +1,12 @@
 -- The types, imports and definitions over which exports, a start function, segments and bodies are
 -- drawn. Rules of this project.
 use Rattle.std.specs.Prelude.{◌≡◌, ℕ, ◌*◌, ◌≤◌, List, length, All}
-use Rattle.smith_bytes.specs.declared.error.Error.{Error}
+use Rattle.wasm_smith.specs.Common.{Config, Context, EntitySpaces, Error, features_of, HasNoShapes, TableType}
 use Rattle.smith_bytes.specs.declared.error.Error.TheVariants as errors
 use Rattle.smith_types.specs.Entities.{AreEntitiesValid}
-use Rattle.smith_types.specs.Expressions.{Context}
-use Rattle.smith_types.specs.Imports.{EntitySpaces}
 use Rattle.smith_types.specs.GroupedTypes.{GroupedTypes}
 use Rattle.smith_types.specs.ValidTypes.{AreTypesValid}
-use Rattle.smith_syntax.specs.declared.entity_type.TableType.{TableType}
-use Rattle.smith_config.specs.declared.config.Config.{Config}
 use Rattle.smith_config.specs.Faults.{Passes}
-use Rattle.smith_config.specs.Features.{features_of}
-use Rattle.smith_config.specs.InUse.{HasNoShapes}
 use Rattle.smith_config.specs.Sanitized.{IsSanitized}
 use Rattle.smith_draw_types.specs.FuncSizes.{IsSmall}
 use Rattle.smith_draw_types.specs.declared.spaces.Spaces.{Spaces}

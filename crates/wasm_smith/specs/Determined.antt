@@ -1,7 +1,6 @@
 -- Two modules for the same configuration and the same bytes. A rule of this project.
 use Rattle.std.specs.Prelude.{◌≡◌, ℕ, Bool, List, Ok}
-use Rattle.smith_config.specs.declared.config.Config.{Config}
-use Rattle.smith_module_rules.specs.Module.{ModuleParts}
+use Rattle.wasm_smith.specs.Common.{Config, ModuleParts}
 use Rattle.wasm_smith.specs.Generated.{IsGenerated}
 
 -- a configuration and bytes determine the module and the bytes left

@@ -2,21 +2,15 @@
 -- of this project.
 use Rattle.std.specs.Prelude.{◌≡◌, ℕ, ◌+◌, ◌-◌, ◌<◌, ◌≤◌, false, IsTrue, None, List, length, Result, Ok, Err, All}
 use Rattle.std.specs.List.{flat_map}
-use Rattle.smith_bytes.specs.declared.error.Error.{Error}
+use Rattle.wasm_smith.specs.Common.{AreExportsValid, Code, Config, Context, Definitions, EntitySpaces, Error, features_of, flattened}
+use Rattle.wasm_smith.specs.Common.{imported_spaces, SubType, TableType}
 use Rattle.smith_bytes.specs.declared.error.Error.TheVariants as errors
 use Rattle.smith_bytes.specs.declared.error.Why.{Why}
 use Rattle.smith_types.specs.Bodies.{IsBodyValid}
-use Rattle.smith_types.specs.Exports.{AreExportsValid, IsStartValid}
-use Rattle.smith_types.specs.Expressions.{Context}
+use Rattle.smith_types.specs.Exports.{IsStartValid}
 use Rattle.smith_types.specs.Floats.{IsNoFloat, GivesNoFloat}
-use Rattle.smith_types.specs.Imports.{EntitySpaces, flattened, imported_spaces}
 use Rattle.smith_types.specs.Segments.{IsElementSegmentValid, IsElementInside, IsDataValid, IsDataInside}
-use Rattle.smith_syntax.specs.declared.composite_type.SubType.{SubType}
-use Rattle.smith_syntax.specs.declared.entity_type.TableType.{TableType}
-use Rattle.smith_syntax.specs.declared.segments.ElementSegment.{ElementSegment}
-use Rattle.smith_syntax.specs.declared.code.Code.{Code}
-use Rattle.smith_config.specs.declared.config.Config.{Config}
-use Rattle.smith_config.specs.Features.{features_of}
+use Rattle.smith_types.specs.Syntax.segments.ElementSegment.{ElementSegment}
 use Rattle.smith_config.specs.InUse.{FixesExports}
 use Rattle.smith_config.specs.Granted.{IsGranted, HasGroundedItems, HasGroundedElements}
 use Rattle.smith_draw_types.specs.Grounding.{without_globals}
@@ -31,7 +25,6 @@ use Rattle.smith_draw_contents.specs.Start.{start_at}
 use Rattle.smith_draw_contents.specs.declared.exports_so_far.Exports.{Exports}
 use Rattle.smith_bytes.specs.Steps.{◌>>=◌, section_flag_at}
 use Rattle.wasm_smith.specs.declared.build.contents.Contents.{Contents}
-use Rattle.smith_draw_definitions.specs.declared.definitions.Definitions.{Definitions}
 use Rattle.smith_draw_imports.specs.declared.imports_so_far.Imported.{Imported}
 use Rattle.wasm_smith.specs.declared.build.segments.Segments.{Segments}
 

@@ -1,12 +1,8 @@
 -- Properties of the drawn parts, from which a module is made.
 use Rattle.std.specs.Prelude.{◌≡◌, ◌<◌, ◌≤◌, Bool, false, IsTrue, length, All}
-use Rattle.smith_bytes.specs.declared.error.Count.{Count}
+use Rattle.wasm_smith.specs.Common.{Config, Count, count_in, FixesImports, HasNoShapes, spaces_in}
 use Rattle.smith_types.specs.Floats.{HasNoFloat}
-use Rattle.smith_types.specs.EntitySpaces.{spaces_in}
-use Rattle.smith_config.specs.declared.config.Config.{Config}
 use Rattle.smith_config.specs.Faults.{minimum_of}
-use Rattle.smith_config.specs.InUse.{HasNoShapes, FixesImports}
-use Rattle.smith_module_rules.specs.ShapeImports.{count_in}
 use Rattle.wasm_smith.specs.FirstParts.{StandsWhole, IsOfEntities}
 use Rattle.smith_draw_definitions.specs.Defined.{HaveNoFloats}
 use Rattle.wasm_smith.specs.DrawnContents.{AreContents, HasGrantedContents, HasNoFloatContents, imported_in}

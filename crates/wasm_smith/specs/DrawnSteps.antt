@@ -1,24 +1,20 @@
 -- The state after each step of drawing a module. Rules of this project.
 use Rattle.std.specs.Prelude.{◌≡◌, ℕ, ◌*◌, ◌≤◌, Bool, false, IsTrue, is_some, IfSome, List, [], length, map, All}
 use Rattle.std.specs.List.{AllZip}
-use Rattle.smith_bytes.specs.declared.error.Count.{Count}
-use Rattle.smith_types.specs.Exports.{AreDistinct, AreExportsValid}
-use Rattle.smith_types.specs.Expressions.{Context}
+use Rattle.wasm_smith.specs.Common.{AreExportsValid, Config, Context, Count, count_in, EntitySpaces, FixesImports, flattened, HasNoShapes}
+use Rattle.wasm_smith.specs.Common.{Shape, space_of, spaces_in}
+use Rattle.smith_types.specs.Exports.{AreDistinct}
 use Rattle.smith_types.specs.Floats.{HasNoFloat}
 use Rattle.smith_types.specs.Grown.{Extends, AreSpacesGrown}
-use Rattle.smith_types.specs.Imports.{EntitySpaces, flattened}
-use Rattle.smith_types.specs.EntitySpaces.{spaces_in}
-use Rattle.smith_syntax.specs.declared.imports.Import.{Import}
-use Rattle.smith_config.specs.declared.config.Config.{Config}
-use Rattle.smith_config.specs.declared.shape.Shape.{Shape}
+use Rattle.smith_types.specs.Syntax.imports.Import.{Import}
 use Rattle.smith_config.specs.Faults.{minimum_of}
-use Rattle.smith_config.specs.InUse.{HasNoShapes, FixesImports, shapes_of}
-use Rattle.smith_config.specs.Shapes.{most_listed, shape_imports, shape_spaces, shape_types, space_of}
+use Rattle.smith_config.specs.InUse.{shapes_of}
+use Rattle.smith_config.specs.Shapes.{most_listed, shape_imports, shape_spaces, shape_types}
 use Rattle.smith_draw_types.specs.HeldFields.{HoldsUngroundedField}
 use Rattle.smith_draw_types.specs.FuncSizes.{HasFewValues, IsSmall}
 use Rattle.smith_config.specs.Granted.{AreTypesGranted, HasGroundedElements, HasGroundedValue}
 use Rattle.smith_draw_imports.specs.Imported.{HasNoImports}
-use Rattle.smith_module_rules.specs.ShapeImports.{kept_groups, taken_from, count_in}
+use Rattle.smith_module_rules.specs.ShapeImports.{kept_groups, taken_from}
 use Rattle.smith_draw_imports.specs.declared.imports_so_far.Imported.{Imported}
 use Rattle.wasm_smith.specs.FirstParts.{ModuleSoFar, StandsSoFar, StandsWhole, IsOfEntities}
 use Rattle.smith_draw_definitions.specs.Defined.{HaveNoFloats, drawn_beside, nothing_defined}

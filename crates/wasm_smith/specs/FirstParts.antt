@@ -2,37 +2,27 @@
 use Rattle.std.specs.Prelude.{◌≡◌, ℕ, ◌+◌, ◌≤◌, max, false, ◌⊎◌, ⊤, is_some, IfSome, IsSomeAnd, List, [], Option, Some, None, length}
 use Rattle.std.specs.Prelude.{sum_by, All, Result, Ok, if◌then◌else◌}
 use Rattle.std.specs.List.{AllZip, Contains}
-use Rattle.smith_bytes.specs.declared.error.Error.{Error}
+use Rattle.wasm_smith.specs.Common.{AreExportsValid, Config, Count, count_in, Definitions, EntitySpaces, Error, Export, features_of}
+use Rattle.wasm_smith.specs.Common.{FixesImports, flattened, imported_spaces, Shape, space_of, spaces_in, SubType, TableType}
 use Rattle.smith_bytes.specs.declared.error.Error.TheVariants as errors
-use Rattle.smith_types.specs.Exports.{AreExportsValid}
-use Rattle.smith_types.specs.Imports.{EntitySpaces, IsImportsValid, flattened, imported_spaces}
-use Rattle.smith_types.specs.EntitySpaces.{spaces_in}
+use Rattle.smith_types.specs.Imports.{IsImportsValid}
 use Rattle.smith_types.specs.Sizes.{size_in}
 use Rattle.smith_types.specs.GroupedTypes.{GroupedTypes}
-use Rattle.smith_syntax.specs.declared.composite_type.SubType.{SubType}
-use Rattle.smith_syntax.specs.declared.entity_type.MemoryType.{MemoryType}
-use Rattle.smith_syntax.specs.declared.entity_type.TableType.{TableType}
-use Rattle.smith_syntax.specs.declared.imports.Import.{Import}
-use Rattle.smith_syntax.specs.declared.imports.Imports.{Imports}
-use Rattle.smith_config.specs.declared.config.Config.{Config}
-use Rattle.smith_config.specs.declared.shape.Shape.{Shape}
+use Rattle.smith_types.specs.Syntax.entity_type.MemoryType.{MemoryType}
+use Rattle.smith_types.specs.Syntax.imports.Import.{Import}
+use Rattle.smith_types.specs.Syntax.imports.Imports.{Imports}
 use Rattle.smith_config.specs.Faults.{maximum_of}
-use Rattle.smith_config.specs.Features.{features_of}
-use Rattle.smith_config.specs.InUse.{FixesImports}
-use Rattle.smith_config.specs.Shapes.{shape_imports, shape_spaces, shape_types, space_of}
+use Rattle.smith_config.specs.Shapes.{shape_imports, shape_spaces, shape_types}
 use Rattle.smith_draw_shape_imports.specs.AvailableImports.{AreImportsWithin, available_at}
 use Rattle.smith_draw_imports.specs.Imported.{HasNoImports}
-use Rattle.smith_module_rules.specs.ShapeImports.{kept_groups, sizes_of, count_in, taken_from}
-use Rattle.smith_bytes.specs.declared.error.Count.{Count}
+use Rattle.smith_module_rules.specs.ShapeImports.{kept_groups, sizes_of, taken_from}
 use Rattle.smith_bytes.specs.declared.error.Count.TheVariants as counts
 use Rattle.smith_config.specs.EntityBounds.{IsTableWithin, IsMemoryWithin}
-use Rattle.smith_module_rules.specs.ExportedItems.{Export}
 use Rattle.smith_module_rules.specs.Bounds.{items_of_export_shape, items_of_shapes, items_of_module_shape, of_shapes}
 use Rattle.smith_draw_definitions.specs.Defined.{StandsAfter, drawn_beside, nothing_defined}
 use Rattle.smith_draw_definitions.specs.Required.{MayRefuseRequired}
 use Rattle.smith_draw_definitions.specs.RequiredExports.{Required, required_at, then_with}
 use Rattle.smith_module_rules.specs.ShapesKept.{IsSameExport}
-use Rattle.smith_draw_definitions.specs.declared.definitions.Definitions.{Definitions}
 use Rattle.wasm_smith.specs.declared.build.parts_so_far.PartsSoFar.{PartsSoFar}
 
 -- the state of a module: types, groups of imports, index spaces, their definitions, and exports

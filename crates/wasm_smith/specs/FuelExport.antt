@@ -1,9 +1,6 @@
 -- The export of a global that counts fuel. Rules of this project.
 use Rattle.std.specs.Prelude.{◌≡◌, ℕ, List, Result, Ok, Err, codes}
-use Rattle.smith_bytes.specs.declared.error.Error.{Error}
-use Rattle.smith_bytes.specs.declared.error.Error.TheVariants.{Memory}
-use Rattle.smith_module_rules.specs.ExportedItems.{Export}
-use Rattle.smith_module_rules.specs.Module.{ModuleParts}
+use Rattle.wasm_smith.specs.Common.{Error, Export, Memory, ModuleParts}
 use Rattle.wasm_smith.specs.GlobalExport.{unused_name, with_global}
 
 -- the name of the export: `fuel`, made unused

@@ -1,15 +1,14 @@
 -- The contract of each call that draws a module: `Module::new_internal`, `new` and `arbitrary`.
 use Rattle.std.specs.Prelude.{◌≡◌, ℕ, Bool, true, false, List, Result, IfOk, IfErr, OnOk, IsErrAnd}
 use Rattle.smith_bytes.specs.Source.{IsPiece}
-use Rattle.smith_bytes.specs.declared.error.Error.{Error}
+use Rattle.wasm_smith.specs.Common.{Config, Error, ModuleParts}
 use Rattle.smith_bytes.specs.declared.error.Error.TheVariants as errors
-use Rattle.smith_config.specs.declared.config.Config.{Config}
 use Rattle.smith_config.specs.Faults.{IsFirstFault, Passes}
 use Rattle.smith_config.specs.Sanitized.{sanitized}
 use Rattle.smith_module_rules.specs.Bounds.{KeepsBounds, MeetsMinimums}
 use Rattle.wasm_smith.specs.Build.{IsGiven}
 use Rattle.smith_module_rules.specs.InterestingValues.{HasInterestingValues}
-use Rattle.smith_module_rules.specs.Module.{ModuleParts, IsValid, shown_config}
+use Rattle.smith_module_rules.specs.Module.{IsValid, shown_config}
 use Rattle.smith_module_rules.specs.Promises.{KeepsPromises}
 use Rattle.wasm_smith.specs.CheckedShapes.{IsFirstFaulty}
 use Rattle.wasm_smith.specs.Reached.{ReachesMembers, ReachesRests}

@@ -1,8 +1,8 @@
 -- The export of a global that is added to a module. Rules of this project.
 use Rattle.std.specs.Prelude.{◌≡◌, ℕ, ◌<◌, false, List, [], ◌∷◌, ◌++◌, length, codes, if◌then◌else◌}
 use Rattle.std.specs.List.{repeat}
-use Rattle.smith_syntax.specs.declared.entity_type.ExportKind.TheVariants.{Global}
-use Rattle.smith_module_rules.specs.ExportedItems.{Export}
+use Rattle.smith_types.specs.Syntax.entity_type.ExportKind.TheVariants.{Global}
+use Rattle.wasm_smith.specs.Common.{Export}
 use Rattle.smith_draw_contents.specs.Exporting.{is_exported, longest_export}
 
 -- this name, and if an export has it, as many `_` after it as the longest name of an export has bytes

@@ -1,13 +1,9 @@
 -- Modules with given types and functions, and otherwise only globals and passive data. Rules of
 -- this project.
 use Rattle.std.specs.Prelude.{◌≡◌, ℕ, ℤ, List, [], ◌∷◌, None, map}
-use Rattle.smith_syntax.specs.declared.composite_type.SubType.{SubType}
-use Rattle.smith_syntax.specs.declared.const_instr.ConstInstr.{ConstInstr}
-use Rattle.smith_syntax.specs.declared.const_instr.ConstInstr.TheVariants.{I32Const}
-use Rattle.smith_syntax.specs.declared.segments.DataSegmentKind.TheVariants.{Passive}
-use Rattle.smith_config.specs.Shapes.{space_of}
+use Rattle.wasm_smith.specs.Common.{ConstInstr, I32Const, ModuleParts, space_of, SubType}
+use Rattle.smith_types.specs.Syntax.segments.DataSegmentKind.TheVariants.{Passive}
 use Rattle.smith_draw_types.specs.SpelledGlobals.{mutable_i32}
-use Rattle.smith_module_rules.specs.Module.{ModuleParts}
 
 -- a module has these types and functions
 pub record HasMember (groups : List (List SubType)) (funcs : List ℕ) (m : ModuleParts) : Type 0 where

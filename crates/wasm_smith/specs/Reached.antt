@@ -1,14 +1,10 @@
 -- The modules whose types and functions, and rest, the source spells. Rules of this project, for a
 -- sanitised configuration.
 use Rattle.std.specs.Prelude.{◌≡◌, ℕ, ℤ, List, ◌++◌, Result, MatchResult}
-use Rattle.smith_bytes.specs.declared.error.Error.{Error}
-use Rattle.smith_bytes.specs.declared.error.Error.TheVariants.{Memory}
-use Rattle.smith_syntax.specs.declared.composite_type.SubType.{SubType}
-use Rattle.smith_config.specs.declared.config.Config.{Config}
+use Rattle.wasm_smith.specs.Common.{Config, Error, Memory, ModuleParts, SubType}
 use Rattle.smith_spell.specs.SpellAnswers.{IsSpellable}
 use Rattle.smith_spell.specs.Spelling.{SpellsMember, SpellsRest, IsRest}
 use Rattle.wasm_smith.specs.Members.{HasMember, HasRest}
-use Rattle.smith_module_rules.specs.Module.{ModuleParts}
 
 -- the source begins with a spelling of these types and functions, which can be spelled, and then
 -- has the bytes `remaining`

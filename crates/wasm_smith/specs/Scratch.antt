@@ -1,13 +1,10 @@
 -- Globals that are added to a module, the scratch globals: one for each type of floats and, if there
 -- are vectors, one for vectors. Bodies can keep a value in them for a moment. Rules of this project.
 use Rattle.std.specs.Prelude.{◌≡◌, ℕ, pos, ◌+◌, Bool, List, [], ◌∷◌, ◌++◌, length, Result, Ok, Err, if◌then◌else◌}
-use Rattle.smith_bytes.specs.declared.error.Error.{Error}
-use Rattle.smith_bytes.specs.declared.error.Error.TheVariants.{Memory}
-use Rattle.smith_syntax.specs.declared.value_type.ValType.TheVariants.{F32, F64, V128}
-use Rattle.smith_syntax.specs.declared.entity_type.GlobalType.{GlobalType}
-use Rattle.smith_syntax.specs.declared.const_instr.ConstInstr.{ConstInstr}
-use Rattle.smith_syntax.specs.declared.const_instr.ConstInstr.TheVariants.{F32Const, F64Const, V128Const}
-use Rattle.smith_module_rules.specs.Module.{ModuleParts, module_features}
+use Rattle.wasm_smith.specs.Common.{ConstInstr, Error, GlobalType, Memory, ModuleParts}
+use Rattle.smith_types.specs.Syntax.value_type.ValType.TheVariants.{F32, F64, V128}
+use Rattle.smith_types.specs.Syntax.const_instr.ConstInstr.TheVariants.{F32Const, F64Const, V128Const}
+use Rattle.smith_module_rules.specs.Module.{module_features}
 use Rattle.wasm_smith.specs.Sinks.{sink}
 
 -- the types of the scratch globals, if there are vectors or not

@@ -1,9 +1,6 @@
 -- The exports of the sinks. Rules of this project.
 use Rattle.std.specs.Prelude.{◌≡◌, ℕ, ◌+◌, List, Result, Ok, Err, codes}
-use Rattle.smith_bytes.specs.declared.error.Error.{Error}
-use Rattle.smith_bytes.specs.declared.error.Error.TheVariants.{Memory}
-use Rattle.smith_module_rules.specs.ExportedItems.{Export}
-use Rattle.smith_module_rules.specs.Module.{ModuleParts}
+use Rattle.wasm_smith.specs.Common.{Error, Export, Memory, ModuleParts}
 use Rattle.wasm_smith.specs.GlobalExport.{with_global}
 
 -- exports, and after them the sinks from this index on: `sink_i32`, `sink_i64` and `sink_i64_2`,

@@ -1,13 +1,10 @@
 -- Three globals that are added to a module, the sinks. Bodies can mix into them the values that they
 -- compute. Rules of this project.
 use Rattle.std.specs.Prelude.{◌≡◌, ℕ, pos, ◌+◌, true, false, List, [], ◌∷◌, ◌++◌, length, Result, Ok, Err}
-use Rattle.smith_bytes.specs.declared.error.Error.{Error}
-use Rattle.smith_syntax.specs.declared.value_type.ValType.{ValType}
-use Rattle.smith_syntax.specs.declared.value_type.ValType.TheVariants.{I32, I64}
-use Rattle.smith_syntax.specs.declared.entity_type.GlobalType.{GlobalType}
-use Rattle.smith_syntax.specs.declared.const_instr.ConstInstr.{ConstInstr}
-use Rattle.smith_syntax.specs.declared.const_instr.ConstInstr.TheVariants.{I32Const, I64Const}
-use Rattle.smith_module_rules.specs.Module.{ModuleParts}
+use Rattle.wasm_smith.specs.Common.{ConstInstr, Error, GlobalType, I32Const, ModuleParts}
+use Rattle.smith_types.specs.Syntax.value_type.ValType.{ValType}
+use Rattle.smith_types.specs.Syntax.value_type.ValType.TheVariants.{I32, I64}
+use Rattle.smith_types.specs.Syntax.const_instr.ConstInstr.TheVariants.{I64Const}
 use Rattle.wasm_smith.specs.Termination.{HasRawBody, MayAddNone}
 
 -- the type of a sink for values of this type

@@ -1,13 +1,9 @@
 -- Lists that are drawn again from their spelling. A rule of this project.
 use Rattle.std.specs.Prelude.{◌≡◌, ℕ, Bool, List, ◌++◌, Some, Result, Ok, MatchResult}
-use Rattle.smith_bytes.specs.declared.error.Error.{Error}
-use Rattle.smith_bytes.specs.declared.error.Error.TheVariants.{Memory}
-use Rattle.smith_syntax.specs.declared.composite_type.SubType.{SubType}
-use Rattle.smith_config.specs.declared.config.Config.{Config}
+use Rattle.wasm_smith.specs.Common.{Config, Error, Memory, ModuleParts, SubType}
 use Rattle.smith_spell.specs.SpellAnswers.{AnswersSpelling}
 use Rattle.wasm_smith.specs.Generated.{IsGenerated}
 use Rattle.wasm_smith.specs.Members.{HasMember}
-use Rattle.smith_module_rules.specs.Module.{ModuleParts}
 
 -- a module drawn from the bytes that `spell` returns for types and functions, and any bytes after
 -- them, has these types and functions, unless memory runs out

@@ -1,7 +1,7 @@
 ghost use Rattle.std.specs.Prelude.{◌≡◌, ◌<◌, ◌-◌, ◌^◌, ◌++◌, [], ◌∷◌, length};
 ghost use Rattle.std.specs.Prelude.{IfOk, OnOk, OnErr, IfErr};
 ghost use Rattle.std.specs.Int.{cast_signed, w32};
-ghost use Rattle.smith_syntax.specs.declared.const_instr.ConstInstr.TheVariants.{
+ghost use Rattle.smith_types.specs.Syntax.const_instr.ConstInstr.TheVariants.{
   I32Const as NumberConst,
 };
 ghost use Rattle.smith_module_rules.specs.Module.{IsValid};

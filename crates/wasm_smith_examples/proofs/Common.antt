@@ -72,10 +72,10 @@ pub use Rattle.smith_spell_examples.proofs.SpellExamples.{function_spellable}
 pub use Rattle.smith_spell_examples.proofs.SpelledExamples.{any_byte, joined, one_function_spelled}
 unfoldable pub use Rattle.smith_spell.specs.Spelling.{SpellsRest}
 pub use Rattle.smith_types.specs.ExampleTypes.{nullable, plain_func, shared_type}
-pub use Rattle.smith_syntax.specs.Kinds.{shared}
-pub use Rattle.smith_syntax.specs.declared.composite_type.SubType.{SubType}
-pub use Rattle.smith_syntax.specs.declared.value_type.HeapType.TheVariants.{Concrete}
-pub use Rattle.smith_syntax.specs.declared.value_type.ValType.TheVariants.{Ref}
+pub use Rattle.smith_types.specs.Syntax.Kinds.{shared}
+pub use Rattle.smith_types.specs.Syntax.composite_type.SubType.{SubType}
+pub use Rattle.smith_types.specs.Syntax.value_type.HeapType.TheVariants.{Concrete}
+pub use Rattle.smith_types.specs.Syntax.value_type.ValType.TheVariants.{Ref}
 pub use Rattle.wasm_smith.specs.CheckedShapes.{ComesBefore, IsFaultOf, IsFirstFaulty}
 unfoldable pub use Rattle.wasm_smith.specs.DrawnContents.{all_segments_at, after_exports_at}
 unfoldable pub use Rattle.wasm_smith.specs.FirstParts.{first_parts_at}

@@ -3,9 +3,9 @@ use Rattle.std.specs.Prelude.{false, List, [], ◌∷◌, Some, None}
 use Rattle.smith_types.specs.ExampleTypes.{shared_type, plain_func}
 use Rattle.smith_types.specs.Flags.{funcref}
 use Rattle.smith_types.specs.Imports.{EntitySpaces}
-use Rattle.smith_syntax.specs.declared.composite_type.SubType.{SubType}
-use Rattle.smith_syntax.specs.declared.entity_type.GlobalType.{GlobalType}
-use Rattle.smith_syntax.specs.declared.entity_type.MemoryType.{MemoryType}
+use Rattle.smith_types.specs.Syntax.composite_type.SubType.{SubType}
+use Rattle.smith_types.specs.Syntax.entity_type.GlobalType.{GlobalType}
+use Rattle.smith_types.specs.Syntax.entity_type.MemoryType.{MemoryType}
 use Rattle.smith_config.specs.declared.config.Config.{Config}
 use Rattle.smith_config.specs.Config.{default_config}
 use Rattle.smith_config.specs.ExampleMembers.{final, giving_two, taking_a_number, bytes_array, plain_function}

@@ -1,8 +1,8 @@
 -- A module with sinks.
 use Rattle.std.specs.Prelude.{true, pos, [], ◌∷◌, codes}
-use Rattle.smith_syntax.specs.declared.value_type.ValType.TheVariants.{I32, I64}
-use Rattle.smith_syntax.specs.declared.const_instr.ConstInstr.TheVariants.{I32Const, I64Const}
-use Rattle.smith_syntax.specs.declared.entity_type.ExportKind.TheVariants as kind
+use Rattle.smith_types.specs.Syntax.value_type.ValType.TheVariants.{I32, I64}
+use Rattle.smith_types.specs.Syntax.const_instr.ConstInstr.TheVariants.{I32Const, I64Const}
+use Rattle.smith_types.specs.Syntax.entity_type.ExportKind.TheVariants as kind
 use Rattle.smith_module_rules.specs.Module.{ModuleParts}
 use Rattle.smith_module_rules_examples.specs.ExampleParts.{global}
 use Rattle.smith_module_rules_examples.specs.ExampleGiven.{without_gc}

@@ -4,8 +4,8 @@ ghost use Rattle.std.specs.Prelude.{◌≡◌, ◌^◌, [], ◌∷◌, true, fal
 ghost use Rattle.smith_bytes.specs.declared.error.Count.TheVariants as counts;
 ghost use Rattle.smith_bytes.specs.declared.error.Why.TheVariants.{Unmet};
 ghost use Rattle.smith_types.specs.ExampleEntities.{all_addresses};
-ghost use Rattle.smith_syntax.specs.declared.segments.DataSegmentKind.TheVariants.{Passive, Active};
-ghost use Rattle.smith_syntax.specs.declared.segments.Offset.TheVariants.{Const32, Const64, Global};
+ghost use Rattle.smith_types.specs.Syntax.segments.DataSegmentKind.TheVariants.{Passive, Active};
+ghost use Rattle.smith_types.specs.Syntax.segments.Offset.TheVariants.{Const32, Const64, Global};
 ghost use Rattle.smith_config.specs.Config.{default_config};
 ghost use Rattle.smith_draw_contents.specs.DataSegments.{counting_at, data_at};
 ghost use Rattle.smith_draw_definitions.specs.Definitions.{global_scope};

@@ -4,12 +4,12 @@ ghost use Rattle.smith_bytes.specs.declared.error.Error.TheVariants.{IncorrectFo
 ghost use Rattle.smith_bytes.specs.declared.error.Why.TheVariants.{Unmet};
 ghost use Rattle.smith_types.specs.Flags.{funcref};
 ghost use Rattle.smith_types.specs.ExampleTypes.{nullable, not_null, plain, shared_type, plain_func};
-ghost use Rattle.smith_syntax.specs.declared.value_type.AbstractHeapType.TheVariants as heap;
-ghost use Rattle.smith_syntax.specs.declared.value_type.HeapType.TheVariants.{Concrete};
-ghost use Rattle.smith_syntax.specs.declared.value_type.ValType.TheVariants.{I32, Ref};
-ghost use Rattle.smith_syntax.specs.declared.const_instr.ConstInstr.TheVariants.{I32Const, GlobalGet, RefFunc, RefNull};
-ghost use Rattle.smith_syntax.specs.declared.entity_type.EntityType.TheVariants.{Func};
-ghost use Rattle.smith_syntax.specs.declared.imports.Imports.TheVariants.{Single};
+ghost use Rattle.smith_types.specs.Syntax.value_type.AbstractHeapType.TheVariants as heap;
+ghost use Rattle.smith_types.specs.Syntax.value_type.HeapType.TheVariants.{Concrete};
+ghost use Rattle.smith_types.specs.Syntax.value_type.ValType.TheVariants.{I32, Ref};
+ghost use Rattle.smith_types.specs.Syntax.const_instr.ConstInstr.TheVariants.{I32Const, GlobalGet, RefFunc, RefNull};
+ghost use Rattle.smith_types.specs.Syntax.entity_type.EntityType.TheVariants.{Func};
+ghost use Rattle.smith_types.specs.Syntax.imports.Imports.TheVariants.{Single};
 ghost use Rattle.smith_config.specs.ExampleMembers.{final, giving_two, plain_function};
 ghost use Rattle.wasm_smith.specs.Build.{module_at};
 ghost use Rattle.smith_draw_definitions.specs.Defined.{nothing_defined};

@@ -2,16 +2,16 @@ ghost use Rattle.std.specs.Prelude.{◌≡◌, ◌-◌, ◌^◌, [], ◌∷◌, 
 ghost use Rattle.smith_bytes.specs.declared.error.Count.TheVariants as counts;
 ghost use Rattle.smith_bytes.specs.declared.error.Why.TheVariants.{Unmet, TypeSize};
 ghost use Rattle.smith_types.specs.Imports.{imported_spaces};
-ghost use Rattle.smith_syntax.specs.declared.entity_type.EntityType.TheVariants as entity;
-ghost use Rattle.smith_syntax.specs.declared.entity_type.ExportKind.TheVariants.{Func, Memory, Global, Tag};
+ghost use Rattle.smith_types.specs.Syntax.entity_type.EntityType.TheVariants as entity;
+ghost use Rattle.smith_types.specs.Syntax.entity_type.ExportKind.TheVariants.{Func, Memory, Global, Tag};
 ghost use Rattle.smith_config.specs.Config.{default_config};
 ghost use Rattle.smith_config.specs.ExampleMembers.{final, taking_a_number, plain_function};
 ghost use Rattle.smith_draw_contents.specs.Exporting.{is_exported, export_name_at, candidates, offered_kinds, free_exports_at};
 ghost use Rattle.smith_module_rules.specs.ExportedItems.{exported_size};
 ghost use Rattle.smith_draw_contents.specs.AllExports.{exports_at};
 ghost use Rattle.smith_draw_contents.specs.Exported.{HasSizeIn32Bits, IsFuncWithin};
-ghost use Rattle.smith_syntax.specs.declared.composite_type.CompositeInnerType.TheVariants as inner;
-ghost use Rattle.smith_syntax.specs.declared.value_type.ValType.{ValType};
+ghost use Rattle.smith_types.specs.Syntax.composite_type.CompositeInnerType.TheVariants as inner;
+ghost use Rattle.smith_types.specs.Syntax.value_type.ValType.{ValType};
 ghost use Rattle.smith_module_rules_examples.specs.ExampleParts.{memory, number, import_named};
 
 fn drawn_exports()

@@ -1,7 +1,7 @@
 ghost use Rattle.std.specs.Prelude.{◌≡◌, [], ◌∷◌, None, Ok, Err, codes};
 ghost use Rattle.smith_bytes.specs.declared.error.Error.TheVariants.{IncorrectFormat};
 ghost use Rattle.smith_bytes.specs.declared.error.Why.TheVariants.{SeveralMemories};
-ghost use Rattle.smith_syntax.specs.declared.entity_type.ExportKind.TheVariants as kind;
+ghost use Rattle.smith_types.specs.Syntax.entity_type.ExportKind.TheVariants as kind;
 ghost use Rattle.smith_config.specs.Config.{default_config};
 ghost use Rattle.smith_config.specs.Shapes.{space_of};
 ghost use Rattle.wasm_smith.specs.FirstParts.{first_parts_at, nothing_so_far};

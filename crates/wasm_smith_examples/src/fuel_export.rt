@@ -1,6 +1,6 @@
 ghost use Rattle.std.specs.Prelude.{◌≡◌, [], ◌∷◌, codes, Ok, Err};
 ghost use Rattle.smith_bytes.specs.declared.error.Error.TheVariants.{EmptyChoose, Memory};
-ghost use Rattle.smith_syntax.specs.declared.entity_type.ExportKind.TheVariants as kind;
+ghost use Rattle.smith_types.specs.Syntax.entity_type.ExportKind.TheVariants as kind;
 ghost use Rattle.wasm_smith.specs.FuelExport.{fuel_name, with_fuel_export, AnswersFuelExport};
 ghost use Rattle.smith_module_rules_examples.specs.ExampleGiven.{counting_once};
 

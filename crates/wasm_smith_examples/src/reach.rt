@@ -1,9 +1,9 @@
 ghost use Rattle.std.specs.Prelude.{[], ◌∷◌, ◌++◌, pos, true, false, Some, None, Ok, Err};
 ghost use Rattle.smith_bytes.specs.declared.error.Error.TheVariants.{EmptyChoose, Memory};
 ghost use Rattle.smith_types.specs.Flags.{funcref};
-ghost use Rattle.smith_syntax.specs.declared.value_type.ValType.TheVariants.{I32};
-ghost use Rattle.smith_syntax.specs.declared.segments.Elements.TheVariants.{Functions};
-ghost use Rattle.smith_syntax.specs.declared.entity_type.ExportKind.TheVariants as kind;
+ghost use Rattle.smith_types.specs.Syntax.value_type.ValType.TheVariants.{I32};
+ghost use Rattle.smith_types.specs.Syntax.segments.Elements.TheVariants.{Functions};
+ghost use Rattle.smith_types.specs.Syntax.entity_type.ExportKind.TheVariants as kind;
 ghost use Rattle.smith_config.specs.Config.{default_config};
 ghost use Rattle.smith_config.specs.ExampleMembers.{alone, one_function_type, taking_a_number, nothing_may_be, function_bytes};
 ghost use Rattle.wasm_smith.specs.Members.{HasMember, HasRest};

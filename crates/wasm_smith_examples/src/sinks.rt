@@ -1,9 +1,9 @@
 ghost use Rattle.std.specs.Prelude.{◌≡◌, [], ◌∷◌, pos, negsuc, true, codes, Ok, Err};
 ghost use Rattle.smith_bytes.specs.declared.error.Error.TheVariants.{IncorrectFormat, Memory};
 ghost use Rattle.smith_bytes.specs.declared.error.Why.TheVariants.{RawBody};
-ghost use Rattle.smith_syntax.specs.declared.value_type.ValType.TheVariants.{I32, I64};
-ghost use Rattle.smith_syntax.specs.declared.const_instr.ConstInstr.TheVariants.{I32Const as NumberConst, I64Const as WideConst};
-ghost use Rattle.smith_syntax.specs.declared.entity_type.ExportKind.TheVariants as kind;
+ghost use Rattle.smith_types.specs.Syntax.value_type.ValType.TheVariants.{I32, I64};
+ghost use Rattle.smith_types.specs.Syntax.const_instr.ConstInstr.TheVariants.{I32Const as NumberConst, I64Const as WideConst};
+ghost use Rattle.smith_types.specs.Syntax.entity_type.ExportKind.TheVariants as kind;
 ghost use Rattle.smith_module_rules_examples.specs.ExampleParts.{global};
 ghost use Rattle.smith_module_rules_examples.specs.ExampleGiven.{without_gc, raw_body, counting_once};
 ghost use Rattle.wasm_smith.specs.Sinks.{AddsSinks, AnswersSinks};

@@ -1,7 +1,7 @@
 ghost use Rattle.std.specs.Prelude.{[], ◌∷◌, codes, Ok, Err};
 ghost use Rattle.smith_bytes.specs.declared.error.Error.TheVariants.{EmptyChoose, IncorrectFormat, Memory};
 ghost use Rattle.smith_bytes.specs.declared.error.Why.TheVariants.{Loop, RawBody};
-ghost use Rattle.smith_syntax.specs.declared.entity_type.ExportKind.TheVariants as kind;
+ghost use Rattle.smith_types.specs.Syntax.entity_type.ExportKind.TheVariants as kind;
 ghost use Rattle.smith_config.specs.Config.{default_config};
 ghost use Rattle.wasm_smith.specs.Termination.{HasRawBody, AddsCounter, MayAddNone, AnswersCounter};
 ghost use Rattle.smith_module_rules_examples.specs.ExampleParts.{number, trapping};

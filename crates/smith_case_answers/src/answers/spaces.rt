@@ -1,5 +1,5 @@
 ghost use Rattle.std.specs.Prelude.{◌≡◌, [], false};
-ghost use Rattle.smith_syntax.specs.declared.value_type.ValType.TheVariants.{I32};
+ghost use Rattle.smith_types.specs.Syntax.value_type.ValType.TheVariants.{I32};
 
 use crate::answer_lines::or_memory;
 use smith_case::shapes::shape_named;

@@ -1,8 +1,8 @@
 ghost use Rattle.std.specs.Prelude.{◌↔◌, IsTrue, All};
-ghost use Rattle.smith_syntax.specs.Features.{every_feature};
+ghost use Rattle.smith_types.specs.Syntax.Features.{every_feature};
 ghost use Rattle.smith_types.specs.EntitySpaces.{spaces_in};
 ghost use Rattle.smith_types.specs.Entities.{AreLimitsValid, most_elements, IsMemoryValid};
-ghost use Rattle.smith_syntax.specs.declared.entity_type.TableType.{TableType as Table};
+ghost use Rattle.smith_types.specs.Syntax.entity_type.TableType.{TableType as Table};
 ghost use Rattle.smith_config.specs.Shapes.{IsShallow};
 ghost use Rattle.smith_config.specs.ShapeFaults.{AreLimitsSound};
 

@@ -1,6 +1,6 @@
 ghost use Rattle.std.specs.Prelude.{◌≡◌, ◌↔◌, ℕ, List, IsTrue, IfOk, IfErr, map};
 ghost use Rattle.smith_types.specs.Exports.{AreDistinct};
-ghost use Rattle.smith_syntax.specs.declared.entity_type.ExportKind.{ExportKind as Kind};
+ghost use Rattle.smith_types.specs.Syntax.entity_type.ExportKind.{ExportKind as Kind};
 
 use smith_bytes::Error;
 use smith_types::{ExportKind, Name};

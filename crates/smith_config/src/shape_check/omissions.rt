@@ -1,8 +1,8 @@
 ghost use Rattle.std.specs.Prelude.{◌≡◌, ◌↔◌, IsTrue, All, false};
 ghost use Rattle.smith_types.specs.EntitySpaces.{spaces_in};
-ghost use Rattle.smith_syntax.specs.declared.composite_type.SubType.{SubType as Sub};
-ghost use Rattle.smith_syntax.specs.declared.entity_type.GlobalType.{GlobalType as Global};
-ghost use Rattle.smith_syntax.specs.declared.entity_type.TableType.{TableType as Table};
+ghost use Rattle.smith_types.specs.Syntax.composite_type.SubType.{SubType as Sub};
+ghost use Rattle.smith_types.specs.Syntax.entity_type.GlobalType.{GlobalType as Global};
+ghost use Rattle.smith_types.specs.Syntax.entity_type.TableType.{TableType as Table};
 ghost use Rattle.smith_config.specs.Shapes.{IsNothingLeftOut, IsValTypeIncluded};
 
 use smith_types::{EntitySpaces, GlobalType, HeapType, SubType, TableType, TypeSpace, ValType};

@@ -1,7 +1,7 @@
 ghost use Rattle.std.specs.Prelude.{◌≡◌, ◌↔◌, ◌≤◌, List, IsTrue, All, length};
 ghost use Rattle.std.specs.List.{flat_map};
 ghost use Rattle.smith_types.specs.Imports.{imports_of, flattened};
-ghost use Rattle.smith_syntax.specs.declared.composite_type.SubType.{SubType as Sub};
+ghost use Rattle.smith_types.specs.Syntax.composite_type.SubType.{SubType as Sub};
 ghost use Rattle.smith_config.specs.Shapes.{IsShort, IsInnerShort, most_listed, shape_types};
 ghost use Rattle.smith_config.specs.Shapes.{shape_imports};
 ghost use Rattle.smith_config.specs.Decided.{AreListsShort};

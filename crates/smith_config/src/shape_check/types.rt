@@ -1,11 +1,11 @@
 ghost use Rattle.std.specs.Prelude.{◌↔◌, IsTrue, All, length};
-ghost use Rattle.smith_syntax.specs.Features.{every_feature};
+ghost use Rattle.smith_types.specs.Syntax.Features.{every_feature};
 ghost use Rattle.smith_types.specs.EntitySpaces.{spaces_in};
 ghost use Rattle.smith_types.specs.HeldValues.{values_in};
 ghost use Rattle.smith_types.specs.ValidTypes.{IsValTypeValid, IsShareable, AreTypesValid};
-ghost use Rattle.smith_syntax.specs.declared.value_type.ValType.TheVariants.{Ref};
-ghost use Rattle.smith_syntax.specs.declared.entity_type.GlobalType.{GlobalType as Global};
-ghost use Rattle.smith_syntax.specs.declared.entity_type.TableType.{TableType as Table};
+ghost use Rattle.smith_types.specs.Syntax.value_type.ValType.TheVariants.{Ref};
+ghost use Rattle.smith_types.specs.Syntax.entity_type.GlobalType.{GlobalType as Global};
+ghost use Rattle.smith_types.specs.Syntax.entity_type.TableType.{TableType as Table};
 ghost use Rattle.smith_config.specs.ShapeFaults.{AreTypesSound};
 
 use smith_types::{EntitySpaces, GlobalType, SubType, TableType, TypeSpace, ValType, WasmFeatures};

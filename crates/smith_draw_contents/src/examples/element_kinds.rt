@@ -5,7 +5,7 @@ ghost use Rattle.std.specs.Prelude.{◌≡◌, [], ◌∷◌, false, None, Some}
 ghost use Rattle.smith_types.specs.Flags.{funcref};
 ghost use Rattle.smith_types.specs.ExampleTypes.{nullable, plain};
 ghost use Rattle.smith_types.specs.ExampleEntities.{table};
-ghost use Rattle.smith_syntax.specs.declared.value_type.AbstractHeapType.TheVariants as heap;
+ghost use Rattle.smith_types.specs.Syntax.value_type.AbstractHeapType.TheVariants as heap;
 ghost use Rattle.smith_config.specs.Config.{default_config};
 ghost use Rattle.smith_draw_contents.specs.ElementSegments.{element_kinds_at};
 ghost use Rattle.smith_draw_contents.specs.declared.element_kinds.KindChoice.TheVariants.{Passive};

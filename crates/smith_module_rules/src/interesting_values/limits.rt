@@ -2,7 +2,7 @@
 
 ghost use Rattle.std.specs.Prelude.{◌≡◌, ◌+◌, ◌≤◌, Any, All, IfOk, OnOk, IfErr};
 ghost use Rattle.smith_types.specs.Entities.{page_log2};
-ghost use Rattle.smith_syntax.specs.declared.entity_type.MemoryType.{MemoryType as Memory};
+ghost use Rattle.smith_types.specs.Syntax.entity_type.MemoryType.{MemoryType as Memory};
 ghost use Rattle.smith_module_rules.specs.InterestingValues.{IsNearTable, IsNearMemory, bytes_of};
 ghost use Rattle.smith_module_rules.specs.CollectedValues.{AreExactly, AddsNumbers, Wide, IsNearElements};
 ghost use Rattle.smith_module_rules.specs.CollectedValues.{IsBeside, IsNearBytes, IsNearLimit, distances};

@@ -3,8 +3,8 @@
 
 ghost use Rattle.std.specs.Prelude.{◌≡◌, ◌≤◌, List, All, IfOk, IfErr};
 ghost use Rattle.smith_types.specs.Entities.{page_log2};
-ghost use Rattle.smith_syntax.specs.declared.entity_type.TableType.{TableType as Table};
-ghost use Rattle.smith_syntax.specs.declared.entity_type.MemoryType.{MemoryType as Memory};
+ghost use Rattle.smith_types.specs.Syntax.entity_type.TableType.{TableType as Table};
+ghost use Rattle.smith_types.specs.Syntax.entity_type.MemoryType.{MemoryType as Memory};
 ghost use Rattle.smith_module_rules.specs.InterestingValues.{AreAll, IsInteresting64, IsInteresting32};
 ghost use Rattle.smith_module_rules.specs.CollectedValues.{AreExactly, Wide, IsNearLimit, IsSortedSet};
 

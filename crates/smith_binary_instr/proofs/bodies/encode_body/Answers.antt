@@ -1,6 +1,6 @@
 use Rattle.std.proofs.Common.{inr}
-use Rattle.std.proofs.lemmas.Result.{on_ok_weaker}
-use Rattle.smith_binary.proofs.WrittenLemmas.{content_written, joined_written, written_plain}
+use Rattle.smith_binary_instr.proofs.Common.{joined_written, on_ok_weaker}
+use Rattle.smith_binary.proofs.WrittenLemmas.{content_written, written_plain}
 use Rattle.smith_binary_sections.proofs.FaultLemmas.{fault_weaker, long_content}
 use Rattle.smith_binary_instr.proofs.FormLemmas.{func_body_is}
 use Rattle.smith_binary_instr.proofs.bodies.encode_body.Goals as goal

@@ -1,4 +1,4 @@
-use Rattle.std.proofs.lemmas.Result.{on_ok_weaker}
+use Rattle.smith_binary_instr.proofs.Common.{on_ok_weaker}
 use Rattle.smith_binary.proofs.WrittenLemmas.{written_plain}
 use Rattle.smith_binary_sections.proofs.ListLemmas.{locals_spelled}
 use Rattle.smith_binary_instr.proofs.bodies.encode_locals.Goals as goal

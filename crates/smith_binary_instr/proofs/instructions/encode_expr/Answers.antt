@@ -1,5 +1,4 @@
-use Rattle.std.proofs.lemmas.Result.{on_ok_weaker}
-use Rattle.smith_binary.proofs.WrittenLemmas.{joined_written}
+use Rattle.smith_binary_instr.proofs.Common.{joined_written, on_ok_weaker}
 use Rattle.smith_binary_instr.proofs.instructions.encode_expr.Goals as goal
 
 pub returns-clause-writes : goal.returns-clause-writes

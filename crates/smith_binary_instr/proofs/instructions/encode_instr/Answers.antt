@@ -1,5 +1,4 @@
-use Rattle.std.proofs.lemmas.Result.{on_ok_weaker}
-use Rattle.smith_binary.proofs.WrittenLemmas.{written_as}
+use Rattle.smith_binary_instr.proofs.Common.{on_ok_weaker, written_as}
 use Rattle.smith_binary_instr.proofs.FormLemmas.{instr_is}
 use Rattle.smith_binary_instr.proofs.instructions.encode_instr.Goals as goal
 

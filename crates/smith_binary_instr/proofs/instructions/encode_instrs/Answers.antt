@@ -1,4 +1,5 @@
-use Rattle.smith_binary.proofs.WrittenLemmas.{leads_each, each_written, written_as}
+use Rattle.smith_binary_instr.proofs.Common.{written_as}
+use Rattle.smith_binary.proofs.WrittenLemmas.{each_written, leads_each}
 use Rattle.smith_binary_instr.specs.Instructions.{IsInstrWrittenIn}
 use Rattle.smith_binary_instr.proofs.FormLemmas.{instrs_are}
 use Rattle.smith_binary_instr.proofs.instructions.encode_instrs.Goals as goal

@@ -1,5 +1,5 @@
-use Rattle.std.proofs.Common.{◌<◌, ◌^◌, arith}
-use Rattle.std.proofs.lemmas.Result.{on_ok_weaker}
+use Rattle.smith_binary_instr.proofs.Common.{arith, on_ok_weaker, ◌<◌}
+use Rattle.std.proofs.Common.{◌^◌}
 use Rattle.smith_binary_instr.proofs.FormLemmas.{first_arg_written, named_arg_written}
 use Rattle.smith_binary_instr.proofs.memory.write_mem_arg.Goals as goal
 

@@ -1,6 +1,5 @@
-use Rattle.std.proofs.Common.{◌≡◌, length, arith}
-use Rattle.std.proofs.lemmas.Result.{on_ok_weaker}
-use Rattle.smith_binary.proofs.WrittenLemmas.{joined_written, written_as}
+use Rattle.smith_binary_instr.proofs.Common.{arith, joined_written, on_ok_weaker, written_as}
+use Rattle.std.proofs.Common.{length, ◌≡◌}
 use Rattle.smith_binary_instr.proofs.vector.write_shuffle.Goals as goal
 
 pub returns-clause-writes : goal.returns-clause-writes

@@ -1,7 +1,6 @@
 use Rattle.std.specs.Int.{w128}
 use Rattle.std.proofs.lemmas.Int.{to_z-of_z}
-use Rattle.std.proofs.lemmas.Result.{on_ok_weaker}
-use Rattle.smith_binary.proofs.WrittenLemmas.{joined_written}
+use Rattle.smith_binary_instr.proofs.Common.{joined_written, on_ok_weaker}
 use Rattle.smith_binary_instr.proofs.vector.write_vector_const.Goals as goal
 
 pub returns-clause-writes : goal.returns-clause-writes

@@ -7,7 +7,7 @@ use Rattle.smith_binary_sections.specs.Long.{IsLongBody, IsLongContent, IsLongLi
 use Rattle.smith_binary_sections.specs.Modules.{IsModule, IsModuleAround}
 use Rattle.smith_binary_sections.specs.Sections.{IsListSection, IsSectionIf}
 use Rattle.smith_binary_sections.proofs.ListLemmas.{body_spelled}
-use Rattle.smith_syntax.specs.declared.code.Code.{Code}
+use Rattle.smith_types.specs.Syntax.code.Code.{Code}
 use Rattle.smith_binary_module.specs.Contents.{contents_of}
 use Rattle.smith_binary_module.specs.Layout.{is_filled}
 use Rattle.smith_binary_module.specs.TooLong.{IsTooLong}

@@ -1,6 +1,5 @@
-use Rattle.std.proofs.Common.{inr}
-use Rattle.std.proofs.lemmas.Result.{on_ok_weaker}
-use Rattle.smith_binary.proofs.WrittenLemmas.{content_written, joined_written}
+use Rattle.smith_binary_program.proofs.Common.{inr, joined_written, on_ok_weaker}
+use Rattle.smith_binary.proofs.WrittenLemmas.{content_written}
 use Rattle.smith_binary_sections.proofs.FaultLemmas.{fault_weaker, long_content}
 use Rattle.smith_binary_program.proofs.bodies.write_drawn.Goals as goal
 

@@ -1,7 +1,5 @@
-use Rattle.std.proofs.Common.{◌<◌, length, arith}
+use Rattle.smith_binary_program.proofs.Common.{arith, length, length-zip, zip, ◌<◌}
 use Rattle.std.specs.Prelude.{min}
-use Rattle.std.specs.List.{zip}
-use Rattle.std.proofs.lemmas.Slice.Zip.{length-zip}
 use Rattle.smith_binary.proofs.WrittenLemmas.{leads_each, each_written}
 use Rattle.smith_binary_module.proofs.MappedLemmas.{handed_on}
 use Rattle.smith_binary_program.specs.Bodies.{IsBodyOfIn}

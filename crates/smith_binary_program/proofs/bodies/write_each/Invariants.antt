@@ -1,7 +1,4 @@
-use Rattle.std.proofs.Common.{drop}
-use Rattle.std.specs.List.{zip}
-use Rattle.smith_binary.specs.Pieces.{Each}
-use Rattle.smith_binary.proofs.WrittenLemmas.{Leads}
+use Rattle.smith_binary_program.proofs.Common.{drop, Each, Leads, zip}
 use Rattle.smith_binary_program.specs.Bodies.{IsBodyOfIn}
 use Rattle.smith_binary_program.proofs.bodies.write_each.Given as goal
 

@@ -1,6 +1,4 @@
-use Rattle.std.proofs.Common.{arith, ◌≡◌, ◌∙◌, ℕ, List, length, ap, refl, sym}
-use Rattle.smith_syntax.specs.declared.value_type.ValType.{ValType}
-use Rattle.smith_instr.specs.declared.instr.Instr.{Instr}
+use Rattle.smith_binary_program.proofs.Common.{ap, arith, Instr, length, List, refl, sym, ValType, ℕ, ◌∙◌, ◌≡◌}
 use Rattle.smith_decode.specs.Modules.{Syntax}
 use Rattle.smith_binary_program.proofs.examples.decoded_answers.Goals as goal
 

@@ -1,6 +1,4 @@
-use Rattle.std.proofs.Common.{arith, ◌≡◌, ℕ, List, [], length, get_or, ap, refl}
-use Rattle.smith_syntax.specs.declared.value_type.ValType.{ValType}
-use Rattle.smith_instr.specs.declared.instr.Instr.{Instr}
+use Rattle.smith_binary_program.proofs.Common.{[], ap, arith, get_or, Instr, length, List, refl, ValType, ℕ, ◌≡◌}
 use Rattle.smith_binary_program.proofs.examples.decoded_programs.Goals as goal
 
 pub returns : goal.returns

@@ -1,9 +1,5 @@
-use Rattle.std.proofs.Common.{inl, inr, [], ◌∷◌, refl, sym, subst, arith}
-use Rattle.std.specs.Prelude.{Any}
-use Rattle.std.proofs.lemmas.List.Elements.{All-from_recursion}
-use Rattle.smith_binary.specs.Pieces.{Each}
-use Rattle.smith_syntax.specs.declared.code.Code.{Code}
-use Rattle.smith_syntax.specs.declared.code.Instructions.TheVariants.{Unreachable}
+use Rattle.smith_binary_program.proofs.Common.{[], All-from_recursion, Any, arith, Body, Code, Each, inl, inr, refl, subst, sym, ◌∷◌}
+use Rattle.smith_types.specs.Syntax.code.Instructions.TheVariants.{Unreachable}
 use Rattle.smith_binary_sections.specs.Codes.{IsRun}
 use Rattle.smith_binary_sections.specs.Long.{IsNeverLong}
 use Rattle.smith_binary_sections.proofs.SizeLemmas.{AtMost, bytes_within, joined_within, none_within, not_long, no_long_items}
@@ -13,7 +9,6 @@ use Rattle.smith_binary_module.proofs.ExampleLemmas.{one_function_short}
 use Rattle.smith_instr.specs.declared.instr.Instr.TheVariants as instr
 use Rattle.smith_binary_instr.specs.Bodies.{IsFuncWritten}
 use Rattle.smith_binary_instr.specs.Long.{IsLongInstr}
-use Rattle.smith_program.specs.declared.program.Body.{Body}
 use Rattle.smith_program.specs.declared.program.Body.TheVariants as body
 use Rattle.smith_binary_program.specs.Bodies.{IsBodyOf}
 use Rattle.smith_binary_program.specs.Long.{IsLongBodyOf, IsLongDrawn, IsLongProgram}

@@ -1,8 +1,6 @@
-use Rattle.std.proofs.Common.{◌≡◌, ◌∙◌, ℕ, List, ap, subst}
-use Rattle.smith_syntax.specs.FeatureBits.{features_in}
-use Rattle.smith_syntax.specs.Features.{Features}
+use Rattle.smith_binary_program.proofs.Common.{ap, Features, List, module_features, ModuleParts, subst, ℕ, ◌∙◌, ◌≡◌}
+use Rattle.smith_types.specs.Syntax.FeatureBits.{features_in}
 use Rattle.smith_config.specs.Features.{features_of}
-use Rattle.smith_module_rules.specs.Module.{ModuleParts, module_features}
 use Rattle.smith_decode.specs.ModuleReadings.{module_at}
 use Rattle.smith_decode.specs.Results.{Locates}
 use Rattle.smith_binary_program.specs.Programs.{IsEncoded}

@@ -1,5 +1,4 @@
-use Rattle.std.proofs.Common.{arith, ◌≡◌, ℕ, List, length, ap, refl}
-use Rattle.smith_instr.specs.declared.instr.Instr.{Instr}
+use Rattle.smith_binary_program.proofs.Common.{ap, arith, Instr, length, List, refl, ℕ, ◌≡◌}
 use Rattle.smith_binary_program.proofs.examples.same_instructions.Goals as goal
 
 pub returns : goal.returns

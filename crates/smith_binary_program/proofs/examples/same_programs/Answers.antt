@@ -1,7 +1,4 @@
-use Rattle.std.proofs.Common.{arith, ◌≡◌, ℕ, List, Option, Some, None, length, ap, refl}
-use Rattle.smith_binary_sections.specs.Modules.{Contents}
-use Rattle.smith_instr.specs.declared.instr.Instr.{Instr}
-use Rattle.smith_syntax.specs.declared.value_type.ValType.{ValType}
+use Rattle.smith_binary_program.proofs.Common.{ap, arith, Contents, Instr, length, List, None, Option, refl, Some, ValType, ℕ, ◌≡◌}
 use Rattle.smith_binary_program.proofs.examples.same_programs.Goals as goal
 
 pub returns : goal.returns

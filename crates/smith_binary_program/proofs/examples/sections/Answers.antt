@@ -1,6 +1,6 @@
-use Rattle.std.proofs.Common.{arith, ◌≡◌, ℕ, ◌+◌, List, [], ◌∷◌, ◌++◌, length, length-append, refl, ap, ◌∙◌}
-use Rattle.std.specs.List.{Contains}
-use Rattle.smith_binary.specs.Pieces.{Each, IsSized}
+use Rattle.smith_binary_program.proofs.Common.{[], ap, arith, Contains, Each, length, length-append, List, refl, ℕ, ◌++◌, ◌+◌, ◌∙◌, ◌∷◌}
+use Rattle.smith_binary_program.proofs.Common.{◌≡◌}
+use Rattle.smith_binary.specs.Pieces.{IsSized}
 use Rattle.smith_binary.proofs.NumberLemmas.{unsigned_last}
 use Rattle.smith_binary_law.proofs.CheckLemmas.{both}
 use Rattle.smith_binary_module.specs.Layout.{IsAnySection}

@@ -1,17 +1,13 @@
-use Rattle.std.proofs.Common.{rules, arith, ◌≡◌, ℕ, ◌+◌, List, [], length, length-append, refl, ap, ◌∙◌}
-use Rattle.std.specs.Prelude.{All}
+use Rattle.smith_binary_program.proofs.Common.{[], All, All-nil, ap, AreBodiesOf, arith, Instr, IsModuleAround, IsOptionalSection, IsValid}
+use Rattle.smith_binary_program.proofs.Common.{IsValidProgram, Joined, length, length-append, List, ModuleParts, refl, ℕ, ◌+◌, ◌∙◌, ◌≡◌}
+use Rattle.std.proofs.Common.{rules}
 use Rattle.std.proofs.lemmas.Grind.{common_steps}
-use Rattle.std.proofs.lemmas.List.Elements.{All-nil}
-use Rattle.smith_binary.specs.Pieces.{Joined}
 use Rattle.smith_binary_law.proofs.CheckLemmas.{both}
 use Rattle.smith_binary_sections.specs.Codes.{IsBody}
-use Rattle.smith_binary_sections.specs.Modules.{IsModule, IsModuleAround}
-use Rattle.smith_binary_sections.specs.Sections.{IsListSection, IsOptionalSection}
-use Rattle.smith_module_rules.specs.Module.{IsValid, ModuleParts}
-use Rattle.smith_instr.specs.declared.instr.Instr.{Instr}
-use Rattle.smith_program.specs.Bodies.{AreBodiesOf}
+use Rattle.smith_binary_sections.specs.Modules.{IsModule}
+use Rattle.smith_binary_sections.specs.Sections.{IsListSection}
 use Rattle.smith_program.specs.References.{references_of}
-use Rattle.smith_program.specs.Valid.{HaveAll, IsDeclared, IsValidProgram, NameData}
+use Rattle.smith_program.specs.Valid.{HaveAll, IsDeclared, NameData}
 use Rattle.smith_program.proofs.ValidLemmas.{Enabled}
 use Rattle.smith_binary_program.specs.ExamplePrograms.{function, preamble}
 use Rattle.smith_binary_program.specs.Programs.{IsProgramBinary, program_contents}

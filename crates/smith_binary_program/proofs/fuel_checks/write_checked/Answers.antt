@@ -1,5 +1,4 @@
-use Rattle.std.proofs.Common.{[], ◌∷◌}
-use Rattle.std.proofs.lemmas.Result.{on_ok_weaker}
+use Rattle.smith_binary_program.proofs.Common.{[], on_ok_weaker, ◌∷◌}
 use Rattle.smith_binary_program.proofs.CountedLemmas.{instrs_written, no_loop, one_instr}
 use Rattle.smith_binary_program.proofs.fuel_checks.write_checked.Goals as goal
 

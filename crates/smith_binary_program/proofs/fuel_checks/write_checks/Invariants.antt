@@ -1,7 +1,4 @@
-use Rattle.std.proofs.Common.{length}
-use Rattle.smith_binary.proofs.WrittenLemmas.{Leads}
-use Rattle.smith_binary_instr.specs.Instructions.{IsInstrsWrittenIn}
-use Rattle.smith_program.specs.Counted.{checks_of}
+use Rattle.smith_binary_program.proofs.Common.{checks_of, IsInstrsWrittenIn, Leads, length}
 use Rattle.smith_binary_program.proofs.fuel_checks.write_checks.Given as goal
 
 abbrev pub invariant-loop-last : goal.invariant-loop-last

@@ -1,9 +1,6 @@
 use Rattle.std.proofs.lemmas.Result.{IfOk-weaker}
 use Rattle.wasm_smith.specs.Bodies.{HasBodies}
-use Rattle.smith_binary_module.specs.Contents.{contents_of}
-use Rattle.smith_binary_module.specs.Layout.{is_filled}
-use Rattle.smith_binary_sections.specs.Modules.{IsModuleAround}
-use Rattle.smith_binary_sections.specs.Sections.{IsSectionIf}
+use Rattle.smith_binary_program.proofs.Common.{contents_of, is_filled, IsModuleAround, IsSectionIf}
 use Rattle.smith_binary_program.specs.Bodies.{AreBodiesOf}
 use Rattle.smith_binary_program.specs.Programs.{IsProgramBinary}
 use Rattle.smith_binary_program.proofs.ProgramLemmas.{program_is}

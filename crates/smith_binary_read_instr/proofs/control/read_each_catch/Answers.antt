@@ -1,6 +1,5 @@
-use Rattle.std.proofs.Common.{List, Ok, ap, sym, ◌∙◌}
+use Rattle.smith_binary_read_instr.proofs.Common.{ap, each_at, List, Ok, sym, ◌∙◌}
 use Rattle.std.proofs.lemmas.Result.{err_from_is_err_and}
-use Rattle.smith_binary_read.specs.Readings.{each_at}
 use Rattle.smith_binary_read.proofs.LoopLemmas.{goes_on, ends, is_done}
 use Rattle.smith_instr.specs.declared.control.Catch.{Catch}
 use Rattle.smith_binary_read_instr.specs.ControlReadings.{catch_at}

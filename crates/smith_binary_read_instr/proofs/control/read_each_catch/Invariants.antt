@@ -1,6 +1,4 @@
-use Rattle.std.proofs.Common.{◌≡◌, ◌-◌}
-use Rattle.smith_binary_read.specs.Readings.{each_at}
-use Rattle.smith_binary_read.proofs.LoopLemmas.{with_front}
+use Rattle.smith_binary_read_instr.proofs.Common.{each_at, with_front, ◌-◌, ◌≡◌}
 use Rattle.smith_binary_read_instr.specs.ControlReadings.{catch_at}
 use Rattle.smith_binary_read_instr.proofs.control.read_each_catch.Given as goal
 

@@ -1,4 +1,4 @@
-use Rattle.std.proofs.Common.{refl}
+use Rattle.smith_binary_read_instr.proofs.Common.{refl}
 use Rattle.smith_binary_read_instr.specs.ControlReadings.{block_at, block_type_at}
 use Rattle.smith_binary_read_instr.specs.InstrReadings.{instr_at, low_instr_at}
 use Rattle.smith_binary_read_instr.specs.ExpressionReadings.{expr_at, nested_at, nested_instr_at, is_over}

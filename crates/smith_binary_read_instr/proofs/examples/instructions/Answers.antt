@@ -1,6 +1,4 @@
-use Rattle.std.proofs.Common.{refl}
-use Rattle.smith_binary_read.specs.Readings.{each_at}
-use Rattle.smith_binary_read.specs.Numbers.{unsigned_at}
+use Rattle.smith_binary_read_instr.proofs.Common.{each_at, refl, unsigned_at}
 use Rattle.smith_binary_read.specs.Contents.{list_at}
 use Rattle.smith_binary_read_instr.specs.ControlReadings.{block_at, branch_at, parametric_at}
 use Rattle.smith_binary_read_instr.specs.MemoryReadings.{access_at, mem_arg_at, load_of, bulk_at}

@@ -1,4 +1,4 @@
-use Rattle.std.proofs.Common.{arith}
+use Rattle.smith_binary_read_instr.proofs.Common.{arith}
 use Rattle.smith_binary_read_instr.proofs.NestingLoopLemmas.{closed}
 use Rattle.smith_binary_read_instr.proofs.expressions.close.Goals as goal
 

@@ -1,5 +1,4 @@
-use Rattle.std.proofs.Common.{[], sym, ◌∙◌}
-use Rattle.std.specs.Prelude.{reverse}
+use Rattle.smith_binary_read_instr.proofs.Common.{[], reverse, sym, ◌∙◌}
 use Rattle.std.proofs.lemmas.Result.{err_from_is_err_and}
 use Rattle.smith_binary_read_instr.specs.ExpressionReadings.{nested_at}
 use Rattle.smith_binary_read_instr.proofs.NestingLoopLemmas.{over_listed, nested_go_on, nested_stop, nested_end, nested_past}

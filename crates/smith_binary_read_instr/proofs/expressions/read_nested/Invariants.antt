@@ -1,6 +1,4 @@
-use Rattle.std.proofs.Common.{◌≡◌, ◌-◌, []}
-use Rattle.std.specs.Prelude.{reverse}
-use Rattle.smith_binary_read.proofs.LoopLemmas.{with_front}
+use Rattle.smith_binary_read_instr.proofs.Common.{[], reverse, with_front, ◌-◌, ◌≡◌}
 use Rattle.smith_binary_read_instr.specs.ExpressionReadings.{nested_at}
 use Rattle.smith_binary_read_instr.proofs.expressions.read_nested.Given as goal
 

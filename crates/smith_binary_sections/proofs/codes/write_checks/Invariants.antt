@@ -1,6 +1,4 @@
-use Rattle.std.proofs.Common.{length}
-use Rattle.smith_binary.specs.Pieces.{Is}
-use Rattle.smith_binary.proofs.WrittenLemmas.{Leads}
+use Rattle.smith_binary_sections.proofs.Common.{Is, Leads, length}
 use Rattle.smith_binary_sections.specs.Codes.{checks_bytes}
 use Rattle.smith_binary_sections.proofs.codes.write_checks.Given as goal
 

@@ -1,5 +1,4 @@
-use Rattle.std.proofs.lemmas.Result.{on_ok_weaker}
-use Rattle.smith_binary.proofs.WrittenLemmas.{is_joined}
+use Rattle.smith_binary_sections.proofs.Common.{is_joined, on_ok_weaker}
 use Rattle.smith_binary_sections.proofs.codes.write_indexed.Goals as goal
 
 pub returns-clause-writes : goal.returns-clause-writes

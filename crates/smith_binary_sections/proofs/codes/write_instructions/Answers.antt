@@ -1,5 +1,4 @@
-use Rattle.std.proofs.lemmas.Result.{on_ok_weaker}
-use Rattle.smith_binary.proofs.WrittenLemmas.{is_joined}
+use Rattle.smith_binary_sections.proofs.Common.{is_joined, on_ok_weaker}
 use Rattle.smith_binary_sections.proofs.codes.write_instructions.Goals as goal
 
 pub returns-in_ok-write_checks-in-Unreachable-clause-writes : goal.returns-in_ok-write_checks-in-Unreachable-clause-writes

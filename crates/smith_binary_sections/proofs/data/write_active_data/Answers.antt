@@ -1,4 +1,4 @@
-use Rattle.std.proofs.lemmas.Result.{on_ok_weaker}
+use Rattle.smith_binary_sections.proofs.Common.{on_ok_weaker}
 use Rattle.smith_binary_sections.specs.Instructions.{offset_of}
 use Rattle.smith_binary_sections.proofs.FormLemmas.{first_memory_written, named_memory_written}
 use Rattle.smith_binary_sections.proofs.data.write_active_data.Goals as goal

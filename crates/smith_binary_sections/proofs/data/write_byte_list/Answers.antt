@@ -1,4 +1,4 @@
-use Rattle.std.proofs.lemmas.Result.{on_ok_weaker}
+use Rattle.smith_binary_sections.proofs.Common.{on_ok_weaker}
 use Rattle.smith_binary.proofs.WrittenLemmas.{bytes_written}
 use Rattle.smith_binary_sections.proofs.data.write_byte_list.Goals as goal
 

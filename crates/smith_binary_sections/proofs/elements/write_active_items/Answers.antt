@@ -1,5 +1,4 @@
-use Rattle.std.proofs.Common.{sym, ◌∙◌}
-use Rattle.std.proofs.lemmas.Result.{on_ok_weaker}
+use Rattle.smith_binary_sections.proofs.Common.{on_ok_weaker, sym, ◌∙◌}
 use Rattle.smith_binary_sections.specs.Instructions.{offset_of}
 use Rattle.smith_binary_sections.proofs.FormLemmas.{first_items_written, table_items_written}
 use Rattle.smith_binary_sections.proofs.elements.write_active_items.Goals as goal

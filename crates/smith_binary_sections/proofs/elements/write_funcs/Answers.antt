@@ -1,4 +1,4 @@
-use Rattle.std.proofs.lemmas.Result.{on_ok_weaker}
+use Rattle.smith_binary_sections.proofs.Common.{on_ok_weaker}
 use Rattle.smith_binary_sections.proofs.FormLemmas.{passive_funcs_written, declared_funcs_written}
 use Rattle.smith_binary_sections.proofs.elements.write_funcs.Goals as goal
 

@@ -1,4 +1,4 @@
-use Rattle.std.proofs.lemmas.Result.{on_ok_weaker}
+use Rattle.smith_binary_sections.proofs.Common.{on_ok_weaker}
 use Rattle.smith_binary_sections.proofs.FormLemmas.{passive_items_written, declared_items_written}
 use Rattle.smith_binary_sections.proofs.elements.write_items.Goals as goal
 

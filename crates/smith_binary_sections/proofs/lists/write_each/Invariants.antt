@@ -1,7 +1,5 @@
 use Rattle.std.proofs.Common.{drop}
-use Rattle.smith_binary.specs.Spelling.{Spelling}
-use Rattle.smith_binary.specs.Pieces.{Each}
-use Rattle.smith_binary.proofs.WrittenLemmas.{Leads}
+use Rattle.smith_binary_sections.proofs.Common.{Each, Leads, Spelling}
 use Rattle.smith_binary_sections.proofs.lists.write_each.Given as goal
 
 abbrev pub invariant-loop-item : goal.invariant-loop-item

@@ -1,9 +1,6 @@
-use Rattle.std.specs.List.{zip}
+use Rattle.smith_binary_sections.proofs.Common.{Each, Leads, Spelling, zip}
 use Rattle.std.specs.Iterator.Adapters.{zip_first, zip_second}
 use Rattle.std.specs.Slice.Iter.{iter_rest}
-use Rattle.smith_binary.specs.Spelling.{Spelling}
-use Rattle.smith_binary.specs.Pieces.{Each}
-use Rattle.smith_binary.proofs.WrittenLemmas.{Leads}
 use Rattle.smith_binary_sections.proofs.lists.write_each_pair.Given as goal
 
 abbrev pub invariant-loop-first : goal.invariant-loop-first

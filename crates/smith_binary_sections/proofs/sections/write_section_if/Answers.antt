@@ -1,4 +1,4 @@
-use Rattle.std.proofs.lemmas.Result.{on_ok_weaker}
+use Rattle.smith_binary_sections.proofs.Common.{on_ok_weaker}
 use Rattle.smith_binary_sections.proofs.SectionLemmas.{section_written}
 use Rattle.smith_binary_sections.proofs.sections.write_section_if.Goals as goal
 

@@ -1,5 +1,4 @@
-use Rattle.std.proofs.lemmas.Result.{on_ok_weaker}
-use Rattle.smith_binary.specs.Spelling.{IsUnsignedIn}
+use Rattle.smith_binary_sections.proofs.Common.{IsUnsignedIn, on_ok_weaker}
 use Rattle.smith_binary.proofs.WrittenLemmas.{none_written, one_written}
 use Rattle.smith_binary_sections.proofs.types.write_supertype.Goals as goal
 

@@ -1,5 +1,4 @@
-use Rattle.smith_body_nodes.specs.Scopes.{bare}
-use Rattle.std.proofs.Common.{[], ◌∷◌, arith}
+use Rattle.smith_body.proofs.Common.{[], arith, bare, ◌∷◌}
 use Rattle.smith_body.proofs.ExactLemmas.{body_stops}
 use Rattle.smith_instr.specs.declared.instr.Instr.TheVariants as instr
 use Rattle.smith_body.proofs.DrawnLemmas.{one_allowed}

@@ -1,5 +1,4 @@
-use Rattle.std.proofs.Common.{refl}
-use Rattle.smith_body_nodes.specs.Scopes.{bare}
+use Rattle.smith_body.proofs.Common.{bare, refl}
 use Rattle.smith_body.proofs.ExactLemmas.{body_exact}
 use Rattle.smith_body.proofs.DrawnLemmas.{body_needed, body_allowed, body_short}
 use Rattle.smith_body_nodes.proofs.AllowedLemmas.{all_enabled, all_trapless}

@@ -1,23 +1,19 @@
-use Rattle.std.proofs.Common.{◌≡◌, ◌≤◌, refl, sym, subst, arith, ◌-◌, [], length, ◌∙◌}
+use Rattle.smith_body.proofs.Common.{[], AreValid, arith, bare, IsNode, label_of, length, no_valid, on_ok_weaker, opened, refl, subst, sym}
+use Rattle.smith_body.proofs.Common.{where_stands, widest, ◌-◌, ◌∙◌, ◌≡◌, ◌≤◌}
 use Rattle.smith_body_nodes.proofs.ResultLemmas.{ok_both}
-use Rattle.std.proofs.lemmas.Result.{on_ok_weaker}
 use Rattle.std.proofs.lemmas.List.{take_all}
 use Rattle.smith_body.proofs.DrawnLemmas.{paid_for, drawn_none, drawn_then, drawn_within, drawn_turn, plain_drawn, enclosed_drawn, if_drawn}
 use Rattle.smith_body.proofs.DrawnLemmas.{labels_kept, try_drawn}
 use Rattle.smith_body.specs.Bodies.{drawing_at, statement_at}
-use Rattle.smith_syntax.specs.FeatureBits.{features_in}
+use Rattle.smith_types.specs.Syntax.FeatureBits.{features_in}
 use Rattle.smith_body.specs.DraftSteps.{state_of}
 use Rattle.smith_body_nodes.proofs.StopLemmas.{node_goes_on}
-use Rattle.smith_body_nodes.specs.Nodes.{IsNode, label_of, opened}
-use Rattle.smith_body_nodes.specs.Scopes.{bare, where_stands, widest}
 use Rattle.smith_body.proofs.ExactLemmas.{all_left, chosen_ending, chosen_statement, chosen_value, deep_statements, drops_written}
 use Rattle.smith_body.proofs.ExactLemmas.{enclosed_exact, forbidden_ending, forbidden_statement, head_enclosed, head_if, head_try, if_exact}
 use Rattle.smith_body.proofs.ExactLemmas.{inside_exact, last_statements, last_value, next_value, no_ending, no_values, node_exact}
 use Rattle.smith_body.proofs.ExactLemmas.{none_left, one_less, opened_again, opened_once, other_value, plain_exact, results_dead}
 use Rattle.smith_body.proofs.ExactLemmas.{results_drawn, results_ended, results_still, stopped, unpaid_value}
-use Rattle.smith_instr.specs.Contexts.{AreValid}
 use Rattle.smith_instr.specs.declared.instr.Instr.TheVariants as instr
-use Rattle.smith_body_nodes.proofs.NodeLemmas.{no_valid}
 use Rattle.smith_body.proofs.draws.+body.Goals.{draw_value-then-depth-eq0-via-then-depth-eq0}
 use Rattle.smith_body.proofs.draws.+body.Goals.{draw_value-then-depth-eq0-via-else-depth-eq0+then-draft-eq0}
 use Rattle.smith_body.proofs.draws.+body.Goals.{draw_masked-then-draft-eq0-via-then-draft-eq0}

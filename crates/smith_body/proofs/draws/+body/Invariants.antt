@@ -1,8 +1,7 @@
-use Rattle.std.proofs.Common.{◌≡◌, ◌+◌, ◌-◌, ◌*◌, [], length, take, drop}
+use Rattle.smith_body.proofs.Common.{[], AreLabels, drop, length, take, ◌*◌, ◌+◌, ◌-◌, ◌≡◌}
 use Rattle.smith_bytes.specs.Source.{KeepsPieces}
 use Rattle.smith_body.specs.Bodies.{drawing_at, operands_at, statement_at, statements_within, values_at}
 use Rattle.smith_body.specs.DraftSteps.{IsDrawn, state_of}
-use Rattle.smith_body_nodes.specs.Scopes.{AreLabels}
 use Rattle.smith_body.proofs.ExactLemmas.{AreLeft}
 use Rattle.smith_body.proofs.draws.+body.Given as goal
 

@@ -1,6 +1,4 @@
-use Rattle.std.proofs.Common.{[], ◌∷◌, sym, true, false, ◌∙◌}
-use Rattle.std.proofs.lemmas.Result.{on_ok_weaker}
-use Rattle.smith_body_nodes.specs.Scopes.{where_stands}
+use Rattle.smith_body.proofs.Common.{[], false, on_ok_weaker, sym, true, where_stands, ◌∙◌, ◌∷◌}
 use Rattle.smith_body.proofs.CreatedLemmas.{drawn_permitted, preferred_drawn, spare_drawn}
 use Rattle.smith_body.proofs.ExactLemmas.{leaf_state}
 use Rattle.smith_body_leaves.proofs.LeafChoiceLemmas.{leaf_permitted, leaf_preferred}

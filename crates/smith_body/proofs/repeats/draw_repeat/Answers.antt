@@ -1,5 +1,4 @@
-use Rattle.std.proofs.Common.{◌≡◌, sym, arith, ◌∙◌}
-use Rattle.smith_body_nodes.specs.Scopes.{where_stands}
+use Rattle.smith_body.proofs.Common.{arith, sym, where_stands, ◌∙◌, ◌≡◌}
 use Rattle.smith_body.proofs.RepeatLemmas.{may_loop, repeat_barred, repeat_no, repeat_yes}
 use Rattle.smith_body.proofs.repeats.draw_repeat.Goals as goal
 

@@ -1,5 +1,4 @@
-use Rattle.std.proofs.Common.{sym, ◌∙◌}
-use Rattle.smith_body_nodes.specs.Scopes.{where_stands}
+use Rattle.smith_body.proofs.Common.{sym, where_stands, ◌∙◌}
 use Rattle.smith_body.proofs.RepeatLemmas.{local_counts, way_counted, way_forbidden, way_none}
 use Rattle.smith_body.proofs.repeats.draw_way.Goals as goal
 

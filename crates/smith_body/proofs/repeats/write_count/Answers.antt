@@ -1,4 +1,4 @@
-use Rattle.std.proofs.Common.{refl, arith}
+use Rattle.smith_body.proofs.Common.{arith, refl}
 use Rattle.smith_body.proofs.DrawnLemmas.{drawn_none, drawn_within}
 use Rattle.smith_body.proofs.repeats.write_count.Goals as goal
 

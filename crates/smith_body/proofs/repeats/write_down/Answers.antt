@@ -1,4 +1,4 @@
-use Rattle.std.proofs.lemmas.Result.{on_ok_weaker}
+use Rattle.smith_body.proofs.Common.{on_ok_weaker}
 use Rattle.smith_body.proofs.RepeatLemmas.{down_drawn, down_exact}
 use Rattle.smith_body.proofs.repeats.write_down.Goals as goal
 

@@ -1,4 +1,4 @@
-use Rattle.smith_body_nodes.specs.Scopes.{where_stands}
+use Rattle.smith_body.proofs.Common.{where_stands}
 use Rattle.smith_body.proofs.SettledLemmas.{settling_dropped, settling_stored, settling_tested}
 use Rattle.smith_body.proofs.settled.choose_settling.Goals as goal
 

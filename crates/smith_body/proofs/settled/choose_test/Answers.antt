@@ -1,4 +1,4 @@
-use Rattle.std.proofs.Common.{sym}
+use Rattle.smith_body.proofs.Common.{sym}
 use Rattle.smith_body.proofs.SettledLemmas.{branch_settler, test_settler}
 use Rattle.smith_body.proofs.settled.choose_test.Goals as goal
 

@@ -1,6 +1,4 @@
-use Rattle.std.proofs.Common.{◌∙◌, Some, None, refl, sym}
-use Rattle.std.proofs.lemmas.List.{append-nil}
-use Rattle.std.proofs.lemmas.Result.{on_ok_weaker}
+use Rattle.smith_body.proofs.Common.{append-nil, None, on_ok_weaker, refl, Some, sym, ◌∙◌}
 use Rattle.smith_instr.specs.declared.instr.Instr.TheVariants as instr
 use Rattle.smith_body.specs.declared.settled.Settling.TheVariants as settlings
 use Rattle.smith_body.proofs.SettledLemmas.{dropped_value, ok_four, settled_state, stored_drawn, tested_drawn}

@@ -1,4 +1,4 @@
-use Rattle.std.proofs.Common.{refl, arith}
+use Rattle.smith_body.proofs.Common.{arith, refl}
 use Rattle.smith_body.proofs.SettledLemmas.{all_settled, first_settled, last_drawn, last_settled, none_drawn, none_settled}
 use Rattle.smith_body.proofs.settled.settle_values.Goals as goal
 

@@ -1,4 +1,4 @@
-use Rattle.std.proofs.Common.{◌≡◌, ◌-◌, [], length, take, drop}
+use Rattle.smith_body.proofs.Common.{[], drop, length, take, ◌-◌, ◌≡◌}
 use Rattle.smith_bytes.specs.Source.{KeepsPieces}
 use Rattle.smith_body.specs.Bodies.{settled_all}
 use Rattle.smith_body.specs.DraftSteps.{IsDrawn, state_of}

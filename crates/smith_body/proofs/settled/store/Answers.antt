@@ -1,4 +1,4 @@
-use Rattle.std.proofs.Common.{◌-◌, arith}
+use Rattle.smith_body.proofs.Common.{arith, ◌-◌}
 use Rattle.std.proofs.lemmas.Bool.{le-ltb, lt-ltb}
 use Rattle.smith_body.proofs.SettledLemmas.{global_settler, local_settler}
 use Rattle.smith_body.proofs.settled.store.Goals as goal

@@ -1,7 +1,6 @@
-use Rattle.std.proofs.Common.{◌<◌, length, arith}
-use Rattle.smith_body_nodes.specs.Scopes.{bare}
+use Rattle.smith_body_aggregates.proofs.Common.{arith, bare, length, struct_fields, struct_there, ◌<◌}
 use Rattle.smith_body_aggregates.proofs.AggregateLemmas.{field_is, field_none, field_some, field_usable, field_without}
-use Rattle.smith_body_nodes.proofs.IndexedTypeLemmas.{field_valid, struct_fields, struct_there}
+use Rattle.smith_body_nodes.proofs.IndexedTypeLemmas.{field_valid}
 use Rattle.smith_body_aggregates.proofs.aggregates.choose_field.Goals as goal
 
 pub returns-in_err-ty-clause-exact : goal.returns-in_err-ty-clause-exact

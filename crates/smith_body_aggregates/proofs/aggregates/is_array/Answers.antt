@@ -1,6 +1,4 @@
-use Rattle.std.proofs.Common.{sym}
-use Rattle.smith_body_nodes.specs.Scopes.{bare}
-use Rattle.smith_body_nodes.proofs.IndexedTypeLemmas.{array_element, array_is}
+use Rattle.smith_body_aggregates.proofs.Common.{array_element, array_is, bare, sym}
 use Rattle.smith_body_aggregates.proofs.aggregates.is_array.Goals as goal
 
 pub is_usable-requires-clause-field : goal.is_usable-requires-clause-field

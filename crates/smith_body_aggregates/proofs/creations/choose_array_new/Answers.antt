@@ -1,4 +1,4 @@
-use Rattle.smith_body_nodes.specs.Scopes.{where_stands}
+use Rattle.smith_body_aggregates.proofs.Common.{where_stands}
 use Rattle.smith_body_aggregates.proofs.CreationLemmas.{array_new_gives}
 use Rattle.smith_body_aggregates.proofs.creations.choose_array_new.Goals as goal
 

@@ -1,7 +1,6 @@
-use Rattle.smith_syntax.specs.declared.value_type.ValType.TheVariants.{Ref}
-use Rattle.smith_body_nodes.specs.Scopes.{where_stands}
+use Rattle.smith_types.specs.Syntax.value_type.ValType.TheVariants.{Ref}
+use Rattle.smith_body_aggregates.proofs.Common.{ok_by, where_stands}
 use Rattle.smith_body_aggregates.specs.declared.creations.Creation.TheVariants as creation
-use Rattle.smith_body_nodes.proofs.ChosenLemmas.{ok_by}
 use Rattle.smith_body_aggregates.proofs.CreationLemmas.{created_by}
 use Rattle.smith_body_aggregates.proofs.creations.choose_created.Goals as goal
 

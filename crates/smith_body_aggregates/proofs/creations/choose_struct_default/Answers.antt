@@ -1,4 +1,4 @@
-use Rattle.smith_body_nodes.specs.Scopes.{where_stands}
+use Rattle.smith_body_aggregates.proofs.Common.{where_stands}
 use Rattle.smith_body_aggregates.proofs.CreationLemmas.{struct_default_gives}
 use Rattle.smith_body_aggregates.proofs.creations.choose_struct_default.Goals as goal
 

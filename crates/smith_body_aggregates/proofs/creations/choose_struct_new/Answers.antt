@@ -1,5 +1,4 @@
-use Rattle.smith_body_nodes.specs.Scopes.{bare, where_stands}
-use Rattle.smith_body_nodes.proofs.IndexedTypeLemmas.{struct_fields, struct_there}
+use Rattle.smith_body_aggregates.proofs.Common.{bare, struct_fields, struct_there, where_stands}
 use Rattle.smith_body_aggregates.proofs.CreationLemmas.{struct_new_gives, struct_new_there}
 use Rattle.smith_body_aggregates.proofs.creations.choose_struct_new.Goals as goal
 

@@ -1,6 +1,4 @@
-use Rattle.std.proofs.Common.{arith}
-use Rattle.smith_body_nodes.specs.Scopes.{bare, where_stands}
-use Rattle.smith_body_nodes.proofs.IndexedTypeLemmas.{array_element}
+use Rattle.smith_body_aggregates.proofs.Common.{arith, array_element, bare, where_stands}
 use Rattle.smith_body_aggregates.proofs.CreationLemmas.{array_fixed_gives}
 use Rattle.smith_body_aggregates.proofs.creations.fixed_of.Goals as goal
 

@@ -1,6 +1,4 @@
-use Rattle.std.proofs.Common.{sym, ◌∙◌}
-use Rattle.smith_body_nodes.specs.Scopes.{where_stands}
-use Rattle.smith_body_nodes.proofs.ChosenLemmas.{ok_by}
+use Rattle.smith_body_aggregates.proofs.Common.{ok_by, sym, where_stands, ◌∙◌}
 use Rattle.smith_body_aggregates.proofs.FieldLemmas.{read_off, read_on}
 use Rattle.smith_body_aggregates.proofs.field_reads.choose_field_read.Goals as goal
 

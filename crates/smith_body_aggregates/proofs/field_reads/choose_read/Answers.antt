@@ -1,5 +1,4 @@
-use Rattle.smith_body_nodes.specs.Scopes.{where_stands}
-use Rattle.smith_body_nodes.proofs.ChosenLemmas.{ok_by}
+use Rattle.smith_body_aggregates.proofs.Common.{ok_by, where_stands}
 use Rattle.smith_body_aggregates.proofs.FieldLemmas.{read_array, read_struct}
 use Rattle.smith_body_aggregates.proofs.field_reads.choose_read.Goals as goal
 

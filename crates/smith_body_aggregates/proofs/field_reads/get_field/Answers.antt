@@ -1,4 +1,4 @@
-use Rattle.smith_body_nodes.specs.Scopes.{where_stands}
+use Rattle.smith_body_aggregates.proofs.Common.{where_stands}
 use Rattle.smith_body_aggregates.proofs.FieldLemmas.{field_labelled, struct_get_gives}
 use Rattle.smith_body_aggregates.proofs.field_reads.get_field.Goals as goal
 

@@ -1,8 +1,5 @@
-use Rattle.std.proofs.Common.{sym, ◌∙◌}
-use Rattle.smith_body_nodes.specs.Scopes.{where_stands}
-use Rattle.smith_body_nodes.proofs.ChosenLemmas.{ok_by}
+use Rattle.smith_body_aggregates.proofs.Common.{ok_by, ok_like, sym, where_stands, ◌∙◌}
 use Rattle.smith_body_aggregates.proofs.FieldLemmas.{write_off, write_on}
-use Rattle.smith_body_nodes.proofs.ResultLemmas.{ok_like}
 use Rattle.smith_body_aggregates.proofs.field_writes.choose_field_write.Goals as goal
 
 pub returns-then-not-names_types-clause-exact : goal.returns-then-not-names_types-clause-exact

@@ -1,6 +1,5 @@
-use Rattle.smith_body_nodes.specs.Scopes.{where_stands}
+use Rattle.smith_body_aggregates.proofs.Common.{ok_by, where_stands}
 use Rattle.smith_body_aggregates.specs.declared.field_writes.FieldWrite.TheVariants as write
-use Rattle.smith_body_nodes.proofs.ChosenLemmas.{ok_by}
 use Rattle.smith_body_aggregates.proofs.FieldLemmas.{write_by}
 use Rattle.smith_body_aggregates.proofs.field_writes.choose_write.Goals as goal
 

@@ -1,6 +1,5 @@
-use Rattle.smith_body_nodes.specs.Scopes.{where_stands}
+use Rattle.smith_body_aggregates.proofs.Common.{ok_like, where_stands}
 use Rattle.smith_body_aggregates.proofs.FieldLemmas.{array_copy_gives}
-use Rattle.smith_body_nodes.proofs.ResultLemmas.{ok_like}
 use Rattle.smith_body_aggregates.proofs.field_writes.copy_into.Goals as goal
 
 pub returns-clause-node : goal.returns-clause-node

@@ -1,7 +1,6 @@
-use Rattle.smith_body_nodes.specs.Scopes.{where_stands}
+use Rattle.smith_body_aggregates.proofs.Common.{ok_like, where_stands}
 use Rattle.smith_body_nodes.proofs.ChosenLemmas.{as_node, as_nop}
 use Rattle.smith_body_aggregates.proofs.FieldLemmas.{init_elem_gives, init_elem_none, init_elem_some}
-use Rattle.smith_body_nodes.proofs.ResultLemmas.{ok_like}
 use Rattle.smith_body_aggregates.proofs.field_writes.init_elem_of.Goals as goal
 
 pub returns-in_default-clause-exact : goal.returns-in_default-clause-exact

@@ -1,6 +1,6 @@
 use Rattle.std.proofs.Common.{ap, ◌∙◌}
-use Rattle.smith_syntax.specs.declared.value_type.AbstractHeapType.{AbstractHeapType}
-use Rattle.smith_syntax.specs.declared.value_type.HeapType.TheVariants.{Abstract}
+use Rattle.smith_types.specs.Syntax.value_type.AbstractHeapType.{AbstractHeapType}
+use Rattle.smith_types.specs.Syntax.value_type.HeapType.TheVariants.{Abstract}
 use Rattle.smith_body_nodes.specs.Scopes.{where_stands}
 use Rattle.smith_body_casts.proofs.CastLemmas.{inside_for, outside_for}
 use Rattle.smith_body_nodes.proofs.ResultLemmas.{ok_like}

@@ -1,6 +1,5 @@
-use Rattle.std.proofs.Common.{sym, ◌∙◌}
-use Rattle.smith_body_nodes.specs.Scopes.{where_stands}
-use Rattle.smith_syntax.specs.FeatureBits.{features_in}
+use Rattle.smith_body_choices.proofs.Common.{sym, where_stands, ◌∙◌}
+use Rattle.smith_types.specs.Syntax.FeatureBits.{features_in}
 use Rattle.smith_body_choices.proofs.ChoiceLemmas.{allowed_node, allowed_none, forbidden_node}
 use Rattle.smith_body_nodes.proofs.StopLemmas.{node_goes_on}
 use Rattle.smith_body_choices.proofs.choices.choose_allowed.Goals as goal

@@ -1,10 +1,7 @@
-use Rattle.std.proofs.Common.{None, Some}
-use Rattle.smith_body_nodes.specs.Scopes.{where_stands}
-use Rattle.smith_body_nodes.proofs.ResultLemmas.{ok_like}
-use Rattle.smith_body_nodes.proofs.OfferLemmas.{function_there}
+use Rattle.smith_body_choices.proofs.Common.{as_node, as_nop, function_there, ok_like, Some, where_stands}
+use Rattle.std.proofs.Common.{None}
 use Rattle.smith_body_choices.proofs.ChoiceNodeLemmas.{any_call_node}
 use Rattle.smith_body_choices.proofs.ChoiceLemmas.{any_call_by, any_call_none}
-use Rattle.smith_body_nodes.proofs.ChosenLemmas.{as_node, as_nop}
 use Rattle.smith_body_choices.proofs.choices.choose_any_call.Goals as goal
 
 pub returns-clause-node : goal.returns-clause-node

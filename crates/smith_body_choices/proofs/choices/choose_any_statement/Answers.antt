@@ -1,9 +1,7 @@
-use Rattle.smith_body_nodes.specs.Scopes.{where_stands}
+use Rattle.smith_body_choices.proofs.Common.{ok_by, ok_like, where_stands}
 use Rattle.smith_body_choices.specs.declared.families.StatementFamily.TheVariants as statement
-use Rattle.smith_body_nodes.proofs.ResultLemmas.{ok_like}
 use Rattle.smith_body_memory.proofs.AtomicNodeLemmas.{fence_node}
 use Rattle.smith_body_nodes.proofs.NodeLemmas.{nop_node}
-use Rattle.smith_body_nodes.proofs.ChosenLemmas.{ok_by}
 use Rattle.smith_body_choices.proofs.ChoiceLemmas.{statement_by}
 use Rattle.smith_body_choices.proofs.choices.choose_any_statement.Goals as goal
 

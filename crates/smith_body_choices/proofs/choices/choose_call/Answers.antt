@@ -1,5 +1,4 @@
-use Rattle.smith_body_nodes.specs.Scopes.{where_stands}
-use Rattle.smith_body_nodes.proofs.OfferLemmas.{function_there}
+use Rattle.smith_body_choices.proofs.Common.{function_there, where_stands}
 use Rattle.smith_body_choices.proofs.ChoiceNodeLemmas.{call_for}
 use Rattle.smith_body_choices.proofs.ChoiceLemmas.{call_none, call_there}
 use Rattle.smith_body_choices.proofs.choices.choose_call.Goals as goal

@@ -1,7 +1,5 @@
-use Rattle.smith_body_nodes.specs.Scopes.{where_stands}
-use Rattle.smith_body_nodes.proofs.ResultLemmas.{ok_like}
+use Rattle.smith_body_choices.proofs.Common.{as_node, ok_like, where_stands}
 use Rattle.smith_body_choices.proofs.ChoiceNodeLemmas.{drop_node}
-use Rattle.smith_body_nodes.proofs.ChosenLemmas.{as_node}
 use Rattle.smith_body_choices.proofs.ChoiceLemmas.{drop_by}
 use Rattle.smith_body_choices.proofs.choices.choose_drop.Goals as goal
 

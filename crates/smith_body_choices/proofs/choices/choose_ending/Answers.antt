@@ -1,7 +1,5 @@
-use Rattle.std.proofs.Common.{◌∙◌}
-use Rattle.smith_body_nodes.specs.Scopes.{where_stands}
+use Rattle.smith_body_choices.proofs.Common.{ok_by, where_stands, ◌∙◌}
 use Rattle.smith_body_choices.specs.declared.families.EndingFamily.TheVariants as ending
-use Rattle.smith_body_nodes.proofs.ChosenLemmas.{ok_by}
 use Rattle.smith_body_choices.proofs.ChoiceLemmas.{ending_by}
 use Rattle.smith_body_choices.proofs.ChoiceNodeLemmas.{stop_node}
 use Rattle.smith_body_choices.proofs.choices.choose_ending.Goals as goal

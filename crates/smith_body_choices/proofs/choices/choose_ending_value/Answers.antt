@@ -1,6 +1,4 @@
-use Rattle.std.proofs.Common.{◌≡◌, arith}
-use Rattle.smith_body_nodes.specs.Scopes.{where_stands}
-use Rattle.smith_body_nodes.proofs.ChosenLemmas.{ok_by}
+use Rattle.smith_body_choices.proofs.Common.{arith, ok_by, where_stands, ◌≡◌}
 use Rattle.smith_body_nodes.proofs.NodeLemmas.{one_valid}
 use Rattle.smith_body_nodes.specs.Scopes.{bare}
 use Rattle.smith_body_choices.proofs.ChoiceLemmas.{ending_value_block, ending_value_ends}

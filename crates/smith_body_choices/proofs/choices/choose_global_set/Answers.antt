@@ -1,8 +1,6 @@
-use Rattle.smith_body_nodes.specs.Scopes.{where_stands}
-use Rattle.smith_body_nodes.proofs.ResultLemmas.{ok_like}
+use Rattle.smith_body_choices.proofs.Common.{as_node, as_nop, ok_like, where_stands}
 use Rattle.smith_body_nodes.proofs.OfferLemmas.{mutable_there}
 use Rattle.smith_body_choices.proofs.ChoiceNodeLemmas.{global_set_node}
-use Rattle.smith_body_nodes.proofs.ChosenLemmas.{as_node, as_nop}
 use Rattle.smith_body_choices.proofs.ChoiceLemmas.{global_set_none, global_set_there}
 use Rattle.smith_body_choices.proofs.choices.choose_global_set.Goals as goal
 

@@ -1,9 +1,6 @@
-use Rattle.std.proofs.Common.{arith}
-use Rattle.smith_body_nodes.specs.Scopes.{where_stands}
-use Rattle.smith_body_nodes.proofs.ResultLemmas.{ok_like}
+use Rattle.smith_body_choices.proofs.Common.{arith, as_node, as_nop, ok_like, where_stands}
 use Rattle.smith_body_choices.proofs.ChoiceNodeLemmas.{set_node}
 use Rattle.smith_body_nodes.proofs.NodeLemmas.{nop_node}
-use Rattle.smith_body_nodes.proofs.ChosenLemmas.{as_node, as_nop}
 use Rattle.smith_body_choices.proofs.ChoiceLemmas.{set_none, set_there}
 use Rattle.smith_body_choices.proofs.choices.choose_set.Goals as goal
 

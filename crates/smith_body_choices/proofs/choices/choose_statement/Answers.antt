@@ -1,6 +1,4 @@
-use Rattle.std.proofs.Common.{sym, ◌∙◌}
-use Rattle.smith_body_nodes.specs.Scopes.{where_stands}
-use Rattle.smith_body_nodes.proofs.ChosenLemmas.{ok_by}
+use Rattle.smith_body_choices.proofs.Common.{ok_by, sym, where_stands, ◌∙◌}
 use Rattle.smith_body_choices.proofs.ChoiceLemmas.{chosen_once, chosen_twice}
 use Rattle.smith_body_choices.proofs.choices.choose_statement.Goals as goal
 

@@ -1,4 +1,4 @@
-use Rattle.smith_body_nodes.specs.Scopes.{where_stands}
+use Rattle.smith_body_choices.proofs.Common.{where_stands}
 use Rattle.smith_body_nodes.proofs.OfferLemmas.{local_below}
 use Rattle.smith_body_choices.proofs.ChoiceNodeLemmas.{tee_node}
 use Rattle.smith_body_choices.proofs.ChoiceLemmas.{tee_none, tee_there}

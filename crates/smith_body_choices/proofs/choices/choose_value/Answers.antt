@@ -1,7 +1,5 @@
-use Rattle.smith_body_nodes.specs.Scopes.{where_stands}
+use Rattle.smith_body_choices.proofs.Common.{ok_by, ok_like, where_stands}
 use Rattle.smith_body_choices.specs.declared.families.ValueFamily.TheVariants as value
-use Rattle.smith_body_nodes.proofs.ResultLemmas.{ok_like}
-use Rattle.smith_body_nodes.proofs.ChosenLemmas.{ok_by}
 use Rattle.smith_body_choices.proofs.ChoiceLemmas.{value_by}
 use Rattle.smith_body_choices.proofs.choices.choose_value.Goals as goal
 

@@ -1,6 +1,7 @@
-use Rattle.std.proofs.Common.{Bool, if◌then◌else◌, arith, ap, ◌∙◌}
+use Rattle.smith_body_choices.proofs.Common.{ap, arith, ◌∙◌}
+use Rattle.std.proofs.Common.{Bool, if◌then◌else◌}
 use Rattle.std.specs.Prelude.{slice_index_or}
-use Rattle.smith_syntax.specs.declared.value_type.ValType.TheVariants.{I32, I64, F32, F64}
+use Rattle.smith_types.specs.Syntax.value_type.ValType.TheVariants.{I32, I64, F32, F64}
 use Rattle.smith_body_choices.specs.Choices.{dropped_types}
 use Rattle.smith_body_choices.proofs.ChoiceLemmas.{dropped_by, dropped_local}
 use Rattle.smith_body_choices.proofs.choices.draw_dropped.Goals as goal

@@ -1,11 +1,7 @@
-use Rattle.std.proofs.Common.{sym, ◌∙◌}
-use Rattle.smith_body_nodes.specs.Scopes.{where_stands}
-use Rattle.smith_body_nodes.proofs.ResultLemmas.{ok_like}
-use Rattle.smith_body_nodes.proofs.OfferLemmas.{func_there}
+use Rattle.smith_body_control.proofs.Common.{as_node, func_there, ok_like, sym, where_stands, ◌∙◌}
 use Rattle.smith_body_control.proofs.BlockNodeLemmas.{func_block, empty_block}
 use Rattle.smith_body_control.proofs.BlockChoiceLemmas.{any_block_by}
 use Rattle.smith_body_control.proofs.HandlerLemmas.{handler_by, handler_gives}
-use Rattle.smith_body_nodes.proofs.ChosenLemmas.{as_node}
 use Rattle.smith_body_control.proofs.blocks.choose_any_block.Goals as goal
 
 pub returns-then-is_of_handler-clause-node : goal.returns-then-is_of_handler-clause-node

@@ -1,4 +1,4 @@
-use Rattle.smith_body_nodes.specs.Scopes.{where_stands}
+use Rattle.smith_body_control.proofs.Common.{where_stands}
 use Rattle.smith_body_control.proofs.BlockNodeLemmas.{value_block}
 use Rattle.smith_body_control.proofs.BlockChoiceLemmas.{block_by}
 use Rattle.smith_body_control.proofs.blocks.choose_block.Goals as goal

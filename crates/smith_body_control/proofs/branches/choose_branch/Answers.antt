@@ -1,10 +1,7 @@
-use Rattle.std.proofs.Common.{arith, ◌<◌, length, refl}
-use Rattle.smith_body_nodes.proofs.ResultLemmas.{ok_like}
+use Rattle.smith_body_control.proofs.Common.{arith, as_node, length, ok_like, refl, slice_get_read, where_stands, ◌<◌}
 use Rattle.smith_body_control.proofs.BranchNodeLemmas.{br_if_node}
-use Rattle.smith_body_nodes.proofs.ChosenLemmas.{as_node, as_nop}
+use Rattle.smith_body_nodes.proofs.ChosenLemmas.{as_nop}
 use Rattle.smith_body_control.proofs.BranchChoiceLemmas.{branch_none, branch_there}
-use Rattle.std.proofs.lemmas.Option.{slice_get_read}
-use Rattle.smith_body_nodes.specs.Scopes.{where_stands}
 use Rattle.smith_body_control.proofs.branches.choose_branch.Goals as goal
 
 pub returns-clause-node : goal.returns-clause-node

@@ -1,10 +1,6 @@
-use Rattle.std.proofs.Common.{arith, ◌<◌, length, refl}
-use Rattle.smith_body_nodes.specs.Scopes.{where_stands}
-use Rattle.smith_body_nodes.proofs.ResultLemmas.{ok_like}
+use Rattle.smith_body_control.proofs.Common.{arith, label_count, length, ok_like, refl, slice_get_read, where_stands, ◌<◌}
 use Rattle.smith_body_control.proofs.BranchNodeLemmas.{br_node, return_node}
 use Rattle.smith_body_control.proofs.BranchChoiceLemmas.{leaving_none, leaving_out, leaving_there}
-use Rattle.std.proofs.lemmas.Option.{slice_get_read}
-use Rattle.smith_body_nodes.specs.Offered.{label_count}
 use Rattle.smith_body_control.proofs.branches.choose_leaving.Goals.{then-count-eq0-via-then-count-eq0}
 use Rattle.smith_body_control.proofs.branches.choose_leaving.Goals.{then-count-eq0-via-else-count-eq0+then-arbitrary}
 use Rattle.smith_body_control.proofs.branches.choose_leaving.Goals as goal

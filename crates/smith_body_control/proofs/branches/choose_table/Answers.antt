@@ -1,9 +1,6 @@
-use Rattle.std.proofs.Common.{◌≡◌, ◌<◌, length, refl, arith}
-use Rattle.smith_body_nodes.specs.Scopes.{where_stands}
-use Rattle.smith_body_nodes.proofs.ResultLemmas.{ok_like}
+use Rattle.smith_body_control.proofs.Common.{arith, length, ok_like, refl, slice_get_read, where_stands, ◌<◌, ◌≡◌}
 use Rattle.smith_body_control.proofs.BranchNodeLemmas.{return_node, table_node}
 use Rattle.smith_body_control.proofs.BranchChoiceLemmas.{table_none, table_there}
-use Rattle.std.proofs.lemmas.Option.{slice_get_read}
 use Rattle.smith_body_control.proofs.branches.choose_table.Goals as goal
 
 pub returns-then-count-eq0-clause-node : goal.returns-then-count-eq0-clause-node

@@ -1,6 +1,5 @@
-use Rattle.std.proofs.lemmas.List.Elements.{All-nil, All-push}
-use Rattle.smith_instr.specs.InstrTypes.{IsTaken}
-use Rattle.smith_body_nodes.specs.Scopes.{context_of}
+use Rattle.smith_body_control.proofs.Common.{All-push, context_of, IsTaken}
+use Rattle.std.proofs.lemmas.List.Elements.{All-nil}
 use Rattle.smith_body_nodes.proofs.OfferLemmas.{target_there}
 use Rattle.smith_body_control.proofs.TargetLemmas.{targets_all, targets_by, targets_more, targets_none, targets_stop}
 use Rattle.smith_body_control.proofs.branches.draw_targets.Goals as goal

@@ -1,7 +1,5 @@
-use Rattle.std.specs.Prelude.{All}
+use Rattle.smith_body_control.proofs.Common.{All, context_of, IsTaken}
 use Rattle.smith_bytes.specs.Source.{KeepsPieces}
-use Rattle.smith_instr.specs.InstrTypes.{IsTaken}
-use Rattle.smith_body_nodes.specs.Scopes.{context_of}
 use Rattle.smith_body_control.proofs.TargetLemmas.{AreDrawnTargets}
 use Rattle.smith_body_control.proofs.branches.draw_targets.Given as goal
 

@@ -1,5 +1,4 @@
-use Rattle.smith_body_nodes.specs.Scopes.{bare}
-use Rattle.smith_body_nodes.proofs.OfferLemmas.{func_there}
+use Rattle.smith_body_control.proofs.Common.{bare, func_there}
 use Rattle.smith_body_control.proofs.outcomes.is_fit_type.Goals as goal
 
 pub is_fit-requires-clause-results : goal.is_fit-requires-clause-results

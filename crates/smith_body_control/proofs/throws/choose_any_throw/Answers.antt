@@ -1,7 +1,4 @@
-use Rattle.std.proofs.Common.{◌≡◌, arith}
-use Rattle.smith_body_nodes.specs.Scopes.{where_stands}
-use Rattle.smith_body_nodes.proofs.ChosenLemmas.{ok_by}
-use Rattle.smith_body_nodes.proofs.ResultLemmas.{ok_like}
+use Rattle.smith_body_control.proofs.Common.{arith, ok_by, ok_like, where_stands, ◌≡◌}
 use Rattle.smith_body_control.proofs.ThrowLemmas.{any_throw_by_reference, any_throw_tagged}
 use Rattle.smith_body_control.proofs.throws.choose_any_throw.Goals as goal
 

@@ -1,5 +1,4 @@
-use Rattle.std.proofs.Common.{None, Some}
-use Rattle.smith_body_nodes.specs.Scopes.{where_stands}
+use Rattle.smith_body_control.proofs.Common.{None, Some, where_stands}
 use Rattle.smith_body_control.proofs.ThrowLemmas.{tag_there, throw_by, throw_gives, throw_none}
 use Rattle.smith_body_control.proofs.throws.choose_throw.Goals as goal
 

@@ -1,5 +1,4 @@
-use Rattle.std.proofs.Common.{sym, ◌∙◌}
-use Rattle.smith_body_nodes.specs.Scopes.{where_stands}
+use Rattle.smith_body_control.proofs.Common.{sym, where_stands, ◌∙◌}
 use Rattle.smith_body_control.proofs.ThrowLemmas.{throw_ref_gives}
 use Rattle.smith_body_control.proofs.throws.choose_throw_ref.Goals as goal
 

@@ -1,4 +1,4 @@
-use Rattle.std.proofs.Common.{arith}
+use Rattle.smith_body_control.proofs.Common.{arith}
 use Rattle.smith_body_control.proofs.ThrowLemmas.{tag_drawn, tag_none}
 use Rattle.smith_body_control.proofs.throws.draw_tag.Goals as goal
 

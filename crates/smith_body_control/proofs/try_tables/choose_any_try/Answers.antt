@@ -1,7 +1,4 @@
-use Rattle.smith_body_nodes.specs.Scopes.{where_stands}
-use Rattle.smith_body_nodes.proofs.ChosenLemmas.{as_node}
-use Rattle.smith_body_nodes.proofs.OfferLemmas.{func_there}
-use Rattle.smith_body_nodes.proofs.ResultLemmas.{ok_like}
+use Rattle.smith_body_control.proofs.Common.{as_node, func_there, ok_like, where_stands}
 use Rattle.smith_body_control.proofs.TryLemmas.{any_try_by, empty_try, func_try}
 use Rattle.smith_body_control.proofs.try_tables.choose_any_try.Goals as goal
 

@@ -1,6 +1,4 @@
-use Rattle.smith_body_nodes.specs.Scopes.{context_of}
-use Rattle.smith_body_nodes.proofs.ChosenLemmas.{ok_by}
-use Rattle.smith_body_nodes.proofs.NodeLemmas.{no_valid}
+use Rattle.smith_body_control.proofs.Common.{context_of, no_valid, ok_by}
 use Rattle.smith_body_control.proofs.TryLemmas.{clause_by_tag, clause_untagged}
 use Rattle.smith_body_control.proofs.try_tables.choose_clause.Goals as goal
 

@@ -1,5 +1,4 @@
-use Rattle.std.proofs.Common.{None, Some}
-use Rattle.smith_body_nodes.specs.Scopes.{bare, context_of}
+use Rattle.smith_body_control.proofs.Common.{bare, context_of, None, Some}
 use Rattle.smith_body_control.specs.TryChoices.{passed_values}
 use Rattle.smith_body_nodes.proofs.OfferLemmas.{target_there}
 use Rattle.smith_body_control.proofs.TryLemmas.{passed_values_valid, clause_fits, clause_to_by}

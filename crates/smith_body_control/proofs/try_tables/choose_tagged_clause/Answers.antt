@@ -1,6 +1,4 @@
-use Rattle.std.proofs.Common.{None, Some}
-use Rattle.smith_body_nodes.specs.Scopes.{context_of}
-use Rattle.smith_body_nodes.proofs.ChosenLemmas.{ok_by}
+use Rattle.smith_body_control.proofs.Common.{context_of, None, ok_by, Some}
 use Rattle.smith_body_control.proofs.ThrowLemmas.{tag_is, tag_there}
 use Rattle.smith_body_control.proofs.TryLemmas.{tagged_clause, tagless_clause}
 use Rattle.smith_body_control.proofs.try_tables.choose_tagged_clause.Goals as goal

@@ -1,4 +1,4 @@
-use Rattle.smith_body_nodes.specs.Scopes.{where_stands}
+use Rattle.smith_body_control.proofs.Common.{where_stands}
 use Rattle.smith_body_control.proofs.TryLemmas.{try_by, value_try}
 use Rattle.smith_body_control.proofs.try_tables.choose_try.Goals as goal
 

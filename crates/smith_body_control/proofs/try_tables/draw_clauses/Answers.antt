@@ -1,6 +1,5 @@
 use Rattle.std.proofs.lemmas.List.Elements.{All-nil}
-use Rattle.smith_instr.specs.InstrTypes.{IsCatch}
-use Rattle.smith_body_nodes.specs.Scopes.{context_of}
+use Rattle.smith_body_control.proofs.Common.{context_of, IsCatch}
 use Rattle.smith_body_control.specs.TryChoices.{clauses_at}
 use Rattle.smith_body_nodes.proofs.RepeatLemmas.{no_turn}
 use Rattle.smith_body_control.proofs.TryLemmas.{clause_added, clauses_all, clauses_by, clauses_more}

@@ -1,9 +1,6 @@
-use Rattle.std.specs.Prelude.{All}
+use Rattle.smith_body_control.proofs.Common.{All, AreDrawnSoFar, context_of, IsCatch}
 use Rattle.smith_bytes.specs.Source.{KeepsPieces}
-use Rattle.smith_instr.specs.InstrTypes.{IsCatch}
-use Rattle.smith_body_nodes.specs.Scopes.{context_of}
 use Rattle.smith_body_control.specs.TryChoices.{clauses_at}
-use Rattle.smith_body_nodes.proofs.RepeatLemmas.{AreDrawnSoFar}
 use Rattle.smith_body_control.proofs.try_tables.draw_clauses.Given as goal
 
 abbrev pub invariant-loop : goal.invariant-loop

@@ -1,5 +1,4 @@
-use Rattle.std.proofs.Common.{false, true}
-use Rattle.smith_body_nodes.specs.Scopes.{bare}
+use Rattle.smith_body_control.proofs.Common.{bare, false, true}
 use Rattle.smith_body_control.proofs.TryLemmas.{referenced_by}
 use Rattle.smith_body_control.proofs.try_tables.draw_referenced.Goals as goal
 

@@ -2,13 +2,13 @@ use Rattle.std.proofs.Common.{◌≡◌, ℕ, zero, suc, true, false, [], ◌∷
 use Rattle.std.specs.Prelude.{pos, Any}
 use Rattle.smith_types.specs.Expressions.{IsStructAt, unpacked}
 use Rattle.smith_types.specs.Types.{IsOrderly}
-use Rattle.smith_syntax.specs.declared.composite_type.FieldType.{FieldType}
-use Rattle.smith_syntax.specs.declared.value_type.ValType.{ValType}
+use Rattle.smith_types.specs.Syntax.composite_type.FieldType.{FieldType}
+use Rattle.smith_types.specs.Syntax.value_type.ValType.{ValType}
 use Rattle.smith_types.specs.ExampleTypes.{constant, final_type, struct}
-use Rattle.smith_syntax.specs.declared.composite_type.StorageType.TheVariants.{Val}
-use Rattle.smith_syntax.specs.declared.instruction_kind.InstructionKind.TheVariants as kind
-use Rattle.smith_syntax.specs.declared.value_type.AbstractHeapType.TheVariants as heap
-use Rattle.smith_syntax.specs.declared.value_type.ValType.TheVariants.{I32}
+use Rattle.smith_types.specs.Syntax.composite_type.StorageType.TheVariants.{Val}
+use Rattle.smith_types.specs.Syntax.instruction_kind.InstructionKind.TheVariants as kind
+use Rattle.smith_types.specs.Syntax.value_type.AbstractHeapType.TheVariants as heap
+use Rattle.smith_types.specs.Syntax.value_type.ValType.TheVariants.{I32}
 use Rattle.smith_bytes.specs.Draws.{choose_at, digit_count, range_at}
 use Rattle.smith_draw_types.specs.Below.{is_heap_below}
 use Rattle.smith_draw_types.specs.Choices.{chosen_at}

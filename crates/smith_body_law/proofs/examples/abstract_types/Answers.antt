@@ -1,7 +1,7 @@
 use Rattle.std.proofs.Common.{false, refl}
 use Rattle.smith_types.specs.ExampleTypes.{empty_struct, plain}
 use Rattle.smith_types.specs.Subtyping.{by_step, itself}
-use Rattle.smith_syntax.specs.declared.value_type.AbstractHeapType.TheVariants as heap
+use Rattle.smith_types.specs.Syntax.value_type.AbstractHeapType.TheVariants as heap
 use Rattle.smith_body_law.proofs.examples.abstract_types.Goals as goal
 use Rattle.smith_draw_types.specs.Below.{is_heap_below}
 use Rattle.smith_body_law.specs.ExampleContexts.{with_type}

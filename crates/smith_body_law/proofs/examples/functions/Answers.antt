@@ -1,7 +1,7 @@
 use Rattle.std.proofs.Common.{[], refl, arith}
 use Rattle.smith_types.specs.ExampleTypes.{plain_func}
 use Rattle.smith_types.specs.Subtyping.{itself}
-use Rattle.smith_syntax.specs.declared.value_type.HeapType.TheVariants.{Concrete}
+use Rattle.smith_types.specs.Syntax.value_type.HeapType.TheVariants.{Concrete}
 use Rattle.smith_draw_types.specs.Below.{is_heap_below}
 use Rattle.smith_body_law.specs.ExampleContexts.{naming}
 use Rattle.smith_body_law.proofs.ExampleLemmas.{both_apart, no_array_there, no_struct_there, is_barren}

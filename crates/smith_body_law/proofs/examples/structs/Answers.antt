@@ -1,8 +1,8 @@
 use Rattle.std.proofs.Common.{[], refl, rules}
 use Rattle.smith_types.specs.ExampleTypes.{not_null, plain}
 use Rattle.smith_types.specs.Subtyping.{itself}
-use Rattle.smith_syntax.specs.declared.value_type.AbstractHeapType.TheVariants as heap
-use Rattle.smith_syntax.specs.declared.value_type.HeapType.TheVariants.{Concrete}
+use Rattle.smith_types.specs.Syntax.value_type.AbstractHeapType.TheVariants as heap
+use Rattle.smith_types.specs.Syntax.value_type.HeapType.TheVariants.{Concrete}
 use Rattle.smith_draw_types.specs.Below.{is_heap_below}
 use Rattle.smith_body_law.specs.ExampleContexts.{with_type}
 use Rattle.smith_body_law.proofs.ExampleLemmas.{both_apart, holding, no_array_there, no_defaults, is_barren}

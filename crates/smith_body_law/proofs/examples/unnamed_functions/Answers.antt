@@ -1,7 +1,7 @@
 use Rattle.std.proofs.Common.{◌≡◌, ℕ, List, length, ap, refl, arith}
 use Rattle.smith_types.specs.ExampleTypes.{plain, plain_func}
 use Rattle.smith_types.specs.Subtyping.{itself}
-use Rattle.smith_syntax.specs.declared.value_type.AbstractHeapType.TheVariants as heap
+use Rattle.smith_types.specs.Syntax.value_type.AbstractHeapType.TheVariants as heap
 use Rattle.smith_draw_types.specs.Below.{is_heap_below}
 use Rattle.smith_body_law.proofs.ExampleLemmas.{never_named, no_function_below, no_struct_there}
 use Rattle.smith_body_law.proofs.examples.unnamed_functions.Goals as goal

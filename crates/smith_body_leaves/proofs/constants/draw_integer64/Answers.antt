@@ -1,6 +1,5 @@
-use Rattle.std.proofs.Common.{◌∙◌}
-use Rattle.std.proofs.lemmas.Int.{to_z-of_z}
-use Rattle.std.specs.Int.{cast_signed, w8, w64}
+use Rattle.smith_body_leaves.proofs.Common.{cast_signed, to_z-of_z, ◌∙◌}
+use Rattle.std.specs.Int.{w64, w8}
 use Rattle.smith_body_leaves.specs.Constants.{constant_ways, integer64_at, integer64_by, integers64}
 use Rattle.smith_body_leaves.specs.declared.constant_tables.ConstantWay.TheVariants as way
 use Rattle.smith_body_leaves.proofs.ConstantLemmas.{by_family, changed, listed}

@@ -1,4 +1,4 @@
-use Rattle.std.proofs.Common.{ap}
+use Rattle.smith_body_leaves.proofs.Common.{ap}
 use Rattle.smith_body_leaves.specs.Constants.{alternating, doubles, floats, halves, integers32, integers64, lane_families, lanes_at}
 use Rattle.smith_body_leaves.specs.Constants.{lanes_by, same_bytes}
 use Rattle.smith_body_leaves.specs.declared.constant_tables.LaneFamily.TheVariants as lane

@@ -1,7 +1,5 @@
-use Rattle.std.proofs.Common.{◌∙◌}
-use Rattle.std.proofs.lemmas.Int.{to_z-of_z}
-use Rattle.std.specs.Prelude.{pos}
-use Rattle.std.specs.Int.{cast_signed, w128}
+use Rattle.smith_body_leaves.proofs.Common.{cast_signed, pos, to_z-of_z, ◌∙◌}
+use Rattle.std.specs.Int.{w128}
 use Rattle.smith_body_leaves.specs.Constants.{constant_ways, vector_at, vector_by}
 use Rattle.smith_body_leaves.specs.declared.constant_tables.ConstantWay.TheVariants as way
 use Rattle.smith_body_leaves.proofs.ConstantLemmas.{by_family, changed}

@@ -1,4 +1,4 @@
-use Rattle.smith_body_nodes.specs.Scopes.{bare, where_stands}
+use Rattle.smith_body_leaves.proofs.Common.{bare, where_stands}
 use Rattle.smith_body_leaves.proofs.PreferredLemmas.{array_over, over_brief}
 use Rattle.smith_body_leaves.proofs.created_values.array_of.Goals as goal
 

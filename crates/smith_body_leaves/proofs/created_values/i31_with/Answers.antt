@@ -1,8 +1,4 @@
-use Rattle.std.proofs.Common.{[], ◌∷◌, Option, sym, subst}
-use Rattle.std.specs.Prelude.{IfSome}
-use Rattle.smith_syntax.specs.declared.value_type.ValType.TheVariants.{I32}
-use Rattle.smith_instr.specs.declared.instr.Instr.{Instr}
-use Rattle.smith_body_nodes.specs.Scopes.{bare, where_stands}
+use Rattle.smith_body_leaves.proofs.Common.{[], bare, I32, IfSome, Instr, Option, subst, sym, where_stands, ◌∷◌}
 use Rattle.smith_body_leaves.specs.Leaves.{IsTaking}
 use Rattle.smith_body_leaves.proofs.PreferredLemmas.{i31_taking, over_brief}
 use Rattle.smith_body_leaves.proofs.created_values.i31_with.Goals as goal

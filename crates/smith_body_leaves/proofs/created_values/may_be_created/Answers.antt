@@ -1,4 +1,4 @@
-use Rattle.std.proofs.Common.{◌∙◌}
+use Rattle.smith_body_leaves.proofs.Common.{◌∙◌}
 use Rattle.smith_body_leaves.proofs.PreferredLemmas.{created_abstract}
 use Rattle.smith_body_leaves.proofs.created_values.may_be_created.Goals as goal
 

@@ -1,5 +1,5 @@
 use Rattle.smith_body_nodes.proofs.IndexedTypeLemmas.{struct_fields, struct_there}
-use Rattle.smith_body_nodes.specs.Scopes.{bare}
+use Rattle.smith_body_leaves.proofs.Common.{bare}
 use Rattle.smith_body_leaves.proofs.creations.created_at.Goals as goal
 
 pub have_singles-requires-clause-fields : goal.have_singles-requires-clause-fields

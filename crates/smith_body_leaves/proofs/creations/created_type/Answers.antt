@@ -1,7 +1,5 @@
-use Rattle.std.proofs.Common.{List, ap, arith, length, refl, true, ◌+◌}
-use Rattle.smith_syntax.specs.declared.composite_type.SubType.{SubType}
+use Rattle.smith_body_leaves.proofs.Common.{ap, arith, length, List, refl, SubType, true, where_stands, ◌+◌}
 use Rattle.smith_body_leaves.specs.Leaves.{created_at, created_type, named_type}
-use Rattle.smith_body_nodes.specs.Scopes.{where_stands}
 use Rattle.smith_body_leaves.proofs.LeafChoiceLemmas.{not_some}
 use Rattle.smith_body_leaves.proofs.SearchLemmas.{first_next, tried_found}
 use Rattle.smith_body_leaves.proofs.creations.created_type.Goals as goal

@@ -1,6 +1,5 @@
-use Rattle.std.proofs.Common.{◌≡◌, None}
+use Rattle.smith_body_leaves.proofs.Common.{None, where_stands, ◌≡◌}
 use Rattle.smith_body_leaves.specs.Leaves.{created_at, first_below}
-use Rattle.smith_body_nodes.specs.Scopes.{where_stands}
 use Rattle.smith_body_leaves.proofs.creations.created_type.Given as goal
 
 abbrev pub invariant-loop-ty : goal.invariant-loop-ty

@@ -1,5 +1,4 @@
-use Rattle.smith_body_nodes.proofs.IndexedTypeLemmas.{field_valid}
-use Rattle.smith_body_nodes.specs.Scopes.{bare}
+use Rattle.smith_body_leaves.proofs.Common.{bare, field_valid}
 use Rattle.smith_body_leaves.proofs.creations.have_singles.Goals as goal
 
 pub has_single-requires-clause-wanted : goal.has_single-requires-clause-wanted

@@ -1,7 +1,5 @@
-use Rattle.std.proofs.Common.{◌≡◌, drop}
-use Rattle.smith_types.specs.Expressions.{field_values}
+use Rattle.smith_body_leaves.proofs.Common.{drop, field_values, where_stands, ◌≡◌}
 use Rattle.smith_body_leaves.specs.Leaves.{have_singles}
-use Rattle.smith_body_nodes.specs.Scopes.{where_stands}
 use Rattle.smith_body_leaves.proofs.creations.have_singles.Given as goal
 
 abbrev pub invariant-loop-index : goal.invariant-loop-index

@@ -1,5 +1,5 @@
 use Rattle.std.proofs.lemmas.Result.{on_ok_weaker}
-use Rattle.smith_body_nodes.specs.Scopes.{bare}
+use Rattle.smith_body_leaves.proofs.Common.{bare}
 use Rattle.smith_body_leaves.proofs.SingleLemmas.{creation_written, fields_valid}
 use Rattle.smith_body_leaves.proofs.creations.write_created.Goals as goal
 

@@ -1,6 +1,4 @@
-use Rattle.std.proofs.Common.{◌∙◌, arith, refl}
-use Rattle.smith_body_nodes.proofs.IndexedTypeLemmas.{field_valid}
-use Rattle.smith_body_nodes.specs.Scopes.{bare, where_stands}
+use Rattle.smith_body_leaves.proofs.Common.{arith, bare, field_valid, refl, where_stands, ◌∙◌}
 use Rattle.smith_body_leaves.proofs.SingleLemmas.{no_single, single_before, single_written}
 use Rattle.smith_body_leaves.proofs.creations.write_singles.Goals as goal
 

@@ -1,4 +1,4 @@
-use Rattle.smith_body_nodes.specs.Scopes.{where_stands}
+use Rattle.smith_body_leaves.proofs.Common.{where_stands}
 use Rattle.smith_body_leaves.proofs.LeafChoiceLemmas.{first_brief, first_created, first_stop, not_some}
 use Rattle.smith_body_leaves.proofs.leaf.write_first.Goals as goal
 

@@ -1,5 +1,4 @@
-use Rattle.std.proofs.Common.{None, Some}
-use Rattle.smith_body_nodes.specs.Scopes.{where_stands}
+use Rattle.smith_body_leaves.proofs.Common.{None, Some, where_stands}
 use Rattle.smith_body_leaves.proofs.PreferredLemmas.{brief_wider, only_wider, strict_is_below, value_created, value_function}
 use Rattle.smith_body_leaves.proofs.PreferredLemmas.{value_variable}
 use Rattle.smith_body_leaves.proofs.preferred.choose_value.Goals as goal

@@ -1,4 +1,4 @@
-use Rattle.smith_body_nodes.specs.Scopes.{bare}
+use Rattle.smith_body_leaves.proofs.Common.{bare}
 use Rattle.smith_body_leaves.proofs.ReferenceLemmas.{reference_there}
 use Rattle.smith_body_leaves.proofs.LeafChoiceLemmas.{named_none, named_there}
 use Rattle.smith_body_leaves.proofs.references.choose_reference.Goals as goal

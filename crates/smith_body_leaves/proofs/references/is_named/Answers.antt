@@ -1,5 +1,4 @@
-use Rattle.std.proofs.Common.{arith}
-use Rattle.smith_body_nodes.specs.Scopes.{bare}
+use Rattle.smith_body_leaves.proofs.Common.{arith, bare}
 use Rattle.smith_body_leaves.proofs.ReferenceLemmas.{named_past}
 use Rattle.smith_body_leaves.proofs.references.is_named.Goals as goal
 

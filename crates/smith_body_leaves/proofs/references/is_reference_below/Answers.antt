@@ -1,4 +1,4 @@
-use Rattle.smith_body_nodes.specs.Scopes.{bare}
+use Rattle.smith_body_leaves.proofs.Common.{bare}
 use Rattle.smith_body_leaves.proofs.ReferenceLemmas.{function_in_range, named_tested}
 use Rattle.smith_body_leaves.proofs.references.is_reference_below.Goals as goal
 

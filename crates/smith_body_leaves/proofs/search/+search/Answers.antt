@@ -1,7 +1,5 @@
-use Rattle.std.proofs.Common.{List, ap, arith, length, ◌∙◌}
-use Rattle.smith_syntax.specs.declared.composite_type.SubType.{SubType}
+use Rattle.smith_body_leaves.proofs.Common.{ap, arith, length, List, SubType, where_stands, ◌∙◌}
 use Rattle.smith_body_leaves.specs.Leaves.{leaf_within}
-use Rattle.smith_body_nodes.specs.Scopes.{where_stands}
 use Rattle.smith_body_leaves.proofs.LeafChoiceLemmas.{not_some}
 use Rattle.smith_body_leaves.proofs.SearchLemmas.{created_found, within_more, within_none, within_single}
 use Rattle.smith_body_leaves.proofs.search.+search.Goals as goal

@@ -1,6 +1,6 @@
-use Rattle.std.proofs.Common.{◌≡◌, ◌+◌, ◌*◌, None, false}
+use Rattle.smith_body_leaves.proofs.Common.{false, None, where_stands, ◌+◌, ◌≡◌}
+use Rattle.std.proofs.Common.{◌*◌}
 use Rattle.smith_body_leaves.specs.Leaves.{first_below, leaf_within, created_over}
-use Rattle.smith_body_nodes.specs.Scopes.{where_stands}
 use Rattle.smith_body_leaves.proofs.search.+search.Given as goal
 
 abbrev pub decreases-leaf_within : goal.decreases-leaf_within

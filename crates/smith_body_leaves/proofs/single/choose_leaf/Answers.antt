@@ -1,5 +1,4 @@
-use Rattle.std.proofs.Common.{refl, ◌∙◌}
-use Rattle.smith_body_nodes.specs.Scopes.{where_stands}
+use Rattle.smith_body_leaves.proofs.Common.{refl, where_stands, ◌∙◌}
 use Rattle.smith_body_leaves.specs.declared.families.LeafFamily.TheVariants as leaf
 use Rattle.smith_body_leaves.proofs.LeafChoiceLemmas.{leaf_by}
 use Rattle.smith_body_leaves.proofs.single.choose_leaf.Goals as goal

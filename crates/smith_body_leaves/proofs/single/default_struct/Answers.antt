@@ -1,7 +1,6 @@
-use Rattle.std.proofs.Common.{sym, ◌∙◌}
+use Rattle.smith_body_leaves.proofs.Common.{sym, where_stands, ◌∙◌}
 use Rattle.smith_instr.specs.declared.aggregate.AggregateInstr.TheVariants as aggregate
 use Rattle.smith_instr.specs.declared.instr.Instr.TheVariants as instr
-use Rattle.smith_body_nodes.specs.Scopes.{where_stands}
 use Rattle.smith_body_leaves.proofs.LeafChoiceLemmas.{made_none, made_some}
 use Rattle.smith_body_leaves.proofs.single.default_struct.Goals as goal
 

@@ -1,4 +1,4 @@
-use Rattle.smith_body_nodes.specs.Scopes.{where_stands}
+use Rattle.smith_body_leaves.proofs.Common.{where_stands}
 use Rattle.smith_body_leaves.proofs.LeafChoiceLemmas.{leaf_chosen, leaf_constant}
 use Rattle.smith_body_leaves.proofs.single.draw_any_leaf.Goals as goal
 

@@ -1,5 +1,4 @@
-use Rattle.std.proofs.Common.{sym, ◌∙◌}
-use Rattle.smith_body_nodes.specs.Scopes.{where_stands}
+use Rattle.smith_body_leaves.proofs.Common.{sym, where_stands, ◌∙◌}
 use Rattle.smith_body_leaves.proofs.LeafChoiceLemmas.{first_none, first_there}
 use Rattle.smith_body_leaves.proofs.single.first_of.Goals as goal
 

@@ -1,5 +1,4 @@
-use Rattle.std.proofs.Common.{sym, ◌∙◌}
-use Rattle.smith_body_nodes.specs.Scopes.{where_stands}
+use Rattle.smith_body_leaves.proofs.Common.{sym, where_stands, ◌∙◌}
 use Rattle.smith_body_leaves.proofs.SearchLemmas.{constant_is_single}
 use Rattle.smith_body_leaves.proofs.single.has_single.Goals as goal
 

@@ -1,8 +1,7 @@
-use Rattle.std.proofs.Common.{ℕ, List, Option, ap, refl}
+use Rattle.smith_body_leaves.proofs.Common.{ap, List, Option, refl, where_stands, ℕ}
 use Rattle.smith_instr.specs.declared.instr.Instr.TheVariants as instr
 use Rattle.smith_instr.specs.declared.reference.ReferenceInstr.TheVariants as reference
 use Rattle.smith_body_leaves.specs.Leaves.{by_index, named_at}
-use Rattle.smith_body_nodes.specs.Scopes.{where_stands}
 use Rattle.smith_body_leaves.proofs.LeafLemmas.{local_leaf, global_leaf}
 use Rattle.smith_body_leaves.proofs.single.leaf_of.Goals as goal
 

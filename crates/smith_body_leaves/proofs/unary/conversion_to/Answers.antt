@@ -1,5 +1,4 @@
-use Rattle.std.proofs.Common.{sym, ◌∙◌}
-use Rattle.smith_body_nodes.specs.Scopes.{bare}
+use Rattle.smith_body_leaves.proofs.Common.{bare, sym, ◌∙◌}
 use Rattle.smith_body_leaves.proofs.ConversionLemmas.{conversion_valid}
 use Rattle.smith_body_leaves.proofs.unary.conversion_to.Goals as goal
 

@@ -1,8 +1,5 @@
-use Rattle.std.proofs.Common.{arith}
-use Rattle.smith_types.specs.Expressions.{field_values}
+use Rattle.smith_body_leaves.proofs.Common.{arith, bare, field_valid, field_values}
 use Rattle.smith_instr.specs.Contexts.{AreValid}
-use Rattle.smith_body_nodes.proofs.IndexedTypeLemmas.{field_valid}
-use Rattle.smith_body_nodes.specs.Scopes.{bare}
 use Rattle.smith_body_leaves.proofs.SingleLemmas.{fields_valid}
 use Rattle.smith_body_leaves.proofs.unary.creation_of.Goals as goal
 

@@ -1,6 +1,5 @@
-use Rattle.std.proofs.Common.{◌<◌, None, Some, length, arith}
+use Rattle.smith_body_memory.proofs.Common.{arith, length, None, Some, where_stands, ◌<◌}
 use Rattle.smith_instr.specs.declared.atomic.AtomicAccess.TheVariants as atomic
-use Rattle.smith_body_nodes.specs.Scopes.{where_stands}
 use Rattle.smith_body_memory.proofs.AtomicNodeLemmas.{atomic_row}
 use Rattle.smith_body_memory.proofs.AtomicChoiceLemmas.{atomic_none, atomic_drawn}
 use Rattle.smith_body_memory.proofs.atomics.choose_atomic.Goals as goal

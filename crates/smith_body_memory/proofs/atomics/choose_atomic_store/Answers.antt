@@ -1,10 +1,6 @@
-use Rattle.std.proofs.Common.{None, Some}
+use Rattle.smith_body_memory.proofs.Common.{as_node, as_nop, None, nop_node, ok_like, Some, where_stands}
 use Rattle.smith_instr.specs.declared.atomic.AtomicAccess.TheVariants as atomic
 use Rattle.smith_instr.specs.declared.atomic.AtomicWidth.TheVariants as width
-use Rattle.smith_body_nodes.specs.Scopes.{where_stands}
-use Rattle.smith_body_nodes.proofs.ResultLemmas.{ok_like}
-use Rattle.smith_body_nodes.proofs.NodeLemmas.{nop_node}
-use Rattle.smith_body_nodes.proofs.ChosenLemmas.{as_node, as_nop}
 use Rattle.smith_body_memory.proofs.AtomicNodeLemmas.{atomic_there}
 use Rattle.smith_body_memory.proofs.AtomicChoiceLemmas.{atomic_store_by}
 use Rattle.smith_body_memory.proofs.atomics.choose_atomic_store.Goals as goal

@@ -1,4 +1,4 @@
-use Rattle.smith_body_nodes.specs.Scopes.{where_stands}
+use Rattle.smith_body_memory.proofs.Common.{where_stands}
 use Rattle.smith_body_memory.proofs.MemoryNodeLemmas.{grow_node}
 use Rattle.smith_body_memory.proofs.memories.choose_growth.Goals as goal
 

@@ -1,5 +1,4 @@
-use Rattle.std.proofs.Common.{◌<◌, length, arith}
-use Rattle.smith_body_nodes.specs.Scopes.{where_stands}
+use Rattle.smith_body_memory.proofs.Common.{arith, length, where_stands, ◌<◌}
 use Rattle.smith_body_memory.proofs.MemoryNodeLemmas.{load_row}
 use Rattle.smith_body_memory.proofs.MemoryChoiceLemmas.{load_none, load_without, load_there}
 use Rattle.smith_body_memory.proofs.memories.choose_load.Goals as goal

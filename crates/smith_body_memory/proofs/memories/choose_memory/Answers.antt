@@ -1,6 +1,5 @@
-use Rattle.smith_body_nodes.specs.Scopes.{where_stands}
+use Rattle.smith_body_memory.proofs.Common.{ok_like, where_stands}
 use Rattle.smith_body_memory.proofs.MemoryChoiceLemmas.{memory_none, memory_there}
-use Rattle.smith_body_nodes.proofs.ResultLemmas.{ok_like}
 use Rattle.smith_body_memory.proofs.memories.choose_memory.Goals as goal
 
 pub returns-in_default-clause-exact : goal.returns-in_default-clause-exact

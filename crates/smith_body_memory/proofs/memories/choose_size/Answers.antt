@@ -1,4 +1,4 @@
-use Rattle.smith_body_nodes.specs.Scopes.{where_stands}
+use Rattle.smith_body_memory.proofs.Common.{where_stands}
 use Rattle.smith_body_memory.proofs.MemoryNodeLemmas.{size_node}
 use Rattle.smith_body_memory.proofs.memories.choose_size.Goals as goal
 

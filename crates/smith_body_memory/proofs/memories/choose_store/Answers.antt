@@ -1,7 +1,5 @@
-use Rattle.std.proofs.Common.{ap}
+use Rattle.smith_body_memory.proofs.Common.{ap, ok_by, where_stands}
 use Rattle.smith_body_nodes.specs.Chosen.{or_nop, Chosen}
-use Rattle.smith_body_nodes.specs.Scopes.{where_stands}
-use Rattle.smith_body_nodes.proofs.ChosenLemmas.{ok_by}
 use Rattle.smith_body_memory.proofs.MemoryChoiceLemmas.{store_by}
 use Rattle.smith_body_memory.proofs.memories.choose_store.Goals as goal
 

@@ -1,6 +1,6 @@
-use Rattle.std.proofs.Common.{◌<◌, length, refl, arith}
+use Rattle.smith_body_memory.proofs.Common.{arith, length, refl, ◌<◌}
 use Rattle.std.proofs.lemmas.Option.{slice_get-get_or}
-use Rattle.smith_syntax.specs.FeatureBits.{features_in}
+use Rattle.smith_types.specs.Syntax.FeatureBits.{features_in}
 use Rattle.smith_body_memory.proofs.MemoryChoiceLemmas.{access_none, access_there}
 use Rattle.smith_body_memory.proofs.MemoryLemmas.{address_fits, pages_fit}
 use Rattle.smith_body_memory.proofs.memories.draw_access.Goals as goal

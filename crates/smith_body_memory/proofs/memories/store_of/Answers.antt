@@ -1,8 +1,5 @@
-use Rattle.smith_body_nodes.specs.Scopes.{where_stands}
-use Rattle.smith_body_nodes.proofs.ResultLemmas.{ok_like}
+use Rattle.smith_body_memory.proofs.Common.{ap, as_node, as_nop, List, ok_like, Option, where_stands, ℕ}
 use Rattle.smith_body_memory.proofs.MemoryNodeLemmas.{store_node}
-use Rattle.smith_body_nodes.proofs.ChosenLemmas.{as_node, as_nop}
-use Rattle.std.proofs.Common.{ℕ, List, Option, ap}
 use Rattle.smith_body_memory.specs.MemoryChoices.{store_node as storing}
 use Rattle.smith_body_nodes.specs.Chosen.{giving}
 use Rattle.smith_body_memory.specs.declared.memories.Access.{Access}

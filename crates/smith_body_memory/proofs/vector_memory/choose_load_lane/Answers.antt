@@ -1,8 +1,7 @@
-use Rattle.std.proofs.Common.{ℕ, List, Option, ap}
+use Rattle.smith_body_memory.proofs.Common.{ap, List, Option, where_stands, ℕ}
 use Rattle.smith_body_memory.specs.Accesses.{accessing}
 use Rattle.smith_body_memory.specs.VectorChoices.{load_lane_node as loading}
 use Rattle.smith_body_memory.specs.declared.vector_memory.LaneAccess.{LaneAccess}
-use Rattle.smith_body_nodes.specs.Scopes.{where_stands}
 use Rattle.smith_body_memory.proofs.VectorNodeLemmas.{load_lane_node}
 use Rattle.smith_body_memory.proofs.vector_memory.choose_load_lane.Goals as goal
 

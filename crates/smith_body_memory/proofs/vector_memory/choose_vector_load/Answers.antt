@@ -1,5 +1,4 @@
-use Rattle.std.proofs.Common.{None, Some}
-use Rattle.smith_body_nodes.specs.Scopes.{where_stands}
+use Rattle.smith_body_memory.proofs.Common.{None, Some, where_stands}
 use Rattle.smith_instr.specs.declared.vector.VectorLoad.TheVariants as load
 use Rattle.smith_body_memory.proofs.VectorNodeLemmas.{vector_load_node}
 use Rattle.smith_body_memory.proofs.VectorChoiceLemmas.{vector_load_by}

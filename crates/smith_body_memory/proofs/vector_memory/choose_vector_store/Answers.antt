@@ -1,8 +1,4 @@
-use Rattle.std.proofs.Common.{None, Some, sym, ◌∙◌}
-use Rattle.smith_body_nodes.specs.Scopes.{where_stands}
-use Rattle.smith_body_nodes.proofs.ResultLemmas.{ok_like}
-use Rattle.smith_body_nodes.proofs.NodeLemmas.{nop_node}
-use Rattle.smith_body_nodes.proofs.ChosenLemmas.{as_node, as_nop}
+use Rattle.smith_body_memory.proofs.Common.{as_node, as_nop, None, nop_node, ok_like, Some, sym, where_stands, ◌∙◌}
 use Rattle.smith_body_memory.proofs.VectorNodeLemmas.{vector_store_node}
 use Rattle.smith_body_memory.proofs.VectorChoiceLemmas.{vector_store_off, vector_store_on}
 use Rattle.smith_body_memory.proofs.vector_memory.choose_vector_store.Goals as goal

@@ -1,5 +1,4 @@
-use Rattle.std.proofs.Common.{◌<◌, length, arith}
-use Rattle.smith_body_nodes.specs.Scopes.{where_stands}
+use Rattle.smith_body_memory.proofs.Common.{arith, length, where_stands, ◌<◌}
 use Rattle.smith_body_memory.proofs.VectorNodeLemmas.{vector_row}
 use Rattle.smith_body_memory.proofs.VectorChoiceLemmas.{vector_none, vector_there}
 use Rattle.smith_body_memory.proofs.vectors.choose_row.Goals as goal

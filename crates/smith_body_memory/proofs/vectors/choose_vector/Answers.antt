@@ -1,6 +1,4 @@
-use Rattle.std.proofs.Common.{sym, ◌∙◌}
-use Rattle.smith_body_nodes.specs.Scopes.{where_stands}
-use Rattle.smith_body_nodes.proofs.ChosenLemmas.{ok_by}
+use Rattle.smith_body_memory.proofs.Common.{ok_by, sym, where_stands, ◌∙◌}
 use Rattle.smith_body_memory.proofs.VectorChoiceLemmas.{vector_off, vector_on}
 use Rattle.smith_body_memory.proofs.vectors.choose_vector.Goals as goal
 

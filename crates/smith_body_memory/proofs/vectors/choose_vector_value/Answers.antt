@@ -1,5 +1,5 @@
 use Rattle.smith_body_memory.specs.declared.vectors.VectorFamily.TheVariants as family
-use Rattle.smith_body_nodes.proofs.ChosenLemmas.{ok_by}
+use Rattle.smith_body_memory.proofs.Common.{ok_by}
 use Rattle.smith_body_memory.proofs.VectorChoiceLemmas.{vector_choice_by}
 use Rattle.smith_body_memory.proofs.vectors.choose_vector_value.Goals as goal
 

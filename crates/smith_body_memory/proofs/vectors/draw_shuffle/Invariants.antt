@@ -1,4 +1,5 @@
-use Rattle.std.proofs.Common.{◌≡◌, ◌<◌, ℕ, length, take}
+use Rattle.smith_body_memory.proofs.Common.{length, ℕ, ◌<◌, ◌≡◌}
+use Rattle.std.proofs.Common.{take}
 use Rattle.std.specs.Prelude.{All}
 use Rattle.smith_bytes.specs.Source.{KeepsPieces}
 use Rattle.smith_body_memory.specs.VectorChoices.{shuffled_at}

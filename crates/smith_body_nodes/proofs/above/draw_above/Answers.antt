@@ -1,4 +1,4 @@
-use Rattle.std.proofs.Common.{◌∙◌}
+use Rattle.smith_body_nodes.proofs.Common.{◌∙◌}
 use Rattle.smith_body_nodes.specs.Scopes.{bare}
 use Rattle.smith_body_nodes.proofs.AboveLemmas.{above_local, above_top}
 use Rattle.smith_body_nodes.proofs.above.draw_above.Goals as goal

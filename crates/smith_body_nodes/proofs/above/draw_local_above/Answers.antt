@@ -1,4 +1,4 @@
-use Rattle.std.proofs.Common.{◌<◌, length, arith}
+use Rattle.smith_body_nodes.proofs.Common.{arith, length, ◌<◌}
 use Rattle.smith_body_nodes.specs.Scopes.{bare}
 use Rattle.smith_body_nodes.proofs.AboveLemmas.{local_above_none, local_above_some, read_above, read_valid}
 use Rattle.smith_body_nodes.proofs.above.draw_local_above.Goals as goal

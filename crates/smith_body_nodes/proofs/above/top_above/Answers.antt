@@ -1,5 +1,5 @@
-use Rattle.std.proofs.Common.{sym, ◌∙◌}
-use Rattle.smith_syntax.specs.declared.value_type.AbstractHeapType.TheVariants as abstract
+use Rattle.smith_body_nodes.proofs.Common.{sym, ◌∙◌}
+use Rattle.smith_types.specs.Syntax.value_type.AbstractHeapType.TheVariants as abstract
 use Rattle.smith_body_nodes.specs.Scopes.{bare}
 use Rattle.smith_body_nodes.proofs.AboveLemmas.{any_above, any_ref_valid, extern_ref_valid, func_ref_valid, null_above, null_valid, top_any}
 use Rattle.smith_body_nodes.proofs.AboveLemmas.{top_extern, top_func, top_none, under_below}

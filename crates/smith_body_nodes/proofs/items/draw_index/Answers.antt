@@ -1,4 +1,4 @@
-use Rattle.std.proofs.Common.{◌<◌, arith}
+use Rattle.smith_body_nodes.proofs.Common.{arith, ◌<◌}
 use Rattle.smith_body_nodes.proofs.ItemLemmas.{index_none, index_there}
 use Rattle.smith_body_nodes.proofs.items.draw_index.Goals as goal
 

@@ -1,5 +1,4 @@
-use Rattle.std.proofs.Common.{◌≡◌, Some, length, refl}
-use Rattle.std.specs.Prelude.{slice_get}
+use Rattle.smith_body_nodes.proofs.Common.{length, refl, slice_get, Some, ◌≡◌}
 use Rattle.std.proofs.lemmas.Option.{slice_get_read}
 use Rattle.smith_body_nodes.proofs.ItemLemmas.{item_none, item_there}
 use Rattle.smith_body_nodes.proofs.items.draw_item.Goals as goal

@@ -1,5 +1,5 @@
-use Rattle.std.proofs.Common.{sym, ◌∙◌}
-use Rattle.smith_syntax.specs.FeatureBits.{features_in}
+use Rattle.smith_body_nodes.proofs.Common.{sym, ◌∙◌}
+use Rattle.smith_types.specs.Syntax.FeatureBits.{features_in}
 use Rattle.smith_body_nodes.proofs.AllowedLemmas.{try_allowed, try_forbidden}
 use Rattle.smith_body_nodes.proofs.node.is_try_allowed.Goals as goal
 

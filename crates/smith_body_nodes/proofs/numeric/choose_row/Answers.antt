@@ -1,4 +1,4 @@
-use Rattle.std.proofs.Common.{◌<◌, length, arith}
+use Rattle.smith_body_nodes.proofs.Common.{arith, length, ◌<◌}
 use Rattle.smith_body_nodes.proofs.NumericNodeLemmas.{numeric_row}
 use Rattle.smith_body_nodes.proofs.NumericChoiceLemmas.{numeric_none, numeric_there}
 use Rattle.smith_body_nodes.proofs.numeric.choose_row.Goals as goal

@@ -1,4 +1,5 @@
-use Rattle.std.proofs.Common.{◌≡◌, ◌+◌, ◌-◌, ◌*◌, arith}
+use Rattle.smith_body_nodes.proofs.Common.{arith, ◌+◌, ◌-◌, ◌≡◌}
+use Rattle.std.proofs.Common.{◌*◌}
 use Rattle.std.specs.Prelude.{min}
 use Rattle.smith_body_nodes.proofs.OfferedLemmas.{chosen_in_chunk}
 use Rattle.smith_body_nodes.proofs.offer.choose_in_chunk.Goals as goal

@@ -1,4 +1,4 @@
-use Rattle.std.proofs.Common.{arith, sym, ◌∙◌}
+use Rattle.smith_body_nodes.proofs.Common.{arith, sym, ◌∙◌}
 use Rattle.smith_body_nodes.proofs.OfferedLemmas.{counted_none, counted_more, counted_same}
 use Rattle.smith_body_nodes.proofs.offer.count_offered.Goals.{then-is_offered, else-is_offered}
 use Rattle.smith_body_nodes.proofs.offer.count_offered.Goals as goal

@@ -1,4 +1,4 @@
-use Rattle.std.proofs.Common.{arith, sym, ◌∙◌}
+use Rattle.smith_body_nodes.proofs.Common.{arith, sym, ◌∙◌}
 use Rattle.smith_body_nodes.proofs.OfferedLemmas.{placed_none, placed_more, placed_same, placed_here, placed_past}
 use Rattle.smith_body_nodes.proofs.offer.offered_at.Goals.{then-is_offered+else-rest-eq0, else-is_offered}
 use Rattle.smith_body_nodes.proofs.offer.offered_at.Goals as goal

@@ -1,4 +1,4 @@
-use Rattle.std.proofs.Common.{◌≡◌, ◌+◌, length}
+use Rattle.smith_body_nodes.proofs.Common.{length, ◌+◌, ◌≡◌}
 use Rattle.smith_body_nodes.specs.Offered.{offered}
 use Rattle.smith_body_nodes.proofs.offer.offered_at.Given as goal
 

@@ -1,4 +1,5 @@
-use Rattle.std.proofs.Common.{◌≡◌, take}
+use Rattle.smith_body_nodes.proofs.Common.{◌≡◌}
+use Rattle.std.proofs.Common.{take}
 use Rattle.smith_types.specs.Expressions.{field_values}
 use Rattle.smith_body_nodes.proofs.operands.field_values.Given as goal
 

@@ -1,4 +1,4 @@
-use Rattle.std.proofs.Common.{sym, ◌∙◌}
+use Rattle.smith_body_nodes.proofs.Common.{sym, ◌∙◌}
 use Rattle.smith_body_nodes.specs.Scopes.{bare, where_stands}
 use Rattle.smith_body_nodes.proofs.ReferenceChoiceLemmas.{eq_gives, eq_off, eq_on}
 use Rattle.smith_body_nodes.proofs.reference_values.choose_eq.Goals as goal

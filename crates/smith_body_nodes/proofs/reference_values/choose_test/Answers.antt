@@ -1,4 +1,4 @@
-use Rattle.std.proofs.Common.{sym, ◌∙◌}
+use Rattle.smith_body_nodes.proofs.Common.{sym, ◌∙◌}
 use Rattle.smith_body_nodes.specs.Scopes.{bare}
 use Rattle.smith_body_nodes.proofs.ResultLemmas.{ok_like}
 use Rattle.smith_body_nodes.proofs.ReferenceChoiceLemmas.{test_off, test_one, test_two}

@@ -1,7 +1,6 @@
-use Rattle.std.proofs.Common.{arith, ap, false, ◌∷◌, ◌-◌}
+use Rattle.smith_body_nodes.proofs.Common.{Abstract, ap, arith, false, ◌-◌, ◌∷◌}
 use Rattle.std.specs.Prelude.{slice_index_or}
-use Rattle.smith_syntax.specs.declared.value_type.AbstractHeapType.TheVariants as abstract
-use Rattle.smith_syntax.specs.declared.value_type.HeapType.TheVariants.{Abstract}
+use Rattle.smith_types.specs.Syntax.value_type.AbstractHeapType.TheVariants as abstract
 use Rattle.smith_body_nodes.specs.Scopes.{bare}
 use Rattle.smith_body_nodes.specs.ReferenceChoices.{externref, funcref, referent}
 use Rattle.smith_body_nodes.proofs.ReferenceChoiceLemmas.{extern_valid, func_valid, local_referent_valid, referent_by, referent_local}

@@ -1,4 +1,4 @@
-use Rattle.std.proofs.Common.{◌≡◌, drop}
+use Rattle.smith_body_nodes.proofs.Common.{drop, ◌≡◌}
 use Rattle.smith_body_nodes.specs.Offered.{are_below}
 use Rattle.smith_body_nodes.specs.Scopes.{bare}
 use Rattle.smith_body_nodes.proofs.targets.are_below.Given as goal

@@ -1,6 +1,4 @@
-use Rattle.std.proofs.Common.{refl}
-use Rattle.std.proofs.lemmas.Option.{slice_get_read}
-use Rattle.smith_body_nodes.specs.Scopes.{where_stands}
+use Rattle.smith_body_reference_branches.proofs.Common.{refl, slice_get_read, where_stands}
 use Rattle.smith_body_reference_branches.proofs.CastBranchLemmas.{br_on_cast_fail_gives, br_on_cast_fail_some, last_valid}
 use Rattle.smith_body_reference_branches.proofs.cast_branches.choose_br_on_cast_fail.Goals as goal
 

@@ -1,5 +1,4 @@
-use Rattle.std.proofs.Common.{None, Some, refl, sym}
-use Rattle.std.proofs.lemmas.Option.{slice_get_read}
+use Rattle.smith_body_reference_branches.proofs.Common.{None, refl, slice_get_read, Some, sym}
 use Rattle.smith_body_reference_branches.proofs.CastBranchLemmas.{cast_label_none, cast_label_some, last_at}
 use Rattle.smith_body_reference_branches.proofs.cast_branches.choose_cast_label.Goals as goal
 

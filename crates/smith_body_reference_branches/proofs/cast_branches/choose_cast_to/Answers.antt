@@ -1,9 +1,5 @@
-use Rattle.std.proofs.Common.{None, Some, refl, sym}
-use Rattle.std.proofs.lemmas.Option.{slice_get_read}
-use Rattle.smith_body_nodes.specs.Scopes.{bare, where_stands}
+use Rattle.smith_body_reference_branches.proofs.Common.{bare, None, one_valid, Ref, refl, slice_get_read, Some, sym, where_stands}
 use Rattle.smith_body_reference_branches.proofs.CastBranchLemmas.{kept_none, kept_some, kept_cast_gives}
-use Rattle.smith_body_nodes.proofs.NodeLemmas.{one_valid}
-use Rattle.smith_syntax.specs.declared.value_type.ValType.TheVariants.{Ref}
 use Rattle.smith_body_reference_branches.proofs.cast_branches.choose_cast_to.Goals as goal
 
 pub choose_target-requires-clause-taken : goal.choose_target-requires-clause-taken

@@ -1,5 +1,4 @@
-use Rattle.smith_body_nodes.specs.Scopes.{where_stands}
-use Rattle.smith_body_nodes.proofs.ChosenLemmas.{ok_by}
+use Rattle.smith_body_reference_branches.proofs.Common.{ok_by, where_stands}
 use Rattle.smith_body_reference_branches.proofs.CastBranchLemmas.{value_in, value_out}
 use Rattle.smith_body_reference_branches.proofs.cast_branches.choose_kept_cast.Goals as goal
 

@@ -1,5 +1,4 @@
-use Rattle.std.proofs.Common.{◌∙◌, sym}
-use Rattle.smith_body_nodes.specs.Scopes.{bare}
+use Rattle.smith_body_reference_branches.proofs.Common.{bare, sym, ◌∙◌}
 use Rattle.smith_body_reference_branches.proofs.CastBranchLemmas.{below_local, below_strictly}
 use Rattle.smith_body_reference_branches.proofs.cast_branches.draw_below.Goals as goal
 

@@ -1,5 +1,4 @@
-use Rattle.smith_body_nodes.specs.Scopes.{where_stands}
-use Rattle.smith_body_nodes.proofs.ChosenLemmas.{ok_by}
+use Rattle.smith_body_reference_branches.proofs.Common.{ok_by, where_stands}
 use Rattle.smith_body_reference_branches.proofs.CastBranchLemmas.{branch_in, branch_out}
 use Rattle.smith_body_reference_branches.proofs.cast_branches.draw_cast_branch.Goals as goal
 

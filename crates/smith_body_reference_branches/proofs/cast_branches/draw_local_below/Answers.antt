@@ -1,4 +1,4 @@
-use Rattle.smith_body_nodes.specs.Scopes.{bare}
+use Rattle.smith_body_reference_branches.proofs.Common.{bare}
 use Rattle.smith_body_reference_branches.proofs.CastBranchLemmas.{below_valid, drawn_below, itself_below, local_none, local_some}
 use Rattle.smith_body_reference_branches.proofs.cast_branches.draw_local_below.Goals as goal
 

@@ -1,5 +1,4 @@
-use Rattle.std.proofs.Common.{◌<◌, ◌∙◌, length, sym, arith}
-use Rattle.smith_body_nodes.specs.Scopes.{bare}
+use Rattle.smith_body_reference_branches.proofs.Common.{arith, bare, length, sym, ◌<◌, ◌∙◌}
 use Rattle.smith_body_reference_branches.proofs.CastBranchLemmas.{itself_below, strict_below, strict_none, strict_off, strict_some}
 use Rattle.smith_body_reference_branches.proofs.CastBranchLemmas.{strict_valid}
 use Rattle.smith_body_reference_branches.proofs.cast_branches.draw_strictly_below.Goals as goal

@@ -1,4 +1,4 @@
-use Rattle.std.proofs.Common.{sym, ◌∙◌}
+use Rattle.smith_body_reference_branches.proofs.Common.{sym, ◌∙◌}
 use Rattle.smith_body_reference_branches.proofs.CastBranchLemmas.{left_out_by, left_out_never}
 use Rattle.smith_body_reference_branches.proofs.cast_branches.is_left_out.Goals as goal
 

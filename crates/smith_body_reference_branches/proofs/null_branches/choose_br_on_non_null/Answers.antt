@@ -1,6 +1,4 @@
-use Rattle.std.proofs.Common.{None, Some, refl, sym}
-use Rattle.std.proofs.lemmas.Option.{slice_get_read}
-use Rattle.smith_body_nodes.specs.Scopes.{where_stands}
+use Rattle.smith_body_reference_branches.proofs.Common.{None, refl, slice_get_read, Some, sym, where_stands}
 use Rattle.smith_body_reference_branches.proofs.NullLemmas.{br_on_non_null_gives, br_on_non_null_none, br_on_non_null_there}
 use Rattle.smith_body_reference_branches.proofs.null_branches.choose_br_on_non_null.Goals as goal
 

@@ -1,6 +1,4 @@
-use Rattle.std.proofs.Common.{refl, sym, ◌∙◌}
-use Rattle.std.proofs.lemmas.Option.{slice_get_read}
-use Rattle.smith_body_nodes.specs.Scopes.{where_stands}
+use Rattle.smith_body_reference_branches.proofs.Common.{refl, slice_get_read, sym, where_stands, ◌∙◌}
 use Rattle.smith_body_reference_branches.proofs.NullLemmas.{br_on_null_gives, br_on_null_none, br_on_null_off, br_on_null_there}
 use Rattle.smith_body_reference_branches.proofs.null_branches.choose_br_on_null.Goals as goal
 

@@ -1,4 +1,4 @@
-use Rattle.smith_body_nodes.specs.Scopes.{where_stands}
+use Rattle.smith_body_reference_branches.proofs.Common.{where_stands}
 use Rattle.smith_body_reference_branches.proofs.NullLemmas.{kept_gives, kept_none, kept_there}
 use Rattle.smith_body_reference_branches.proofs.null_branches.choose_br_on_null_to.Goals as goal
 

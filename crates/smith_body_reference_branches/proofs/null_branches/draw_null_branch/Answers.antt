@@ -1,6 +1,4 @@
-use Rattle.smith_body_nodes.specs.Scopes.{where_stands}
-use Rattle.std.proofs.Common.{false, true}
-use Rattle.smith_body_nodes.proofs.ChosenLemmas.{ok_by}
+use Rattle.smith_body_reference_branches.proofs.Common.{false, ok_by, true, where_stands}
 use Rattle.smith_body_reference_branches.proofs.NullLemmas.{null_branch_by}
 use Rattle.smith_body_reference_branches.proofs.null_branches.draw_null_branch.Goals as goal
 

@@ -13,7 +13,8 @@ use Rattle.smith_request.specs.ValidFiles.{IsValidFile}
 use Rattle.smith_request.specs.declared.refusal.Refusal.{Refusal}
 use Rattle.smith_judge.specs.Files.{IsValidFile as IsValidModule}
 use Rattle.smith_wrong.specs.declared.wrong.Wrong.{Wrong}
-use Rattle.smith_request.specs.declared.refusal.Refusal.TheVariants.{NotUtf8, Config as OfConfig, Module, Encoding, Shape, NoChange, NoFamily}
+use Rattle.smith_request.specs.declared.refusal.Refusal.TheVariants.{NotUtf8, Config as OfConfig, Module, Encoding}
+use Rattle.smith_request.specs.declared.refusal.Refusal.TheVariants.{Shape, NoChange, NoFamily}
 use Rattle.smith_request.proofs.ValidLemmas.{binary_valid, plain_valid}
 use Rattle.smith_request.specs.Requests.{IsConfigured, additions_of}
 use Rattle.smith_c.specs.CallAnswers.{IsAnswered, IsPut}

@@ -1,7 +1,4 @@
-use Rattle.std.proofs.Common.{◌≡◌, map, take}
-use Rattle.smith_decode.specs.declared.elements.ElementSegment.{ElementSegment}
-use Rattle.smith_check_types.specs.Renamed.{renamed_ref}
-use Rattle.smith_check_types.specs.TypeSections.{canonical_index}
+use Rattle.smith_check.proofs.Common.{canonical_index, ElementSegment, map, renamed_ref, take, ◌≡◌}
 use Rattle.smith_check.proofs.elements.element_types.Given as goal
 
 abbrev pub invariant-loop-segment : goal.invariant-loop-segment

@@ -1,6 +1,4 @@
-use Rattle.std.proofs.Common.{List, refl, subst, sym}
-use Rattle.std.specs.Prelude.{IfOk}
-use Rattle.smith_instr.specs.declared.instr.Instr.{Instr}
+use Rattle.smith_check.proofs.Common.{IfOk, Instr, List, refl, subst, sym}
 use Rattle.smith_check_operands.specs.Scopes.{bare}
 use Rattle.smith_check_body.specs.Verdicts.{IsVerdict}
 use Rattle.smith_check.proofs.functions.check_canonical.Goals as goal

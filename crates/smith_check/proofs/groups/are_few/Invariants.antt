@@ -1,5 +1,5 @@
-use Rattle.std.proofs.Common.{◌≡◌, ◌+◌, ◌<◌, length, drop}
-use Rattle.smith_types.specs.Groups.{space_of}
+use Rattle.smith_check.proofs.Common.{length, space_of, ◌+◌, ◌<◌, ◌≡◌}
+use Rattle.std.proofs.Common.{drop}
 use Rattle.smith_check.proofs.groups.are_few.Given as goal
 
 abbrev pub invariant-loop-group : goal.invariant-loop-group

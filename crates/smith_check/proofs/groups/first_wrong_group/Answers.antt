@@ -1,6 +1,5 @@
-use Rattle.std.proofs.Common.{ℕ, ◌+◌, ◌-◌, ◌/◌, length, take, arith, subst, sym, take_all}
-use Rattle.smith_syntax.specs.FeatureBits.{features_in}
-use Rattle.smith_check_types.specs.TypeSections.{IsTypeSectionValid}
+use Rattle.smith_check.proofs.Common.{arith, features_in, IsTypeSectionValid, length, subst, sym, take, ℕ, ◌+◌}
+use Rattle.std.proofs.Common.{take_all, ◌-◌, ◌/◌}
 use Rattle.smith_check.proofs.GroupLemmas.{checked_valid, few_in_first, none_valid, some_groups}
 use Rattle.smith_check.proofs.groups.first_wrong_group.Goals as goal
 use Rattle.smith_check.proofs.groups.first_wrong_group.Goals.{in-Some, in-None}

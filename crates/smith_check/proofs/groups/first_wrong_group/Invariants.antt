@@ -1,6 +1,5 @@
-use Rattle.std.proofs.Common.{◌-◌, ◌<◌, ◌≤◌, length, take}
-use Rattle.smith_syntax.specs.FeatureBits.{features_in}
-use Rattle.smith_check_types.specs.TypeSections.{IsTypeSectionValid}
+use Rattle.smith_check.proofs.Common.{features_in, IsTypeSectionValid, length, take, ◌<◌, ◌≤◌}
+use Rattle.std.proofs.Common.{◌-◌}
 use Rattle.smith_check.proofs.groups.first_wrong_group.Given as goal
 
 abbrev pub invariant-loop-wrong : goal.invariant-loop-wrong

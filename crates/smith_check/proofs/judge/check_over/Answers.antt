@@ -1,4 +1,4 @@
-use Rattle.smith_syntax.specs.FeatureBits.{features_in}
+use Rattle.smith_check.proofs.Common.{features_in}
 use Rattle.smith_check.proofs.CheckLemmas.{section_judgement}
 use Rattle.smith_check.proofs.judge.check_over.Goals as goal
 

@@ -1,4 +1,4 @@
-use Rattle.std.proofs.Common.{◌∙◌}
+use Rattle.smith_check.proofs.Common.{◌∙◌}
 use Rattle.smith_check.proofs.judge.judge_of.Goals as goal
 
 pub returns-clause-judge : goal.returns-clause-judge

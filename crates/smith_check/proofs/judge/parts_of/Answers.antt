@@ -1,7 +1,6 @@
-use Rattle.std.proofs.Common.{◌≡◌, ◌∙◌, ap, length}
+use Rattle.smith_check.proofs.Common.{ap, length, syntax_of, ◌∙◌, ◌≡◌}
 use Rattle.smith_types.specs.EntitySpaces.{spaces_in}
 use Rattle.smith_types.specs.Imports.{EntitySpaces, imported_spaces}
-use Rattle.smith_decode.specs.Modules.{syntax_of}
 use Rattle.smith_check.proofs.ReferenceLemmas.{element_types_same}
 use Rattle.smith_check.proofs.judge.parts_of.Goals as goal
 

@@ -1,5 +1,5 @@
-use Rattle.std.proofs.Common.{◌≡◌, ◌+◌, ◌≤◌, drop}
-use Rattle.smith_decode.specs.BodyReadings.{total}
+use Rattle.smith_check.proofs.Common.{total, ◌+◌, ◌≡◌, ◌≤◌}
+use Rattle.std.proofs.Common.{drop}
 use Rattle.smith_check.proofs.locals.are_few.Given as goal
 
 abbrev pub invariant-loop-run : goal.invariant-loop-run

@@ -1,9 +1,7 @@
-use Rattle.std.proofs.Common.{subst, take_all}
+use Rattle.smith_check.proofs.Common.{features_in, I32, LocalRun, subst}
+use Rattle.std.proofs.Common.{take_all}
 use Rattle.std.specs.List.{All}
 use Rattle.std.proofs.lemmas.List.Elements.{All-more}
-use Rattle.smith_syntax.specs.FeatureBits.{features_in}
-use Rattle.smith_syntax.specs.declared.value_type.ValType.TheVariants.{I32}
-use Rattle.smith_decode.specs.declared.bodies.LocalRun.{LocalRun}
 use Rattle.smith_check.specs.Locals.{IsRunRight}
 use Rattle.smith_check.proofs.locals.first_wrong_run.Goals as goal
 

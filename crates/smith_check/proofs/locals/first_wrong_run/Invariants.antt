@@ -1,6 +1,5 @@
-use Rattle.std.proofs.Common.{take}
+use Rattle.smith_check.proofs.Common.{features_in, take}
 use Rattle.std.specs.List.{All}
-use Rattle.smith_syntax.specs.FeatureBits.{features_in}
 use Rattle.smith_check.specs.Locals.{IsRunRight}
 use Rattle.smith_check.proofs.locals.first_wrong_run.Given as goal
 

@@ -1,6 +1,4 @@
-use Rattle.std.proofs.Common.{refl}
-use Rattle.smith_syntax.specs.declared.value_type.ValType.TheVariants.{I32}
-use Rattle.smith_decode.specs.declared.bodies.LocalRun.{LocalRun}
+use Rattle.smith_check.proofs.Common.{I32, LocalRun, refl}
 use Rattle.smith_check.proofs.LocalLemmas.{pushed_run}
 use Rattle.smith_check.proofs.locals.locals_of.Goals as goal
 

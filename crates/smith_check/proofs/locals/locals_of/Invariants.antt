@@ -1,4 +1,4 @@
-use Rattle.std.proofs.Common.{◌≡◌, ◌++◌, take}
+use Rattle.smith_check.proofs.Common.{take, ◌++◌, ◌≡◌}
 use Rattle.smith_check.proofs.LocalLemmas.{locals_by}
 use Rattle.smith_check.proofs.locals.locals_of.Given as goal
 

@@ -1,5 +1,4 @@
-use Rattle.std.proofs.Common.{◌≡◌, ◌++◌, take}
-use Rattle.std.specs.List.{flat_map}
+use Rattle.smith_check.proofs.Common.{flat_map, take, ◌++◌, ◌≡◌}
 use Rattle.smith_decode.specs.declared.data.DataSegment.{DataSegment}
 use Rattle.smith_decode.specs.DataReadings.{mode_view}
 use Rattle.smith_check.specs.References.{named_by_data_mode}

@@ -1,6 +1,4 @@
-use Rattle.std.proofs.Common.{◌≡◌, ◌++◌, take}
-use Rattle.std.specs.List.{flat_map}
-use Rattle.smith_decode.specs.declared.elements.ElementSegment.{ElementSegment}
+use Rattle.smith_check.proofs.Common.{ElementSegment, flat_map, take, ◌++◌, ◌≡◌}
 use Rattle.smith_decode.specs.ElementReadings.{element_view}
 use Rattle.smith_check.specs.References.{named_by_element}
 use Rattle.smith_check.proofs.references.push_of_elements.Given as goal

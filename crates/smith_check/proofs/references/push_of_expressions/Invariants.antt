@@ -1,5 +1,4 @@
-use Rattle.std.proofs.Common.{◌≡◌, ◌++◌, take}
-use Rattle.std.specs.List.{flat_map}
+use Rattle.smith_check.proofs.Common.{flat_map, take, ◌++◌, ◌≡◌}
 use Rattle.smith_check.specs.References.{named_in}
 use Rattle.smith_check.proofs.references.push_of_expressions.Given as goal
 

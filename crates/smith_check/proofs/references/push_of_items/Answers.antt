@@ -1,5 +1,4 @@
-use Rattle.std.proofs.Common.{◌≡◌, ◌∙◌, ◌++◌, ℕ, List, ap, subst, sym}
-use Rattle.std.specs.List.{flat_map}
+use Rattle.smith_check.proofs.Common.{ap, flat_map, List, subst, sym, ℕ, ◌++◌, ◌∙◌, ◌≡◌}
 use Rattle.std.specs.Prelude.{OnOk}
 use Rattle.smith_decode.specs.ElementReadings.{items_view}
 use Rattle.smith_decode.specs.declared.elements.ElementItems.{ElementItems}

@@ -1,7 +1,5 @@
-use Rattle.smith_check_operands.specs.Scopes.{bare}
-use Rattle.std.proofs.Common.{sym, subst}
+use Rattle.smith_check_body.proofs.Common.{All, bare, subst, sym}
 use Rattle.smith_check_operands.proofs.RangeLemmas.{all_in_range}
-use Rattle.std.specs.Prelude.{All}
 use Rattle.smith_types.specs.Subtyping.{IsValInRange}
 use Rattle.smith_check_operands.proofs.EndLemmas.{may_end_if}
 use Rattle.smith_check_body.proofs.blocks.may_end.Goals as goal

@@ -1,7 +1,5 @@
-use Rattle.std.proofs.Common.{[], ◌∷◌}
-use Rattle.smith_syntax.specs.declared.value_type.ValType.TheVariants.{I32}
-use Rattle.smith_check_operands.specs.Scopes.{bare}
-use Rattle.smith_check_operands.specs.Covers.{held}
+use Rattle.smith_check_body.proofs.Common.{[], bare, held, ◌∷◌}
+use Rattle.smith_types.specs.Syntax.value_type.ValType.TheVariants.{I32}
 use Rattle.smith_check_operands.proofs.RangeLemmas.{all_in_range, one_in_range}
 use Rattle.smith_check_operands.proofs.StepLemmas.{popped_below, nothing_above_values}
 use Rattle.smith_check_body.proofs.blocks.pop_for.Goals as goal

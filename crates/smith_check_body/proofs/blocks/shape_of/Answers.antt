@@ -1,7 +1,5 @@
-use Rattle.std.proofs.Common.{◌≡◌, ◌∙◌, sym, subst, refl}
+use Rattle.smith_check_body.proofs.Common.{AreValid, bare, IsBlockType, refl, subst, sym, ◌∙◌, ◌≡◌}
 use Rattle.smith_types.specs.Entities.{IsFuncAt}
-use Rattle.smith_instr.specs.Contexts.{AreValid, IsBlockType}
-use Rattle.smith_check_operands.specs.Scopes.{bare}
 use Rattle.smith_check_body.proofs.blocks.shape_of.Goals as goal
 
 pub returns-in_default-clause-ok : goal.returns-in_default-clause-ok

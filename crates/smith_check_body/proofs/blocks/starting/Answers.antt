@@ -1,7 +1,4 @@
-use Rattle.std.proofs.Common.{◌≡◌, ◌∙◌, ap, take, false, arith}
-use Rattle.std.proofs.lemmas.List.{take_all}
-use Rattle.smith_check_rules.specs.Slots.{values}
-use Rattle.smith_check_operands.specs.Covers.{holding}
+use Rattle.smith_check_body.proofs.Common.{ap, arith, false, holding, take, take_all, values, ◌∙◌, ◌≡◌}
 use Rattle.smith_check_body.proofs.blocks.starting.Goals as goal
 
 pub returns-clause-ok : goal.returns-clause-ok

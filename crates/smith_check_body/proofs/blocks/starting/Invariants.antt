@@ -1,5 +1,4 @@
-use Rattle.std.proofs.Common.{◌≡◌, take}
-use Rattle.smith_check_rules.specs.Slots.{values}
+use Rattle.smith_check_body.proofs.Common.{take, values, ◌≡◌}
 use Rattle.smith_check_body.proofs.blocks.starting.Given as goal
 
 abbrev pub invariant-loop-value : goal.invariant-loop-value

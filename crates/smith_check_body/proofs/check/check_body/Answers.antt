@@ -1,7 +1,6 @@
-use Rattle.std.proofs.Common.{◌+◌, ◌<◌, ◌∙◌, ap, subst, take, length, arith, [], MatchBool}
-use Rattle.std.proofs.lemmas.List.{take_all}
+use Rattle.smith_check_body.proofs.Common.{[], ap, arith, bare, length, MatchBool, subst, take, take_all, ◌<◌, ◌∙◌}
+use Rattle.std.proofs.Common.{◌+◌}
 use Rattle.smith_check_operands.specs.declared.frame.Kind.TheVariants as kind
-use Rattle.smith_check_operands.specs.Scopes.{bare}
 use Rattle.smith_check_body.specs.Checks.{Goes, Stops}
 use Rattle.smith_check_body.proofs.BodyLemmas.{one_more, begun, reached_more, refused_at, refused_end, accepted}
 use Rattle.smith_check_body.proofs.check.check_body.Goals as goal

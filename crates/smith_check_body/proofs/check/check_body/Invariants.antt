@@ -1,5 +1,4 @@
-use Rattle.std.proofs.Common.{take}
-use Rattle.smith_check_operands.specs.Scopes.{bare}
+use Rattle.smith_check_body.proofs.Common.{bare, take}
 use Rattle.smith_check_body.specs.Checks.{IsReached}
 use Rattle.smith_check_body.proofs.check.check_body.Given as goal
 

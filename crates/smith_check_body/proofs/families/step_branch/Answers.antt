@@ -1,9 +1,6 @@
-use Rattle.std.proofs.Common.{◌∷◌, reverse, subst}
+use Rattle.smith_check_body.proofs.Common.{bare, held, label_of, labels_of, reverse, subst, ◌∷◌}
 use Rattle.smith_instr.specs.declared.instr.Instr.TheVariants as instr
 use Rattle.smith_check_operands.specs.Applies.{IsTried}
-use Rattle.smith_check_operands.specs.Closes.{label_of, labels_of}
-use Rattle.smith_check_operands.specs.Covers.{held}
-use Rattle.smith_check_operands.specs.Scopes.{bare}
 use Rattle.smith_check_body.proofs.families.step_branch.Goals as goal
 
 pub returns-in-Br-clause-ok : goal.returns-in-Br-clause-ok

@@ -1,5 +1,4 @@
-use Rattle.std.proofs.Common.{◌∷◌, reverse}
-use Rattle.smith_check_operands.specs.Closes.{label_of, labels_of}
+use Rattle.smith_check_body.proofs.Common.{label_of, labels_of, reverse, ◌∷◌}
 use Rattle.smith_check_body.proofs.step.step.Goals as goal
 
 pub returns-in-Unreachable-clause-ok : goal.returns-in-Unreachable-clause-ok

@@ -1,16 +1,7 @@
-use Rattle.std.proofs.Common.{◌<◌, ◌∷◌, length, reverse, subst, arith}
-use Rattle.std.specs.Prelude.{All}
-use Rattle.std.proofs.lemmas.List.{take_all}
+use Rattle.smith_check_branches.proofs.Common.{All, all_at, all_in_range, AreValid, arith, bare, held, I32, IsTaken, label_of, labels_of}
+use Rattle.smith_check_branches.proofs.Common.{length, one_in_range, reverse, subst, take_all, with_labels, ◌<◌, ◌∷◌}
 use Rattle.std.proofs.lemmas.List.Elements.{All-more}
 use Rattle.std.proofs.lemmas.Option.{slice_get-get_or}
-use Rattle.smith_syntax.specs.declared.value_type.ValType.TheVariants.{I32}
-use Rattle.smith_instr.specs.Contexts.{AreValid}
-use Rattle.smith_check_rules.specs.StackTypes.{IsTaken}
-use Rattle.smith_check_operands.specs.Scopes.{bare}
-use Rattle.smith_check_operands.specs.Covers.{held}
-use Rattle.smith_check_operands.specs.Closes.{label_of, labels_of, with_labels}
-use Rattle.smith_check_operands.proofs.RangeLemmas.{all_in_range, one_in_range}
-use Rattle.smith_check_operands.proofs.StepLemmas.{all_at}
 use Rattle.smith_check_branches.proofs.BranchTableLemmas.{table_taken, table_unindexed, table_without_last, table_apart_at_last}
 use Rattle.smith_check_branches.proofs.BranchTableLemmas.{table_without, table_uneven, table_apart, taken_too}
 use Rattle.smith_check_branches.specs.Tops.{top_of}

@@ -1,8 +1,4 @@
-use Rattle.std.proofs.Common.{◌∷◌, length, take, reverse}
-use Rattle.std.specs.Prelude.{All}
-use Rattle.smith_check_rules.specs.StackTypes.{IsTaken}
-use Rattle.smith_check_operands.specs.Scopes.{bare}
-use Rattle.smith_check_operands.specs.Closes.{label_of, labels_of, with_labels}
+use Rattle.smith_check_branches.proofs.Common.{All, bare, IsTaken, label_of, labels_of, length, reverse, take, with_labels, ◌∷◌}
 use Rattle.smith_check_branches.specs.Tops.{top_of}
 use Rattle.smith_check_branches.proofs.branch_tables.br_table.Given as goal
 

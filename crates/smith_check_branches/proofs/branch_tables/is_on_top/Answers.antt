@@ -1,5 +1,4 @@
-use Rattle.std.proofs.Common.{◌-◌, length, arith}
-use Rattle.smith_check_operands.specs.Scopes.{bare}
+use Rattle.smith_check_branches.proofs.Common.{arith, bare, length, ◌-◌}
 use Rattle.smith_check_operands.proofs.EndLemmas.{by_test}
 use Rattle.smith_check_operands.proofs.FitLemmas.{refused_enough, refused_beyond, refused_short}
 use Rattle.smith_check_operands.proofs.RangeLemmas.{slots_part, slots_whole, values_part}

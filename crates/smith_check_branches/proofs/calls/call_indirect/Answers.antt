@@ -1,13 +1,6 @@
-use Rattle.std.proofs.Common.{◌≡◌, [], ◌∷◌, ◌++◌, refl, sym, subst}
-use Rattle.smith_types.specs.Entities.{IsFuncAt}
-use Rattle.smith_syntax.specs.declared.composite_type.FuncType.{FuncType}
-use Rattle.smith_instr.specs.Contexts.{To, address}
+use Rattle.smith_check_branches.proofs.Common.{[], address, bare, func_same, FuncType, held, IsFuncAt, one_in_range, refl, subst, sym, To}
+use Rattle.smith_check_branches.proofs.Common.{tried_values, ◌++◌, ◌∷◌, ◌≡◌}
 use Rattle.smith_instr.specs.declared.instr.Instr.TheVariants as instr
-use Rattle.smith_check_operands.specs.Scopes.{bare}
-use Rattle.smith_check_operands.specs.Covers.{held}
-use Rattle.smith_check_operands.proofs.LookupLemmas.{func_same}
-use Rattle.smith_check_operands.proofs.RangeLemmas.{one_in_range}
-use Rattle.smith_check_operands.proofs.StepLemmas.{tried_values}
 use Rattle.smith_check_branches.proofs.CallLemmas.{params_in_range, results_are_valid, address_in_range, function_table_at}
 use Rattle.smith_check_branches.proofs.CallLemmas.{function_table_from, same_width}
 use Rattle.smith_check_branches.proofs.calls.call_indirect.Goals as goal

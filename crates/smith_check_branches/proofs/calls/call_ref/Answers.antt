@@ -1,14 +1,6 @@
-use Rattle.std.proofs.Common.{◌≡◌, [], ◌∷◌, ◌++◌, refl, sym, subst}
-use Rattle.smith_types.specs.Entities.{IsFuncAt}
-use Rattle.smith_syntax.specs.declared.composite_type.FuncType.{FuncType}
-use Rattle.smith_syntax.specs.declared.value_type.HeapType.TheVariants.{Concrete}
-use Rattle.smith_instr.specs.Contexts.{To, nullable_to}
+use Rattle.smith_check_branches.proofs.Common.{[], bare, Concrete, func_same, FuncType, held, IsFuncAt, nullable_to, one_in_range, refl}
+use Rattle.smith_check_branches.proofs.Common.{subst, sym, To, tried_values, ◌++◌, ◌∷◌, ◌≡◌}
 use Rattle.smith_instr.specs.declared.instr.Instr.TheVariants as instr
-use Rattle.smith_check_operands.specs.Scopes.{bare}
-use Rattle.smith_check_operands.specs.Covers.{held}
-use Rattle.smith_check_operands.proofs.LookupLemmas.{func_same}
-use Rattle.smith_check_operands.proofs.RangeLemmas.{one_in_range}
-use Rattle.smith_check_operands.proofs.StepLemmas.{tried_values}
 use Rattle.smith_check_branches.proofs.CallLemmas.{params_in_range, results_are_valid, reference_in_range}
 use Rattle.smith_check_branches.proofs.calls.call_ref.Goals as goal
 

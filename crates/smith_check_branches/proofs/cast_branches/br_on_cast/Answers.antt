@@ -1,15 +1,7 @@
-use Rattle.std.proofs.Common.{◌≡◌, ◌↔◌, ◌∙◌, [], ◌∷◌, ◌++◌, reverse, refl, sym, ap, subst}
-use Rattle.std.proofs.lemmas.Bool.{false≢true}
-use Rattle.smith_syntax.specs.declared.value_type.ValType.TheVariants.{Ref}
-use Rattle.smith_instr.specs.Contexts.{IsValid, To}
+use Rattle.smith_check_branches.proofs.Common.{[], ap, bare, CountsAs, false≢true, held, IsValid, label_of, labels_of, Ref, refl, reverse}
+use Rattle.smith_check_branches.proofs.Common.{subst, sym, To, tried_values, values, ◌++◌, ◌↔◌, ◌∙◌, ◌∷◌, ◌≡◌}
 use Rattle.smith_instr.specs.InstrTypes.{difference}
 use Rattle.smith_instr.specs.declared.instr.Instr.TheVariants as instr
-use Rattle.smith_check_rules.specs.Slots.{values}
-use Rattle.smith_check_operands.specs.Scopes.{bare}
-use Rattle.smith_check_operands.specs.Covers.{held}
-use Rattle.smith_check_operands.specs.Closes.{label_of, labels_of}
-use Rattle.smith_check_operands.proofs.StepLemmas.{tried_values}
-use Rattle.smith_check_rules.specs.Sequences.{CountsAs}
 use Rattle.smith_check_branches.specs.References.{least_valid}
 use Rattle.smith_check_branches.proofs.CastLemmas.{cast_at, cast_valid, cast_takes, others_same, others_valid, least_counts, ref_in_range}
 use Rattle.smith_check_branches.proofs.NullLemmas.{least_is_valid}

@@ -1,15 +1,7 @@
-use Rattle.std.proofs.Common.{◌∙◌, [], ◌∷◌, ◌++◌, reverse, refl, sym, subst}
-use Rattle.std.proofs.lemmas.Bool.{false≢true}
-use Rattle.smith_syntax.specs.declared.value_type.RefType.{RefType}
-use Rattle.smith_syntax.specs.declared.value_type.ValType.TheVariants.{Ref}
-use Rattle.smith_types.specs.Subtyping.{IsInRange}
-use Rattle.smith_instr.specs.Contexts.{To}
+use Rattle.smith_check_branches.proofs.Common.{[], bare, false≢true, held, IsInRange, label_of, labels_of, Ref, refl, RefType, reverse}
+use Rattle.smith_check_branches.proofs.Common.{subst, sym, To, tried_values, ◌++◌, ◌∙◌, ◌∷◌}
 use Rattle.smith_instr.specs.InstrTypes.{difference}
 use Rattle.smith_instr.specs.declared.instr.Instr.TheVariants as instr
-use Rattle.smith_check_operands.specs.Scopes.{bare}
-use Rattle.smith_check_operands.specs.Covers.{held}
-use Rattle.smith_check_operands.specs.Closes.{label_of, labels_of}
-use Rattle.smith_check_operands.proofs.StepLemmas.{tried_values}
 use Rattle.smith_check_branches.specs.References.{TakesReference}
 use Rattle.smith_check_branches.proofs.CastLemmas.{cast_at, cast_valid, cast_takes, others_same, others_valid, ref_in_range}
 use Rattle.smith_check_branches.proofs.cast_branches.br_on_cast_fail.Goals as goal

@@ -1,10 +1,5 @@
-use Rattle.std.proofs.Common.{[], ◌∷◌, ◌++◌, subst, MatchBool}
-use Rattle.smith_check_rules.specs.Slots.{values}
-use Rattle.smith_check_rules.specs.declared.slot.Slot.TheVariants.{Value}
-use Rattle.smith_check_operands.specs.Applies.{Applies}
-use Rattle.smith_check_operands.specs.Scopes.{bare}
-use Rattle.smith_check_operands.specs.Covers.{held, PopsNothing}
-use Rattle.smith_check_operands.proofs.RangeLemmas.{all_in_range, one_in_range}
+use Rattle.smith_check_branches.proofs.Common.{[], all_in_range, Applies, bare, held, MatchBool, one_in_range, PopsNothing, subst, Value}
+use Rattle.smith_check_branches.proofs.Common.{values, ◌++◌, ◌∷◌}
 use Rattle.smith_check_instr.proofs.SelectLemmas.{pushed_one}
 use Rattle.smith_check_branches.proofs.ResultLemmas.{replaced}
 use Rattle.smith_check_branches.proofs.cast_branches.replace_top.Goals as goal

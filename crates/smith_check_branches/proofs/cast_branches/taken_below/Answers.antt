@@ -1,10 +1,5 @@
-use Rattle.std.proofs.Common.{◌∙◌, [], ◌∷◌, ◌++◌, reverse, sym, ap}
-use Rattle.std.specs.Prelude.{Some, slice_get}
-use Rattle.std.proofs.lemmas.Bool.{false≢true}
-use Rattle.smith_syntax.specs.declared.value_type.ValType.TheVariants.{Ref}
-use Rattle.smith_check_operands.specs.Scopes.{bare}
-use Rattle.smith_check_operands.specs.Closes.{label_of, labels_of}
-use Rattle.smith_check_operands.proofs.LookupLemmas.{some_same, none_not_some}
+use Rattle.smith_check_branches.proofs.Common.{[], ap, bare, false≢true, label_of, labels_of, none_not_some, Ref, reverse, slice_get, Some}
+use Rattle.smith_check_branches.proofs.Common.{some_same, sym, ◌++◌, ◌∙◌, ◌∷◌}
 use Rattle.smith_check_branches.proofs.CastLemmas.{arrives_not}
 use Rattle.smith_check_branches.proofs.NonNullLemmas.{last_in_range}
 use Rattle.smith_check_branches.proofs.cast_branches.taken_below.Goals as goal

@@ -1,10 +1,6 @@
-use Rattle.std.proofs.Common.{◌≡◌, ◌<◌, ◌∷◌, length, take, reverse, refl, subst, arith}
-use Rattle.std.specs.Prelude.{All}
-use Rattle.std.proofs.lemmas.List.{take_all}
+use Rattle.smith_check_branches.proofs.Common.{All, arith, bare, IsCatch, label_of, labels_of, length, refl, reverse, subst, take, take_all}
+use Rattle.smith_check_branches.proofs.Common.{with_labels, ◌<◌, ◌∷◌, ◌≡◌}
 use Rattle.std.proofs.lemmas.List.Elements.{All-more}
-use Rattle.smith_instr.specs.InstrTypes.{IsCatch}
-use Rattle.smith_check_operands.specs.Scopes.{bare}
-use Rattle.smith_check_operands.specs.Closes.{label_of, labels_of, with_labels}
 use Rattle.smith_check_branches.proofs.catches.are_catches.Goals as goal
 
 pub loop-clause-preserved : goal.loop-clause-preserved

@@ -1,6 +1,4 @@
-use Rattle.std.proofs.Common.{◌∷◌, reverse}
-use Rattle.smith_check_operands.specs.Scopes.{bare}
-use Rattle.smith_check_operands.specs.Closes.{label_of, labels_of}
+use Rattle.smith_check_branches.proofs.Common.{bare, label_of, labels_of, reverse, ◌∷◌}
 use Rattle.smith_check_operands.proofs.RangeLemmas.{no_range}
 use Rattle.smith_check_branches.proofs.CatchLemmas.{tag_in_range, exception_in_range, one_caught, reference_caught, any_reference_caught}
 use Rattle.smith_check_branches.proofs.CatchLemmas.{one_unknown, reference_unknown}

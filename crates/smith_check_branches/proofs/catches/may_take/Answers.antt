@@ -1,13 +1,6 @@
-use Rattle.std.proofs.Common.{◌∙◌, ◌∷◌, reverse, sym, subst, length}
-use Rattle.std.specs.Prelude.{All}
-use Rattle.std.proofs.lemmas.Bool.{false≢true}
+use Rattle.smith_check_branches.proofs.Common.{All, all_at, all_in_range, AreValid, bare, false≢true, IsValInRange, label_of, labels_of}
+use Rattle.smith_check_branches.proofs.Common.{length, reverse, subst, sym, ◌∙◌, ◌∷◌}
 use Rattle.std.proofs.lemmas.List.Elements.{All-take, All-drop}
-use Rattle.smith_types.specs.Subtyping.{IsValInRange}
-use Rattle.smith_instr.specs.Contexts.{AreValid}
-use Rattle.smith_check_operands.specs.Scopes.{bare}
-use Rattle.smith_check_operands.specs.Closes.{label_of, labels_of}
-use Rattle.smith_check_operands.proofs.RangeLemmas.{all_in_range}
-use Rattle.smith_check_operands.proofs.StepLemmas.{all_at}
 use Rattle.smith_check_branches.proofs.CatchLemmas.{not_taken_nowhere, not_taken_short, matched_parts, parts_matched, taken_at, taken_from}
 use Rattle.smith_check_branches.proofs.catches.may_take.Goals as goal
 

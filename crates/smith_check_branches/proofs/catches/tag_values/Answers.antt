@@ -1,11 +1,7 @@
-use Rattle.std.proofs.Common.{◌≡◌, ◌∙◌, [], ap, sym, subst, length}
-use Rattle.std.proofs.lemmas.Bool.{false≢true}
+use Rattle.smith_check_branches.proofs.Common.{[], ap, bare, false≢true, func_same, FuncType, IsFuncAt, length, some_same, subst, sym, ◌∙◌}
+use Rattle.smith_check_branches.proofs.Common.{◌≡◌}
 use Rattle.std.proofs.lemmas.List.{nil_from_length}
-use Rattle.smith_syntax.specs.declared.composite_type.FuncType.{FuncType}
-use Rattle.smith_types.specs.Entities.{IsFuncAt}
 use Rattle.smith_instr.specs.Contexts.{IsTag}
-use Rattle.smith_check_operands.specs.Scopes.{bare}
-use Rattle.smith_check_operands.proofs.LookupLemmas.{some_same, func_same}
 use Rattle.smith_check_branches.proofs.catches.tag_values.Goals as goal
 
 pub returns-in_default-func_at : goal.returns-in_default-func_at

@@ -1,6 +1,4 @@
-use Rattle.std.proofs.Common.{◌∙◌, sym, subst}
-use Rattle.std.proofs.lemmas.Bool.{false≢true}
-use Rattle.smith_types.specs.Subtyping.{IsInRange}
+use Rattle.smith_check_branches.proofs.Common.{false≢true, IsInRange, subst, sym, ◌∙◌}
 use Rattle.smith_check_branches.proofs.CallLemmas.{functions_stand}
 use Rattle.smith_check_branches.proofs.function_tables.are_functions.Goals as goal
 

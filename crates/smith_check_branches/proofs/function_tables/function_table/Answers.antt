@@ -1,8 +1,5 @@
-use Rattle.std.proofs.Common.{◌∙◌, sym, refl, subst}
-use Rattle.std.specs.Prelude.{slice_get}
-use Rattle.std.proofs.lemmas.Bool.{false≢true}
-use Rattle.smith_syntax.specs.declared.entity_type.TableType.{TableType}
-use Rattle.smith_check_operands.proofs.LookupLemmas.{some_same, none_not_some}
+use Rattle.smith_check_branches.proofs.Common.{false≢true, none_not_some, refl, slice_get, some_same, subst, sym, ◌∙◌}
+use Rattle.smith_types.specs.Syntax.entity_type.TableType.{TableType}
 use Rattle.smith_check_branches.specs.Tables.{AreFunctions}
 use Rattle.smith_check_branches.proofs.function_tables.function_table.Goals as goal
 

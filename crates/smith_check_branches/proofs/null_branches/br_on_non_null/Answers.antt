@@ -1,14 +1,6 @@
-use Rattle.std.proofs.Common.{◌≡◌, ◌∙◌, sym, refl, ap, [], ◌∷◌, ◌++◌, reverse}
-use Rattle.std.specs.Prelude.{Some, slice_get}
-use Rattle.smith_syntax.specs.declared.value_type.ValType.TheVariants.{Ref}
-use Rattle.smith_instr.specs.Contexts.{nullable_to}
+use Rattle.smith_check_branches.proofs.Common.{[], all_in_range, ap, bare, held, label_of, labels_of, nullable_to, Ref, refl, reverse}
+use Rattle.smith_check_branches.proofs.Common.{slice_get, Some, some_same, sym, tried_values, ◌++◌, ◌∙◌, ◌∷◌, ◌≡◌}
 use Rattle.smith_instr.specs.declared.instr.Instr.TheVariants as instr
-use Rattle.smith_check_operands.specs.Scopes.{bare}
-use Rattle.smith_check_operands.specs.Covers.{held}
-use Rattle.smith_check_operands.specs.Closes.{label_of, labels_of}
-use Rattle.smith_check_operands.proofs.LookupLemmas.{some_same}
-use Rattle.smith_check_operands.proofs.RangeLemmas.{all_in_range}
-use Rattle.smith_check_operands.proofs.StepLemmas.{tried_values}
 use Rattle.smith_check_branches.proofs.NonNullLemmas.{lower_valid, nullable_in_range, non_null_only}
 use Rattle.smith_check_branches.proofs.null_branches.br_on_non_null.Goals as goal
 

@@ -1,13 +1,6 @@
-use Rattle.std.proofs.Common.{◌∷◌, [], reverse, sym, subst, MatchBool}
+use Rattle.smith_check_branches.proofs.Common.{[], all_at, all_in_range, Applies, AreValid, bare, held, label_of, labels_of, MatchBool}
+use Rattle.smith_check_branches.proofs.Common.{PopsNothing, reverse, subst, sym, values, ◌∷◌}
 use Rattle.std.specs.Prelude.{MatchOption}
-use Rattle.smith_instr.specs.Contexts.{AreValid}
-use Rattle.smith_check_rules.specs.Slots.{values}
-use Rattle.smith_check_operands.specs.Applies.{Applies}
-use Rattle.smith_check_operands.specs.Scopes.{bare}
-use Rattle.smith_check_operands.specs.Covers.{held, PopsNothing}
-use Rattle.smith_check_operands.specs.Closes.{label_of, labels_of}
-use Rattle.smith_check_operands.proofs.RangeLemmas.{all_in_range}
-use Rattle.smith_check_operands.proofs.StepLemmas.{all_at}
 use Rattle.smith_check_instr.proofs.SelectLemmas.{pushed_one}
 use Rattle.smith_check_branches.proofs.NullLemmas.{IsLeastNonNull, HasNoNonNull, least_found, null_unlabelled, null_without_top}
 use Rattle.smith_check_branches.proofs.NullLemmas.{null_of_no_reference, null_apart, null_taken}

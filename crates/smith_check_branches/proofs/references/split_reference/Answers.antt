@@ -1,4 +1,4 @@
-use Rattle.std.proofs.Common.{[], ◌∷◌, ◌++◌, ◌∙◌, ap}
+use Rattle.smith_check_branches.proofs.Common.{[], ap, ◌++◌, ◌∙◌, ◌∷◌}
 use Rattle.smith_check_branches.proofs.NonNullLemmas.{ends_in_none, ends_in_other, last_reference}
 use Rattle.smith_check_branches.proofs.references.split_reference.Goals as goal
 

@@ -1,7 +1,4 @@
-use Rattle.std.proofs.Common.{[], ◌∷◌}
-use Rattle.smith_check_operands.specs.Scopes.{bare}
-use Rattle.smith_check_operands.specs.Covers.{held}
-use Rattle.smith_check_operands.proofs.RangeLemmas.{one_in_range}
+use Rattle.smith_check_branches.proofs.Common.{[], bare, held, one_in_range, ◌∷◌}
 use Rattle.smith_check_operands.proofs.StepLemmas.{nothing_above_values}
 use Rattle.smith_check_branches.proofs.CallLemmas.{left_below}
 use Rattle.smith_check_branches.proofs.tail_calls.leave_below.Goals as goal

@@ -1,16 +1,6 @@
-use Rattle.std.proofs.Common.{◌≡◌, [], ◌∷◌, ◌++◌, sym, subst}
-use Rattle.smith_types.specs.Entities.{IsFuncAt}
-use Rattle.smith_syntax.specs.declared.composite_type.FuncType.{FuncType}
-use Rattle.smith_instr.specs.Contexts.{address}
+use Rattle.smith_check_branches.proofs.Common.{[], address, bare, func_same, FuncType, HasLeaving, held, IsFuncAt, Leaves, subst, sym}
+use Rattle.smith_check_branches.proofs.Common.{tried_leaving, values, with_labels, ◌++◌, ◌∷◌, ◌≡◌}
 use Rattle.smith_instr.specs.declared.instr.Instr.TheVariants as instr
-use Rattle.smith_check_rules.specs.Slots.{values}
-use Rattle.smith_check_rules.specs.StackTypes.{Leaves}
-use Rattle.smith_check_operands.specs.Scopes.{bare}
-use Rattle.smith_check_operands.specs.Covers.{held}
-use Rattle.smith_check_operands.specs.Closes.{with_labels}
-use Rattle.smith_check_operands.specs.Applies.{HasLeaving}
-use Rattle.smith_check_operands.proofs.LookupLemmas.{func_same}
-use Rattle.smith_check_operands.proofs.StepLemmas.{tried_leaving}
 use Rattle.smith_check_branches.proofs.CallLemmas.{params_in_range, address_in_range, function_table_at, function_table_from}
 use Rattle.smith_check_branches.proofs.CallLemmas.{returns_as, never_returns, same_width}
 use Rattle.smith_check_branches.proofs.tail_calls.return_call_indirect.Goals as goal

@@ -1,17 +1,6 @@
-use Rattle.std.proofs.Common.{◌≡◌, [], ◌∷◌, ◌++◌, sym, subst}
-use Rattle.smith_types.specs.Entities.{IsFuncAt}
-use Rattle.smith_syntax.specs.declared.composite_type.FuncType.{FuncType}
-use Rattle.smith_syntax.specs.declared.value_type.HeapType.TheVariants.{Concrete}
-use Rattle.smith_instr.specs.Contexts.{nullable_to}
+use Rattle.smith_check_branches.proofs.Common.{[], bare, Concrete, func_same, FuncType, HasLeaving, held, IsFuncAt, Leaves, nullable_to}
+use Rattle.smith_check_branches.proofs.Common.{subst, sym, tried_leaving, values, with_labels, ◌++◌, ◌∷◌, ◌≡◌}
 use Rattle.smith_instr.specs.declared.instr.Instr.TheVariants as instr
-use Rattle.smith_check_rules.specs.Slots.{values}
-use Rattle.smith_check_rules.specs.StackTypes.{Leaves}
-use Rattle.smith_check_operands.specs.Scopes.{bare}
-use Rattle.smith_check_operands.specs.Covers.{held}
-use Rattle.smith_check_operands.specs.Closes.{with_labels}
-use Rattle.smith_check_operands.specs.Applies.{HasLeaving}
-use Rattle.smith_check_operands.proofs.LookupLemmas.{func_same}
-use Rattle.smith_check_operands.proofs.StepLemmas.{tried_leaving}
 use Rattle.smith_check_branches.proofs.CallLemmas.{params_in_range, reference_in_range, returns_as, never_returns}
 use Rattle.smith_check_branches.proofs.tail_calls.return_call_ref.Goals as goal
 

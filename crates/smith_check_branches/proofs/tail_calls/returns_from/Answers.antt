@@ -1,8 +1,4 @@
-use Rattle.std.proofs.Common.{sym, subst}
-use Rattle.std.specs.Prelude.{All}
-use Rattle.smith_types.specs.Subtyping.{IsValInRange}
-use Rattle.smith_check_operands.specs.Scopes.{bare}
-use Rattle.smith_check_operands.proofs.RangeLemmas.{all_in_range}
+use Rattle.smith_check_branches.proofs.Common.{All, all_in_range, bare, IsValInRange, subst, sym}
 use Rattle.smith_check_branches.proofs.CallLemmas.{matched_as}
 use Rattle.smith_check_branches.proofs.tail_calls.returns_from.Goals as goal
 

@@ -1,13 +1,6 @@
-use Rattle.std.proofs.Common.{◌∙◌, ap, sym, refl, subst, [], ◌∷◌, List}
-use Rattle.std.specs.Prelude.{All}
-use Rattle.smith_syntax.specs.declared.value_type.ValType.{ValType}
-use Rattle.smith_types.specs.Subtyping.{IsValInRange}
-use Rattle.smith_instr.specs.Contexts.{To, AreValid, address}
+use Rattle.smith_check_instr.proofs.Common.{[], address, All, all_in_range, ap, AreValid, bare, held, IsValInRange, List, refl, subst, sym}
+use Rattle.smith_check_instr.proofs.Common.{To, tried_values, ValType, ◌∙◌, ◌∷◌}
 use Rattle.smith_instr.specs.declared.instr.Instr.TheVariants as instr
-use Rattle.smith_check_operands.proofs.RangeLemmas.{all_in_range}
-use Rattle.smith_check_operands.proofs.StepLemmas.{tried_values}
-use Rattle.smith_check_operands.specs.Scopes.{bare}
-use Rattle.smith_check_operands.specs.Covers.{held}
 use Rattle.smith_check_instr.specs.AtomicSignatures.{atomic_operands, atomic_results}
 use Rattle.smith_check_instr.proofs.MemoryLemmas.{access_same}
 use Rattle.smith_check_instr.proofs.PlainLemmas.{all_plain_in_range, is_address_plain}

@@ -1,4 +1,4 @@
-use Rattle.std.proofs.Common.{arith}
+use Rattle.smith_check_instr.proofs.Common.{arith}
 use Rattle.smith_check_instr.proofs.AtomicLemmas.{aligned_exactly}
 use Rattle.smith_check_instr.proofs.atomics.atomic_access.Goals as goal
 

@@ -1,10 +1,5 @@
-use Rattle.std.proofs.Common.{refl, [], ◌∷◌}
-use Rattle.smith_syntax.specs.declared.value_type.ValType.TheVariants.{I64}
+use Rattle.smith_check_instr.proofs.Common.{[], bare, held, I64, no_range, one_valid, refl, tried_values, ◌∷◌}
 use Rattle.smith_instr.specs.declared.instr.Instr.TheVariants as instr
-use Rattle.smith_check_operands.specs.Scopes.{bare}
-use Rattle.smith_check_operands.specs.Covers.{held}
-use Rattle.smith_check_operands.proofs.RangeLemmas.{no_range}
-use Rattle.smith_check_operands.proofs.StepLemmas.{tried_values, one_valid}
 use Rattle.smith_check_instr.proofs.constants.i64_const.Goals as goal
 
 pub apply-requires-clause-expected : goal.apply-requires-clause-expected

@@ -1,13 +1,7 @@
-use Rattle.std.proofs.Common.{sym, refl, subst}
-use Rattle.smith_instr.specs.Contexts.{AreValid}
+use Rattle.smith_check_instr.proofs.Common.{All, AreValid, bare, held, IsValInRange, refl, subst, sym, tried_values}
 use Rattle.smith_instr.specs.NumericTypes.{signature}
 use Rattle.smith_instr.specs.declared.instr.Instr.TheVariants as instr
-use Rattle.std.specs.Prelude.{All}
-use Rattle.smith_types.specs.Subtyping.{IsValInRange}
-use Rattle.smith_check_operands.specs.Scopes.{bare}
-use Rattle.smith_check_operands.specs.Covers.{held}
 use Rattle.smith_check_operands.proofs.RangeLemmas.{signature_in_range, signature_valid}
-use Rattle.smith_check_operands.proofs.StepLemmas.{tried_values}
 use Rattle.smith_check_instr.proofs.constants.numeric.Goals as goal
 
 pub apply-requires-clause-expected : goal.apply-requires-clause-expected

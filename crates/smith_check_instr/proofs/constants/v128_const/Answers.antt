@@ -1,13 +1,7 @@
-use Rattle.std.proofs.Common.{◌∙◌, ap, sym, refl, [], ◌∷◌}
-use Rattle.smith_syntax.specs.declared.value_type.ValType.TheVariants.{V128}
+use Rattle.smith_check_instr.proofs.Common.{[], ap, bare, false≢true, held, no_range, one_valid, refl, sym, tried_values, V128, values, ◌∙◌}
+use Rattle.smith_check_instr.proofs.Common.{◌∷◌}
 use Rattle.smith_instr.specs.declared.instr.Instr.TheVariants as instr
-use Rattle.smith_check_operands.specs.Scopes.{bare}
-use Rattle.smith_check_operands.specs.Covers.{held}
-use Rattle.smith_check_operands.proofs.RangeLemmas.{no_range}
-use Rattle.std.proofs.lemmas.Bool.{false≢true}
-use Rattle.smith_check_rules.specs.Slots.{values}
 use Rattle.smith_check_instr.proofs.PlainLemmas.{no_plain}
-use Rattle.smith_check_operands.proofs.StepLemmas.{tried_values, one_valid}
 use Rattle.smith_check_instr.proofs.constants.v128_const.Goals as goal
 
 pub apply-requires-clause-expected : goal.apply-requires-clause-expected

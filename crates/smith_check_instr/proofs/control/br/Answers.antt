@@ -1,14 +1,9 @@
-use Rattle.std.proofs.Common.{◌∙◌, sym, ◌∷◌, subst, reverse}
+use Rattle.smith_check_instr.proofs.Common.{all_at, all_in_range, AreValid, bare, held, some_same, subst, sym, tried_leaving, values}
+use Rattle.smith_check_instr.proofs.Common.{with_labels, ◌∙◌, ◌∷◌}
+use Rattle.std.proofs.Common.{reverse}
 use Rattle.smith_instr.specs.declared.instr.Instr.TheVariants as instr
 use Rattle.smith_check_rules.specs.StackTypes.{Leaves}
-use Rattle.smith_check_rules.specs.Slots.{values}
-use Rattle.smith_check_operands.specs.Scopes.{bare}
-use Rattle.smith_check_operands.specs.Covers.{held}
-use Rattle.smith_check_operands.specs.Closes.{with_labels, label_of, labels_of}
-use Rattle.smith_instr.specs.Contexts.{AreValid}
-use Rattle.smith_check_operands.proofs.LookupLemmas.{some_same}
-use Rattle.smith_check_operands.proofs.RangeLemmas.{all_in_range}
-use Rattle.smith_check_operands.proofs.StepLemmas.{tried_leaving, all_at}
+use Rattle.smith_check_operands.specs.Closes.{label_of, labels_of}
 use Rattle.smith_check_instr.proofs.control.br.Goals as goal
 
 pub returns-in-Some : goal.returns-in-Some

@@ -1,13 +1,8 @@
-use Rattle.std.proofs.Common.{◌∙◌, sym, refl, subst, [], ◌∷◌, ◌++◌, reverse}
-use Rattle.smith_syntax.specs.declared.value_type.ValType.TheVariants.{I32}
-use Rattle.smith_instr.specs.Contexts.{To, AreValid}
+use Rattle.smith_check_instr.proofs.Common.{[], all_at, all_in_range, AreValid, bare, held, I32, one_in_range, refl, some_same, subst, sym}
+use Rattle.smith_check_instr.proofs.Common.{To, tried_values, ◌∙◌, ◌∷◌}
+use Rattle.std.proofs.Common.{reverse, ◌++◌}
 use Rattle.smith_instr.specs.declared.instr.Instr.TheVariants as instr
-use Rattle.smith_check_operands.specs.Scopes.{bare}
-use Rattle.smith_check_operands.specs.Covers.{held}
 use Rattle.smith_check_operands.specs.Closes.{label_of, labels_of}
-use Rattle.smith_check_operands.proofs.LookupLemmas.{some_same}
-use Rattle.smith_check_operands.proofs.RangeLemmas.{one_in_range, all_in_range}
-use Rattle.smith_check_operands.proofs.StepLemmas.{tried_values, all_at}
 use Rattle.smith_check_instr.proofs.control.br_if.Goals as goal
 
 pub apply_below-requires-clause-expected : goal.apply_below-requires-clause-expected

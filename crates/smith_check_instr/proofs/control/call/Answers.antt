@@ -1,15 +1,9 @@
-use Rattle.std.proofs.Common.{◌≡◌, ◌∙◌, sym, refl, subst}
-use Rattle.smith_syntax.specs.declared.composite_type.FuncType.{FuncType}
-use Rattle.smith_instr.specs.Contexts.{To, AreValid}
+use Rattle.smith_check_instr.proofs.Common.{All, all_in_range, AreValid, bare, held, IsValInRange, refl, some_same, subst, sym, To}
+use Rattle.smith_check_instr.proofs.Common.{tried_values, ◌∙◌, ◌≡◌}
+use Rattle.smith_types.specs.Syntax.composite_type.FuncType.{FuncType}
 use Rattle.smith_instr.specs.declared.instr.Instr.TheVariants as instr
-use Rattle.std.specs.Prelude.{All}
 use Rattle.smith_types.specs.Entities.{IsFuncAt}
-use Rattle.smith_types.specs.Subtyping.{IsValInRange}
-use Rattle.smith_check_operands.specs.Scopes.{bare}
-use Rattle.smith_check_operands.specs.Covers.{held}
-use Rattle.smith_check_operands.proofs.LookupLemmas.{some_same, func_same}
-use Rattle.smith_check_operands.proofs.RangeLemmas.{all_in_range}
-use Rattle.smith_check_operands.proofs.StepLemmas.{tried_values}
+use Rattle.smith_check_operands.proofs.LookupLemmas.{func_same}
 use Rattle.smith_check_instr.proofs.control.call.Goals as goal
 
 pub apply-requires-clause-expected : goal.apply-requires-clause-expected

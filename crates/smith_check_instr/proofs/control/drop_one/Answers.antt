@@ -1,5 +1,4 @@
-use Rattle.smith_check_operands.specs.Scopes.{bare}
-use Rattle.smith_check_operands.specs.Covers.{held}
+use Rattle.smith_check_instr.proofs.Common.{bare, held}
 use Rattle.smith_check_operands.proofs.StepLemmas.{tried_drop}
 use Rattle.smith_check_instr.proofs.control.drop_one.Goals as goal
 

@@ -1,10 +1,6 @@
 use Rattle.smith_instr.specs.declared.instr.Instr.TheVariants as instr
-use Rattle.smith_check_rules.specs.Slots.{values}
-use Rattle.smith_check_operands.specs.Scopes.{bare}
-use Rattle.smith_check_operands.specs.Covers.{held}
-use Rattle.smith_check_operands.proofs.RangeLemmas.{all_in_range}
+use Rattle.smith_check_instr.proofs.Common.{all_in_range, bare, held, tried_leaving, values}
 use Rattle.smith_check_instr.proofs.control.return_all.Goals as goal
-use Rattle.smith_check_operands.proofs.StepLemmas.{tried_leaving}
 
 pub returns : goal.returns
 returns c = λ labels set.

@@ -1,20 +1,15 @@
-use Rattle.std.proofs.Common.{◌≡◌, ◌∙◌, ap, sym, subst, [], MatchBool}
-use Rattle.std.proofs.lemmas.Bool.{false≢true}
+use Rattle.smith_check_instr.proofs.Common.{[], All, all_in_range, ap, bare, false≢true, held, IsValInRange, some_same, subst, sym}
+use Rattle.smith_check_instr.proofs.Common.{tried_leaving, values, with_labels, ◌∙◌, ◌≡◌}
+use Rattle.std.proofs.Common.{MatchBool}
 use Rattle.std.proofs.lemmas.List.{nil_from_length}
-use Rattle.std.specs.Prelude.{length, All}
-use Rattle.smith_syntax.specs.declared.composite_type.FuncType.{FuncType}
+use Rattle.std.specs.Prelude.{length}
+use Rattle.smith_types.specs.Syntax.composite_type.FuncType.{FuncType}
 use Rattle.smith_types.specs.Entities.{IsFuncAt}
-use Rattle.smith_types.specs.Subtyping.{IsValInRange}
 use Rattle.smith_instr.specs.declared.instr.Instr.TheVariants as instr
-use Rattle.smith_check_rules.specs.Slots.{values}
 use Rattle.smith_check_rules.specs.StackTypes.{Leaves}
 use Rattle.smith_check_operands.specs.Applies.{LeavesBy}
-use Rattle.smith_check_operands.specs.Closes.{with_labels}
-use Rattle.smith_check_operands.specs.Covers.{held, PopsNothing}
-use Rattle.smith_check_operands.specs.Scopes.{bare}
-use Rattle.smith_check_operands.proofs.LookupLemmas.{some_same, func_same}
-use Rattle.smith_check_operands.proofs.RangeLemmas.{all_in_range}
-use Rattle.smith_check_operands.proofs.StepLemmas.{tried_leaving}
+use Rattle.smith_check_operands.specs.Covers.{PopsNothing}
+use Rattle.smith_check_operands.proofs.LookupLemmas.{func_same}
 use Rattle.smith_check_instr.proofs.control.throw.Goals as goal
 
 pub leave_with-requires-clause-expected : goal.leave_with-requires-clause-expected

@@ -1,13 +1,8 @@
-use Rattle.std.proofs.Common.{false, [], ◌∷◌}
-use Rattle.smith_syntax.specs.declared.value_type.AbstractHeapType.TheVariants as abstract
-use Rattle.smith_syntax.specs.declared.value_type.HeapType.TheVariants.{Abstract}
+use Rattle.smith_check_instr.proofs.Common.{[], bare, false, held, one_in_range, tried_leaving, values, ◌∷◌}
+use Rattle.smith_types.specs.Syntax.value_type.AbstractHeapType.TheVariants as abstract
+use Rattle.smith_types.specs.Syntax.value_type.HeapType.TheVariants.{Abstract}
 use Rattle.smith_instr.specs.Contexts.{nullable_to}
 use Rattle.smith_instr.specs.declared.instr.Instr.TheVariants as instr
-use Rattle.smith_check_rules.specs.Slots.{values}
-use Rattle.smith_check_operands.specs.Scopes.{bare}
-use Rattle.smith_check_operands.specs.Covers.{held}
-use Rattle.smith_check_operands.proofs.RangeLemmas.{one_in_range}
-use Rattle.smith_check_operands.proofs.StepLemmas.{tried_leaving}
 use Rattle.smith_check_instr.proofs.control.throw_ref.Goals as goal
 
 pub leave_with-requires-clause-expected : goal.leave_with-requires-clause-expected

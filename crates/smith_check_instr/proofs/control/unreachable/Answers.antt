@@ -1,11 +1,6 @@
-use Rattle.std.proofs.Common.{[]}
+use Rattle.smith_check_instr.proofs.Common.{[], bare, held, no_range, tried_leaving, values}
 use Rattle.smith_instr.specs.declared.instr.Instr.TheVariants as instr
-use Rattle.smith_check_rules.specs.Slots.{values}
-use Rattle.smith_check_operands.specs.Scopes.{bare}
-use Rattle.smith_check_operands.specs.Covers.{held}
-use Rattle.smith_check_operands.proofs.RangeLemmas.{no_range}
 use Rattle.smith_check_instr.proofs.control.unreachable.Goals as goal
-use Rattle.smith_check_operands.proofs.StepLemmas.{tried_leaving}
 
 pub returns : goal.returns
 returns c = λ labels set.

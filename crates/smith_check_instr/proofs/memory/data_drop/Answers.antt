@@ -1,9 +1,6 @@
-use Rattle.std.proofs.Common.{refl, []}
+use Rattle.smith_check_instr.proofs.Common.{[], bare, held, refl, tried_values}
 use Rattle.smith_instr.specs.declared.instr.Instr.TheVariants as instr
 use Rattle.smith_instr.specs.declared.memory.MemoryInstr.TheVariants as memory
-use Rattle.smith_check_operands.proofs.StepLemmas.{tried_values}
-use Rattle.smith_check_operands.specs.Scopes.{bare}
-use Rattle.smith_check_operands.specs.Covers.{held}
 use Rattle.smith_check_instr.proofs.memory.data_drop.Goals as goal
 
 pub returns-clause-ok : goal.returns-clause-ok

@@ -1,14 +1,8 @@
-use Rattle.std.proofs.Common.{ap, sym, refl, subst, [], ◌∷◌, ℕ, ◌≤◌}
-use Rattle.smith_syntax.specs.declared.value_type.ValType.{ValType}
-use Rattle.smith_types.specs.Subtyping.{IsValInRange}
-use Rattle.smith_instr.specs.Contexts.{To, IsValid, address}
+use Rattle.smith_check_instr.proofs.Common.{[], address, ap, bare, held, IsValid, IsValInRange, one_in_range, one_valid, refl, subst, sym}
+use Rattle.smith_check_instr.proofs.Common.{To, tried_values, ValType, ℕ, ◌∷◌, ◌≤◌}
 use Rattle.smith_instr.specs.MemoryTypes.{loaded}
 use Rattle.smith_instr.specs.declared.instr.Instr.TheVariants as instr
-use Rattle.smith_check_operands.specs.Scopes.{bare}
-use Rattle.smith_check_operands.specs.Covers.{held}
 use Rattle.smith_check_instr.proofs.MemoryLemmas.{access_same, address_in_range, loaded_valid}
-use Rattle.smith_check_operands.proofs.RangeLemmas.{one_in_range}
-use Rattle.smith_check_operands.proofs.StepLemmas.{tried_values, one_valid}
 use Rattle.smith_check_instr.proofs.memory.load.Goals as goal
 
 pub apply-requires-clause-expected : goal.apply-requires-clause-expected

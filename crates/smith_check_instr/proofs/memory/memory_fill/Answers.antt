@@ -1,18 +1,8 @@
-use Rattle.std.proofs.Common.{◌∙◌, ap, sym, refl, subst, [], ◌∷◌}
-use Rattle.std.proofs.lemmas.List.Elements.{All-cons}
-use Rattle.smith_syntax.specs.declared.value_type.ValType.{ValType}
-use Rattle.smith_types.specs.Subtyping.{IsValInRange}
-use Rattle.smith_instr.specs.Contexts.{To, address}
+use Rattle.smith_check_instr.proofs.Common.{[], address, All-cons, ap, bare, held, I32, IsValInRange, MemoryType, one_in_range, refl}
+use Rattle.smith_check_instr.proofs.Common.{some_same, subst, sym, To, tried_values, ValType, ◌∙◌, ◌∷◌}
 use Rattle.smith_instr.specs.declared.instr.Instr.TheVariants as instr
 use Rattle.smith_instr.specs.declared.memory.MemoryInstr.TheVariants as memory
-use Rattle.smith_syntax.specs.declared.entity_type.MemoryType.{MemoryType}
-use Rattle.smith_syntax.specs.declared.value_type.ValType.TheVariants.{I32}
-use Rattle.smith_check_operands.proofs.LookupLemmas.{some_same}
-use Rattle.smith_check_operands.specs.Scopes.{bare}
-use Rattle.smith_check_operands.specs.Covers.{held}
 use Rattle.smith_check_instr.proofs.MemoryLemmas.{address_in_range}
-use Rattle.smith_check_operands.proofs.RangeLemmas.{one_in_range}
-use Rattle.smith_check_operands.proofs.StepLemmas.{tried_values}
 use Rattle.smith_check_instr.proofs.memory.memory_fill.Goals as goal
 
 pub apply-requires-clause-expected : goal.apply-requires-clause-expected

@@ -1,14 +1,7 @@
-use Rattle.std.proofs.Common.{◌∙◌, ap, sym, refl, subst, [], ◌∷◌}
-use Rattle.smith_syntax.specs.declared.value_type.ValType.{ValType}
-use Rattle.smith_syntax.specs.declared.value_type.ValType.TheVariants.{I32}
-use Rattle.smith_syntax.specs.declared.entity_type.MemoryType.{MemoryType}
-use Rattle.smith_instr.specs.Contexts.{To, address}
+use Rattle.smith_check_instr.proofs.Common.{[], address, ap, bare, held, I32, MemoryType, refl, some_same, subst, sym, To, tried_values}
+use Rattle.smith_check_instr.proofs.Common.{ValType, ◌∙◌, ◌∷◌}
 use Rattle.smith_instr.specs.declared.instr.Instr.TheVariants as instr
 use Rattle.smith_instr.specs.declared.memory.MemoryInstr.TheVariants as memory
-use Rattle.smith_check_operands.proofs.LookupLemmas.{some_same}
-use Rattle.smith_check_operands.proofs.StepLemmas.{tried_values}
-use Rattle.smith_check_operands.specs.Scopes.{bare}
-use Rattle.smith_check_operands.specs.Covers.{held}
 use Rattle.smith_check_instr.proofs.PlainLemmas.{all_plain_in_range, is_address_plain}
 use Rattle.smith_check_instr.proofs.memory.memory_init.Goals as goal
 

@@ -1,15 +1,8 @@
-use Rattle.std.proofs.Common.{◌∙◌, ap, sym, refl, subst, [], ◌∷◌}
-use Rattle.smith_syntax.specs.declared.value_type.ValType.{ValType}
-use Rattle.smith_instr.specs.Contexts.{To, IsValid, address}
+use Rattle.smith_check_instr.proofs.Common.{[], address, ap, bare, held, IsValid, MemoryType, no_range, one_valid, refl, some_same, subst}
+use Rattle.smith_check_instr.proofs.Common.{sym, To, tried_values, ValType, ◌∙◌, ◌∷◌}
 use Rattle.smith_instr.specs.declared.instr.Instr.TheVariants as instr
 use Rattle.smith_instr.specs.declared.memory.MemoryInstr.TheVariants as memory
-use Rattle.smith_syntax.specs.declared.entity_type.MemoryType.{MemoryType}
-use Rattle.smith_check_operands.proofs.LookupLemmas.{some_same}
-use Rattle.smith_check_operands.specs.Scopes.{bare}
-use Rattle.smith_check_operands.specs.Covers.{held}
 use Rattle.smith_check_instr.proofs.MemoryLemmas.{address_valid}
-use Rattle.smith_check_operands.proofs.RangeLemmas.{no_range}
-use Rattle.smith_check_operands.proofs.StepLemmas.{tried_values, one_valid}
 use Rattle.smith_check_instr.proofs.memory.memory_size.Goals as goal
 
 pub apply-requires-clause-expected : goal.apply-requires-clause-expected

@@ -1,15 +1,8 @@
-use Rattle.std.proofs.Common.{◌∙◌, ap, sym, refl, subst, [], ◌∷◌, ℕ, ◌≤◌}
-use Rattle.std.proofs.lemmas.List.Elements.{All-cons}
-use Rattle.smith_syntax.specs.declared.value_type.ValType.{ValType}
-use Rattle.smith_types.specs.Subtyping.{IsValInRange}
-use Rattle.smith_instr.specs.Contexts.{To, address}
+use Rattle.smith_check_instr.proofs.Common.{[], address, All-cons, ap, bare, held, IsValInRange, one_in_range, refl, subst, sym, To}
+use Rattle.smith_check_instr.proofs.Common.{tried_values, ValType, ℕ, ◌∙◌, ◌∷◌, ◌≤◌}
 use Rattle.smith_instr.specs.MemoryTypes.{stored}
 use Rattle.smith_instr.specs.declared.instr.Instr.TheVariants as instr
-use Rattle.smith_check_operands.specs.Scopes.{bare}
-use Rattle.smith_check_operands.specs.Covers.{held}
 use Rattle.smith_check_instr.proofs.MemoryLemmas.{access_same, address_in_range, stored_in_range}
-use Rattle.smith_check_operands.proofs.RangeLemmas.{one_in_range}
-use Rattle.smith_check_operands.proofs.StepLemmas.{tried_values}
 use Rattle.smith_check_instr.proofs.memory.store.Goals as goal
 
 pub apply-requires-clause-expected : goal.apply-requires-clause-expected

@@ -1,11 +1,5 @@
-use Rattle.std.proofs.Common.{sym, subst}
-use Rattle.std.specs.Prelude.{MatchOption}
-use Rattle.smith_syntax.specs.declared.value_type.ValType.TheVariants.{I32}
-use Rattle.smith_check_rules.specs.Slots.{IsSlotValid}
-use Rattle.smith_check_operands.specs.Scopes.{bare}
-use Rattle.smith_check_operands.specs.Covers.{held}
+use Rattle.smith_check_instr.proofs.Common.{bare, held, I32, IsSlotValid, MatchOption, one_in_range, subst, sym}
 use Rattle.smith_check_instr.specs.Selects.{IsJoin, HaveNoJoin}
-use Rattle.smith_check_operands.proofs.RangeLemmas.{one_in_range}
 use Rattle.smith_check_instr.proofs.SelectLemmas.{joined, join_keeps, pushed_one, selects, selects_as, select_unindexed}
 use Rattle.smith_check_instr.proofs.SelectLemmas.{select_without_second}
 use Rattle.smith_check_instr.proofs.SelectLemmas.{select_without_first, select_unjoined}

@@ -1,14 +1,6 @@
-use Rattle.std.proofs.Common.{◌≡◌, ◌∙◌, sym, refl, subst, [], ◌∷◌}
-use Rattle.std.proofs.lemmas.Bool.{false≢true}
-use Rattle.std.proofs.lemmas.List.Elements.{All-cons}
-use Rattle.smith_syntax.specs.declared.value_type.ValType.TheVariants.{I32}
-use Rattle.smith_types.specs.Subtyping.{IsValInRange}
-use Rattle.smith_instr.specs.Contexts.{To, IsValid}
+use Rattle.smith_check_instr.proofs.Common.{[], All-cons, bare, false≢true, held, I32, in_range, IsValid, IsValInRange, one_in_range}
+use Rattle.smith_check_instr.proofs.Common.{one_valid, refl, subst, sym, To, tried_values, ◌∙◌, ◌∷◌, ◌≡◌}
 use Rattle.smith_instr.specs.declared.instr.Instr.TheVariants as instr
-use Rattle.smith_check_operands.proofs.RangeLemmas.{in_range, one_in_range}
-use Rattle.smith_check_operands.proofs.StepLemmas.{tried_values, one_valid}
-use Rattle.smith_check_operands.specs.Scopes.{bare}
-use Rattle.smith_check_operands.specs.Covers.{held}
 use Rattle.smith_check_instr.proofs.SelectLemmas.{one_item, item_same}
 use Rattle.smith_check_instr.proofs.select.select_typed.Goals as goal
 

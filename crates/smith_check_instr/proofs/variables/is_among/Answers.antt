@@ -1,4 +1,4 @@
-use Rattle.std.proofs.Common.{◌∙◌, sym}
+use Rattle.smith_check_instr.proofs.Common.{sym, ◌∙◌}
 use Rattle.smith_instr.proofs.AmongLemmas.{among, among_is}
 use Rattle.smith_check_instr.proofs.variables.is_among.Goals as goal
 

@@ -1,11 +1,6 @@
-use Rattle.std.proofs.Common.{◌∙◌, sym, refl, subst, [], ◌∷◌}
-use Rattle.smith_instr.specs.Contexts.{To, IsValid}
+use Rattle.smith_check_instr.proofs.Common.{[], all_at, bare, held, in_range, IsValid, one_in_range, refl, some_same, subst, sym, To}
+use Rattle.smith_check_instr.proofs.Common.{tried_values, ◌∙◌, ◌∷◌}
 use Rattle.smith_instr.specs.declared.instr.Instr.TheVariants as instr
-use Rattle.smith_check_operands.specs.Scopes.{bare}
-use Rattle.smith_check_operands.specs.Covers.{held}
-use Rattle.smith_check_operands.proofs.LookupLemmas.{some_same}
-use Rattle.smith_check_operands.proofs.RangeLemmas.{one_in_range, in_range}
-use Rattle.smith_check_operands.proofs.StepLemmas.{tried_values, all_at}
 use Rattle.smith_check_instr.proofs.variables.local_set.Goals as goal
 
 pub apply-requires-clause-expected : goal.apply-requires-clause-expected

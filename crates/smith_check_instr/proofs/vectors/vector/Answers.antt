@@ -1,14 +1,6 @@
-use Rattle.std.proofs.Common.{◌∙◌, ap, sym, refl, subst, [], ◌∷◌}
-use Rattle.std.specs.Prelude.{All}
-use Rattle.std.proofs.lemmas.Bool.{false≢true}
-use Rattle.smith_syntax.specs.declared.value_type.ValType.{ValType}
-use Rattle.smith_types.specs.Subtyping.{IsValInRange}
-use Rattle.smith_instr.specs.Contexts.{IsValid}
+use Rattle.smith_check_instr.proofs.Common.{[], All, ap, bare, false≢true, held, IsValid, IsValInRange, one_valid, refl, subst, sym}
+use Rattle.smith_check_instr.proofs.Common.{tried_values, ValType, values, ◌∙◌, ◌∷◌}
 use Rattle.smith_instr.specs.declared.instr.Instr.TheVariants as instr
-use Rattle.smith_check_rules.specs.Slots.{values}
-use Rattle.smith_check_operands.proofs.StepLemmas.{tried_values, one_valid}
-use Rattle.smith_check_operands.specs.Scopes.{bare}
-use Rattle.smith_check_operands.specs.Covers.{held}
 use Rattle.smith_check_instr.specs.VectorSignatures.{vector_operands, vector_result}
 use Rattle.smith_check_instr.proofs.PlainLemmas.{all_plain_in_range, no_plain}
 use Rattle.smith_check_instr.proofs.VectorLemmas.{vector_typed, vector_only, vector_operands_plain, vector_result_plain}

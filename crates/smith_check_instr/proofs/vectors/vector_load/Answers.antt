@@ -1,13 +1,6 @@
-use Rattle.std.proofs.Common.{◌∙◌, ap, sym, refl, subst, [], ◌∷◌, ℕ, ◌≤◌}
-use Rattle.std.proofs.lemmas.Bool.{false≢true}
-use Rattle.smith_syntax.specs.declared.value_type.ValType.{ValType}
-use Rattle.smith_syntax.specs.declared.value_type.ValType.TheVariants.{V128}
-use Rattle.smith_instr.specs.Contexts.{To, address}
+use Rattle.smith_check_instr.proofs.Common.{[], address, ap, bare, false≢true, held, one_valid, refl, subst, sym, To, tried_values, V128}
+use Rattle.smith_check_instr.proofs.Common.{ValType, values, ℕ, ◌∙◌, ◌∷◌, ◌≤◌}
 use Rattle.smith_instr.specs.declared.instr.Instr.TheVariants as instr
-use Rattle.smith_check_rules.specs.Slots.{values}
-use Rattle.smith_check_operands.proofs.StepLemmas.{tried_values, one_valid}
-use Rattle.smith_check_operands.specs.Scopes.{bare}
-use Rattle.smith_check_operands.specs.Covers.{held}
 use Rattle.smith_check_instr.proofs.MemoryLemmas.{access_same}
 use Rattle.smith_check_instr.proofs.PlainLemmas.{all_plain_in_range, is_address_plain, no_plain}
 use Rattle.smith_check_instr.proofs.vectors.vector_load.Goals as goal

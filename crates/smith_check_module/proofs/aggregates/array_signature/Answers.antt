@@ -1,7 +1,5 @@
-use Rattle.std.proofs.Common.{◌∙◌, ap, subst, [], ◌∷◌}
-use Rattle.smith_syntax.specs.declared.value_type.ValType.TheVariants.{I32}
-use Rattle.smith_syntax.specs.declared.const_instr.ConstInstr.TheVariants as constant
-use Rattle.smith_types.specs.Expressions.{IsArrayAt}
+use Rattle.smith_check_module.proofs.Common.{[], ap, I32, IsArrayAt, subst, ◌∙◌, ◌∷◌}
+use Rattle.smith_types.specs.Syntax.const_instr.ConstInstr.TheVariants as constant
 use Rattle.smith_check_module.specs.ConstScopes.{context_of}
 use Rattle.smith_check_module.specs.Typings.{HasNoArray}
 use Rattle.smith_check_module.proofs.AggregateLemmas.{array_none, array_only}

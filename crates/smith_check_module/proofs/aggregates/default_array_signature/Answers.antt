@@ -1,7 +1,6 @@
-use Rattle.std.proofs.Common.{◌∙◌, ap, subst, sym}
+use Rattle.smith_check_module.proofs.Common.{ap, IsArrayAt, subst, sym, ◌∙◌}
 use Rattle.smith_types.specs.Grounded.{is_defaultable}
-use Rattle.smith_syntax.specs.declared.const_instr.ConstInstr.TheVariants as constant
-use Rattle.smith_types.specs.Expressions.{IsArrayAt}
+use Rattle.smith_types.specs.Syntax.const_instr.ConstInstr.TheVariants as constant
 use Rattle.smith_check_module.specs.ConstScopes.{context_of}
 use Rattle.smith_check_module.specs.Typings.{HasNoArray}
 use Rattle.smith_check_module.proofs.AggregateLemmas.{default_array_none, default_array_only, no_default_array}

@@ -1,6 +1,5 @@
-use Rattle.std.proofs.Common.{◌∙◌, subst, sym}
-use Rattle.smith_syntax.specs.declared.const_instr.ConstInstr.TheVariants as constant
-use Rattle.smith_types.specs.Expressions.{IsStructAt}
+use Rattle.smith_check_module.proofs.Common.{IsStructAt, subst, sym, ◌∙◌}
+use Rattle.smith_types.specs.Syntax.const_instr.ConstInstr.TheVariants as constant
 use Rattle.smith_check_module.specs.ConstScopes.{context_of}
 use Rattle.smith_check_module.specs.Typings.{HasNoStruct}
 use Rattle.smith_check_module.proofs.AggregateLemmas.{default_struct_none, default_struct_only, no_default_struct}

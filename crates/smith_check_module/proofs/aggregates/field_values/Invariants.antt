@@ -1,4 +1,4 @@
-use Rattle.std.proofs.Common.{◌≡◌, take}
+use Rattle.smith_check_module.proofs.Common.{take, ◌≡◌}
 use Rattle.smith_types.specs.Expressions.{field_values}
 use Rattle.smith_check_module.proofs.aggregates.field_values.Given as goal
 

@@ -1,6 +1,5 @@
-use Rattle.std.proofs.Common.{◌∙◌, ap, arith, subst, replicate}
-use Rattle.smith_syntax.specs.declared.const_instr.ConstInstr.TheVariants as constant
-use Rattle.smith_types.specs.Expressions.{IsArrayAt}
+use Rattle.smith_check_module.proofs.Common.{ap, arith, IsArrayAt, replicate, subst, ◌∙◌}
+use Rattle.smith_types.specs.Syntax.const_instr.ConstInstr.TheVariants as constant
 use Rattle.smith_check_module.specs.ConstScopes.{context_of}
 use Rattle.smith_check_module.specs.Typings.{HasNoArray}
 use Rattle.smith_check_module.proofs.AggregateLemmas.{fixed_array_more, fixed_array_none, fixed_array_only}

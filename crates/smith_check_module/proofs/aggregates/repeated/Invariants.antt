@@ -1,4 +1,4 @@
-use Rattle.std.proofs.Common.{◌≡◌, replicate}
+use Rattle.smith_check_module.proofs.Common.{replicate, ◌≡◌}
 use Rattle.smith_check_module.proofs.aggregates.repeated.Given as goal
 
 abbrev pub invariant-loop : goal.invariant-loop

@@ -1,6 +1,5 @@
-use Rattle.std.proofs.Common.{arith, subst}
-use Rattle.smith_syntax.specs.declared.const_instr.ConstInstr.TheVariants as constant
-use Rattle.smith_types.specs.Expressions.{IsStructAt}
+use Rattle.smith_check_module.proofs.Common.{arith, IsStructAt, subst}
+use Rattle.smith_types.specs.Syntax.const_instr.ConstInstr.TheVariants as constant
 use Rattle.smith_check_module.specs.ConstScopes.{context_of}
 use Rattle.smith_check_module.specs.Typings.{HasNoStruct}
 use Rattle.smith_check_module.proofs.AggregateLemmas.{struct_more, struct_none, struct_only}

@@ -1,11 +1,6 @@
-use Rattle.std.proofs.Common.{◌≡◌, ◌∙◌, ℕ, ◌+◌, List, ap, length, subst, sym}
-use Rattle.smith_syntax.specs.FeatureBits.{features_in}
-use Rattle.smith_syntax.specs.declared.entity_type.GlobalType.{GlobalType}
-use Rattle.smith_types.specs.EntitySpaces.{spaces_in}
+use Rattle.smith_check_module.proofs.Common.{ap, AreTypesValid, EntitySpaces, features_in, GlobalType, imported_spaces, length, List}
+use Rattle.smith_check_module.proofs.Common.{spaces_in, subst, sym, syntax_of, ℕ, ◌+◌, ◌∙◌, ◌≡◌}
 use Rattle.smith_types.specs.GroupedTypes.{GroupedTypes}
-use Rattle.smith_types.specs.Imports.{EntitySpaces, imported_spaces}
-use Rattle.smith_types.specs.ValidTypes.{AreTypesValid}
-use Rattle.smith_decode.specs.Modules.{syntax_of}
 use Rattle.smith_check_types.proofs.CheckLemmas.{section_valid}
 use Rattle.smith_check_module.specs.Contexts.{spaces_in as spaces_of_module}
 use Rattle.smith_check_module.proofs.SectionLemmas.{decided}

@@ -1,6 +1,5 @@
-use Rattle.std.proofs.Common.{get_or, refl, subst, take_all}
+use Rattle.smith_check_module.proofs.Common.{All-more, get_or, refl, subst, take_all}
 use Rattle.std.specs.List.{All}
-use Rattle.std.proofs.lemmas.List.Elements.{All-more}
 use Rattle.smith_check_module.specs.Judges.{AreRight}
 use Rattle.smith_check_module.specs.SectionFaults.{parts}
 use Rattle.smith_check_module.specs.declared.faults.Part.TheVariants as part

@@ -1,4 +1,4 @@
-use Rattle.std.proofs.Common.{take}
+use Rattle.smith_check_module.proofs.Common.{take}
 use Rattle.std.specs.List.{All}
 use Rattle.smith_check_module.specs.Judges.{AreRight}
 use Rattle.smith_check_module.proofs.check.first_fault.Given as goal

@@ -1,4 +1,4 @@
-use Rattle.std.proofs.Common.{◌∙◌, [], ◌∷◌, ap}
+use Rattle.smith_check_module.proofs.Common.{[], ap, ◌∙◌, ◌∷◌}
 use Rattle.smith_check_module.specs.ConstScopes.{context_of}
 use Rattle.smith_check_module.proofs.ConversionLemmas.{apart_last, best_last, no_value, number_last, same_conversion}
 use Rattle.smith_check_module.proofs.StackLemmas.{is_none, is_some}

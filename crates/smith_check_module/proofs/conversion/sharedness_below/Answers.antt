@@ -1,6 +1,5 @@
-use Rattle.std.proofs.Common.{◌∙◌, sym, true, false}
-use Rattle.std.proofs.lemmas.Bool.{false≢true}
-use Rattle.smith_syntax.specs.declared.value_type.HeapType.TheVariants.{Abstract}
+use Rattle.smith_check_module.proofs.Common.{false, false≢true, sym, true, ◌∙◌}
+use Rattle.smith_types.specs.Syntax.value_type.HeapType.TheVariants.{Abstract}
 use Rattle.smith_types.specs.Subtyping.{IsBelow}
 use Rattle.smith_check_module.proofs.conversion.sharedness_below.Goals as goal
 

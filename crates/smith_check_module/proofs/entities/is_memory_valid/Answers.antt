@@ -1,5 +1,4 @@
-use Rattle.smith_syntax.specs.FeatureBits.{features_in}
-use Rattle.smith_types.specs.Entities.{IsMemoryValid}
+use Rattle.smith_check_module.proofs.Common.{features_in, IsMemoryValid}
 use Rattle.smith_check_module.proofs.RightLemmas.{one_decided}
 use Rattle.smith_check_module.proofs.entities.is_memory_valid.Goals as goal
 

@@ -1,5 +1,4 @@
-use Rattle.smith_syntax.specs.FeatureBits.{features_in}
-use Rattle.smith_types.specs.Entities.{IsTableValid}
+use Rattle.smith_check_module.proofs.Common.{features_in, IsTableValid}
 use Rattle.smith_check_module.proofs.RightLemmas.{one_decided}
 use Rattle.smith_check_module.proofs.entities.is_table_valid.Goals as goal
 

@@ -1,11 +1,9 @@
-use Rattle.std.proofs.Common.{◌≡◌, ◌↔◌, ◌∙◌, ℕ, Bor, List, Some, ap, arith, cond, false, length, map, subst, sym, true}
-use Rattle.std.specs.Prelude.{IsTrue, slice_get}
-use Rattle.std.specs.Str.{bytes_eq}
+use Rattle.smith_check_module.proofs.Common.{ap, arith, bytes_eq, cond, export_triple, false, false≢true, IsTrue, length, length-map, List}
+use Rattle.smith_check_module.proofs.Common.{map, slice_get, Some, subst, sym, true, ℕ, ◌↔◌, ◌∙◌, ◌≡◌}
+use Rattle.std.proofs.Common.{Bor}
 use Rattle.std.specs.HashSet.{contains}
-use Rattle.std.proofs.lemmas.List.{length-map}
-use Rattle.std.proofs.lemmas.Bool.{false≢true, not-false, not-true}
+use Rattle.std.proofs.lemmas.Bool.{not-false, not-true}
 use Rattle.smith_binary_read.specs.declared.exports.Export.{Export}
-use Rattle.smith_decode.specs.Modules.{export_triple}
 use Rattle.smith_check_module.specs.Judges.{IsFirstRepeated}
 use Rattle.smith_check_module.proofs.RepeatedLemmas.{AreNew, IsNameUsed, new_next, none_old, none_repeated}
 use Rattle.smith_check_module.proofs.RepeatedLemmas.{none_used, repeated_here, used_next}

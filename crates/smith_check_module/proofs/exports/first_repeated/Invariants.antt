@@ -1,8 +1,6 @@
-use Rattle.std.proofs.Common.{◌↔◌, List, ℕ, Bor, map}
-use Rattle.std.specs.Prelude.{IsTrue}
-use Rattle.std.specs.Str.{bytes_eq}
+use Rattle.smith_check_module.proofs.Common.{bytes_eq, export_triple, IsTrue, List, map, ℕ, ◌↔◌}
+use Rattle.std.proofs.Common.{Bor}
 use Rattle.std.specs.HashSet.{contains}
-use Rattle.smith_decode.specs.Modules.{export_triple}
 use Rattle.smith_check_module.proofs.RepeatedLemmas.{IsNameUsed, AreNew}
 use Rattle.smith_check_module.proofs.exports.first_repeated.Given as goal
 

@@ -1,5 +1,5 @@
 use Rattle.std.proofs.Common.{rules}
-use Rattle.smith_types.specs.EntitySpaces.{spaces_in}
+use Rattle.smith_check_module.proofs.Common.{spaces_in}
 use Rattle.smith_validity.proofs.StandingEntityLemmas.{entity_there, entity_within}
 use Rattle.smith_check_module.proofs.exports.is_entity_at.Goals as goal
 

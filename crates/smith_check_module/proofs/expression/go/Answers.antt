@@ -1,8 +1,4 @@
-use Rattle.std.proofs.Common.{◌∙◌, subst, sym}
-use Rattle.std.specs.Prelude.{IfOk, MatchBool}
-use Rattle.std.proofs.lemmas.Bool.{false≢true}
-use Rattle.smith_types.specs.Flags.{IsInstrEnabled}
-use Rattle.smith_syntax.specs.FeatureBits.{features_in}
+use Rattle.smith_check_module.proofs.Common.{false≢true, features_in, IfOk, IsInstrEnabled, MatchBool, subst, sym, ◌∙◌}
 use Rattle.smith_check_module.specs.ConstScopes.{context_of}
 use Rattle.smith_check_module.specs.Typings.{HasNoStep, IsBestStep}
 use Rattle.smith_check_module.proofs.ExpressionLemmas.{gone, stops_off, stops_other}

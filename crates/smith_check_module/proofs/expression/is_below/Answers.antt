@@ -1,6 +1,4 @@
-use Rattle.std.proofs.Common.{◌∙◌, subst, sym}
-use Rattle.std.proofs.lemmas.Bool.{false≢true}
-use Rattle.smith_types.specs.Subtyping.{IsValInRange}
+use Rattle.smith_check_module.proofs.Common.{false≢true, IsValInRange, subst, sym, ◌∙◌}
 use Rattle.smith_check_module.proofs.SignatureLemmas.{above_value}
 use Rattle.smith_check_module.proofs.expression.is_below.Goals as goal
 

@@ -1,8 +1,5 @@
-use Rattle.std.proofs.Common.{◌≡◌, [], ◌∷◌, subst, sym}
-use Rattle.std.specs.Prelude.{MatchBool}
-use Rattle.std.proofs.lemmas.List.Elements.{All-nil, All-same}
-use Rattle.smith_syntax.specs.declared.value_type.ValType.{ValType}
-use Rattle.smith_types.specs.Subtyping.{IsValBelow, IsValInRange}
+use Rattle.smith_check_module.proofs.Common.{[], All-nil, IsValBelow, IsValInRange, MatchBool, subst, sym, ValType, ◌∷◌, ◌≡◌}
+use Rattle.std.proofs.lemmas.List.Elements.{All-same}
 use Rattle.smith_check_module.specs.ConstInstrs.{Goes, Stops}
 use Rattle.smith_check_module.specs.ConstScopes.{context_of}
 use Rattle.smith_check_module.proofs.ExpressionLemmas.{begun, finished, onward, stopped}

@@ -1,6 +1,5 @@
-use Rattle.std.proofs.Common.{◌↔◌, drop}
+use Rattle.smith_check_module.proofs.Common.{drop, IsValInRange, ◌↔◌}
 use Rattle.std.specs.List.{All}
-use Rattle.smith_types.specs.Subtyping.{IsValInRange}
 use Rattle.smith_check_module.specs.ConstScopes.{context_of}
 use Rattle.smith_check_module.specs.ValidModules.{IsConstant}
 use Rattle.smith_check_module.proofs.ExpressionLemmas.{IsRest}

@@ -1,4 +1,4 @@
-use Rattle.std.proofs.Common.{take}
+use Rattle.smith_check_module.proofs.Common.{take}
 use Rattle.std.specs.List.{All}
 use Rattle.smith_check_module.specs.ConstScopes.{context_of}
 use Rattle.smith_check_module.specs.Items.{IsItemValid}

@@ -1,7 +1,4 @@
-use Rattle.std.proofs.Common.{refl, take_all, subst}
-use Rattle.std.specs.Prelude.{All}
-use Rattle.std.proofs.lemmas.List.Elements.{All-more}
-use Rattle.smith_types.specs.Segments.{IsItem}
+use Rattle.smith_check_module.proofs.Common.{All, All-more, IsItem, refl, subst, take_all}
 use Rattle.smith_check_module.specs.ConstScopes.{context_of}
 use Rattle.smith_check_module.proofs.segments.are_functions_valid.Goals as goal
 

@@ -1,6 +1,5 @@
-use Rattle.std.proofs.Common.{take}
+use Rattle.smith_check_module.proofs.Common.{IsItem, take}
 use Rattle.std.specs.List.{All}
-use Rattle.smith_types.specs.Segments.{IsItem}
 use Rattle.smith_check_module.specs.ConstScopes.{context_of}
 use Rattle.smith_check_module.proofs.segments.are_functions_valid.Given as goal
 

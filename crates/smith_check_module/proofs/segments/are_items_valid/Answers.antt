@@ -1,8 +1,5 @@
-use Rattle.std.proofs.Common.{ℕ, List, subst, sym}
-use Rattle.std.specs.Prelude.{All}
+use Rattle.smith_check_module.proofs.Common.{All, Instr, IsItem, List, subst, sym, ℕ}
 use Rattle.std.proofs.lemmas.Result.{IfOk-weaker}
-use Rattle.smith_instr.specs.declared.instr.Instr.{Instr}
-use Rattle.smith_types.specs.Segments.{IsItem}
 use Rattle.smith_decode.specs.ElementReadings.{items_view}
 use Rattle.smith_decode.specs.declared.elements.ElementItems.{ElementItems}
 use Rattle.smith_check_module.specs.ConstScopes.{context_of}

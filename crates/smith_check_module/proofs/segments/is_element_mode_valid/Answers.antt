@@ -1,5 +1,4 @@
-use Rattle.std.proofs.lemmas.Option.{slice_get_past}
-use Rattle.smith_types.specs.EntitySpaces.{spaces_in}
+use Rattle.smith_check_module.proofs.Common.{slice_get_past, spaces_in}
 use Rattle.smith_check_module.specs.ConstScopes.{context_of}
 use Rattle.smith_check_module.proofs.SegmentLemmas.{element_decided, no_table}
 use Rattle.smith_check_module.proofs.segments.is_element_mode_valid.Goals as goal

@@ -1,9 +1,8 @@
-use Rattle.std.proofs.Common.{◌≡◌, ◌↔◌, ℕ, [], ◌∷◌, rules, subst, sym}
-use Rattle.std.specs.Prelude.{IsTrue}
+use Rattle.smith_check_module.proofs.Common.{[], IsItem, IsTrue, subst, sym, ℕ, ◌↔◌, ◌∷◌, ◌≡◌}
+use Rattle.std.proofs.Common.{rules}
 use Rattle.std.proofs.lemmas.Result.{IfOk-weaker}
 use Rattle.smith_instr.specs.declared.instr.Instr.TheVariants.{Reference}
 use Rattle.smith_instr.specs.declared.reference.ReferenceInstr.TheVariants.{Func}
-use Rattle.smith_types.specs.Segments.{IsItem}
 use Rattle.smith_check_module.specs.ConstScopes.{context_of}
 use Rattle.smith_check_module.proofs.ItemLemmas.{function_decided, item_decided, only_item}
 use Rattle.smith_check_module.proofs.segments.is_expression_valid.Goals as goal

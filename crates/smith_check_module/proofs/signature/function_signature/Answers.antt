@@ -1,5 +1,5 @@
-use Rattle.std.proofs.Common.{sym}
-use Rattle.smith_syntax.specs.declared.const_instr.ConstInstr.TheVariants as constant
+use Rattle.smith_check_module.proofs.Common.{sym}
+use Rattle.smith_types.specs.Syntax.const_instr.ConstInstr.TheVariants as constant
 use Rattle.smith_check_module.specs.ConstScopes.{context_of}
 use Rattle.smith_check_module.proofs.SignatureLemmas.{func_none, func_only, same_only}
 use Rattle.smith_check_module.proofs.signature.function_signature.Goals as goal

@@ -1,5 +1,5 @@
-use Rattle.std.proofs.Common.{refl, sym, arith}
-use Rattle.smith_syntax.specs.declared.const_instr.ConstInstr.TheVariants as constant
+use Rattle.smith_check_module.proofs.Common.{arith, refl, sym}
+use Rattle.smith_types.specs.Syntax.const_instr.ConstInstr.TheVariants as constant
 use Rattle.smith_check_module.specs.ConstScopes.{context_of}
 use Rattle.smith_check_module.proofs.SignatureLemmas.{global_missing, global_none, global_only, global_unseen, same_only}
 use Rattle.smith_check_module.proofs.signature.global_signature.Goals as goal

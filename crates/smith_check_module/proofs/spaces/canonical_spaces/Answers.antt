@@ -1,5 +1,4 @@
-use Rattle.smith_types.specs.EntitySpaces.{spaces_in}
-use Rattle.smith_types.specs.Imports.{EntitySpaces}
+use Rattle.smith_check_module.proofs.Common.{EntitySpaces, spaces_in}
 use Rattle.smith_check_module.proofs.SpaceLemmas.{spaces_same}
 use Rattle.smith_check_module.proofs.spaces.canonical_spaces.Goals as goal
 

@@ -1,4 +1,4 @@
-use Rattle.smith_check_types.specs.TypeSections.{canonical_index}
+use Rattle.smith_check_module.proofs.Common.{canonical_index}
 use Rattle.smith_check_module.proofs.SpaceLemmas.{two_mapped}
 use Rattle.smith_check_module.proofs.spaces.funcs_of.Goals as goal
 

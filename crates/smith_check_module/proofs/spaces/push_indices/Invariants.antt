@@ -1,5 +1,4 @@
-use Rattle.std.proofs.Common.{◌≡◌, ◌++◌, map, take}
-use Rattle.smith_check_types.specs.TypeSections.{canonical_index}
+use Rattle.smith_check_module.proofs.Common.{canonical_index, map, take, ◌++◌, ◌≡◌}
 use Rattle.smith_check_module.proofs.spaces.push_indices.Given as goal
 
 abbrev pub invariant-loop-item : goal.invariant-loop-item

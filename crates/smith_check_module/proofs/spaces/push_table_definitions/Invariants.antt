@@ -1,7 +1,6 @@
-use Rattle.std.proofs.Common.{◌≡◌, ◌++◌, map, take}
+use Rattle.smith_check_module.proofs.Common.{canonical_index, map, take, ◌++◌, ◌≡◌}
 use Rattle.smith_check_module.specs.CanonicalModules.{renamed_table}
 use Rattle.smith_check_module.specs.Judges.{table_type}
-use Rattle.smith_check_types.specs.TypeSections.{canonical_index}
 use Rattle.smith_check_module.proofs.spaces.push_table_definitions.Given as goal
 
 abbrev pub invariant-loop-item : goal.invariant-loop-item

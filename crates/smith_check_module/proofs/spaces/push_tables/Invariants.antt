@@ -1,6 +1,5 @@
-use Rattle.std.proofs.Common.{◌≡◌, ◌++◌, map, take}
+use Rattle.smith_check_module.proofs.Common.{canonical_index, map, take, ◌++◌, ◌≡◌}
 use Rattle.smith_check_module.specs.CanonicalModules.{renamed_table}
-use Rattle.smith_check_types.specs.TypeSections.{canonical_index}
 use Rattle.smith_check_module.proofs.spaces.push_tables.Given as goal
 
 abbrev pub invariant-loop-item : goal.invariant-loop-item

@@ -1,6 +1,4 @@
-use Rattle.std.proofs.Common.{◌≡◌, ◌++◌, map, take}
-use Rattle.smith_decode.specs.Modules.{tag_index}
-use Rattle.smith_check_types.specs.TypeSections.{canonical_index}
+use Rattle.smith_check_module.proofs.Common.{canonical_index, map, tag_index, take, ◌++◌, ◌≡◌}
 use Rattle.smith_check_module.proofs.spaces.push_tags.Given as goal
 
 abbrev pub invariant-loop-item : goal.invariant-loop-item

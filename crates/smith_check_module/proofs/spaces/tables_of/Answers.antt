@@ -1,7 +1,6 @@
-use Rattle.std.proofs.Common.{map}
+use Rattle.smith_check_module.proofs.Common.{canonical_index, map}
 use Rattle.smith_check_module.specs.CanonicalModules.{renamed_table}
 use Rattle.smith_check_module.specs.Judges.{table_type}
-use Rattle.smith_check_types.specs.TypeSections.{canonical_index}
 use Rattle.smith_check_module.proofs.SpaceLemmas.{two_mapped}
 use Rattle.smith_check_module.proofs.spaces.tables_of.Goals as goal
 

@@ -1,6 +1,4 @@
-use Rattle.std.proofs.Common.{map}
-use Rattle.smith_decode.specs.Modules.{tag_index}
-use Rattle.smith_check_types.specs.TypeSections.{canonical_index}
+use Rattle.smith_check_module.proofs.Common.{canonical_index, map, tag_index}
 use Rattle.smith_check_module.proofs.SpaceLemmas.{two_mapped}
 use Rattle.smith_check_module.proofs.spaces.tags_of.Goals as goal
 

@@ -1,5 +1,4 @@
-use Rattle.std.proofs.Common.{◌-◌, ◌∙◌, ◌++◌, [], ◌∷◌, ap, arith, sym}
-use Rattle.std.proofs.lemmas.Bool.{false≢true}
+use Rattle.smith_check_module.proofs.Common.{[], ap, arith, false≢true, sym, ◌++◌, ◌-◌, ◌∙◌, ◌∷◌}
 use Rattle.smith_check_module.specs.ConstScopes.{context_of}
 use Rattle.smith_check_module.proofs.StepLemmas.{apart, applied, part_stands, short}
 use Rattle.smith_check_module.proofs.step.apply.Goals as goal

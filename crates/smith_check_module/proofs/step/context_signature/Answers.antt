@@ -1,5 +1,5 @@
-use Rattle.std.proofs.Common.{length, refl}
-use Rattle.smith_syntax.specs.declared.const_instr.ConstInstr.TheVariants as constant
+use Rattle.smith_check_module.proofs.Common.{length, refl}
+use Rattle.smith_types.specs.Syntax.const_instr.ConstInstr.TheVariants as constant
 use Rattle.smith_check_module.specs.ConstScopes.{context_of}
 use Rattle.smith_check_module.proofs.StepLemmas.{answered, answered_more, answered_result, converts_any, converts_extern, nothing_else}
 use Rattle.smith_check_module.proofs.step.context_signature.Goals as goal

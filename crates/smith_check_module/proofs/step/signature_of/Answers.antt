@@ -1,4 +1,4 @@
-use Rattle.std.proofs.Common.{◌∙◌, sym}
+use Rattle.smith_check_module.proofs.Common.{sym, ◌∙◌}
 use Rattle.smith_check_module.specs.ConstScopes.{context_of}
 use Rattle.smith_check_module.proofs.SignatureLemmas.{best_from_only, fixed_only}
 use Rattle.smith_check_module.proofs.step.signature_of.Goals as goal

@@ -1,5 +1,4 @@
-use Rattle.std.proofs.Common.{subst}
-use Rattle.std.specs.Prelude.{MatchOption}
+use Rattle.smith_check_module.proofs.Common.{MatchOption, subst}
 use Rattle.smith_check_module.specs.ConstScopes.{context_of}
 use Rattle.smith_check_module.specs.Typings.{IsBest, TakesNothing}
 use Rattle.smith_check_module.proofs.StepLemmas.{no_step, stepped}

@@ -1,4 +1,4 @@
-use Rattle.std.proofs.Common.{◌↔◌, drop}
+use Rattle.smith_check_operands.proofs.Common.{drop, ◌↔◌}
 use Rattle.smith_check_operands.specs.Fits.{AreFit}
 use Rattle.smith_check_operands.proofs.below.slots_fit.Given as goal
 

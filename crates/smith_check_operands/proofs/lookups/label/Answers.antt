@@ -1,5 +1,4 @@
-use Rattle.std.proofs.Common.{◌∙◌, ap, sym, arith}
-use Rattle.std.specs.Prelude.{Some}
+use Rattle.smith_check_operands.proofs.Common.{ap, arith, Some, sym, ◌∙◌}
 use Rattle.smith_check_operands.specs.declared.frame.Frame.{Frame}
 use Rattle.smith_check_operands.specs.Closes.{label_of}
 use Rattle.smith_check_operands.proofs.LabelLemmas.{label_at}

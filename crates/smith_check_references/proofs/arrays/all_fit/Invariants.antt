@@ -1,7 +1,6 @@
-use Rattle.std.proofs.Common.{◌↔◌, drop}
+use Rattle.smith_check_references.proofs.Common.{drop, IsBelow, Value}
+use Rattle.std.proofs.Common.{◌↔◌}
 use Rattle.std.specs.List.{AllByRecursion as Each}
-use Rattle.smith_check_rules.specs.Slots.{IsBelow}
-use Rattle.smith_check_rules.specs.declared.slot.Slot.TheVariants.{Value}
 use Rattle.smith_check_references.proofs.arrays.all_fit.Given as goal
 
 abbrev pub invariant-loop-i : goal.invariant-loop-i

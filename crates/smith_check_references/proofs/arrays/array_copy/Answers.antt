@@ -1,14 +1,7 @@
-use Rattle.std.proofs.Common.{◌∙◌, sym, refl, subst, [], ◌∷◌}
-use Rattle.std.proofs.lemmas.Bool.{false≢true}
-use Rattle.smith_syntax.specs.declared.value_type.ValType.TheVariants.{I32}
-use Rattle.smith_syntax.specs.declared.value_type.HeapType.TheVariants.{Concrete}
-use Rattle.smith_syntax.specs.declared.composite_type.FieldType.{FieldType}
-use Rattle.smith_instr.specs.Contexts.{nullable_to}
+use Rattle.smith_check_references.proofs.Common.{[], bare, Concrete, false≢true, FieldType, held, I32, nullable_to, refl, subst, sym}
+use Rattle.smith_check_references.proofs.Common.{tried_values, ◌∙◌, ◌∷◌}
 use Rattle.smith_instr.specs.declared.instr.Instr.TheVariants as instr
 use Rattle.smith_instr.specs.declared.aggregate.AggregateInstr.TheVariants as aggregate
-use Rattle.smith_check_operands.proofs.StepLemmas.{tried_values}
-use Rattle.smith_check_operands.specs.Covers.{held}
-use Rattle.smith_check_operands.specs.Scopes.{bare}
 use Rattle.smith_check_references.proofs.TableLemmas.{ranges_as}
 use Rattle.smith_check_references.proofs.AggregateLemmas.{array_same, element_in_range, array_inside}
 use Rattle.smith_types.specs.Matching.{IsStorageMatch}

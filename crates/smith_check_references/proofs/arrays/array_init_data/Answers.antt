@@ -1,16 +1,8 @@
-use Rattle.std.proofs.Common.{◌∙◌, ap, sym, refl, subst, [], ◌∷◌, arith}
-use Rattle.std.proofs.lemmas.Bool.{false≢true}
-use Rattle.smith_syntax.specs.declared.value_type.ValType.{ValType}
-use Rattle.smith_syntax.specs.declared.value_type.ValType.TheVariants.{I32}
-use Rattle.smith_syntax.specs.declared.value_type.HeapType.TheVariants.{Concrete}
-use Rattle.smith_syntax.specs.declared.composite_type.FieldType.{FieldType}
+use Rattle.smith_check_references.proofs.Common.{[], ap, arith, bare, Concrete, false≢true, FieldType, held, I32, nullable_to, refl, subst}
+use Rattle.smith_check_references.proofs.Common.{sym, To, tried_values, ValType, ◌∙◌, ◌∷◌}
 use Rattle.smith_instr.specs.AggregateTypes.{IsOfBytes}
-use Rattle.smith_instr.specs.Contexts.{To, nullable_to}
 use Rattle.smith_instr.specs.declared.instr.Instr.TheVariants as instr
 use Rattle.smith_instr.specs.declared.aggregate.AggregateInstr.TheVariants as aggregate
-use Rattle.smith_check_operands.proofs.StepLemmas.{tried_values}
-use Rattle.smith_check_operands.specs.Covers.{held}
-use Rattle.smith_check_operands.specs.Scopes.{bare}
 use Rattle.smith_check_references.proofs.TableLemmas.{ranges_as}
 use Rattle.smith_check_references.proofs.AggregateLemmas.{array_same, array_inside}
 use Rattle.smith_check_references.proofs.arrays.array_init_data.Goals as goal

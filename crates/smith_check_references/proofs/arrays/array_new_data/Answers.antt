@@ -1,13 +1,8 @@
-use Rattle.std.proofs.Common.{◌∙◌, sym, refl, subst, [], ◌∷◌, arith, inr}
-use Rattle.std.proofs.lemmas.Bool.{false≢true}
-use Rattle.smith_syntax.specs.declared.value_type.ValType.TheVariants.{I32}
-use Rattle.smith_syntax.specs.declared.composite_type.FieldType.{FieldType}
+use Rattle.smith_check_references.proofs.Common.{[], arith, bare, created_reference, false≢true, FieldType, held, I32, inr, refl, subst}
+use Rattle.smith_check_references.proofs.Common.{sym, To, ◌∙◌, ◌∷◌}
 use Rattle.smith_instr.specs.AggregateTypes.{IsOfBytes}
-use Rattle.smith_instr.specs.Contexts.{To, created_reference}
 use Rattle.smith_instr.specs.declared.instr.Instr.TheVariants as instr
 use Rattle.smith_instr.specs.declared.aggregate.AggregateInstr.TheVariants as aggregate
-use Rattle.smith_check_operands.specs.Covers.{held}
-use Rattle.smith_check_operands.specs.Scopes.{bare}
 use Rattle.smith_check_references.proofs.RowLemmas.{tried_row}
 use Rattle.smith_check_references.proofs.TableLemmas.{ranges_as}
 use Rattle.smith_check_references.proofs.AggregateLemmas.{array_same}

@@ -1,14 +1,7 @@
-use Rattle.std.proofs.Common.{◌∙◌, ap, sym, refl, subst, [], ◌∷◌, inr}
-use Rattle.std.proofs.lemmas.Bool.{false≢true}
-use Rattle.smith_syntax.specs.declared.value_type.ValType.TheVariants.{I32}
-use Rattle.smith_syntax.specs.declared.composite_type.FieldType.{FieldType}
-use Rattle.smith_types.specs.Expressions.{IsDefaultable}
-use Rattle.smith_instr.specs.AggregateTypes.{value_of}
-use Rattle.smith_instr.specs.Contexts.{To, created_reference}
+use Rattle.smith_check_references.proofs.Common.{[], ap, bare, created_reference, false≢true, FieldType, held, I32, inr, IsDefaultable}
+use Rattle.smith_check_references.proofs.Common.{refl, subst, sym, To, value_of, ◌∙◌, ◌∷◌}
 use Rattle.smith_instr.specs.declared.instr.Instr.TheVariants as instr
 use Rattle.smith_instr.specs.declared.aggregate.AggregateInstr.TheVariants as aggregate
-use Rattle.smith_check_operands.specs.Covers.{held}
-use Rattle.smith_check_operands.specs.Scopes.{bare}
 use Rattle.smith_check_references.proofs.RowLemmas.{tried_row}
 use Rattle.smith_check_references.proofs.TableLemmas.{ranges_as}
 use Rattle.smith_check_references.proofs.AggregateLemmas.{array_same}

@@ -1,16 +1,10 @@
-use Rattle.std.proofs.Common.{◌∙◌, sym, refl, subst, [], ◌∷◌, inr}
-use Rattle.std.proofs.lemmas.Bool.{false≢true}
-use Rattle.smith_syntax.specs.declared.value_type.ValType.TheVariants.{I32}
-use Rattle.smith_syntax.specs.declared.composite_type.FieldType.{FieldType}
-use Rattle.smith_instr.specs.Contexts.{To, created_reference}
+use Rattle.smith_check_references.proofs.Common.{[], bare, created_reference, false≢true, FieldType, held, I32, inr, IsElemOf, refl, subst}
+use Rattle.smith_check_references.proofs.Common.{sym, To, ◌∙◌, ◌∷◌}
 use Rattle.smith_instr.specs.declared.instr.Instr.TheVariants as instr
 use Rattle.smith_instr.specs.declared.aggregate.AggregateInstr.TheVariants as aggregate
-use Rattle.smith_check_operands.specs.Covers.{held}
-use Rattle.smith_check_operands.specs.Scopes.{bare}
 use Rattle.smith_check_references.proofs.RowLemmas.{tried_row}
 use Rattle.smith_check_references.proofs.TableLemmas.{ranges_as}
 use Rattle.smith_check_references.proofs.AggregateLemmas.{array_same, array_valid, elem_without, elem_within}
-use Rattle.smith_instr.specs.AggregateTypes.{IsElemOf}
 use Rattle.smith_check_references.proofs.arrays.array_new_elem.Goals as goal
 
 pub create-requires-clause-expected : goal.create-requires-clause-expected

@@ -1,19 +1,10 @@
-use Rattle.std.proofs.Common.{ap, sym, refl, subst, [], ◌∷◌, inr}
-use Rattle.std.specs.Prelude.{replicate}
-use Rattle.smith_syntax.specs.declared.value_type.ValType.{ValType}
-use Rattle.smith_syntax.specs.declared.composite_type.FieldType.{FieldType}
-use Rattle.smith_types.specs.Subtyping.{IsValInRange}
-use Rattle.smith_instr.specs.AggregateTypes.{value_of}
-use Rattle.smith_instr.specs.Contexts.{To, created_reference}
+use Rattle.smith_check_references.proofs.Common.{[], ap, bare, created_reference, FieldType, held, in_range, inr, IsValInRange, Ok, refl}
+use Rattle.smith_check_references.proofs.Common.{replicate, subst, sym, To, ValType, value_of, values, ◌∷◌}
 use Rattle.smith_instr.specs.declared.instr.Instr.TheVariants as instr
 use Rattle.smith_instr.specs.declared.aggregate.AggregateInstr.TheVariants as aggregate
-use Rattle.smith_check_rules.specs.Slots.{values}
-use Rattle.smith_check_operands.proofs.RangeLemmas.{in_range}
-use Rattle.smith_check_operands.specs.Covers.{held}
-use Rattle.smith_check_operands.specs.Scopes.{bare}
 use Rattle.smith_check_references.proofs.RowLemmas.{tried_row, unpopped, popped_given}
 use Rattle.smith_check_references.proofs.AggregateLemmas.{array_same, array_valid}
-use Rattle.std.specs.Prelude.{Ok, false}
+use Rattle.std.specs.Prelude.{false}
 use Rattle.smith_check_references.proofs.arrays.array_new_fixed.Goals as goal
 
 pub push_created-requires-clause-aggregate : goal.push_created-requires-clause-aggregate

@@ -1,13 +1,6 @@
-use Rattle.std.proofs.Common.{◌∙◌, sym, [], ◌∷◌}
-use Rattle.std.proofs.lemmas.Bool.{false≢true}
-use Rattle.smith_syntax.specs.declared.value_type.ValType.TheVariants.{I32}
-use Rattle.smith_syntax.specs.declared.value_type.HeapType.TheVariants.{Abstract}
-use Rattle.smith_syntax.specs.declared.value_type.AbstractHeapType.TheVariants as abstract
-use Rattle.smith_types.specs.Expressions.{reference_to}
-use Rattle.smith_check_rules.specs.Slots.{values}
+use Rattle.smith_check_references.proofs.Common.{[], Abstract, bare, false≢true, held, I32, reference_to, sym, values, ◌∙◌, ◌∷◌}
+use Rattle.smith_types.specs.Syntax.value_type.AbstractHeapType.TheVariants as abstract
 use Rattle.smith_check_operands.proofs.RangeLemmas.{one_in_range}
-use Rattle.smith_check_operands.specs.Covers.{held}
-use Rattle.smith_check_operands.specs.Scopes.{bare}
 use Rattle.smith_check_references.proofs.RowLemmas.{unpopped, popped_given, ungiven}
 use Rattle.smith_check_references.proofs.OfferLemmas.{without_heap}
 use Rattle.smith_check_references.proofs.HierarchyLemmas.{i31_from_above}

@@ -1,7 +1,4 @@
-use Rattle.std.proofs.Common.{◌-◌, ◌∙◌, sym, arith}
-use Rattle.std.specs.Prelude.{replicate}
-use Rattle.std.proofs.lemmas.Bool.{false≢true}
-use Rattle.smith_check_operands.specs.Scopes.{bare}
+use Rattle.smith_check_references.proofs.Common.{arith, bare, false≢true, replicate, sym, ◌-◌, ◌∙◌}
 use Rattle.std.proofs.lemmas.List.{length-replicate}
 use Rattle.smith_check_operands.proofs.FitLemmas.{refused_short}
 use Rattle.smith_check_operands.proofs.RangeLemmas.{slots_part, slots_whole}

@@ -1,10 +1,4 @@
-use Rattle.std.proofs.Common.{◌∙◌, sym}
-use Rattle.std.proofs.lemmas.Bool.{false≢true}
-use Rattle.smith_syntax.specs.declared.value_type.ValType.TheVariants.{I32}
-use Rattle.smith_check_operands.proofs.StepLemmas.{one_valid}
-use Rattle.smith_check_operands.specs.Covers.{held}
-use Rattle.smith_check_operands.specs.Scopes.{bare}
-use Rattle.smith_check_rules.specs.declared.slot.Slot.TheVariants.{Value}
+use Rattle.smith_check_references.proofs.Common.{bare, false≢true, held, I32, one_valid, sym, Value, ◌∙◌}
 use Rattle.smith_check_references.proofs.RowLemmas.{none_topped, none_fits, one_applied}
 use Rattle.smith_check_references.proofs.ChoiceLemmas.{either_read, either_not_read, top_in_range}
 use Rattle.smith_check_references.specs.Choices.{ReadsEither}

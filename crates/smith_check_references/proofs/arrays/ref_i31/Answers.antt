@@ -1,12 +1,7 @@
-use Rattle.std.proofs.Common.{refl, [], ◌∷◌}
-use Rattle.smith_syntax.specs.declared.value_type.ValType.TheVariants.{I32}
-use Rattle.smith_syntax.specs.declared.value_type.HeapType.TheVariants.{Abstract}
-use Rattle.smith_syntax.specs.declared.value_type.AbstractHeapType.TheVariants as abstract
-use Rattle.smith_types.specs.Expressions.{reference_to}
+use Rattle.smith_check_references.proofs.Common.{[], Abstract, bare, held, I32, reference_to, refl, ◌∷◌}
+use Rattle.smith_types.specs.Syntax.value_type.AbstractHeapType.TheVariants as abstract
 use Rattle.smith_instr.specs.declared.instr.Instr.TheVariants as instr
 use Rattle.smith_instr.specs.declared.aggregate.AggregateInstr.TheVariants as aggregate
-use Rattle.smith_check_operands.specs.Covers.{held}
-use Rattle.smith_check_operands.specs.Scopes.{bare}
 use Rattle.smith_check_references.proofs.RowLemmas.{tried_row}
 use Rattle.std.specs.Prelude.{false}
 use Rattle.smith_check_references.proofs.arrays.ref_i31.Goals as goal

@@ -1,15 +1,8 @@
-use Rattle.std.proofs.Common.{◌∙◌, ap, sym, [], ◌∷◌}
-use Rattle.std.proofs.lemmas.Bool.{false≢true}
-use Rattle.smith_syntax.specs.declared.value_type.ValType.{ValType}
-use Rattle.smith_syntax.specs.declared.value_type.ValType.TheVariants.{Ref}
-use Rattle.smith_instr.specs.Contexts.{nullable_to}
+use Rattle.smith_check_references.proofs.Common.{[], ap, bare, false≢true, heap_in_range, held, nullable_to, Ref, sym, ValType, values, ◌∙◌}
+use Rattle.smith_check_references.proofs.Common.{◌∷◌}
 use Rattle.smith_instr.specs.declared.instr.Instr.TheVariants as instr
-use Rattle.smith_check_rules.specs.Slots.{values}
-use Rattle.smith_check_operands.specs.Covers.{held}
-use Rattle.smith_check_operands.specs.Scopes.{bare}
 use Rattle.smith_check_references.proofs.TableLemmas.{ranges_as}
 use Rattle.smith_instr.specs.declared.reference.ReferenceInstr.TheVariants as reference
-use Rattle.smith_check_operands.proofs.RangeLemmas.{heap_in_range}
 use Rattle.smith_check_references.proofs.HierarchyLemmas.{top_valid}
 use Rattle.smith_check_references.proofs.CastLemmas.{cast_widest}
 use Rattle.smith_check_references.proofs.RowLemmas.{tried_widest}

@@ -1,9 +1,7 @@
-use Rattle.smith_syntax.specs.declared.value_type.AbstractHeapType.TheVariants as abstract
+use Rattle.smith_types.specs.Syntax.value_type.AbstractHeapType.TheVariants as abstract
 use Rattle.smith_instr.specs.declared.aggregate.AggregateInstr.TheVariants as aggregate
 use Rattle.smith_instr.specs.declared.instr.Instr.TheVariants as instr
-use Rattle.smith_check_rules.specs.StackTypes.{IsConverted}
-use Rattle.smith_check_operands.specs.Covers.{held}
-use Rattle.smith_check_operands.specs.Scopes.{bare}
+use Rattle.smith_check_references.proofs.Common.{bare, held, IsConverted}
 use Rattle.smith_check_references.proofs.ConversionLemmas.{inwards_row}
 use Rattle.smith_check_references.proofs.RowLemmas.{tried_one}
 use Rattle.smith_check_references.proofs.conversions.any_convert_extern.Goals as goal

@@ -1,6 +1,4 @@
-use Rattle.std.proofs.Common.{◌∙◌, sym}
-use Rattle.std.proofs.lemmas.Bool.{false≢true}
-use Rattle.smith_check_operands.specs.Scopes.{bare}
+use Rattle.smith_check_references.proofs.Common.{bare, false≢true, sym, ◌∙◌}
 use Rattle.smith_check_references.proofs.ConversionLemmas.{either_converted, none_converted}
 use Rattle.smith_check_references.proofs.conversions.conversion_in_dead_code.Goals as goal
 

@@ -1,10 +1,5 @@
-use Rattle.std.proofs.Common.{◌≡◌, ◌∙◌, ap, sym, subst}
+use Rattle.smith_check_references.proofs.Common.{ap, bare, IsConverted, Ref, subst, sym, ValType, Value, ◌∙◌, ◌≡◌}
 use Rattle.std.specs.Prelude.{MatchOption}
-use Rattle.smith_syntax.specs.declared.value_type.ValType.{ValType}
-use Rattle.smith_syntax.specs.declared.value_type.ValType.TheVariants.{Ref}
-use Rattle.smith_check_rules.specs.StackTypes.{IsConverted}
-use Rattle.smith_check_rules.specs.declared.slot.Slot.TheVariants.{Value}
-use Rattle.smith_check_operands.specs.Scopes.{bare}
 use Rattle.smith_check_references.specs.Rows.{HasNoneOf, IsLeastOf}
 use Rattle.smith_check_references.proofs.conversions.conversion_of.Goals as goal
 

@@ -1,8 +1,6 @@
-use Rattle.std.proofs.Common.{rules, ◌∙◌, sym, subst}
-use Rattle.std.proofs.lemmas.Bool.{false≢true}
+use Rattle.smith_check_references.proofs.Common.{Abstract, bare, false≢true, subst, sym, ◌∙◌}
+use Rattle.std.proofs.Common.{rules}
 use Rattle.smith_syntax.specs.contracts.value_type.AbstractHeapType.{the_type}
-use Rattle.smith_syntax.specs.declared.value_type.HeapType.TheVariants.{Abstract}
-use Rattle.smith_check_operands.specs.Scopes.{bare}
 use Rattle.smith_check_references.specs.Hierarchies.{IsTop}
 use Rattle.smith_check_references.proofs.ConversionLemmas.{reference_apart, reference_converted, reference_unconverted}
 use denote.Enum.Bare.{same_true, same_false}

@@ -1,6 +1,4 @@
-use Rattle.smith_check_rules.specs.StackTypes.{IsConverted}
-use Rattle.smith_check_operands.specs.Covers.{held}
-use Rattle.smith_check_operands.specs.Scopes.{bare}
+use Rattle.smith_check_references.proofs.Common.{bare, held, IsConverted}
 use Rattle.smith_check_references.proofs.RowLemmas.{none_topped, none_fits, one_applied, pushed_one}
 use Rattle.smith_check_references.proofs.conversions.convert.Goals as goal
 

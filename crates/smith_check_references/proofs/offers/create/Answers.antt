@@ -1,8 +1,4 @@
-use Rattle.std.proofs.Common.{[], ◌∷◌}
-use Rattle.smith_instr.specs.Contexts.{created_reference}
-use Rattle.smith_check_rules.specs.Slots.{values}
-use Rattle.smith_check_operands.specs.Covers.{held}
-use Rattle.smith_check_operands.specs.Scopes.{bare}
+use Rattle.smith_check_references.proofs.Common.{[], bare, created_reference, held, values, ◌∷◌}
 use Rattle.smith_check_references.proofs.RowLemmas.{unpopped, popped_given}
 use Rattle.smith_check_references.proofs.offers.create.Goals as goal
 

@@ -1,9 +1,4 @@
-use Rattle.std.proofs.Common.{◌∙◌, sym, [], ◌∷◌}
-use Rattle.std.proofs.lemmas.Bool.{false≢true}
-use Rattle.smith_check_rules.specs.Slots.{values}
-use Rattle.smith_check_operands.proofs.StepLemmas.{one_valid}
-use Rattle.smith_check_operands.specs.Covers.{held}
-use Rattle.smith_check_operands.specs.Scopes.{bare}
+use Rattle.smith_check_references.proofs.Common.{[], bare, false≢true, held, one_valid, sym, values, ◌∙◌, ◌∷◌}
 use Rattle.smith_check_references.proofs.RowLemmas.{ungiven, as_applied}
 use Rattle.smith_check_references.proofs.offers.give.Goals as goal
 

@@ -1,7 +1,4 @@
-use Rattle.std.proofs.Common.{◌∙◌, ap, sym}
-use Rattle.std.proofs.lemmas.Bool.{false≢true}
-use Rattle.smith_check_operands.specs.Scopes.{bare}
-use Rattle.std.specs.Prelude.{not}
+use Rattle.smith_check_references.proofs.Common.{ap, bare, false≢true, not, sym, ◌∙◌}
 use Rattle.smith_check_references.proofs.OfferLemmas.{offered, not_offered}
 use Rattle.smith_check_references.proofs.offers.offer.Goals as goal
 

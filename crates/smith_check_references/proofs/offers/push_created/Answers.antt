@@ -1,10 +1,5 @@
-use Rattle.std.proofs.Common.{sym, subst}
-use Rattle.smith_types.specs.Expressions.{reference_to}
-use Rattle.smith_check_operands.specs.Covers.{held}
-use Rattle.smith_check_operands.specs.Scopes.{bare}
+use Rattle.smith_check_references.proofs.Common.{bare, held, IfOk, IsHeapValid, reference_to, subst, sym}
 use Rattle.smith_check_references.proofs.AggregateLemmas.{created_valid}
-use Rattle.std.specs.Prelude.{IfOk}
-use Rattle.smith_instr.specs.Contexts.{IsHeapValid}
 use Rattle.smith_check_references.specs.Offers.{IsGiven}
 use Rattle.smith_check_references.proofs.offers.push_created.Goals as goal
 

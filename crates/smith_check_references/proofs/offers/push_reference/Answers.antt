@@ -1,7 +1,4 @@
-use Rattle.smith_types.specs.Expressions.{reference_to}
-use Rattle.smith_check_operands.proofs.StepLemmas.{one_valid}
-use Rattle.smith_check_operands.specs.Covers.{held}
-use Rattle.smith_check_operands.specs.Scopes.{bare}
+use Rattle.smith_check_references.proofs.Common.{bare, held, one_valid, reference_to}
 use Rattle.smith_check_references.proofs.RowLemmas.{given_as}
 use Rattle.smith_check_references.proofs.offers.push_reference.Goals as goal
 

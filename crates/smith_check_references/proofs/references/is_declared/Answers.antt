@@ -1,4 +1,4 @@
-use Rattle.std.proofs.Common.{◌∙◌, sym}
+use Rattle.smith_check_references.proofs.Common.{sym, ◌∙◌}
 use Rattle.smith_instr.proofs.AmongLemmas.{among, among_is}
 use Rattle.smith_check_references.proofs.FunctionLemmas.{any_among}
 use Rattle.smith_check_references.proofs.references.is_declared.Goals as goal

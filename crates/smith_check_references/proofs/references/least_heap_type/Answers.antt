@@ -1,7 +1,4 @@
-use Rattle.std.proofs.Common.{◌∙◌, sym, subst}
-use Rattle.std.proofs.lemmas.Bool.{false≢true}
-use Rattle.smith_syntax.specs.declared.value_type.HeapType.TheVariants.{Concrete}
-use Rattle.smith_check_operands.specs.Scopes.{bare}
+use Rattle.smith_check_references.proofs.Common.{bare, Concrete, false≢true, subst, sym, ◌∙◌}
 use Rattle.smith_check_references.specs.Hierarchies.{IsFunctionHeap}
 use Rattle.smith_check_references.specs.Offers.{IsHeapOffer}
 use Rattle.smith_check_references.proofs.HierarchyLemmas.{function_heap_own, function_offer, exact_heap_own}

@@ -1,11 +1,5 @@
-use Rattle.std.proofs.Common.{◌≡◌, ◌∙◌, ap, sym, subst}
-use Rattle.smith_syntax.specs.declared.value_type.ValType.{ValType}
-use Rattle.smith_syntax.specs.declared.value_type.ValType.TheVariants.{Ref}
-use Rattle.smith_check_operands.specs.Scopes.{bare}
-use Rattle.std.specs.Prelude.{not}
-use Rattle.smith_check_rules.specs.declared.slot.Slot.TheVariants.{EitherRef, Value}
-use Rattle.smith_check_rules.specs.Slots.{IsSlotValid}
-use Rattle.smith_check_rules.specs.StackTypes.{HasNonNull}
+use Rattle.smith_check_references.proofs.Common.{ap, bare, EitherRef, HasNonNull, IsSlotValid, not, Ref, subst, sym, ValType, Value, ◌∙◌}
+use Rattle.smith_check_references.proofs.Common.{◌≡◌}
 use Rattle.smith_check_references.specs.Rows.{IsLeastOf}
 use Rattle.smith_check_references.proofs.ChoiceLemmas.{either_ref_non_null, ref_non_null}
 use Rattle.smith_check_references.proofs.references.non_null.Goals as goal

@@ -1,8 +1,4 @@
-use Rattle.std.proofs.Common.{subst}
-use Rattle.smith_syntax.specs.declared.value_type.ValType.{ValType}
-use Rattle.smith_check_operands.specs.Covers.{held}
-use Rattle.smith_check_operands.specs.Scopes.{bare}
-use Rattle.std.specs.Prelude.{IfOk}
+use Rattle.smith_check_references.proofs.Common.{bare, held, IfOk, subst, ValType}
 use Rattle.smith_check_references.specs.Offers.{IsGiven}
 use Rattle.smith_check_references.proofs.OfferLemmas.{given_by_heap_result}
 use Rattle.smith_check_references.proofs.references.push_function.Goals as goal

@@ -1,12 +1,10 @@
 use Rattle.smith_instr.specs.declared.instr.Instr.TheVariants as instr
-use Rattle.smith_check_operands.specs.Covers.{held}
-use Rattle.smith_check_operands.specs.Scopes.{bare}
+use Rattle.smith_check_references.proofs.Common.{bare, HasNonNull, held, Ok}
 use Rattle.smith_check_references.proofs.RowLemmas.{tried_one}
 use Rattle.smith_instr.specs.declared.reference.ReferenceInstr.TheVariants as reference
-use Rattle.std.specs.Prelude.{Ok, true, false}
+use Rattle.std.specs.Prelude.{false, true}
 use Rattle.smith_check_references.proofs.ChoiceLemmas.{as_non_null_row}
 use Rattle.smith_check_references.proofs.RowLemmas.{none_topped, none_fits, one_applied, pushed_one}
-use Rattle.smith_check_rules.specs.StackTypes.{HasNonNull}
 use Rattle.smith_check_references.proofs.references.ref_as_non_null.Goals as goal
 
 pub returns-in_default-clause-ok : goal.returns-in_default-clause-ok

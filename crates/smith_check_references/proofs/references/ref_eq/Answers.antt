@@ -1,9 +1,4 @@
-use Rattle.std.proofs.Common.{◌∙◌, sym}
-use Rattle.std.proofs.lemmas.Bool.{false≢true}
-use Rattle.smith_syntax.specs.declared.value_type.ValType.TheVariants.{I32}
-use Rattle.smith_check_operands.proofs.StepLemmas.{one_valid}
-use Rattle.smith_check_operands.specs.Covers.{held}
-use Rattle.smith_check_operands.specs.Scopes.{bare}
+use Rattle.smith_check_references.proofs.Common.{bare, false≢true, held, I32, one_valid, sym, ◌∙◌}
 use Rattle.smith_check_references.proofs.ChoiceLemmas.{top_in_range, eq_without_second, eq_without_first, eq_unfit, compared}
 use Rattle.smith_check_references.proofs.references.ref_eq.Goals as goal
 

@@ -1,15 +1,9 @@
-use Rattle.std.proofs.Common.{◌∙◌, sym, refl, subst, [], ◌∷◌}
-use Rattle.std.proofs.lemmas.Bool.{false≢true}
-use Rattle.smith_instr.specs.Contexts.{To, reference_to_function}
+use Rattle.smith_check_references.proofs.Common.{[], all_at, bare, false≢true, held, refl, some_same, subst, sym, To, ℕ, ◌∙◌, ◌∷◌}
+use Rattle.smith_instr.specs.Contexts.{reference_to_function}
 use Rattle.smith_instr.specs.declared.instr.Instr.TheVariants as instr
-use Rattle.smith_check_operands.specs.Covers.{held}
-use Rattle.smith_check_operands.specs.Scopes.{bare}
 use Rattle.smith_check_references.proofs.RowLemmas.{tried_row, popped_given}
 use Rattle.smith_instr.specs.declared.reference.ReferenceInstr.TheVariants as reference
-use Rattle.std.proofs.Common.{ℕ}
 use Rattle.smith_types.specs.Entities.{IsFuncTypeIndex}
-use Rattle.smith_check_operands.proofs.LookupLemmas.{some_same}
-use Rattle.smith_check_operands.proofs.StepLemmas.{all_at}
 use Rattle.smith_check_references.proofs.RowLemmas.{pops_none}
 use Rattle.smith_check_references.proofs.references.ref_func.Goals as goal
 

@@ -1,10 +1,5 @@
-use Rattle.std.proofs.Common.{◌∙◌, sym, refl, [], ◌∷◌}
-use Rattle.std.proofs.lemmas.Bool.{false≢true}
-use Rattle.smith_instr.specs.Contexts.{nullable_to}
+use Rattle.smith_check_references.proofs.Common.{[], bare, false≢true, held, no_range, nullable_to, refl, sym, ◌∙◌, ◌∷◌}
 use Rattle.smith_instr.specs.declared.instr.Instr.TheVariants as instr
-use Rattle.smith_check_operands.proofs.RangeLemmas.{no_range}
-use Rattle.smith_check_operands.specs.Covers.{held}
-use Rattle.smith_check_operands.specs.Scopes.{bare}
 use Rattle.smith_check_references.proofs.RowLemmas.{tried_row}
 use Rattle.smith_instr.specs.declared.reference.ReferenceInstr.TheVariants as reference
 use Rattle.std.specs.Prelude.{true}

@@ -1,8 +1,4 @@
-use Rattle.std.proofs.Common.{◌≡◌, ◌∙◌, ap, sym, subst}
-use Rattle.smith_syntax.specs.declared.value_type.ValType.{ValType}
-use Rattle.smith_syntax.specs.declared.value_type.ValType.TheVariants.{I32, Ref}
-use Rattle.smith_check_rules.specs.declared.slot.Slot.TheVariants.{Value}
-use Rattle.smith_check_rules.specs.Slots.{IsSlotValid}
+use Rattle.smith_check_references.proofs.Common.{ap, I32, IsSlotValid, Ref, subst, sym, ValType, Value, ◌∙◌, ◌≡◌}
 use Rattle.smith_check_references.specs.Choices.{ReadsAny}
 use Rattle.smith_check_references.specs.Rows.{IsLeastOf}
 use Rattle.smith_check_references.proofs.ChoiceLemmas.{bottom_read, some_ref_read, either_ref_read, ref_read}

@@ -1,5 +1,4 @@
-use Rattle.std.proofs.Common.{◌∙◌}
-use Rattle.smith_types.specs.Expressions.{field_values}
+use Rattle.smith_check_references.proofs.Common.{field_values, ◌∙◌}
 use Rattle.smith_check_operands.proofs.FitLemmas.{fit_length}
 use Rattle.smith_check_references.proofs.CopyLemmas.{length_values}
 use Rattle.smith_check_references.proofs.structs.fields_fit.Goals as goal

@@ -1,6 +1,5 @@
-use Rattle.std.proofs.Common.{◌↔◌, drop}
-use Rattle.smith_types.specs.Expressions.{field_values}
-use Rattle.smith_check_operands.specs.Fits.{AreFit}
+use Rattle.smith_check_references.proofs.Common.{AreFit, drop, field_values}
+use Rattle.std.proofs.Common.{◌↔◌}
 use Rattle.smith_check_references.proofs.structs.fields_fit.Given as goal
 
 abbrev pub invariant-loop-i : goal.invariant-loop-i

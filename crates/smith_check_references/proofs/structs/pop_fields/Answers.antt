@@ -1,8 +1,4 @@
-use Rattle.std.proofs.Common.{◌-◌, ◌∙◌, sym, subst, arith, length}
-use Rattle.std.proofs.lemmas.Bool.{false≢true}
-use Rattle.smith_types.specs.Expressions.{field_values}
-use Rattle.smith_check_operands.specs.Scopes.{bare}
-use Rattle.smith_check_operands.specs.Fits.{AreFit}
+use Rattle.smith_check_references.proofs.Common.{AreFit, arith, bare, false≢true, field_values, length, subst, sym, ◌-◌, ◌∙◌}
 use Rattle.smith_types.specs.Matching.{IsFieldInRange}
 use Rattle.smith_check_operands.proofs.FitLemmas.{taken_enough, refused_enough, taken_beyond, refused_beyond, refused_short}
 use Rattle.smith_check_operands.proofs.RangeLemmas.{slots_part, slots_whole}

@@ -1,15 +1,8 @@
-use Rattle.std.proofs.Common.{◌∙◌, ap, sym, refl, subst, [], ◌∷◌}
-use Rattle.std.proofs.lemmas.Bool.{false≢true}
-use Rattle.smith_syntax.specs.declared.value_type.ValType.{ValType}
-use Rattle.smith_syntax.specs.declared.value_type.HeapType.TheVariants.{Concrete}
-use Rattle.smith_syntax.specs.declared.composite_type.FieldType.{FieldType}
-use Rattle.smith_instr.specs.AggregateTypes.{value_of, IsReadBy}
-use Rattle.smith_instr.specs.Contexts.{To, IsValid, nullable_to}
+use Rattle.smith_check_references.proofs.Common.{[], ap, bare, Concrete, false≢true, FieldType, held, IsValid, nullable_to, one_valid, refl}
+use Rattle.smith_check_references.proofs.Common.{subst, sym, To, tried_values, ValType, value_of, ◌∙◌, ◌∷◌}
+use Rattle.smith_instr.specs.AggregateTypes.{IsReadBy}
 use Rattle.smith_instr.specs.declared.instr.Instr.TheVariants as instr
 use Rattle.smith_instr.specs.declared.aggregate.AggregateInstr.TheVariants as aggregate
-use Rattle.smith_check_operands.proofs.StepLemmas.{tried_values, one_valid}
-use Rattle.smith_check_operands.specs.Covers.{held}
-use Rattle.smith_check_operands.specs.Scopes.{bare}
 use Rattle.smith_check_references.proofs.TableLemmas.{ranges_as}
 use Rattle.smith_check_references.proofs.AggregateLemmas.{field_same, field_valid, field_inside, field_without, field_within}
 use Rattle.smith_check_references.proofs.structs.struct_get.Goals as goal

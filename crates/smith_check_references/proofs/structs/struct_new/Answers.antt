@@ -1,15 +1,10 @@
-use Rattle.std.proofs.Common.{refl, subst, [], ◌∷◌, inl}
-use Rattle.smith_syntax.specs.declared.composite_type.FieldType.{FieldType}
-use Rattle.smith_types.specs.Expressions.{field_values}
-use Rattle.smith_instr.specs.Contexts.{To, created_reference}
+use Rattle.smith_check_references.proofs.Common.{[], bare, created_reference, field_values, FieldType, held, inl, Ok, refl, subst, To}
+use Rattle.smith_check_references.proofs.Common.{values, ◌∷◌}
 use Rattle.smith_instr.specs.declared.instr.Instr.TheVariants as instr
 use Rattle.smith_instr.specs.declared.aggregate.AggregateInstr.TheVariants as aggregate
-use Rattle.smith_check_rules.specs.Slots.{values}
-use Rattle.smith_check_operands.specs.Covers.{held}
-use Rattle.smith_check_operands.specs.Scopes.{bare}
 use Rattle.smith_check_references.proofs.RowLemmas.{tried_row, unpopped, popped_given}
 use Rattle.smith_check_references.proofs.AggregateLemmas.{struct_same, fields_in_range}
-use Rattle.std.specs.Prelude.{List, Ok, false}
+use Rattle.std.specs.Prelude.{false, List}
 use Rattle.smith_check_references.proofs.structs.struct_new.Goals as goal
 
 pub push_created-requires-clause-aggregate : goal.push_created-requires-clause-aggregate

@@ -1,14 +1,7 @@
-use Rattle.std.proofs.Common.{◌∙◌, sym, refl, subst, [], ◌∷◌, inl}
-use Rattle.std.specs.Prelude.{All}
-use Rattle.std.proofs.lemmas.Bool.{false≢true}
-use Rattle.smith_syntax.specs.declared.composite_type.FieldType.{FieldType}
-use Rattle.smith_types.specs.Expressions.{field_values, IsDefaultable}
-use Rattle.smith_instr.specs.Contexts.{To, created_reference}
+use Rattle.smith_check_references.proofs.Common.{[], All, bare, created_reference, false≢true, field_values, FieldType, held, inl}
+use Rattle.smith_check_references.proofs.Common.{IsDefaultable, no_range, refl, subst, sym, To, ◌∙◌, ◌∷◌}
 use Rattle.smith_instr.specs.declared.instr.Instr.TheVariants as instr
 use Rattle.smith_instr.specs.declared.aggregate.AggregateInstr.TheVariants as aggregate
-use Rattle.smith_check_operands.proofs.RangeLemmas.{no_range}
-use Rattle.smith_check_operands.specs.Covers.{held}
-use Rattle.smith_check_operands.specs.Scopes.{bare}
 use Rattle.smith_check_references.proofs.RowLemmas.{tried_row}
 use Rattle.smith_check_references.proofs.AggregateLemmas.{struct_same}
 use Rattle.std.specs.Prelude.{List}

@@ -1,14 +1,7 @@
-use Rattle.std.proofs.Common.{refl, subst, [], ◌∷◌}
-use Rattle.smith_syntax.specs.declared.value_type.HeapType.TheVariants.{Concrete}
-use Rattle.smith_syntax.specs.declared.composite_type.FieldType.{FieldType}
-use Rattle.smith_instr.specs.AggregateTypes.{value_of}
-use Rattle.smith_instr.specs.Contexts.{To, nullable_to}
+use Rattle.smith_check_references.proofs.Common.{[], bare, Concrete, FieldType, held, in_range, nullable_to, refl, subst, To, tried_values}
+use Rattle.smith_check_references.proofs.Common.{value_of, ◌∷◌}
 use Rattle.smith_instr.specs.declared.instr.Instr.TheVariants as instr
 use Rattle.smith_instr.specs.declared.aggregate.AggregateInstr.TheVariants as aggregate
-use Rattle.smith_check_operands.proofs.RangeLemmas.{in_range}
-use Rattle.smith_check_operands.proofs.StepLemmas.{tried_values}
-use Rattle.smith_check_operands.specs.Covers.{held}
-use Rattle.smith_check_operands.specs.Scopes.{bare}
 use Rattle.smith_check_references.proofs.TableLemmas.{ranges_as}
 use Rattle.smith_check_references.proofs.AggregateLemmas.{field_same, field_valid, field_inside, field_without, field_within}
 use Rattle.smith_check_references.proofs.structs.struct_set.Goals as goal

@@ -1,9 +1,5 @@
-use Rattle.std.proofs.Common.{refl, [], arith}
+use Rattle.smith_check_references.proofs.Common.{[], arith, bare, held, no_range, refl, tried_values}
 use Rattle.smith_instr.specs.declared.instr.Instr.TheVariants as instr
-use Rattle.smith_check_operands.proofs.RangeLemmas.{no_range}
-use Rattle.smith_check_operands.proofs.StepLemmas.{tried_values}
-use Rattle.smith_check_operands.specs.Covers.{held}
-use Rattle.smith_check_operands.specs.Scopes.{bare}
 use Rattle.smith_instr.specs.declared.table.TableInstr.TheVariants as table
 use Rattle.smith_check_references.proofs.tables.elem_drop.Goals as goal
 

@@ -1,18 +1,9 @@
-use Rattle.std.proofs.Common.{◌∙◌, sym, refl, subst, [], ◌∷◌}
-use Rattle.std.proofs.lemmas.Bool.{false≢true}
-use Rattle.smith_types.specs.Subtyping.{IsValInRange}
-use Rattle.smith_instr.specs.Contexts.{To, address}
+use Rattle.smith_check_references.proofs.Common.{[], address, address_in_range, bare, false≢true, held, IsRefBelow, IsValInRange, refl}
+use Rattle.smith_check_references.proofs.Common.{some_same, subst, sym, TableType, To, tried_values, ◌∙◌, ◌∷◌}
 use Rattle.smith_instr.specs.declared.instr.Instr.TheVariants as instr
-use Rattle.smith_check_operands.proofs.StepLemmas.{tried_values}
-use Rattle.smith_check_operands.specs.Covers.{held}
-use Rattle.smith_check_operands.specs.Scopes.{bare}
 use Rattle.smith_check_references.proofs.TableLemmas.{each_in_range}
-use Rattle.smith_syntax.specs.declared.entity_type.TableType.{TableType}
-use Rattle.smith_types.specs.Subtyping.{IsRefBelow}
 use Rattle.smith_instr.specs.ReferenceTypes.{narrower}
 use Rattle.smith_instr.specs.declared.table.TableInstr.TheVariants as table
-use Rattle.smith_check_operands.proofs.LookupLemmas.{some_same}
-use Rattle.smith_check_operands.proofs.RangeLemmas.{address_in_range}
 use Rattle.smith_check_references.proofs.TableLemmas.{element_in_range as table_in_range, narrower_in_range}
 use Rattle.smith_check_references.proofs.tables.table_copy.Goals as goal
 

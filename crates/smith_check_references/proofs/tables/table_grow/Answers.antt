@@ -1,16 +1,8 @@
-use Rattle.std.proofs.Common.{◌∙◌, ap, sym, refl, subst, [], ◌∷◌}
-use Rattle.smith_syntax.specs.declared.value_type.ValType.{ValType}
-use Rattle.smith_syntax.specs.declared.value_type.ValType.TheVariants.{Ref}
-use Rattle.smith_syntax.specs.declared.entity_type.TableType.{TableType}
-use Rattle.smith_types.specs.Subtyping.{IsValInRange}
-use Rattle.smith_instr.specs.Contexts.{To, IsValid, address}
+use Rattle.smith_check_references.proofs.Common.{[], address, address_in_range, ap, bare, held, IsValid, IsValInRange, one_valid, Ref, refl}
+use Rattle.smith_check_references.proofs.Common.{some_same, subst, sym, TableType, To, tried_values, ValType, ◌∙◌, ◌∷◌}
 use Rattle.smith_instr.specs.declared.instr.Instr.TheVariants as instr
 use Rattle.smith_instr.specs.declared.table.TableInstr.TheVariants as table
-use Rattle.smith_check_operands.proofs.LookupLemmas.{some_same}
-use Rattle.smith_check_operands.proofs.RangeLemmas.{address_in_range, address_valid}
-use Rattle.smith_check_operands.proofs.StepLemmas.{tried_values, one_valid}
-use Rattle.smith_check_operands.specs.Covers.{held}
-use Rattle.smith_check_operands.specs.Scopes.{bare}
+use Rattle.smith_check_operands.proofs.RangeLemmas.{address_valid}
 use Rattle.smith_check_references.proofs.TableLemmas.{element_in_range, each_in_range}
 use Rattle.smith_check_references.proofs.tables.table_grow.Goals as goal
 

@@ -1,5 +1,5 @@
 use Rattle.std.proofs.Common.{rules}
-use Rattle.smith_syntax.specs.FeatureBits.{features_in}
+use Rattle.smith_types.specs.Syntax.FeatureBits.{features_in}
 use Rattle.smith_check_types.proofs.CheckLemmas.{same_groups, few_types, none_valid, decided}
 use Rattle.smith_check_types.proofs.check.check_types.Goals as goal
 

@@ -1,6 +1,6 @@
 use Rattle.std.proofs.Common.{◌≡◌, ◌++◌, ◌∷◌, [], take, length}
 use Rattle.std.specs.List.{flat_map}
-use Rattle.smith_syntax.specs.declared.composite_type.FieldType.{FieldType}
+use Rattle.smith_types.specs.Syntax.composite_type.FieldType.{FieldType}
 use Rattle.smith_check_types.specs.Canonical.{rolled_index}
 use Rattle.smith_check_types.specs.Codes.{field_codes}
 use Rattle.smith_check_types.specs.Renamed.{renamed_field}

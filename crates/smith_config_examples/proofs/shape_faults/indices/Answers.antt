@@ -1,6 +1,6 @@
 use Rattle.smith_config_examples.proofs.Common.{rules, List, [], ◌∷◌, arith, refl, codes, All-cons, All-nil, IsTagValid, SubType, I32}
 use Rattle.smith_config_examples.proofs.Common.{final_type, taking, every_feature}
-use Rattle.smith_syntax.specs.declared.entity_type.ExportKind.TheVariants as kind
+use Rattle.smith_types.specs.Syntax.entity_type.ExportKind.TheVariants as kind
 use Rattle.smith_config_examples.proofs.ShapeExamples.{entities_valid, exports_valid}
 use Rattle.smith_config_examples.proofs.shape_faults.indices.Goals as goal
 

@@ -2,7 +2,7 @@ use Rattle.std.proofs.Common.{rules, ◌≡◌, ◌≤◌, ◌⊎◌, true, Some
 use Rattle.smith_types.specs.Entities.{AreLimitsValid, IsMemoryValid}
 use Rattle.smith_types.specs.Flags.{funcref}
 use Rattle.smith_types.specs.ExampleEntities.{memory, table}
-use Rattle.smith_syntax.specs.Features.{every_feature}
+use Rattle.smith_types.specs.Syntax.Features.{every_feature}
 use Rattle.smith_config_examples.proofs.ChainExamples.{chain_deep, chain_shallow}
 use Rattle.smith_config_examples.proofs.shape_faults.limits.Goals as goal
 

@@ -1,7 +1,7 @@
 use Rattle.smith_config_examples.proofs.Common.{rules, arith, common_steps, ◌≡◌, ◌≤◌, [], ◌∷◌, Some, refl, codes, IsTableValid, funcref}
 use Rattle.smith_config_examples.proofs.Common.{IsGroupValid, Features, final_type, plain_func, range, table, default_config, features_of}
 use Rattle.smith_config_examples.proofs.Common.{false}
-use Rattle.smith_syntax.specs.declared.entity_type.ExportKind.TheVariants as kind
+use Rattle.smith_types.specs.Syntax.entity_type.ExportKind.TheVariants as kind
 use Rattle.smith_config_examples.proofs.ChainExamples.{chain_deep}
 use Rattle.smith_config_examples.proofs.ShapeFaultExamples as wrong
 use Rattle.smith_config_examples.proofs.shapes.consistent.Goals as goal

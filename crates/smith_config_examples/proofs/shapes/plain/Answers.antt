@@ -1,5 +1,5 @@
 use Rattle.smith_config_examples.proofs.Common.{◌≡◌, true, false, Some, None, arith, open_type, final_type, empty_struct, plain_func}
-use Rattle.smith_syntax.specs.declared.value_type.AbstractHeapType.TheVariants as heap
+use Rattle.smith_types.specs.Syntax.value_type.AbstractHeapType.TheVariants as heap
 use Rattle.smith_config_examples.proofs.shapes.plain.Goals as goal
 
 pub returns-clause-not_final : goal.returns-clause-not_final

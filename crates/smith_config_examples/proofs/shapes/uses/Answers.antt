@@ -3,9 +3,9 @@ use Rattle.smith_config_examples.proofs.Common.{Features, funcref, IsOrderly, Is
 use Rattle.smith_config_examples.proofs.Common.{table, codes, final_type, empty_struct, taking, default_config, features_of, IsShort}
 use Rattle.smith_config_examples.proofs.Common.{IsInnerShort, HasNothingLeftOut, IsValTypeIncluded, IsConsistent, IsPlain, shape_spaces}
 use Rattle.smith_config_examples.proofs.Common.{passed_on, memory_passed_on, exported_table, AreTypesValid-single, no_types}
-use Rattle.smith_syntax.specs.declared.entity_type.EntityType.TheVariants as entity
-use Rattle.smith_syntax.specs.declared.entity_type.ExportKind.TheVariants as kind
-use Rattle.smith_syntax.specs.declared.value_type.AbstractHeapType.TheVariants as heap
+use Rattle.smith_types.specs.Syntax.entity_type.EntityType.TheVariants as entity
+use Rattle.smith_types.specs.Syntax.entity_type.ExportKind.TheVariants as kind
+use Rattle.smith_types.specs.Syntax.value_type.AbstractHeapType.TheVariants as heap
 use Rattle.smith_config_examples.proofs.ChainExamples.{shallow_if_few, chain_all, chain_valid, chain_shallow}
 use Rattle.smith_config_examples.proofs.OneOfEachKindExamples.{consistent as one_of_each_kind_consistent}
 use Rattle.smith_config_examples.proofs.ShapeExamples.{stand_alone, types_valid, shallow, entities_valid, exports_valid}

@@ -1,7 +1,7 @@
 use Rattle.std.proofs.Common.{◌≤◌, List, Result, length}
 use Rattle.json.specs.Token.{Token}
-use Rattle.smith_syntax.specs.Instructions.{no_kind}
-use Rattle.smith_syntax.specs.declared.instruction_kind.InstructionKinds.{InstructionKinds}
+use Rattle.smith_types.specs.Syntax.Instructions.{no_kind}
+use Rattle.smith_types.specs.Syntax.instruction_kind.InstructionKinds.{InstructionKinds}
 use Rattle.smith_config_json.specs.Values.{AreListed}
 use Rattle.smith_config_json.specs.declared.fault.Fault.{Fault}
 use Rattle.smith_config_json.proofs.value.listed_kinds.Given as goal

@@ -1,4 +1,4 @@
-use Rattle.std.proofs.Common.{◌≡◌, ◌+◌, ◌<◌, ◌^◌, drop}
+use Rattle.smith_decode.proofs.Common.{drop, ◌+◌, ◌<◌, ◌^◌, ◌≡◌}
 use Rattle.smith_decode.specs.BodyReadings.{total}
 use Rattle.smith_decode.proofs.bodies.are_few.Given as goal
 

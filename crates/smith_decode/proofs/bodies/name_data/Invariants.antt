@@ -1,4 +1,4 @@
-use Rattle.std.proofs.Common.{◌≡◌, drop}
+use Rattle.smith_decode.proofs.Common.{drop, ◌≡◌}
 use Rattle.smith_decode.specs.BodyReadings.{name_data}
 use Rattle.smith_decode.proofs.bodies.name_data.Given as goal
 

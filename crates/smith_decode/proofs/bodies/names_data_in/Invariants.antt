@@ -1,5 +1,4 @@
-use Rattle.std.proofs.Common.{◌≡◌, drop}
-use Rattle.std.specs.List.{list_any}
+use Rattle.smith_decode.proofs.Common.{drop, list_any, ◌≡◌}
 use Rattle.smith_instr.specs.Enabled.{names_data}
 use Rattle.smith_decode.proofs.bodies.names_data_in.Given as goal
 

@@ -1,7 +1,5 @@
-use Rattle.std.proofs.Common.{None, [], List, length, Result, Ok, ap, subst, sym, ◌∙◌, arith}
-use Rattle.std.proofs.lemmas.Bool.{eq-eqb, ne_eqb}
-use Rattle.std.proofs.lemmas.Result.{err_from_is_err_and}
-use Rattle.smith_binary_read.specs.declared.error.Fault.{Fault}
+use Rattle.smith_decode.proofs.Common.{[], ap, arith, eq-eqb, err_from_is_err_and, Fault, length, List, ne_eqb, None, Ok, Result, subst}
+use Rattle.smith_decode.proofs.Common.{sym, ◌∙◌}
 use Rattle.smith_binary_read.specs.Readings.{GivesWhole, at_end}
 use Rattle.smith_decode.specs.declared.customs.Custom.{Custom}
 use Rattle.smith_decode.specs.CustomReadings.{gathered_at}

@@ -1,4 +1,4 @@
-use Rattle.std.proofs.Common.{◌≡◌, ◌-◌, None, []}
+use Rattle.smith_decode.proofs.Common.{[], None, ◌-◌, ◌≡◌}
 use Rattle.smith_decode.specs.CustomReadings.{gathered_at}
 use Rattle.smith_decode.proofs.customs.gather.Given as goal
 

@@ -1,9 +1,5 @@
-use Rattle.std.proofs.Common.{List, Ok, ap, sym, ◌∙◌}
-use Rattle.std.proofs.lemmas.Result.{err_from_is_err_and}
-use Rattle.smith_binary_read.specs.Readings.{each_at}
+use Rattle.smith_decode.proofs.Common.{ap, each_at, err_from_is_err_and, expr_at, Instr, List, Ok, sym, ◌∙◌}
 use Rattle.smith_binary_read.proofs.LoopLemmas.{goes_on, ends, is_done}
-use Rattle.smith_instr.specs.declared.instr.Instr.{Instr}
-use Rattle.smith_binary_read_instr.specs.ExpressionReadings.{expr_at}
 use Rattle.smith_decode.proofs.elements.read_each_expr.Goals as goal
 
 pub returns-in_err-item : goal.returns-in_err-item

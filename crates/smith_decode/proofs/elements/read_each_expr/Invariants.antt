@@ -1,7 +1,5 @@
-use Rattle.std.proofs.Common.{◌≡◌, ◌-◌}
-use Rattle.smith_binary_read.specs.Readings.{each_at}
+use Rattle.smith_decode.proofs.Common.{each_at, expr_at, ◌-◌, ◌≡◌}
 use Rattle.smith_binary_read.proofs.LoopLemmas.{with_front}
-use Rattle.smith_binary_read_instr.specs.ExpressionReadings.{expr_at}
 use Rattle.smith_decode.proofs.elements.read_each_expr.Given as goal
 
 abbrev pub invariant-loop : goal.invariant-loop

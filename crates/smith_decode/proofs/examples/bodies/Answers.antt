@@ -1,10 +1,7 @@
-use Rattle.std.proofs.Common.{refl}
-use Rattle.smith_binary_read.specs.Readings.{each_at}
-use Rattle.smith_binary_read.specs.Numbers.{unsigned_at}
-use Rattle.smith_binary_read.specs.Contents.{content_at, list_at, sized_at}
+use Rattle.smith_decode.proofs.Common.{content_at, each_at, expr_at, instr_at, is_over, list_at, nested_at, nested_instr_at, refl, sized_at}
+use Rattle.smith_decode.proofs.Common.{unsigned_at}
 use Rattle.smith_binary_read_instr.specs.ControlReadings.{block_type_at, block_at}
-use Rattle.smith_binary_read_instr.specs.ExpressionReadings.{is_over, nested_instr_at, nested_at, expr_at}
-use Rattle.smith_binary_read_instr.specs.InstrReadings.{low_instr_at, instr_at}
+use Rattle.smith_binary_read_instr.specs.InstrReadings.{low_instr_at}
 use Rattle.smith_decode.specs.BodyReadings.{body_whole, body_at}
 use Rattle.smith_decode.proofs.examples.bodies.Goals as goal
 

@@ -1,11 +1,5 @@
-use Rattle.std.proofs.Common.{refl}
-use Rattle.smith_binary_read.specs.Readings.{each_at}
-use Rattle.smith_binary_read.specs.Numbers.{unsigned_at}
-use Rattle.smith_binary_read.specs.Contents.{content_at, name_at, list_at, sized_at}
-use Rattle.smith_binary_read_instr.specs.ExpressionReadings.{is_over, nested_instr_at, nested_at, expr_at}
-use Rattle.smith_binary_read_instr.specs.InstrReadings.{prefixed_at, instr_at}
-use Rattle.smith_binary_read_instr.specs.MemoryReadings.{bytes_instr_at, bulk_at}
-use Rattle.smith_binary_read_instr.specs.NumericReadings.{saturating_of}
+use Rattle.smith_decode.proofs.Common.{bulk_at, bytes_instr_at, content_at, each_at, expr_at, instr_at, is_over, list_at, name_at}
+use Rattle.smith_decode.proofs.Common.{nested_at, nested_instr_at, prefixed_at, refl, saturating_of, sized_at, unsigned_at}
 use Rattle.smith_decode.specs.BodyReadings.{body_whole, body_at}
 use Rattle.smith_decode.specs.CustomReadings.{custom_whole, skip_customs, customs_at, section_at, end_at}
 use Rattle.smith_decode.specs.CustomReadings.{custom_at, next_section_at, gathered_at, kept_at}

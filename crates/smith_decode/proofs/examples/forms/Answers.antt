@@ -1,7 +1,7 @@
-use Rattle.std.proofs.Common.{◌≡◌, true, false, [], ◌∷◌, refl, arith}
+use Rattle.smith_decode.proofs.Common.{[], arith, false, refl, true, ◌∷◌, ◌≡◌}
 use Rattle.std.proofs.lemmas.List.Elements.{All-nil, All-get_or}
-use Rattle.smith_syntax.specs.Features.{every_feature}
-use Rattle.smith_syntax.specs.declared.value_type.ValType.TheVariants.{V128}
+use Rattle.smith_types.specs.Syntax.Features.{every_feature}
+use Rattle.smith_types.specs.Syntax.value_type.ValType.TheVariants.{V128}
 use Rattle.smith_decode.specs.ExampleModules.{wide_memory, of_wide_memory}
 use Rattle.smith_decode.specs.TypeForms.{IsValTypeEnabled}
 use Rattle.smith_decode.specs.declared.locations.Place.TheVariants as place

@@ -1,11 +1,9 @@
-use Rattle.std.proofs.Common.{refl}
-use Rattle.smith_binary_read.specs.Numbers.{unsigned_at, signed_at}
-use Rattle.smith_binary_read.specs.Contents.{content_at}
+use Rattle.smith_decode.proofs.Common.{content_at, expr_at, instr_at, is_over, nested_at, nested_instr_at, refl, unsigned_at}
+use Rattle.smith_binary_read.specs.Numbers.{signed_at}
 use Rattle.smith_binary_read.specs.TypeReadings.{val_type_at}
 use Rattle.smith_binary_read.specs.EntityReadings.{global_flags_at, global_type_at}
 use Rattle.smith_binary_read_instr.specs.ControlReadings.{block_type_at, block_at}
-use Rattle.smith_binary_read_instr.specs.ExpressionReadings.{is_over, nested_instr_at, nested_at, expr_at}
-use Rattle.smith_binary_read_instr.specs.InstrReadings.{low_instr_at, high_instr_at, instr_at}
+use Rattle.smith_binary_read_instr.specs.InstrReadings.{high_instr_at, low_instr_at}
 use Rattle.smith_binary_read_instr.specs.NumericReadings.{const_at, int_unary_of, int_operator_of, numeric_of, numeric_at}
 use Rattle.smith_decode.specs.DataReadings.{segment_at}
 use Rattle.smith_decode.specs.DefinitionReadings.{global_at}

@@ -1,10 +1,7 @@
-use Rattle.std.proofs.Common.{◌≡◌, true, [], refl}
+use Rattle.smith_decode.proofs.Common.{[], content_at, each_at, list_at, name_at, refl, sized_at, true, unsigned_at, ◌≡◌}
 use Rattle.std.specs.Str.{is_utf8}
 use Rattle.std.proofs.lemmas.Str.{IsUtf8-from_ascii, is_utf8-from_IsUtf8}
 use Rattle.std.proofs.lemmas.Str.Ascii.{IsAscii-nil}
-use Rattle.smith_binary_read.specs.Readings.{each_at}
-use Rattle.smith_binary_read.specs.Numbers.{unsigned_at}
-use Rattle.smith_binary_read.specs.Contents.{content_at, name_at, list_at, sized_at}
 use Rattle.smith_decode.specs.CustomReadings.{custom_whole, skip_customs, customs_at, section_at, end_at}
 use Rattle.smith_decode.specs.CustomReadings.{custom_at, next_section_at, gathered_at, kept_at}
 use Rattle.smith_decode.specs.ModuleReadings.{preamble_at, index_whole, bodies_at, counts_at, starts_at, globals_at, memories_at}

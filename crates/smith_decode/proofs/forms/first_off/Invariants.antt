@@ -1,4 +1,4 @@
-use Rattle.std.proofs.Common.{take}
+use Rattle.smith_decode.proofs.Common.{take}
 use Rattle.std.specs.List.{All}
 use Rattle.smith_decode.proofs.forms.first_off.Given as goal
 

@@ -1,5 +1,4 @@
-use Rattle.std.proofs.Common.{take}
-use Rattle.smith_syntax.specs.FeatureBits.{features_in}
+use Rattle.smith_decode.proofs.Common.{features_in, take}
 use Rattle.smith_decode.specs.Forms.{forms_of}
 use Rattle.smith_decode.proofs.FormLemmas.{one_more}
 use Rattle.smith_decode.proofs.forms.middle_off.Goals as goal

@@ -1,5 +1,4 @@
-use Rattle.std.proofs.lemmas.Bool.{eq-eqb, ne_eqb}
-use Rattle.std.proofs.lemmas.Result.{err_from_is_err_and}
+use Rattle.smith_decode.proofs.Common.{eq-eqb, err_from_is_err_and, ne_eqb}
 use Rattle.smith_decode.specs.Locations.{section_content_at}
 use Rattle.smith_decode.proofs.LocationLemmas.{find_goes_on, find_stops, find_fails, find_ends, find_done}
 use Rattle.smith_decode.proofs.locations.find_content.Goals as goal

@@ -1,4 +1,4 @@
-use Rattle.std.proofs.Common.{◌≡◌, ◌-◌}
+use Rattle.smith_decode.proofs.Common.{◌-◌, ◌≡◌}
 use Rattle.smith_decode.specs.Locations.{section_content_at}
 use Rattle.smith_decode.proofs.locations.find_content.Given as goal
 

@@ -1,4 +1,4 @@
-use Rattle.std.proofs.lemmas.Result.{err_from_is_err_and}
+use Rattle.smith_decode.proofs.Common.{err_from_is_err_and}
 use Rattle.smith_decode.specs.Locations.{after_each_at}
 use Rattle.smith_decode.proofs.LocationLemmas.{pass_goes_on, pass_ends, pass_done}
 use Rattle.smith_decode.proofs.locations.pass_each.Goals as goal

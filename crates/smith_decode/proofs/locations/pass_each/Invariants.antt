@@ -1,4 +1,4 @@
-use Rattle.std.proofs.Common.{◌≡◌, ◌-◌}
+use Rattle.smith_decode.proofs.Common.{◌-◌, ◌≡◌}
 use Rattle.smith_decode.specs.Locations.{after_each_at}
 use Rattle.smith_decode.proofs.locations.pass_each.Given as goal
 

@@ -1,5 +1,4 @@
-use Rattle.std.proofs.Common.{◌≡◌, ◌-◌}
-use Rattle.smith_binary_read_instr.specs.InstrReadings.{instr_at}
+use Rattle.smith_decode.proofs.Common.{instr_at, ◌-◌, ◌≡◌}
 use Rattle.smith_decode.specs.Locations.{after_each_at}
 use Rattle.smith_decode.proofs.locations.pass_instructions.Given as goal
 

@@ -1,4 +1,4 @@
-use Rattle.smith_syntax.specs.FeatureBits.{features_in}
+use Rattle.smith_decode.proofs.Common.{features_in}
 use Rattle.smith_decode.proofs.ContentsLemmas.{is_sound, is_enabled, is_complete}
 use Rattle.smith_decode.proofs.ModuleSizeLemmas.{is_small}
 use Rattle.smith_decode.proofs.modules.decode.Goals as goal

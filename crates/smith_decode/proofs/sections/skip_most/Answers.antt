@@ -1,5 +1,4 @@
-use Rattle.std.proofs.Common.{sym}
-use Rattle.std.proofs.lemmas.Result.{err_from_is_err_and}
+use Rattle.smith_decode.proofs.Common.{err_from_is_err_and, sym}
 use Rattle.smith_decode.specs.CustomReadings.{skip_customs}
 use Rattle.smith_decode.proofs.SkipLemmas.{skip_goes_on, skip_stops, skip_ends, skip_done}
 use Rattle.smith_decode.proofs.sections.skip_most.Goals as goal

@@ -1,4 +1,4 @@
-use Rattle.std.proofs.Common.{◌≡◌, ◌-◌}
+use Rattle.smith_decode.proofs.Common.{◌-◌, ◌≡◌}
 use Rattle.smith_decode.specs.CustomReadings.{skip_customs}
 use Rattle.smith_decode.proofs.sections.skip_most.Given as goal
 

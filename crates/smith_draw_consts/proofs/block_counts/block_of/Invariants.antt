@@ -1,4 +1,4 @@
-use Rattle.std.proofs.Common.{◌-◌, ◌≤◌, ◌<◌, get_or, length}
+use Rattle.smith_draw_consts.proofs.Common.{get_or, length, ◌-◌, ◌<◌, ◌≤◌}
 use Rattle.smith_draw_consts.proofs.block_counts.block_of.Given as goal
 
 abbrev pub invariant-loop-end : goal.invariant-loop-end

@@ -1,4 +1,5 @@
-use Rattle.std.proofs.Common.{◌+◌, ◌-◌, vec_len}
+use Rattle.smith_draw_consts.proofs.Common.{◌+◌, ◌-◌}
+use Rattle.std.proofs.Common.{vec_len}
 use Rattle.smith_draw_consts.proofs.classes.make_room.Given as goal
 
 abbrev pub decreases-loop-hints : goal.decreases-loop-hints

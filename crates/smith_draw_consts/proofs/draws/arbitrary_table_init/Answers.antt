@@ -1,4 +1,4 @@
-use Rattle.std.proofs.Common.{false}
+use Rattle.smith_draw_consts.proofs.Common.{false}
 use Rattle.smith_draw_consts.specs.ConstScopes.{seen_by}
 use Rattle.smith_draw_consts.proofs.draws.arbitrary_table_init.Goals as goal
 

@@ -1,4 +1,4 @@
-use Rattle.std.proofs.Common.{refl}
+use Rattle.smith_draw_consts.proofs.Common.{refl}
 use Rattle.std.proofs.lemmas.Result.{IfOk-weaker}
 use Rattle.smith_draw_consts.specs.ConstScopes.{seen_by}
 use Rattle.smith_draw_consts.proofs.SpelledConstExprLemmas.{constant_taken}

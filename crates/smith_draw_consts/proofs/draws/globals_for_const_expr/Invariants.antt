@@ -1,7 +1,4 @@
-use Rattle.std.proofs.Common.{◌≡◌, ◌++◌, drop}
-use Rattle.std.specs.Prelude.{◌&&◌, not}
-use Rattle.smith_syntax.specs.declared.entity_type.GlobalType.{GlobalType}
-use Rattle.smith_draw_types.specs.Below.{is_val_below}
+use Rattle.smith_draw_consts.proofs.Common.{drop, GlobalType, is_val_below, not, ◌&&◌, ◌++◌, ◌≡◌}
 use Rattle.smith_draw_consts.specs.ConstOffers.{each_from, offered_if, readable_globals}
 use Rattle.smith_draw_consts.specs.ConstScopes.{seen_by}
 use Rattle.smith_draw_consts.proofs.draws.globals_for_const_expr.Given as goal

@@ -1,5 +1,5 @@
-use Rattle.std.proofs.Common.{refl}
-use Rattle.smith_bytes.specs.Draws.{choose_at, range_at, whole_at, digit_count}
+use Rattle.smith_draw_consts.proofs.Common.{choose_at, digit_count, range_at, refl}
+use Rattle.smith_bytes.specs.Draws.{whole_at}
 use Rattle.smith_draw_consts.specs.Constants.{constant_at, extended_at, extended_within, operator_at}
 use Rattle.smith_draw_consts.specs.ConstOffers.{offers}
 use Rattle.smith_draw_consts.specs.ConstNodes.{node_at}

@@ -1,4 +1,4 @@
-use Rattle.std.proofs.Common.{arith, refl}
+use Rattle.smith_draw_consts.proofs.Common.{arith, refl}
 use Rattle.smith_draw_consts.proofs.SpelledConstExprLemmas.{mutable_not_read}
 use Rattle.smith_draw_consts.proofs.examples.globals.Goals as goal
 

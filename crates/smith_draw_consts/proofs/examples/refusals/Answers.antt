@@ -1,4 +1,4 @@
-use Rattle.std.proofs.Common.{arith, inr, refl}
+use Rattle.smith_draw_consts.proofs.Common.{arith, inr, refl}
 use Rattle.smith_draw_consts.proofs.examples.refusals.Goals as goal
 
 pub returns-clause-a_field_that_may_not_be_null : goal.returns-clause-a_field_that_may_not_be_null

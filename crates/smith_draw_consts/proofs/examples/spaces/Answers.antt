@@ -1,8 +1,6 @@
-use Rattle.std.proofs.Common.{◌≡◌, true, [], ◌∷◌}
-use Rattle.std.proofs.lemmas.List.Elements.{recursion_from_All}
+use Rattle.smith_draw_consts.proofs.Common.{[], recursion_from_All, true, V128, ◌∷◌, ◌≡◌}
 use Rattle.smith_types.specs.Entities.{IsGlobalValid}
 use Rattle.smith_types.specs.ExampleEntities.{constant_global}
-use Rattle.smith_syntax.specs.declared.value_type.ValType.TheVariants.{V128}
 use Rattle.smith_config.specs.Features.{features_of}
 use Rattle.smith_draw_consts.proofs.examples.spaces.Goals as goal
 

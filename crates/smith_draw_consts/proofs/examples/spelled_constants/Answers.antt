@@ -1,5 +1,4 @@
-use Rattle.std.proofs.Common.{◌≡◌, ℕ, List, [], ◌∷◌, ap, refl, ◌∙◌}
-use Rattle.smith_bytes.specs.Draws.{range_at, digit_count}
+use Rattle.smith_draw_consts.proofs.Common.{[], ap, digit_count, List, range_at, refl, ℕ, ◌∙◌, ◌∷◌, ◌≡◌}
 use Rattle.smith_bytes.proofs.SpelledLemmas.{number_read}
 use Rattle.smith_draw_consts.proofs.examples.spelled_constants.Goals as goal
 

@@ -1,4 +1,4 @@
-use Rattle.std.specs.Prelude.{reverse}
+use Rattle.smith_draw_consts.proofs.Common.{reverse}
 use Rattle.smith_draw_consts.specs.ConstScopes.{context_of}
 use Rattle.smith_draw_consts.specs.ConstExprs.{state_of}
 use Rattle.smith_draw_consts.proofs.ConstStepLemmas.{ok_both}

@@ -1,6 +1,4 @@
-use Rattle.std.proofs.Common.{◌<◌, length, refl, sym, ◌∙◌}
-use Rattle.std.specs.Prelude.{reverse}
-use Rattle.std.proofs.lemmas.Result.{on_ok_weaker}
+use Rattle.smith_draw_consts.proofs.Common.{length, on_ok_weaker, refl, reverse, sym, ◌<◌, ◌∙◌}
 use Rattle.smith_draw_consts.specs.ConstScopes.{context_of}
 use Rattle.smith_draw_consts.specs.ConstExprs.{state_of}
 use Rattle.smith_draw_consts.specs.declared.node.Operand.TheVariants.{Value}

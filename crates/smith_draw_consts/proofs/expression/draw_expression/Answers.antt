@@ -1,5 +1,4 @@
-use Rattle.std.proofs.Common.{◌≡◌, ◌<◌, List, length, ap, sym, subst, arith}
-use Rattle.std.specs.Prelude.{reverse}
+use Rattle.smith_draw_consts.proofs.Common.{ap, arith, length, List, reverse, subst, sym, ◌<◌, ◌≡◌}
 use Rattle.smith_draw_consts.specs.ConstScopes.{context_of}
 use Rattle.smith_draw_consts.specs.ConstExprs.{state_of}
 use Rattle.smith_draw_consts.specs.declared.task.Task.{Task}

@@ -1,5 +1,4 @@
-use Rattle.std.specs.Prelude.{reverse}
-use Rattle.smith_bytes.specs.Source.{KeepsPieces}
+use Rattle.smith_draw_consts.proofs.Common.{KeepsPieces, reverse}
 use Rattle.smith_draw_consts.specs.ConstScopes.{context_of}
 use Rattle.smith_draw_consts.specs.ConstExprs.{state_of}
 use Rattle.smith_draw_consts.specs.KeptOffers.{AreKeptOffers}

@@ -1,5 +1,4 @@
-use Rattle.std.proofs.Common.{arith}
-use Rattle.std.proofs.lemmas.Result.{on_ok_weaker}
+use Rattle.smith_draw_consts.proofs.Common.{arith, on_ok_weaker}
 use Rattle.smith_draw_consts.proofs.ConstStepLemmas.{drawn_length}
 use Rattle.smith_draw_consts.proofs.expression.draw_length.Goals as goal
 

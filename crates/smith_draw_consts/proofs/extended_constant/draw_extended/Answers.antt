@@ -1,4 +1,4 @@
-use Rattle.std.proofs.Common.{arith}
+use Rattle.smith_draw_consts.proofs.Common.{arith}
 use Rattle.smith_draw_consts.proofs.ExtendedLemmas.{extending_constant, extending_operator, extending_done, extending_adds}
 use Rattle.smith_draw_consts.proofs.extended_constant.draw_extended.Goals as goal
 

@@ -1,4 +1,4 @@
-use Rattle.std.proofs.Common.{◌-◌, length}
+use Rattle.smith_draw_consts.proofs.Common.{length, ◌-◌}
 use Rattle.smith_draw_consts.proofs.ExtendedLemmas.{IsExtending}
 use Rattle.smith_draw_consts.proofs.extended_constant.draw_extended.Given as goal
 

@@ -1,4 +1,4 @@
-use Rattle.std.proofs.lemmas.Result.{on_ok_weaker}
+use Rattle.smith_draw_consts.proofs.Common.{on_ok_weaker}
 use Rattle.smith_draw_consts.proofs.PuttingLemmas.{puts_adds}
 use Rattle.smith_draw_consts.proofs.extended_constant.draw_extended_constant.Goals as goal
 

@@ -1,5 +1,4 @@
-use Rattle.std.proofs.Common.{◌≡◌, ◌++◌, ◌-◌, length, take}
-use Rattle.std.specs.Prelude.{reverse}
+use Rattle.smith_draw_consts.proofs.Common.{length, reverse, take, ◌++◌, ◌-◌, ◌≡◌}
 use Rattle.smith_draw_consts.proofs.extended_constant.push_reversed.Given as goal
 
 abbrev pub invariant-loop-index : goal.invariant-loop-index

@@ -1,6 +1,4 @@
-use Rattle.std.proofs.Common.{◌≡◌, ◌+◌, ◌<◌, ◌∙◌, ap, get_or, length, refl, ℕ}
-use Rattle.std.specs.Prelude.{Some, slice_get}
-use Rattle.std.proofs.lemmas.Option.{slice_get-get_or}
+use Rattle.smith_draw_consts.proofs.Common.{ap, get_or, length, refl, slice_get, slice_get-get_or, Some, ℕ, ◌+◌, ◌<◌, ◌∙◌, ◌≡◌}
 use Rattle.smith_draw_consts.specs.ConstScopes.{context_of}
 use Rattle.smith_draw_consts.proofs.KnownLemmas.{one_recorded}
 use Rattle.smith_draw_consts.proofs.few_items.record_funcs.Goals as goal

@@ -1,8 +1,5 @@
-use Rattle.std.proofs.Common.{false, ◌≡◌, ◌+◌, ◌<◌, ◌∙◌, ap, arith, get_or, length, ℕ}
-use Rattle.std.specs.Prelude.{Some, slice_get}
-use Rattle.std.proofs.lemmas.Option.{slice_get-get_or}
-use Rattle.smith_syntax.specs.declared.entity_type.GlobalType.{GlobalType}
-use Rattle.smith_syntax.specs.declared.value_type.ValType.TheVariants.{I32}
+use Rattle.smith_draw_consts.proofs.Common.{ap, arith, false, get_or, GlobalType, I32, length, slice_get, slice_get-get_or, Some, ℕ, ◌+◌}
+use Rattle.smith_draw_consts.proofs.Common.{◌<◌, ◌∙◌, ◌≡◌}
 use Rattle.smith_draw_consts.specs.ConstScopes.{context_of}
 use Rattle.smith_draw_consts.specs.KeptOffers.{readable}
 use Rattle.smith_draw_consts.proofs.KnownLemmas.{one_recorded}

@@ -1,4 +1,4 @@
-use Rattle.std.proofs.Common.{◌≡◌, length}
+use Rattle.smith_draw_consts.proofs.Common.{length, ◌≡◌}
 use Rattle.smith_draw_consts.specs.ConstScopes.{context_of}
 use Rattle.smith_draw_consts.specs.KeptOffers.{AreRecorded, readable}
 use Rattle.smith_draw_consts.proofs.few_items.record_globals.Given as goal

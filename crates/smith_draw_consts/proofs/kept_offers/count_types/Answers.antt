@@ -1,5 +1,4 @@
-use Rattle.std.proofs.Common.{subst, sym}
-use Rattle.std.specs.Prelude.{All, IfSome, Option}
+use Rattle.smith_draw_consts.proofs.Common.{All, IfSome, Option, subst, sym}
 use Rattle.smith_draw_consts.specs.ConstScopes.{context_of}
 use Rattle.smith_draw_consts.specs.KeptOffers.{IsKeptWays}
 use Rattle.smith_draw_consts.specs.declared.kept_ways.KeptTypes.{KeptTypes}

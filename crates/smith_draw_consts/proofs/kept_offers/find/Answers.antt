@@ -1,5 +1,5 @@
-use Rattle.std.proofs.Common.{◌≡◌, ◌∙◌, inl, inr, ℕ, ap, arith, get_or, subst, sym}
-use Rattle.std.proofs.lemmas.Bool.{both_ways, cases_lt}
+use Rattle.smith_draw_consts.proofs.Common.{ap, arith, cases_lt, get_or, inl, inr, subst, sym, ℕ, ◌∙◌, ◌≡◌}
+use Rattle.std.proofs.lemmas.Bool.{both_ways}
 use Rattle.std.proofs.lemmas.List.{get_or_default}
 use Rattle.smith_draw_consts.specs.KeptOffers.{IsFor}
 use Rattle.smith_draw_consts.proofs.KeptOfferLemmas.{kept_there}

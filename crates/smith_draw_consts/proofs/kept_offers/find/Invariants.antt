@@ -1,4 +1,4 @@
-use Rattle.std.proofs.Common.{ℕ, ◌<◌, get_or}
+use Rattle.smith_draw_consts.proofs.Common.{get_or, ℕ, ◌<◌}
 use Rattle.smith_draw_consts.specs.KeptOffers.{IsFor}
 use Rattle.smith_draw_consts.specs.declared.kept_offers.KeptOffer.{KeptOffer}
 use Rattle.smith_draw_consts.proofs.kept_offers.find.Given as goal

@@ -1,6 +1,4 @@
-use Rattle.std.proofs.Common.{◌∙◌, List, ap, arith, subst, sym}
-use Rattle.std.specs.Prelude.{All, slice_get}
-use Rattle.std.proofs.lemmas.List.Elements.{All-push}
+use Rattle.smith_draw_consts.proofs.Common.{All, All-push, ap, arith, List, slice_get, subst, sym, ◌∙◌}
 use Rattle.smith_draw_consts.specs.KeptOffers.{IsEntry}
 use Rattle.smith_draw_consts.specs.declared.kept_offers.KeptOffer.{KeptOffer}
 use Rattle.smith_draw_consts.proofs.ClassLemmas.{get_front, get_last}

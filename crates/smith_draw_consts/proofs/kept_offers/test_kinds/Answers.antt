@@ -1,8 +1,6 @@
-use Rattle.std.proofs.Common.{◌≡◌, ◌+◌, ◌∷◌, [], ◌∙◌, ap, get_or, length, List, ℕ}
-use Rattle.std.specs.Prelude.{None, Option, Some, slice_get}
+use Rattle.smith_draw_consts.proofs.Common.{[], ap, get_or, length, List, None, Option, slice_get, slice_get-get_or, Some, ValType, ℕ, ◌+◌}
+use Rattle.smith_draw_consts.proofs.Common.{◌∙◌, ◌∷◌, ◌≡◌}
 use Rattle.std.proofs.lemmas.List.{length-append}
-use Rattle.std.proofs.lemmas.Option.{slice_get-get_or}
-use Rattle.smith_syntax.specs.declared.value_type.ValType.{ValType}
 use Rattle.smith_draw_consts.proofs.ClassLemmas.{flag_pushed}
 use Rattle.smith_draw_consts.proofs.kept_offers.test_kinds.Goals as goal
 

@@ -1,4 +1,4 @@
-use Rattle.std.proofs.Common.{◌≡◌, length}
+use Rattle.smith_draw_consts.proofs.Common.{length, ◌≡◌}
 use Rattle.smith_draw_consts.specs.KeptOffers.{AreFlags}
 use Rattle.smith_draw_consts.proofs.kept_offers.test_kinds.Given as goal
 

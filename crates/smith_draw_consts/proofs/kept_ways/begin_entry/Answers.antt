@@ -1,5 +1,4 @@
-use Rattle.std.proofs.Common.{◌<◌, ◌%◌, arith, length}
-use Rattle.std.proofs.lemmas.List.Elements.{All-set}
+use Rattle.smith_draw_consts.proofs.Common.{All-set, arith, length, ◌%◌, ◌<◌}
 use Rattle.std.proofs.lemmas.Nat.{mod_below}
 use Rattle.smith_draw_consts.specs.KeptOffers.{IsKeptWays}
 use Rattle.smith_draw_consts.proofs.KeptWayLemmas.{set_there}

@@ -1,4 +1,4 @@
-use Rattle.std.proofs.Common.{◌≡◌, ◌+◌, ◌*◌, ◌≤◌}
+use Rattle.smith_draw_consts.proofs.Common.{◌*◌, ◌+◌, ◌≡◌, ◌≤◌}
 use Rattle.smith_draw_consts.specs.ConstOffers.{ways_by}
 use Rattle.smith_draw_consts.specs.ConstScopes.{context_of}
 use Rattle.smith_draw_consts.specs.KeptOffers.{offered_before}

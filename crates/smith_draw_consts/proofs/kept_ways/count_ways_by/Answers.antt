@@ -1,4 +1,4 @@
-use Rattle.std.proofs.Common.{arith, sym, ◌∙◌}
+use Rattle.smith_draw_consts.proofs.Common.{arith, sym, ◌∙◌}
 use Rattle.smith_draw_consts.specs.ConstScopes.{context_of}
 use Rattle.smith_draw_consts.proofs.ConstFoundLemmas.{counted, few_type, not_found}
 use Rattle.smith_draw_consts.proofs.kept_ways.count_ways_by.Goals as goal

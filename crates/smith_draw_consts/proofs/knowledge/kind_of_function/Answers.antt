@@ -1,8 +1,5 @@
-use Rattle.std.proofs.Common.{◌≡◌, ◌∙◌, ap, arith, length, List, ℕ}
-use Rattle.std.specs.Prelude.{Some, slice_index}
-use Rattle.std.proofs.lemmas.Option.{get_or_from_slice_get}
-use Rattle.smith_types.specs.Expressions.{function_reference}
-use Rattle.smith_syntax.specs.declared.value_type.ValType.{ValType}
+use Rattle.smith_draw_consts.proofs.Common.{ap, arith, function_reference, get_or_from_slice_get, length, List, slice_index, Some, ValType}
+use Rattle.smith_draw_consts.proofs.Common.{ℕ, ◌∙◌, ◌≡◌}
 use Rattle.smith_draw_consts.specs.ConstScopes.{context_of}
 use Rattle.smith_draw_consts.specs.KeptOffers.{AreAllRead, IsFewWhole}
 use Rattle.smith_draw_consts.proofs.ClassLemmas.{same_element}

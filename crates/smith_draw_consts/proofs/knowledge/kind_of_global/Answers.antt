@@ -1,9 +1,6 @@
-use Rattle.std.proofs.Common.{false, ◌∙◌, ap, arith, length, List}
-use Rattle.std.specs.Prelude.{Option, None, slice_index, slice_index_or}
-use Rattle.std.proofs.lemmas.Option.{get_or_from_slice_get}
-use Rattle.smith_syntax.specs.declared.entity_type.GlobalType.{GlobalType}
-use Rattle.smith_syntax.specs.declared.value_type.ValType.{ValType}
-use Rattle.smith_syntax.specs.declared.value_type.ValType.TheVariants.{I32}
+use Rattle.smith_draw_consts.proofs.Common.{ap, arith, false, get_or_from_slice_get, GlobalType, I32, length, List, None, Option}
+use Rattle.smith_draw_consts.proofs.Common.{slice_index, ValType, ◌∙◌}
+use Rattle.std.specs.Prelude.{slice_index_or}
 use Rattle.smith_draw_consts.specs.ConstScopes.{context_of}
 use Rattle.smith_draw_consts.specs.KeptOffers.{AreAllRead, IsFewWhole, readable}
 use Rattle.smith_draw_consts.proofs.ClassLemmas.{same_element}

@@ -1,5 +1,4 @@
-use Rattle.std.proofs.Common.{sym}
-use Rattle.std.proofs.lemmas.List.{append-nil}
+use Rattle.smith_draw_consts.proofs.Common.{append-nil, sym}
 use Rattle.std.proofs.lemmas.Option.{slice_get_past}
 use Rattle.smith_draw_consts.proofs.node.push_fields.Goals as goal
 

@@ -1,6 +1,4 @@
-use Rattle.std.proofs.Common.{◌≡◌, ◌++◌, map, drop}
-use Rattle.smith_types.specs.Expressions.{field_values}
-use Rattle.smith_draw_types.specs.HeldFields.{fields_of}
+use Rattle.smith_draw_consts.proofs.Common.{drop, field_values, fields_of, map, ◌++◌, ◌≡◌}
 use Rattle.smith_draw_consts.specs.declared.node.Operand.TheVariants.{Value}
 use Rattle.smith_draw_consts.proofs.node.push_fields_of.Given as goal
 

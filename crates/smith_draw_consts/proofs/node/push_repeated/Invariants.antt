@@ -1,4 +1,4 @@
-use Rattle.std.proofs.Common.{◌≡◌, ◌++◌, ◌-◌}
+use Rattle.smith_draw_consts.proofs.Common.{◌++◌, ◌-◌, ◌≡◌}
 use Rattle.smith_draw_consts.specs.ConstNodes.{repeated, field_operands}
 use Rattle.smith_draw_consts.proofs.node.push_repeated.Given as goal
 

@@ -1,4 +1,4 @@
-use Rattle.std.proofs.Common.{arith, refl, sym, ◌∙◌}
+use Rattle.smith_draw_consts.proofs.Common.{arith, refl, sym, ◌∙◌}
 use Rattle.smith_draw_consts.specs.ConstScopes.{context_of}
 use Rattle.smith_draw_consts.proofs.ConstFoundLemmas.{past_inside, found_chosen}
 use Rattle.smith_draw_consts.proofs.ConstOfferLemmas.{nothing_offered, chosen_fits}

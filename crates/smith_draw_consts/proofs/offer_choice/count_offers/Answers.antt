@@ -1,4 +1,4 @@
-use Rattle.std.proofs.Common.{arith, sym, ◌∙◌}
+use Rattle.smith_draw_consts.proofs.Common.{arith, sym, ◌∙◌}
 use Rattle.smith_draw_consts.specs.ConstScopes.{context_of}
 use Rattle.smith_draw_consts.proofs.ConstFoundLemmas.{counted, not_found, offers_few}
 use Rattle.smith_draw_consts.proofs.offer_choice.count_offers.Goals as goal

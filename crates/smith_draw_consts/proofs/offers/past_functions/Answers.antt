@@ -1,4 +1,4 @@
-use Rattle.std.proofs.Common.{◌≤◌, ◌∙◌, arith, length, refl, sym}
+use Rattle.smith_draw_consts.proofs.Common.{arith, length, refl, sym, ◌∙◌, ◌≤◌}
 use Rattle.smith_draw_consts.specs.ConstOffers.{function_offers}
 use Rattle.smith_draw_consts.specs.ConstScopes.{context_of}
 use Rattle.smith_draw_consts.specs.KeptOffers.{IsWhole, offered_before}

@@ -1,4 +1,4 @@
-use Rattle.std.proofs.Common.{◌∙◌, ap, List}
+use Rattle.smith_draw_consts.proofs.Common.{ap, List, ◌∙◌}
 use Rattle.smith_draw_consts.specs.ConstOffers.{past, function_offers}
 use Rattle.smith_draw_consts.specs.ConstScopes.{context_of}
 use Rattle.smith_draw_consts.specs.declared.node_choice.Choice.{Choice}

@@ -1,6 +1,4 @@
-use Rattle.std.proofs.Common.{◌+◌, ◌≤◌, ◌∙◌, List, ap, arith, length, refl, sym, take, ℕ}
-use Rattle.std.proofs.lemmas.List.{length-take-le}
-use Rattle.smith_syntax.specs.declared.entity_type.GlobalType.{GlobalType}
+use Rattle.smith_draw_consts.proofs.Common.{ap, arith, GlobalType, length, length-take-le, List, refl, sym, take, ℕ, ◌+◌, ◌∙◌, ◌≤◌}
 use Rattle.smith_draw_consts.specs.ConstOffers.{global_offers}
 use Rattle.smith_draw_consts.specs.ConstScopes.{context_of}
 use Rattle.smith_draw_consts.specs.KeptOffers.{IsWhole, offered_before}

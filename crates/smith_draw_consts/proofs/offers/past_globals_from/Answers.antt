@@ -1,7 +1,4 @@
-use Rattle.std.proofs.Common.{◌∙◌, false, ap, arith, take, List}
-use Rattle.std.proofs.lemmas.List.{length-take-le}
-use Rattle.smith_syntax.specs.declared.entity_type.GlobalType.{GlobalType}
-use Rattle.smith_syntax.specs.declared.value_type.ValType.TheVariants.{I32}
+use Rattle.smith_draw_consts.proofs.Common.{ap, arith, false, GlobalType, I32, length-take-le, List, take, ◌∙◌}
 use Rattle.smith_draw_consts.specs.ConstOffers.{past, global_offers}
 use Rattle.smith_draw_consts.specs.ConstScopes.{context_of}
 use Rattle.smith_draw_consts.specs.declared.node_choice.Choice.{Choice}

@@ -1,4 +1,4 @@
-use Rattle.std.proofs.Common.{◌≡◌, drop, take}
+use Rattle.smith_draw_consts.proofs.Common.{drop, take, ◌≡◌}
 use Rattle.smith_draw_consts.specs.ConstOffers.{past, each_from, global_offers}
 use Rattle.smith_draw_consts.specs.ConstScopes.{context_of}
 use Rattle.smith_draw_consts.proofs.offers.past_globals_from.Given as goal

@@ -1,4 +1,4 @@
-use Rattle.std.proofs.Common.{◌≡◌, ◌≤◌, ◌∙◌, [], List, ap, arith, length, refl, sym}
+use Rattle.smith_draw_consts.proofs.Common.{[], ap, arith, length, List, refl, sym, ◌∙◌, ◌≡◌, ◌≤◌}
 use Rattle.smith_draw_consts.specs.ConstOffers.{past, types_offers, ways_by}
 use Rattle.smith_draw_consts.specs.ConstScopes.{context_of}
 use Rattle.smith_draw_consts.specs.KeptOffers.{AreAllCounted, offered_before}

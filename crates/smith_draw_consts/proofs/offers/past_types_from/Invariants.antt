@@ -1,4 +1,4 @@
-use Rattle.std.proofs.Common.{◌≡◌, drop}
+use Rattle.smith_draw_consts.proofs.Common.{drop, ◌≡◌}
 use Rattle.smith_draw_consts.specs.ConstOffers.{past, each_from, ways_by}
 use Rattle.smith_draw_consts.specs.ConstScopes.{context_of}
 use Rattle.smith_draw_consts.proofs.offers.past_types_from.Given as goal

@@ -1,9 +1,5 @@
-use Rattle.std.proofs.Common.{◌≡◌, ◌+◌, ◌<◌, ◌∙◌, ap, get_or, length, sym, ℕ}
-use Rattle.std.specs.Prelude.{IfSome, Option, Some, slice_get}
-use Rattle.std.proofs.lemmas.Option.{slice_get-get_or}
-use Rattle.smith_types.specs.Expressions.{function_reference}
-use Rattle.smith_types.specs.Subtyping.{IsValInRange}
-use Rattle.smith_syntax.specs.declared.value_type.ValType.{ValType}
+use Rattle.smith_draw_consts.proofs.Common.{ap, function_reference, get_or, IfSome, IsValInRange, length, Option, slice_get}
+use Rattle.smith_draw_consts.proofs.Common.{slice_get-get_or, Some, sym, ValType, ℕ, ◌+◌, ◌<◌, ◌∙◌, ◌≡◌}
 use Rattle.smith_draw_consts.specs.ConstScopes.{context_of}
 use Rattle.smith_draw_consts.proofs.ClassLemmas.{classes_noted, flags_noted, one_noted}
 use Rattle.smith_draw_consts.proofs.KnownLemmas.{function_kind_exists}

@@ -1,8 +1,4 @@
-use Rattle.std.proofs.Common.{◌≡◌, Bool, List, length}
-use Rattle.std.specs.Prelude.{Some}
-use Rattle.smith_types.specs.Expressions.{function_reference}
-use Rattle.smith_syntax.specs.declared.composite_type.SubType.{SubType}
-use Rattle.smith_syntax.specs.declared.value_type.ValType.{ValType}
+use Rattle.smith_draw_consts.proofs.Common.{Bool, function_reference, length, List, Some, SubType, ValType, ◌≡◌}
 use Rattle.smith_draw_consts.specs.ConstScopes.{context_of}
 use Rattle.smith_draw_consts.specs.KeptOffers.{AreClasses, AreFlags}
 use Rattle.smith_draw_consts.proofs.read_items.read_funcs.Given as goal

@@ -1,10 +1,5 @@
-use Rattle.std.proofs.Common.{false, ◌≡◌, ◌+◌, ◌<◌, ◌∙◌, ap, arith, get_or, length, ℕ}
-use Rattle.std.specs.Prelude.{IfSome, Option, Some, slice_get}
-use Rattle.std.proofs.lemmas.Option.{slice_get-get_or}
-use Rattle.smith_types.specs.Subtyping.{IsValInRange}
-use Rattle.smith_syntax.specs.declared.entity_type.GlobalType.{GlobalType}
-use Rattle.smith_syntax.specs.declared.value_type.ValType.{ValType}
-use Rattle.smith_syntax.specs.declared.value_type.ValType.TheVariants.{I32}
+use Rattle.smith_draw_consts.proofs.Common.{ap, arith, false, get_or, GlobalType, I32, IfSome, IsValInRange, length, Option, slice_get}
+use Rattle.smith_draw_consts.proofs.Common.{slice_get-get_or, Some, ValType, ℕ, ◌+◌, ◌<◌, ◌∙◌, ◌≡◌}
 use Rattle.smith_draw_consts.specs.ConstScopes.{context_of}
 use Rattle.smith_draw_consts.specs.KeptOffers.{readable}
 use Rattle.smith_draw_consts.proofs.ClassLemmas.{classes_noted, flags_noted, one_noted}

@@ -1,6 +1,4 @@
-use Rattle.std.proofs.Common.{◌≡◌, Bool, List, length}
-use Rattle.smith_syntax.specs.declared.composite_type.SubType.{SubType}
-use Rattle.smith_syntax.specs.declared.value_type.ValType.{ValType}
+use Rattle.smith_draw_consts.proofs.Common.{Bool, length, List, SubType, ValType, ◌≡◌}
 use Rattle.smith_draw_consts.specs.ConstScopes.{context_of}
 use Rattle.smith_draw_consts.specs.KeptOffers.{AreClasses, AreFlags, readable}
 use Rattle.smith_draw_consts.proofs.read_items.read_globals.Given as goal

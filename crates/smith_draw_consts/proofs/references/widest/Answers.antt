@@ -1,4 +1,4 @@
-use Rattle.std.proofs.Common.{◌∙◌, sym}
+use Rattle.smith_draw_consts.proofs.Common.{sym, ◌∙◌}
 use Rattle.smith_draw_consts.proofs.references.widest.Goals as goal
 
 pub is_below-requires-clause-upper : goal.is_below-requires-clause-upper

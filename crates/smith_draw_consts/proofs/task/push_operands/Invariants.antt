@@ -1,5 +1,4 @@
-use Rattle.std.proofs.Common.{◌≡◌, ◌++◌, ◌-◌, length, map, drop}
-use Rattle.std.specs.Prelude.{reverse}
+use Rattle.smith_draw_consts.proofs.Common.{drop, length, map, reverse, ◌++◌, ◌-◌, ◌≡◌}
 use Rattle.smith_draw_consts.specs.declared.task.Task.TheVariants.{Draw}
 use Rattle.smith_draw_consts.proofs.task.push_operands.Given as goal
 

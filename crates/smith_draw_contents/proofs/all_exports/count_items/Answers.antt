@@ -1,5 +1,4 @@
-use Rattle.std.proofs.Common.{arith}
-use Rattle.smith_types.specs.EntitySpaces.{spaces_in}
+use Rattle.smith_draw_contents.proofs.Common.{arith, spaces_in}
 use Rattle.smith_draw_contents.proofs.AllExportsLemmas.{length-every_item}
 use Rattle.smith_draw_contents.proofs.all_exports.count_items.Goals as goal
 

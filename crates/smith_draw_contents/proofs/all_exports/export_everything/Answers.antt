@@ -1,4 +1,4 @@
-use Rattle.std.proofs.lemmas.Result.{IfOk-weaker}
+use Rattle.smith_draw_contents.proofs.Common.{IfOk-weaker}
 use Rattle.smith_draw_contents.proofs.all_exports.export_everything.Goals as goal
 
 pub returns-clause-valid : goal.returns-clause-valid

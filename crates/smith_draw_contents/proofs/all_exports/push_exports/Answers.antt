@@ -1,6 +1,4 @@
-use Rattle.std.proofs.Common.{arith, refl}
-use Rattle.smith_types.specs.EntitySpaces.{spaces_in}
-use Rattle.smith_module_rules.specs.ExportedItems.{every_item}
+use Rattle.smith_draw_contents.proofs.Common.{arith, every_item, refl, spaces_in}
 use Rattle.smith_draw_contents.specs.AllExports.{everything_at}
 use Rattle.smith_draw_contents.proofs.AllExportsLemmas.{every_item_stands}
 use Rattle.smith_draw_contents.proofs.AllExportsLoop.{none_exporting, exporting_full, exported_all, exporting_refused, exporting_more}

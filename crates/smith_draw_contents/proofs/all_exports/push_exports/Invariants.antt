@@ -1,5 +1,4 @@
-use Rattle.smith_types.specs.EntitySpaces.{spaces_in}
-use Rattle.smith_module_rules.specs.ExportedItems.{every_item}
+use Rattle.smith_draw_contents.proofs.Common.{every_item, spaces_in}
 use Rattle.smith_draw_contents.proofs.AllExportsLoop.{AreExporting}
 use Rattle.smith_draw_contents.proofs.all_exports.push_exports.Given as goal
 

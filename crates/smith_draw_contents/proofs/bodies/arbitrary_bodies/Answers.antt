@@ -1,6 +1,4 @@
-use Rattle.smith_draw_types.specs.Grounding.{standing_in}
-use Rattle.std.proofs.lemmas.Result.{IfOk-weaker}
-use Rattle.smith_draw_types.proofs.DrawingLemmas.{of_drawn}
+use Rattle.smith_draw_contents.proofs.Common.{IfOk-weaker, of_drawn, standing_in}
 use Rattle.smith_draw_contents.proofs.DrawnBodyLemmas.{bodies_each, bodies_valid, bodies_no_float, bodies_granted, none_raw}
 use Rattle.smith_draw_contents.proofs.bodies.arbitrary_bodies.Goals as goal
 

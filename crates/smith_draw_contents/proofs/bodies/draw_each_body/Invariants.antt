@@ -1,4 +1,4 @@
-use Rattle.smith_bytes.proofs.GrowingLoop.{IsGrowing}
+use Rattle.smith_draw_contents.proofs.Common.{IsGrowing}
 use Rattle.smith_draw_contents.specs.DrawnBodies.{body_at, bodies_at}
 use Rattle.smith_draw_contents.proofs.bodies.draw_each_body.Given as goal
 

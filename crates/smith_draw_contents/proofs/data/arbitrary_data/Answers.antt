@@ -1,6 +1,5 @@
 use Rattle.smith_bytes.specs.declared.error.Count.TheVariants.{DataSegments}
-use Rattle.std.proofs.Common.{true}
-use Rattle.smith_draw_consts.specs.ConstScopes.{seen_by}
+use Rattle.smith_draw_contents.proofs.Common.{seen_by, true}
 use Rattle.smith_draw_contents.proofs.PassiveDataLemmas.{data_taken}
 use Rattle.smith_draw_contents.proofs.data.arbitrary_data.Goals as goal
 

@@ -1,7 +1,6 @@
 use Rattle.smith_bytes.specs.ByteLists.{byte_list_at}
 use Rattle.smith_bytes.specs.Draws.{whole_at}
-use Rattle.smith_bytes.proofs.GrowingLoop.{IsGrowing}
-use Rattle.std.proofs.Common.{length}
+use Rattle.smith_draw_contents.proofs.Common.{IsGrowing, length}
 use Rattle.smith_draw_contents.proofs.data.draw_byte_list.Given as goal
 
 abbrev pub invariant-loop-made : goal.invariant-loop-made

@@ -1,9 +1,5 @@
-use Rattle.std.proofs.Common.{◌≤◌, List, length, true}
-use Rattle.std.proofs.lemmas.Result.{IfOk-weaker}
-use Rattle.smith_syntax.specs.declared.segments.DataSegment.{DataSegment}
-use Rattle.smith_config.specs.Features.{features_of}
-use Rattle.smith_draw_consts.specs.ConstScopes.{seen_by}
-use Rattle.smith_draw_types.proofs.ValueTypeLemmas.{drawn_is}
+use Rattle.smith_draw_contents.proofs.Common.{drawn_is, features_of, IfOk-weaker, length, List, seen_by, true, ◌≤◌}
+use Rattle.smith_types.specs.Syntax.segments.DataSegment.{DataSegment}
 use Rattle.smith_draw_contents.proofs.DataSegmentLemmas.{segments_most, segments_least, target_pages}
 use Rattle.smith_draw_contents.proofs.data.draw_data.Goals as goal
 

@@ -1,4 +1,4 @@
-use Rattle.std.proofs.Common.{◌-◌, ◌<◌, length, arith}
+use Rattle.smith_draw_contents.proofs.Common.{arith, length, ◌-◌, ◌<◌}
 use Rattle.smith_draw_contents.proofs.data.draw_offset.Goals as goal
 
 pub returns-then-place-eq0-clause-valid : goal.returns-then-place-eq0-clause-valid

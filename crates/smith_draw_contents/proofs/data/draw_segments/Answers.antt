@@ -1,6 +1,4 @@
-use Rattle.std.proofs.Common.{rules}
-use Rattle.std.proofs.lemmas.List.Elements.{All-push}
-use Rattle.smith_bytes.proofs.GrowingLoop.{grow_go, grow_stop, grow_full}
+use Rattle.smith_draw_contents.proofs.Common.{All-push, grow_full, grow_go, grow_stop, rules}
 use Rattle.smith_draw_contents.specs.DataTargets.{IsDataFit}
 use Rattle.smith_draw_contents.proofs.data.draw_segments.Goals as goal
 

@@ -1,8 +1,4 @@
-use Rattle.std.proofs.Common.{List}
-use Rattle.std.specs.Prelude.{All}
-use Rattle.smith_bytes.proofs.GrowingLoop.{IsGrowing}
-use Rattle.smith_types.specs.Expressions.{Context}
-use Rattle.smith_syntax.specs.declared.entity_type.MemoryType.{MemoryType}
+use Rattle.smith_draw_contents.proofs.Common.{All, Context, IsGrowing, List, MemoryType}
 use Rattle.smith_draw_contents.specs.DataSegments.{data_segment_at, data_segments_at}
 use Rattle.smith_draw_contents.specs.DataTargets.{AreTargets, IsDataFit}
 use Rattle.smith_draw_contents.proofs.data.draw_segments.Given as goal

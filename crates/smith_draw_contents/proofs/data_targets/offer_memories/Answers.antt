@@ -1,4 +1,4 @@
-use Rattle.std.proofs.Common.{rules}
+use Rattle.smith_draw_contents.proofs.Common.{rules}
 use Rattle.smith_draw_contents.proofs.DataTargetsLoop.{counting_begin, counting_more, counting_skip, counting_done}
 use Rattle.smith_draw_contents.proofs.data_targets.offer_memories.Goals as goal
 

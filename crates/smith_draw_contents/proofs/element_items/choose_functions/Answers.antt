@@ -1,5 +1,4 @@
-use Rattle.std.proofs.Common.{rules}
-use Rattle.smith_bytes.proofs.GrowingLoop.{grow_go, grow_stop, grow_full}
+use Rattle.smith_draw_contents.proofs.Common.{grow_full, grow_go, grow_stop, rules}
 use Rattle.smith_draw_contents.proofs.element_items.choose_functions.Goals as goal
 
 pub returns-then-not-goes_on : goal.returns-then-not-goes_on

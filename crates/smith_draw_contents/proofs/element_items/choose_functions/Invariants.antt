@@ -1,5 +1,4 @@
-use Rattle.smith_bytes.proofs.GrowingLoop.{IsGrowing}
-use Rattle.smith_draw_types.specs.Choices.{chosen_at}
+use Rattle.smith_draw_contents.proofs.Common.{chosen_at, IsGrowing}
 use Rattle.smith_draw_contents.specs.ElementSegments.{chosen_functions_at}
 use Rattle.smith_draw_contents.proofs.element_items.choose_functions.Given as goal
 

@@ -1,13 +1,6 @@
-use Rattle.std.proofs.Common.{◌≡◌, ◌-◌, List, true, refl, arith}
-use Rattle.std.specs.Prelude.{All}
-use Rattle.std.proofs.lemmas.List.Elements.{All-nil, All-push}
+use Rattle.smith_draw_contents.proofs.Common.{All, All-nil, All-push, arith, ConstInstr, GivesNoFloat, IsConstExpr, List, Ref, refl}
+use Rattle.smith_draw_contents.proofs.Common.{refused_with, seen_by, true, ◌-◌, ◌≡◌}
 use Rattle.smith_draw_consts.proofs.TriedLoop.{try_go, try_refused, try_stop, try_full}
-use Rattle.smith_draw_consts.proofs.TriedStepLemmas.{refused_with}
-use Rattle.smith_types.specs.Expressions.{IsConstExpr}
-use Rattle.smith_syntax.specs.declared.value_type.ValType.TheVariants.{Ref}
-use Rattle.smith_types.specs.Floats.{GivesNoFloat}
-use Rattle.smith_draw_consts.specs.ConstScopes.{seen_by}
-use Rattle.smith_syntax.specs.declared.const_instr.ConstInstr.{ConstInstr}
 use Rattle.smith_draw_contents.specs.ElementSegments.{drawn_expressions_at}
 use Rattle.smith_draw_contents.proofs.element_items.draw_each_expression.Goals as goal
 

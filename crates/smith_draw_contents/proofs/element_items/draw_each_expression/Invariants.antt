@@ -1,10 +1,6 @@
-use Rattle.std.proofs.Common.{true}
-use Rattle.std.specs.Prelude.{All}
+use Rattle.smith_draw_contents.proofs.Common.{All, GivesNoFloat, IsConstExpr, Ref, seen_by, true}
 use Rattle.smith_draw_consts.proofs.TriedLoop.{IsTrying}
-use Rattle.smith_types.specs.Expressions.{IsConstExpr}
-use Rattle.smith_types.specs.Floats.{HasNoFloat, GivesNoFloat}
-use Rattle.smith_syntax.specs.declared.value_type.ValType.TheVariants.{Ref}
-use Rattle.smith_draw_consts.specs.ConstScopes.{seen_by}
+use Rattle.smith_types.specs.Floats.{HasNoFloat}
 use Rattle.smith_draw_consts.specs.KeptOffers.{AreKeptOffers}
 use Rattle.smith_draw_contents.specs.ElementSegments.{expression_item_at, drawn_expressions_at}
 use Rattle.smith_draw_contents.proofs.element_items.draw_each_expression.Given as goal

@@ -1,9 +1,4 @@
-use Rattle.std.proofs.Common.{true, ◌≤◌, ℕ, List, length, subst}
-use Rattle.std.specs.Prelude.{Result, IfOk}
-use Rattle.smith_bytes.specs.declared.error.Error.{Error}
-use Rattle.smith_syntax.specs.declared.const_instr.ConstInstr.{ConstInstr}
-use Rattle.smith_draw_consts.specs.ConstScopes.{seen_by}
-use Rattle.smith_draw_consts.proofs.TriedStepLemmas.{returned}
+use Rattle.smith_draw_contents.proofs.Common.{ConstInstr, Error, IfOk, length, List, Result, returned, seen_by, subst, true, ℕ, ◌≤◌}
 use Rattle.smith_draw_contents.proofs.ElementFitLemmas.{expressions_fit}
 use Rattle.smith_draw_contents.proofs.ElementItemLemmas.{expressions_few}
 use Rattle.smith_draw_contents.proofs.element_items.draw_expressions.Goals as goal

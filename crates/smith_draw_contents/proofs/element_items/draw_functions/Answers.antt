@@ -1,11 +1,7 @@
-use Rattle.std.proofs.Common.{ℕ, List, subst, true}
-use Rattle.std.specs.Prelude.{Result, IfOk}
-use Rattle.smith_bytes.specs.declared.error.Error.{Error}
-use Rattle.smith_syntax.specs.declared.segments.Elements.TheVariants.{Functions}
-use Rattle.smith_draw_consts.specs.ConstScopes.{seen_by}
+use Rattle.smith_draw_contents.proofs.Common.{Error, IfOk, List, Result, returned, seen_by, subst, true, ℕ}
+use Rattle.smith_types.specs.Syntax.segments.Elements.TheVariants.{Functions}
 use Rattle.smith_draw_contents.specs.DrawnElements.{AreItemsFit}
 use Rattle.smith_draw_contents.proofs.ElementFunctionLemmas.{functions_fit}
-use Rattle.smith_draw_consts.proofs.TriedStepLemmas.{returned}
 use Rattle.smith_draw_contents.proofs.element_items.draw_functions.Goals as goal
 
 pub returns-clause-fit : goal.returns-clause-fit

@@ -1,9 +1,5 @@
-use Rattle.smith_syntax.specs.declared.value_type.ValType.TheVariants.{Ref}
-use Rattle.smith_config.specs.Granted.{IsUngrounded}
-use Rattle.smith_draw_types.specs.Grounding.{standing_in}
-use Rattle.smith_syntax.specs.declared.value_type.RefType.{RefType}
+use Rattle.smith_draw_contents.proofs.Common.{IsUngrounded, of_drawn, Ref, RefType, standing_in}
 use Rattle.smith_draw_contents.specs.DrawnElements.{HasUngroundedElements}
-use Rattle.smith_draw_types.proofs.DrawingLemmas.{of_drawn}
 use Rattle.smith_draw_contents.proofs.ElementItemLemmas.{item_type_may, item_type_fits, item_type_needed}
 use Rattle.smith_draw_contents.proofs.element_items.draw_item_type.Goals as goal
 

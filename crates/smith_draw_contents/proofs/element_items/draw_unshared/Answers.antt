@@ -1,5 +1,4 @@
-use Rattle.std.proofs.Common.{ℕ, ◌≤◌, List, length}
-use Rattle.smith_draw_types.proofs.DrawingLemmas.{of_drawn}
+use Rattle.smith_draw_contents.proofs.Common.{length, List, of_drawn, ℕ, ◌≤◌}
 use Rattle.smith_draw_contents.proofs.ElementItemLemmas.{functions_few}
 use Rattle.smith_draw_contents.proofs.element_items.draw_unshared.Goals as goal
 

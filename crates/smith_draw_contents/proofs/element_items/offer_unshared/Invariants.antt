@@ -1,5 +1,4 @@
-use Rattle.std.proofs.Common.{◌≡◌, ◌++◌, drop}
-use Rattle.smith_draw_types.specs.TypeUses.{places_from}
+use Rattle.smith_draw_contents.proofs.Common.{drop, places_from, ◌++◌, ◌≡◌}
 use Rattle.smith_draw_contents.specs.ElementSegments.{is_unshared_type, unshared_funcs}
 use Rattle.smith_draw_contents.proofs.element_items.offer_unshared.Given as goal
 

@@ -1,4 +1,4 @@
-use Rattle.std.proofs.Common.{rules}
+use Rattle.smith_draw_contents.proofs.Common.{rules}
 use Rattle.smith_draw_contents.proofs.OfferedKindLemmas.{tables_begin, tables_more, tables_skip, tables_done}
 use Rattle.smith_draw_contents.proofs.element_kinds.draw_tables.Goals as goal
 

@@ -1,6 +1,4 @@
-use Rattle.std.proofs.Common.{◌≡◌, List, length, false}
-use Rattle.std.specs.Prelude.{All}
-use Rattle.smith_draw_types.proofs.ValueTypeLemmas.{drawn_is}
+use Rattle.smith_draw_contents.proofs.Common.{All, drawn_is, false, length, List, ◌≡◌}
 use Rattle.smith_draw_contents.specs.DrawnElements.{IsKindOffered}
 use Rattle.smith_draw_contents.specs.ElementSegments.{KindChoice}
 use Rattle.smith_draw_contents.proofs.ElementKindLemmas.{kinds_offered, no_kind}

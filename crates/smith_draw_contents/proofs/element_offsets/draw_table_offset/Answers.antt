@@ -1,5 +1,4 @@
-use Rattle.std.proofs.Common.{true}
-use Rattle.smith_draw_consts.specs.ConstScopes.{seen_by}
+use Rattle.smith_draw_contents.proofs.Common.{seen_by, true}
 use Rattle.smith_draw_contents.proofs.ElementOffsetLemmas.{global_placed}
 use Rattle.smith_draw_contents.proofs.element_offsets.draw_table_offset.Goals as goal
 

@@ -1,18 +1,11 @@
-use Rattle.std.proofs.Common.{◌≤◌, ℕ, List, length, subst, true}
-use Rattle.std.specs.Prelude.{Result, IfOk}
-use Rattle.smith_bytes.specs.declared.error.Error.{Error}
-use Rattle.std.proofs.lemmas.List.Elements.{All-weaker}
-use Rattle.std.proofs.lemmas.Result.{IfOk-weaker}
+use Rattle.smith_draw_contents.proofs.Common.{All-weaker, ElementSegment, Error, IfOk, IfOk-weaker, length, List, Result, returned, seen_by}
+use Rattle.smith_draw_contents.proofs.Common.{standing_in, subst, true, ℕ, ◌≤◌}
 use Rattle.smith_bytes.specs.declared.error.Count.TheVariants as counts
-use Rattle.smith_syntax.specs.declared.segments.ElementSegment.{ElementSegment}
-use Rattle.smith_draw_consts.specs.ConstScopes.{seen_by}
-use Rattle.smith_draw_types.specs.Grounding.{standing_in}
 use Rattle.smith_module_rules.specs.Held.{HasItems}
 use Rattle.smith_config.specs.Granted.{HasGroundedItems}
 use Rattle.smith_draw_contents.specs.DrawnElements.{IsElementFit}
 use Rattle.smith_draw_contents.proofs.ElementCountLemmas.{elements_least, elements_taken}
 use Rattle.smith_draw_contents.proofs.ElementFitLemmas.{elements_no_float}
-use Rattle.smith_draw_consts.proofs.TriedStepLemmas.{returned}
 use Rattle.smith_draw_contents.proofs.elements.arbitrary_elements.Goals as goal
 
 pub returns-clause-least : goal.returns-clause-least

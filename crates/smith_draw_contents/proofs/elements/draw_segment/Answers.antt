@@ -1,15 +1,10 @@
-use Rattle.std.proofs.Common.{true, arith}
-use Rattle.smith_syntax.specs.declared.segments.Elements.{Elements}
-use Rattle.smith_draw_consts.specs.ConstScopes.{seen_by}
+use Rattle.smith_draw_contents.proofs.Common.{arith, chosen_of, drawn_is, Elements, refused_with, seen_by, standing_in, true}
 use Rattle.smith_draw_consts.proofs.ConstStepLemmas.{passed_on}
-use Rattle.smith_draw_types.specs.Grounding.{standing_in}
-use Rattle.smith_draw_types.proofs.SupertypeLemmas.{chosen_of}
-use Rattle.smith_draw_types.proofs.ValueTypeLemmas.{drawn_is}
 use Rattle.smith_draw_contents.specs.DrawnElements.{IsKindOffered}
 use Rattle.smith_draw_contents.specs.declared.element_kinds.KindChoice.TheVariants.{Passive}
 use Rattle.smith_draw_contents.proofs.ElementFitLemmas.{element_fit}
 use Rattle.smith_draw_contents.proofs.ElementItemLemmas.{fits_addresses, segment_refused}
-use Rattle.smith_draw_consts.proofs.TriedStepLemmas.{memory_open, refused_with}
+use Rattle.smith_draw_consts.proofs.TriedStepLemmas.{memory_open}
 use Rattle.smith_draw_contents.proofs.ElementsLoop.{segment_drawn, segment_not_drawn}
 use Rattle.smith_draw_contents.proofs.elements.draw_segment.Goals as goal
 

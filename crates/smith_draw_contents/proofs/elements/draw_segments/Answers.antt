@@ -1,10 +1,6 @@
-use Rattle.std.proofs.Common.{arith, refl, true}
-use Rattle.std.proofs.lemmas.List.Elements.{All-push}
+use Rattle.smith_draw_contents.proofs.Common.{All-push, arith, ElementSegment, refl, refused_with, seen_by, true}
 use Rattle.smith_bytes.specs.declared.error.Count.TheVariants as counts
-use Rattle.smith_syntax.specs.declared.segments.ElementSegment.{ElementSegment}
-use Rattle.smith_draw_consts.specs.ConstScopes.{seen_by}
 use Rattle.smith_draw_contents.specs.DrawnElements.{IsElementFit}
-use Rattle.smith_draw_consts.proofs.TriedStepLemmas.{refused_with}
 use Rattle.smith_draw_contents.proofs.ElementsLoop.{segments_go, segments_stop, segments_full, segments_refused}
 use Rattle.smith_draw_contents.proofs.elements.draw_segments.Goals as goal
 

@@ -1,6 +1,4 @@
-use Rattle.std.proofs.Common.{true, []}
-use Rattle.std.specs.Prelude.{All}
-use Rattle.smith_draw_consts.specs.ConstScopes.{seen_by}
+use Rattle.smith_draw_contents.proofs.Common.{[], All, seen_by, true}
 use Rattle.smith_draw_contents.specs.DrawnElements.{IsElementFit}
 use Rattle.smith_draw_contents.specs.ElementSegments.{element_segments_at}
 use Rattle.smith_draw_contents.proofs.ElementsLoop.{AreSegmentsMade}

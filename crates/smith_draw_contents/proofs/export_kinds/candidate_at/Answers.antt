@@ -1,5 +1,4 @@
-use Rattle.std.proofs.Common.{arith}
-use Rattle.smith_types.specs.EntitySpaces.{spaces_in}
+use Rattle.smith_draw_contents.proofs.Common.{arith, spaces_in}
 use Rattle.smith_draw_contents.proofs.CandidateLemmas.{other_place}
 use Rattle.smith_draw_contents.proofs.export_kinds.candidate_at.Goals as goal
 

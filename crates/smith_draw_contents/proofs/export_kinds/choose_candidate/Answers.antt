@@ -1,5 +1,4 @@
-use Rattle.std.proofs.Common.{arith}
-use Rattle.smith_types.specs.EntitySpaces.{spaces_in}
+use Rattle.smith_draw_contents.proofs.Common.{arith, spaces_in}
 use Rattle.smith_draw_contents.proofs.CandidateLemmas.{candidates_fit}
 use Rattle.smith_draw_contents.proofs.export_kinds.choose_candidate.Goals as goal
 

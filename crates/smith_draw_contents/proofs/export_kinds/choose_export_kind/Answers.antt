@@ -1,4 +1,4 @@
-use Rattle.smith_types.specs.EntitySpaces.{spaces_in}
+use Rattle.smith_draw_contents.proofs.Common.{spaces_in}
 use Rattle.smith_draw_contents.proofs.CandidateLemmas.{chosen_offered}
 use Rattle.smith_draw_contents.proofs.export_kinds.choose_export_kind.Goals as goal
 

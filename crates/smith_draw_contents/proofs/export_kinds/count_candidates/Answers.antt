@@ -1,4 +1,4 @@
-use Rattle.std.proofs.Common.{sym, nat_lt}
+use Rattle.smith_draw_contents.proofs.Common.{nat_lt, sym}
 use Rattle.smith_draw_contents.proofs.CandidateLemmas.{length_alike}
 use Rattle.smith_draw_contents.proofs.export_kinds.count_candidates.Goals as goal
 

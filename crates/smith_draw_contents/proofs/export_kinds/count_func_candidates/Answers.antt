@@ -1,4 +1,4 @@
-use Rattle.std.proofs.Common.{sym, arith}
+use Rattle.smith_draw_contents.proofs.Common.{arith, sym}
 use Rattle.smith_draw_contents.specs.Exporting.{is_func_below}
 use Rattle.smith_draw_contents.proofs.CandidateLemmas.{length_all, all_below}
 use Rattle.smith_draw_contents.proofs.export_kinds.count_func_candidates.Goals as goal

@@ -1,5 +1,4 @@
-use Rattle.std.proofs.Common.{◌≡◌, ◌+◌, ◌≤◌, length, drop}
-use Rattle.smith_draw_types.specs.TypeUses.{places_from}
+use Rattle.smith_draw_contents.proofs.Common.{drop, length, places_from, ◌+◌, ◌≡◌, ◌≤◌}
 use Rattle.smith_draw_contents.specs.Exporting.{is_func_below}
 use Rattle.smith_draw_contents.proofs.export_kinds.count_funcs.Given as goal
 

@@ -1,5 +1,4 @@
-use Rattle.std.proofs.Common.{◌≡◌, get_or, drop}
-use Rattle.smith_draw_types.specs.TypeUses.{places_from}
+use Rattle.smith_draw_contents.proofs.Common.{drop, get_or, places_from, ◌≡◌}
 use Rattle.smith_draw_contents.specs.Exporting.{is_func_below}
 use Rattle.smith_draw_contents.proofs.export_kinds.func_at.Given as goal
 

@@ -1,4 +1,4 @@
-use Rattle.std.proofs.Common.{◌<◌, length, sym, arith, ◌∙◌}
+use Rattle.smith_draw_contents.proofs.Common.{arith, length, sym, ◌<◌, ◌∙◌}
 use Rattle.smith_draw_contents.specs.Exporting.{is_func_below}
 use Rattle.smith_draw_contents.proofs.CandidateLemmas.{length_all, at_all, all_below}
 use Rattle.smith_draw_contents.proofs.export_kinds.func_candidate_at.Goals as goal

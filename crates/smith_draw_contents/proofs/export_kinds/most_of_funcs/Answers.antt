@@ -1,6 +1,6 @@
-use Rattle.std.proofs.Common.{◌≤◌, take, arith}
+use Rattle.smith_draw_contents.proofs.Common.{All-weaker, arith, take, ◌≤◌}
 use Rattle.std.proofs.lemmas.List.{take_all}
-use Rattle.std.proofs.lemmas.List.Elements.{All-more, All-weaker}
+use Rattle.std.proofs.lemmas.List.Elements.{All-more}
 use Rattle.smith_draw_contents.specs.Exported.{IsFuncWithin}
 use Rattle.smith_draw_contents.proofs.export_kinds.most_of_funcs.Goals.{then-size-most, else-size-most}
 use Rattle.smith_draw_contents.proofs.export_kinds.most_of_funcs.Goals as goal

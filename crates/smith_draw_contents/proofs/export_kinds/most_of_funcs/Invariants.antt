@@ -1,5 +1,4 @@
-use Rattle.std.proofs.Common.{take}
-use Rattle.std.specs.Prelude.{All}
+use Rattle.smith_draw_contents.proofs.Common.{All, take}
 use Rattle.smith_draw_contents.specs.Exported.{IsFuncWithin}
 use Rattle.smith_draw_contents.proofs.export_kinds.most_of_funcs.Given as goal
 

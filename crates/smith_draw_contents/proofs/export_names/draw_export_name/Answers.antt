@@ -1,4 +1,4 @@
-use Rattle.std.proofs.Common.{◌∙◌, sym}
+use Rattle.smith_draw_contents.proofs.Common.{sym, ◌∙◌}
 use Rattle.smith_draw_contents.proofs.ExportNameLemmas.{export_named, names_more}
 use Rattle.smith_draw_contents.proofs.export_names.draw_export_name.Goals as goal
 

@@ -1,6 +1,5 @@
-use Rattle.std.proofs.Common.{inl, inr}
+use Rattle.smith_draw_contents.proofs.Common.{inl, inr, spaces_in}
 use Rattle.std.proofs.lemmas.Result.{IfErr-weaker}
-use Rattle.smith_types.specs.EntitySpaces.{spaces_in}
 use Rattle.smith_draw_contents.proofs.ExportRefusalLemmas.{exports_all, exports_free}
 use Rattle.smith_draw_contents.proofs.exports.arbitrary_exports.Goals as goal
 

@@ -1,5 +1,4 @@
-use Rattle.std.proofs.Common.{◌<◌, length, inr, refl, arith}
-use Rattle.smith_types.specs.EntitySpaces.{spaces_in}
+use Rattle.smith_draw_contents.proofs.Common.{arith, inr, length, refl, spaces_in, ◌<◌}
 use Rattle.smith_draw_contents.proofs.ExportRefusalLemmas.{run_out}
 use Rattle.smith_draw_contents.proofs.exports.draw_exports.Goals as goal
 

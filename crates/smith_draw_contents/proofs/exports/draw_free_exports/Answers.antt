@@ -1,5 +1,4 @@
-use Rattle.std.proofs.lemmas.Result.{IfOk-weaker}
-use Rattle.smith_types.specs.EntitySpaces.{spaces_in}
+use Rattle.smith_draw_contents.proofs.Common.{IfOk-weaker, spaces_in}
 use Rattle.smith_draw_contents.proofs.ExportRefusalLemmas.{no_export_taken}
 use Rattle.smith_draw_contents.proofs.exports.draw_free_exports.Goals as goal
 

@@ -1,5 +1,4 @@
-use Rattle.std.proofs.Common.{arith, refl}
-use Rattle.smith_types.specs.EntitySpaces.{spaces_in}
+use Rattle.smith_draw_contents.proofs.Common.{arith, refl, spaces_in}
 use Rattle.smith_draw_contents.proofs.ExportsLoop.{none_exported, export_stop, export_end, export_full, export_more}
 use Rattle.smith_draw_contents.proofs.exports.push_exports.Goals as goal
 

@@ -1,4 +1,4 @@
-use Rattle.smith_types.specs.EntitySpaces.{spaces_in}
+use Rattle.smith_draw_contents.proofs.Common.{spaces_in}
 use Rattle.smith_draw_contents.proofs.ExportsLoop.{IsExporting}
 use Rattle.smith_draw_contents.proofs.exports.push_exports.Given as goal
 

@@ -1,7 +1,5 @@
-use Rattle.std.proofs.Common.{◌≡◌, arith, refl, Some, None}
-use Rattle.std.specs.Prelude.{slice_get}
+use Rattle.smith_draw_contents.proofs.Common.{arith, None, refl, slice_get, Some, spaces_in, ◌≡◌}
 use Rattle.std.proofs.lemmas.Option.{slice_get_past}
-use Rattle.smith_types.specs.EntitySpaces.{spaces_in}
 use Rattle.smith_draw_contents.proofs.CandidateLemmas.{func_here, func_sized_at, func_typed_at}
 use Rattle.smith_draw_contents.proofs.exports_so_far.item_size.Goals as goal
 

@@ -1,4 +1,4 @@
-use Rattle.std.proofs.Common.{arith}
+use Rattle.smith_draw_contents.proofs.Common.{arith}
 use Rattle.smith_draw_contents.proofs.OffsetGlobalLemmas.{counting_more, counting_skip, counting_done}
 use Rattle.smith_draw_contents.proofs.offset_globals.count_telling.Goals as goal
 

@@ -1,4 +1,4 @@
-use Rattle.std.proofs.Common.{arith}
+use Rattle.smith_draw_contents.proofs.Common.{arith}
 use Rattle.smith_draw_contents.proofs.OffsetGlobalLemmas.{finding_skip, finding_here, finding_more, finding_done}
 use Rattle.smith_draw_contents.proofs.offset_globals.find_telling.Goals as goal
 

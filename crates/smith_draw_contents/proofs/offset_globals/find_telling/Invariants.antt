@@ -1,4 +1,4 @@
-use Rattle.std.proofs.Common.{◌≡◌, get_or, drop}
+use Rattle.smith_draw_contents.proofs.Common.{drop, get_or, ◌≡◌}
 use Rattle.smith_draw_contents.specs.OffsetGlobals.{telling_from}
 use Rattle.smith_draw_contents.proofs.offset_globals.find_telling.Given as goal
 

@@ -1,5 +1,4 @@
-use Rattle.std.proofs.Common.{true, refl}
-use Rattle.smith_draw_consts.specs.ConstScopes.{seen_by}
+use Rattle.smith_draw_contents.proofs.Common.{refl, seen_by, true}
 use Rattle.smith_draw_contents.proofs.OffsetGlobalLemmas.{telling_readable}
 use Rattle.smith_draw_contents.proofs.offset_globals.read_globals.Goals as goal
 

@@ -1,6 +1,5 @@
 use Rattle.smith_types.specs.Exports.{IsStartValid}
-use Rattle.std.proofs.Common.{◌≡◌, ℕ, Option, None}
-use Rattle.smith_draw_types.proofs.ValueTypeLemmas.{drawn_is}
+use Rattle.smith_draw_contents.proofs.Common.{drawn_is, None, Option, ℕ, ◌≡◌}
 use Rattle.smith_draw_contents.proofs.StartLemmas.{start_valid, start_off, start_taken}
 use Rattle.smith_draw_contents.proofs.start.arbitrary_start.Goals as goal
 

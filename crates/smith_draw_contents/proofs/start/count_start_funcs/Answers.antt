@@ -1,6 +1,6 @@
-use Rattle.std.proofs.Common.{rules, ◌≡◌, ◌∙◌, sym, count_by}
+use Rattle.smith_draw_contents.proofs.Common.{is_start_type, rules, sym, ◌∙◌, ◌≡◌}
+use Rattle.std.proofs.Common.{count_by}
 use Rattle.smith_draw_types.proofs.PlaceLemmas.{length_places}
-use Rattle.smith_draw_types.specs.TypeUses.{is_start_type}
 use Rattle.smith_draw_contents.proofs.start.count_start_funcs.Goals as goal
 
 pub returns : goal.returns

@@ -1,5 +1,4 @@
-use Rattle.std.proofs.Common.{◌≡◌, get_or, drop}
-use Rattle.smith_draw_types.specs.TypeUses.{places_from, is_start_type}
+use Rattle.smith_draw_contents.proofs.Common.{drop, get_or, is_start_type, places_from, ◌≡◌}
 use Rattle.smith_draw_contents.specs.Start.{start_funcs}
 use Rattle.smith_draw_contents.proofs.start.start_func_at.Given as goal
 

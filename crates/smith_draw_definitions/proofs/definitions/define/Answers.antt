@@ -1,11 +1,7 @@
-use Rattle.std.proofs.Common.{ℕ, inl, inr, refl, subst}
-use Rattle.smith_types.specs.EntitySpaces.{spaces_in}
-use Rattle.smith_config.specs.Features.{features_of}
-use Rattle.smith_draw_types.specs.Grounding.{function_context}
-use Rattle.smith_draw_types.specs.KeptGrounds.{AreKeptGrounds}
-use Rattle.smith_draw_consts.proofs.ConstStepLemmas.{passed_on}
+use Rattle.smith_draw_definitions.proofs.Common.{AreKeptGrounds, features_of, function_context, inl, inr, passed_on, refl, refused_with}
+use Rattle.smith_draw_definitions.proofs.Common.{spaces_in, subst, ℕ}
 use Rattle.smith_draw_definitions.proofs.DrawnStepLemmas.{functions_noted, may_initialise, refused_before}
-use Rattle.smith_draw_consts.proofs.TriedStepLemmas.{refused_with, memory_open}
+use Rattle.smith_draw_consts.proofs.TriedStepLemmas.{memory_open}
 use Rattle.smith_draw_definitions.proofs.DefinitionStepLemmas.{tags_refused, funcs_refused, tables_not_drawn, globals_not_drawn}
 use Rattle.smith_draw_definitions.proofs.DefinitionStepLemmas.{definitions_drawn}
 use Rattle.smith_draw_definitions.proofs.DefinedGrowthLemmas.{defined_more, still_imported}

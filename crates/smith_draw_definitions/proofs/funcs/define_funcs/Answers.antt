@@ -1,9 +1,8 @@
-use Rattle.std.proofs.lemmas.Result.{on_ok_weaker}
+use Rattle.smith_draw_definitions.proofs.Common.{on_ok_weaker, returned_so, takes_if_read}
 use Rattle.smith_bytes.specs.declared.error.Count.TheVariants.{Funcs}
 use Rattle.smith_draw_definitions.specs.Definitions.{funcs_at}
 use Rattle.smith_draw_types.specs.SpelledParts.{SpellsFuncs}
 use Rattle.smith_draw_definitions.proofs.FuncRefusalLemmas.{funcs_refuse}
-use Rattle.smith_draw_consts.proofs.TriedStepLemmas.{takes_if_read, returned_so}
 use Rattle.smith_draw_definitions.proofs.TypedLemmas.{funcs_are, funcs_read}
 use Rattle.smith_draw_definitions.proofs.funcs.define_funcs.Goals as goal
 

@@ -1,9 +1,6 @@
-use Rattle.std.proofs.Common.{refl, subst, arith, List, ℕ}
+use Rattle.smith_draw_definitions.proofs.Common.{AreKeptGrounds, arith, features_of, function_context, List, refl, subst, ℕ}
 use Rattle.std.proofs.lemmas.Bool.{le-leb}
 use Rattle.std.proofs.lemmas.List.{take_all}
-use Rattle.smith_config.specs.Features.{features_of}
-use Rattle.smith_draw_types.specs.Grounding.{function_context}
-use Rattle.smith_draw_types.specs.KeptGrounds.{AreKeptGrounds}
 use Rattle.smith_draw_types.proofs.KeptGroundLemmas.{function_added}
 use Rattle.smith_draw_definitions.proofs.funcs.note_defined.Goals as goal
 

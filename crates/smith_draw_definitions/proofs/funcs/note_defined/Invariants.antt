@@ -1,7 +1,4 @@
-use Rattle.std.proofs.Common.{◌≤◌, ℕ, take}
-use Rattle.smith_config.specs.Features.{features_of}
-use Rattle.smith_draw_types.specs.Grounding.{function_context}
-use Rattle.smith_draw_types.specs.KeptGrounds.{AreKeptGrounds}
+use Rattle.smith_draw_definitions.proofs.Common.{AreKeptGrounds, features_of, function_context, take, ℕ, ◌≤◌}
 use Rattle.smith_draw_definitions.proofs.funcs.note_defined.Given as goal
 
 abbrev pub invariant-loop-function : goal.invariant-loop-function

@@ -1,6 +1,6 @@
 use Rattle.smith_bytes.specs.declared.error.Count.TheVariants as counts
 use Rattle.smith_draw_definitions.specs.Definitions.{scope_among}
-use Rattle.smith_draw_consts.proofs.TriedStepLemmas.{returned_so}
+use Rattle.smith_draw_definitions.proofs.Common.{returned_so}
 use Rattle.smith_draw_definitions.proofs.GlobalCountLemmas.{globals_fill}
 use Rattle.smith_draw_definitions.proofs.NumberedGlobalLemmas.{globals_taken}
 use Rattle.smith_draw_definitions.proofs.globals.define_globals.Goals as goal

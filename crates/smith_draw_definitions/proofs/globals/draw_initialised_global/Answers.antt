@@ -1,7 +1,4 @@
-use Rattle.smith_draw_types.specs.Grounding.{standing_in}
-use Rattle.std.proofs.Common.{true}
-use Rattle.smith_draw_consts.specs.ConstScopes.{seen_by}
-use Rattle.smith_draw_consts.proofs.ConstStepLemmas.{passed_on}
+use Rattle.smith_draw_definitions.proofs.Common.{passed_on, seen_by, standing_in, true}
 use Rattle.smith_draw_consts.proofs.TriedStepLemmas.{choice_refused}
 use Rattle.smith_draw_definitions.proofs.GlobalsLoop.{global_lacks}
 use Rattle.smith_draw_definitions.proofs.DrawnStepLemmas.{drawn_refused}

@@ -1,8 +1,7 @@
-use Rattle.std.proofs.Common.{arith}
+use Rattle.smith_draw_definitions.proofs.Common.{arith, refused_with}
 use Rattle.std.proofs.Math.Bool.{and-true}
 use Rattle.std.proofs.lemmas.List.{length-take-le}
 use Rattle.smith_bytes.specs.declared.error.Count.TheVariants as counts
-use Rattle.smith_draw_consts.proofs.TriedStepLemmas.{refused_with}
 use Rattle.smith_draw_definitions.specs.Definitions.{Global, scope_among}
 use Rattle.smith_draw_definitions.proofs.KeptOfferLemmas.{kept_pushed}
 use Rattle.smith_draw_definitions.proofs.GlobalsLoop.{none_made, define_more, define_refused, define_stop, define_full, count_is}

@@ -1,4 +1,4 @@
-use Rattle.smith_draw_consts.specs.KeptOffers.{AreKeptOffers}
+use Rattle.smith_draw_definitions.proofs.Common.{AreKeptOffers}
 use Rattle.smith_draw_definitions.specs.Definitions.{scope_among, global_scope}
 use Rattle.smith_draw_definitions.proofs.GlobalsLoop.{AreDefining}
 use Rattle.smith_draw_definitions.proofs.globals.push_globals.Given as goal

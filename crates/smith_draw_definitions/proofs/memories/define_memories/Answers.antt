@@ -1,4 +1,4 @@
-use Rattle.std.proofs.lemmas.Result.{on_ok_weaker}
+use Rattle.smith_draw_definitions.proofs.Common.{on_ok_weaker}
 use Rattle.smith_bytes.specs.declared.error.Count.TheVariants.{Memories}
 use Rattle.smith_bytes.proofs.SpelledLemmas.{takes_by}
 use Rattle.smith_draw_types.proofs.DrawingLemmas.{of_state}

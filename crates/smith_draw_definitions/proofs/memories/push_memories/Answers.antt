@@ -1,9 +1,5 @@
-use Rattle.std.proofs.Common.{rules}
-use Rattle.std.proofs.lemmas.List.Elements.{All-push}
-use Rattle.smith_types.specs.Entities.{IsMemoryValid}
-use Rattle.smith_config.specs.Features.{features_of}
+use Rattle.smith_draw_definitions.proofs.Common.{All-push, features_of, IsMemoryValid, memtype_at, rules}
 use Rattle.smith_config.specs.EntityBounds.{IsMemoryWithin}
-use Rattle.smith_draw_types.specs.Memories.{memtype_at}
 use Rattle.smith_draw_types.proofs.CallerLemmas.{passes_but_imports}
 use Rattle.smith_draw_definitions.specs.Definitions.{memories_at}
 use Rattle.smith_draw_definitions.proofs.DefinedLemmas.{none_added, one_added}

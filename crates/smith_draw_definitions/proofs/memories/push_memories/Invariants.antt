@@ -1,8 +1,6 @@
 use Rattle.std.specs.List.{All}
-use Rattle.smith_types.specs.Entities.{IsMemoryValid}
-use Rattle.smith_config.specs.Features.{features_of}
+use Rattle.smith_draw_definitions.proofs.Common.{features_of, IsMemoryValid, memtype_at}
 use Rattle.smith_config.specs.EntityBounds.{IsMemoryWithin}
-use Rattle.smith_draw_types.specs.Memories.{memtype_at}
 use Rattle.smith_draw_definitions.specs.Defined.{AreAdded}
 use Rattle.smith_draw_definitions.proofs.DefinedLoop.{IsAfter}
 use Rattle.smith_draw_definitions.proofs.memories.push_memories.Given as goal

@@ -1,6 +1,4 @@
-use Rattle.std.proofs.Common.{true}
-use Rattle.std.proofs.lemmas.Result.{on_ok_weaker}
-use Rattle.smith_types.specs.EntitySpaces.{spaces_in}
+use Rattle.smith_draw_definitions.proofs.Common.{on_ok_weaker, spaces_in, true}
 use Rattle.smith_draw_definitions.proofs.KeptOfferLemmas.{kept_beside}
 use Rattle.smith_draw_definitions.proofs.required_entities.define_entity.Goals as goal
 

@@ -1,10 +1,5 @@
-use Rattle.std.proofs.Common.{true, sym, subst}
-use Rattle.std.proofs.lemmas.Result.{IfOk-weaker, on_ok_weaker}
-use Rattle.smith_types.specs.EntitySpaces.{spaces_in}
-use Rattle.smith_types.specs.Expressions.{Context}
-use Rattle.smith_draw_types.specs.Grounding.{standing_in}
-use Rattle.smith_draw_consts.specs.KeptOffers.{AreKeptOffers}
-use Rattle.smith_draw_consts.proofs.ConstStepLemmas.{passed_on}
+use Rattle.smith_draw_definitions.proofs.Common.{AreKeptOffers, Context, IfOk-weaker, on_ok_weaker, passed_on, spaces_in, standing_in}
+use Rattle.smith_draw_definitions.proofs.Common.{subst, sym, true}
 use Rattle.smith_draw_definitions.proofs.RequiredEntityLemmas.{answered, refused_initial, refused_beside, global_lacking, global_made}
 use Rattle.smith_draw_definitions.proofs.required_entities.define_global.Goals as goal
 

@@ -1,9 +1,5 @@
-use Rattle.std.proofs.Common.{true, false, []}
-use Rattle.std.proofs.lemmas.List.Elements.{All-head}
-use Rattle.std.proofs.lemmas.Result.{IfErr-weaker, on_ok_weaker}
-use Rattle.smith_types.specs.Entities.{IsTableValid, IsGlobalValid}
-use Rattle.smith_types.specs.EntitySpaces.{spaces_in}
-use Rattle.smith_config.specs.Features.{features_of}
+use Rattle.smith_draw_definitions.proofs.Common.{[], All-head, false, features_of, IfErr-weaker, IsGlobalValid, IsTableValid, on_ok_weaker}
+use Rattle.smith_draw_definitions.proofs.Common.{spaces_in, true}
 use Rattle.smith_draw_definitions.specs.Defined.{drawn_beside}
 use Rattle.smith_draw_definitions.proofs.KeptOfferLemmas.{kept_alike}
 use Rattle.smith_draw_definitions.proofs.RequiredEntityLemmas.{tag_counted, func_counted, table_refused, global_refused}

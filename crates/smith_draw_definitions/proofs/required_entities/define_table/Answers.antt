@@ -1,11 +1,5 @@
-use Rattle.std.proofs.Common.{false, sym, subst}
-use Rattle.std.proofs.lemmas.Result.{IfOk-weaker, on_ok_weaker}
-use Rattle.smith_types.specs.EntitySpaces.{spaces_in}
-use Rattle.smith_syntax.specs.declared.value_type.ValType.TheVariants.{Ref}
-use Rattle.smith_types.specs.Expressions.{Context}
-use Rattle.smith_draw_types.specs.Grounding.{standing_in}
-use Rattle.smith_draw_consts.specs.KeptOffers.{AreKeptOffers}
-use Rattle.smith_draw_consts.proofs.ConstStepLemmas.{passed_on}
+use Rattle.smith_draw_definitions.proofs.Common.{AreKeptOffers, Context, false, IfOk-weaker, on_ok_weaker, passed_on, Ref, spaces_in}
+use Rattle.smith_draw_definitions.proofs.Common.{standing_in, subst, sym}
 use Rattle.smith_draw_definitions.proofs.RequiredEntityLemmas.{answered, refused_initial, refused_beside, table_lacking, table_made}
 use Rattle.smith_draw_definitions.proofs.required_entities.define_table.Goals as goal
 

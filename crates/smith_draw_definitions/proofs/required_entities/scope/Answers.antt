@@ -1,4 +1,4 @@
-use Rattle.std.proofs.Common.{arith}
+use Rattle.smith_draw_definitions.proofs.Common.{arith}
 use Rattle.smith_draw_definitions.proofs.required_entities.scope.Goals as goal
 
 pub returns-clause-valid : goal.returns-clause-valid

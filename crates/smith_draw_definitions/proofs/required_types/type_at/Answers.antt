@@ -1,4 +1,4 @@
-use Rattle.std.proofs.Common.{refl}
+use Rattle.smith_draw_definitions.proofs.Common.{refl}
 use Rattle.smith_draw_definitions.proofs.GroupedTypeLemmas.{found_in, found_further}
 use Rattle.smith_draw_definitions.proofs.required_types.type_at.Goals as goal
 

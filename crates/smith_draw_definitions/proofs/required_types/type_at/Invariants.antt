@@ -1,5 +1,4 @@
-use Rattle.std.proofs.Common.{◌≡◌, drop}
-use Rattle.std.specs.Prelude.{slice_get}
+use Rattle.smith_draw_definitions.proofs.Common.{drop, slice_get, ◌≡◌}
 use Rattle.smith_types.specs.Groups.{space_of}
 use Rattle.smith_draw_definitions.proofs.required_types.type_at.Given as goal
 

@@ -1,6 +1,4 @@
-use Rattle.std.proofs.Common.{true, refl}
-use Rattle.smith_types.specs.EntitySpaces.{spaces_in}
-use Rattle.smith_draw_consts.proofs.ConstStepLemmas.{passed_on}
+use Rattle.smith_draw_definitions.proofs.Common.{passed_on, refl, spaces_in, true}
 use Rattle.smith_draw_definitions.proofs.KeptOfferLemmas.{kept_over}
 use Rattle.smith_draw_definitions.proofs.StandsAfterLemmas.{entities_longer}
 use Rattle.smith_draw_definitions.proofs.RequiredExportLemmas.{is_over, required_more, export_refused}

@@ -1,6 +1,4 @@
-use Rattle.std.proofs.Common.{refl}
-use Rattle.std.proofs.lemmas.Result.{IfOk-weaker, IfErr-weaker}
-use Rattle.smith_types.specs.EntitySpaces.{spaces_in}
+use Rattle.smith_draw_definitions.proofs.Common.{IfErr-weaker, IfOk-weaker, refl, spaces_in}
 use Rattle.smith_draw_definitions.specs.Defined.{drawn_beside}
 use Rattle.smith_draw_definitions.proofs.RequiredExportsLoop.{valid_so, only_memory}
 use Rattle.smith_draw_definitions.proofs.shape_exports.make_shape_exports.Goals as goal

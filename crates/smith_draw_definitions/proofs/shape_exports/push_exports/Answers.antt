@@ -1,7 +1,4 @@
-use Rattle.std.proofs.Common.{arith, [], ◌∷◌, ◌++◌}
-use Rattle.smith_types.specs.EntitySpaces.{spaces_in}
-use Rattle.smith_draw_consts.proofs.ConstStepLemmas.{passed_on}
-use Rattle.smith_module_rules.specs.ExportedItems.{Export}
+use Rattle.smith_draw_definitions.proofs.Common.{[], arith, Export, passed_on, spaces_in, ◌++◌, ◌∷◌}
 use Rattle.smith_draw_definitions.specs.RequiredExports.{standing_with}
 use Rattle.smith_draw_definitions.proofs.RequiredExportsLoop.{none_required, one_stands, room_for_one, required_more, required_refused}
 use Rattle.smith_draw_definitions.proofs.RequiredExportsLoop.{required_full, all_required, refused_for, refused_by}

@@ -1,6 +1,5 @@
 use Rattle.std.specs.Prelude.{true}
-use Rattle.smith_types.specs.EntitySpaces.{spaces_in}
-use Rattle.smith_draw_consts.specs.KeptOffers.{AreKeptOffers}
+use Rattle.smith_draw_definitions.proofs.Common.{AreKeptOffers, spaces_in}
 use Rattle.smith_draw_definitions.specs.RequiredExports.{scope_beside}
 use Rattle.smith_draw_definitions.proofs.RequiredExportsLoop.{AreRequiring}
 use Rattle.smith_draw_definitions.proofs.shape_exports.push_exports.Given as goal

@@ -1,10 +1,7 @@
-use Rattle.std.proofs.lemmas.Result.{on_ok_weaker}
+use Rattle.smith_draw_definitions.proofs.Common.{features_of, IsTableValid, on_ok_weaker, returned_so}
 use Rattle.smith_bytes.specs.declared.error.Count.TheVariants.{Tables}
-use Rattle.smith_types.specs.Entities.{IsTableValid}
-use Rattle.smith_config.specs.Features.{features_of}
 use Rattle.smith_config.specs.EntityBounds.{IsTableWithin}
 use Rattle.smith_draw_definitions.specs.Defined.{scope_of_spaces}
-use Rattle.smith_draw_consts.proofs.TriedStepLemmas.{returned_so}
 use Rattle.smith_draw_definitions.proofs.DefinedTableLemmas.{tables_fill, several_tables, tables_added, tables_all, tables_no_float}
 use Rattle.smith_draw_definitions.proofs.DefinedTableLemmas.{no_table_taken}
 use Rattle.smith_draw_definitions.proofs.tables.define_tables.Goals as goal

@@ -1,7 +1,4 @@
-use Rattle.std.proofs.Common.{sym, ap}
-use Rattle.smith_types.specs.Expressions.{Context}
-use Rattle.smith_syntax.specs.declared.value_type.ValType.TheVariants.{Ref}
-use Rattle.smith_draw_consts.proofs.ConstStepLemmas.{passed_on}
+use Rattle.smith_draw_definitions.proofs.Common.{ap, Context, passed_on, Ref, sym}
 use Rattle.smith_draw_consts.proofs.TriedStepLemmas.{choice_refused}
 use Rattle.smith_draw_definitions.specs.Defined.{drawn_over, scope_of_spaces}
 use Rattle.smith_draw_definitions.proofs.DefinedTableLemmas.{spaces_valid, needs_gc, table_is, table_lacks, table_fit}

@@ -1,4 +1,4 @@
-use Rattle.smith_draw_consts.proofs.TriedStepLemmas.{refused_with}
+use Rattle.smith_draw_definitions.proofs.Common.{refused_with}
 use Rattle.smith_draw_definitions.specs.Defined.{scope_of_spaces}
 use Rattle.smith_draw_definitions.specs.Definitions.{Table}
 use Rattle.smith_draw_definitions.proofs.DefinedTablesLoop.{tables_start, tables_go, tables_refused, tables_stop, tables_full}

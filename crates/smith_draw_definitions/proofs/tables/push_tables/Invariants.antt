@@ -1,6 +1,5 @@
 use Rattle.std.specs.Prelude.{false}
-use Rattle.smith_draw_consts.specs.ConstScopes.{seen_by}
-use Rattle.smith_draw_consts.specs.KeptOffers.{AreKeptOffers}
+use Rattle.smith_draw_definitions.proofs.Common.{AreKeptOffers, seen_by}
 use Rattle.smith_draw_definitions.specs.Defined.{scope_of_spaces}
 use Rattle.smith_draw_definitions.proofs.DefinedTablesLoop.{IsDefiningTables}
 use Rattle.smith_draw_definitions.proofs.tables.push_tables.Given as goal

@@ -1,9 +1,7 @@
-use Rattle.std.proofs.lemmas.Result.{on_ok_weaker}
+use Rattle.smith_draw_definitions.proofs.Common.{on_ok_weaker, returned_so, SpellsEmpty, takes_if_read}
 use Rattle.smith_bytes.specs.declared.error.Count.TheVariants.{Tags}
-use Rattle.smith_bytes.specs.Spelling.{SpellsEmpty}
 use Rattle.smith_draw_definitions.specs.Definitions.{tags_at}
 use Rattle.smith_draw_types.specs.SpelledParts.{SpellsNoTag}
-use Rattle.smith_draw_consts.proofs.TriedStepLemmas.{takes_if_read, returned_so}
 use Rattle.smith_draw_definitions.proofs.TypedLemmas.{tags_are, tags_enabled, no_tag_read}
 use Rattle.smith_draw_definitions.proofs.tags.define_tags.Goals as goal
 

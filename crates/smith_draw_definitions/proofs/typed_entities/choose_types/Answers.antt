@@ -1,6 +1,4 @@
-use Rattle.std.proofs.Common.{rules}
-use Rattle.smith_draw_types.specs.Choices.{chosen_at}
-use Rattle.smith_draw_types.specs.TypeUses.{types_for}
+use Rattle.smith_draw_definitions.proofs.Common.{chosen_at, rules, types_for}
 use Rattle.smith_draw_definitions.proofs.DefinedLoop.{after_start, after_go, after_stop, after_full}
 use Rattle.smith_draw_definitions.proofs.typed_entities.choose_types.Goals as goal
 

@@ -1,5 +1,4 @@
-use Rattle.smith_draw_types.specs.Choices.{chosen_at}
-use Rattle.smith_draw_types.specs.TypeUses.{types_for}
+use Rattle.smith_draw_definitions.proofs.Common.{chosen_at, types_for}
 use Rattle.smith_draw_definitions.proofs.DefinedLoop.{IsAfter}
 use Rattle.smith_draw_definitions.proofs.typed_entities.choose_types.Given as goal
 

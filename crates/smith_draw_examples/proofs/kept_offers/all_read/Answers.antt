@@ -3,7 +3,7 @@ use Rattle.std.specs.Prelude.{IfSome, Option, None, Some, slice_get}
 use Rattle.smith_types.specs.Expressions.{Context}
 use Rattle.smith_types.specs.ExampleContexts.{context_with}
 use Rattle.smith_types.specs.ExampleFeatures.{usual_features}
-use Rattle.smith_syntax.specs.declared.value_type.ValType.TheVariants.{I32}
+use Rattle.smith_types.specs.Syntax.value_type.ValType.TheVariants.{I32}
 use Rattle.smith_draw_types.specs.Below.{is_heap_below}
 use Rattle.smith_draw_types.specs.Offered.{ancestors}
 use Rattle.smith_draw_consts.specs.KeptOffers.{AreAllRead, IsWhole, IsWholeAt}

@@ -3,7 +3,7 @@ use Rattle.std.specs.Prelude.{None, Some}
 use Rattle.smith_types.specs.ExampleContexts.{context_with}
 use Rattle.smith_types.specs.ExampleEntities.{constant_global}
 use Rattle.smith_types.specs.ExampleFeatures.{usual_features}
-use Rattle.smith_syntax.specs.declared.value_type.ValType.TheVariants.{I32, I64}
+use Rattle.smith_types.specs.Syntax.value_type.ValType.TheVariants.{I32, I64}
 use Rattle.smith_draw_examples.proofs.FewItemExamples.{global_at}
 use Rattle.smith_draw_examples.proofs.kept_offers.few_whole.Goals as goal
 

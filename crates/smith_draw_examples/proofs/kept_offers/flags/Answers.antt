@@ -1,8 +1,8 @@
 use Rattle.std.proofs.Common.{◌≡◌, ℕ, zero, suc, ◌<◌, ◌≤◌, true, false, List, [], ◌∷◌, get_or, length, refl, ap, ◌∙◌, arith}
 use Rattle.std.specs.Prelude.{Bool, Option, None, Some, slice_get}
 use Rattle.std.proofs.lemmas.Option.{get_or_from_slice_get}
-use Rattle.smith_syntax.specs.declared.value_type.ValType.{ValType}
-use Rattle.smith_syntax.specs.declared.value_type.ValType.TheVariants.{I32, I64}
+use Rattle.smith_types.specs.Syntax.value_type.ValType.{ValType}
+use Rattle.smith_types.specs.Syntax.value_type.ValType.TheVariants.{I32, I64}
 use Rattle.smith_draw_consts.specs.KeptOffers.{AreFlags, is_offered}
 use Rattle.smith_draw_examples.proofs.kept_offers.flags.Goals as goal
 

@@ -1,5 +1,5 @@
-use Rattle.std.proofs.Common.{[], length, nat_lt, refl, sym, ap}
-use Rattle.std.proofs.lemmas.List.Elements.{All-nil, All-cons}
+use Rattle.smith_draw_imports.proofs.Common.{[], All-cons, All-nil, ap, length, refl, sym}
+use Rattle.std.proofs.Common.{nat_lt}
 use Rattle.std.proofs.lemmas.Bool.{ltb-true}
 use Rattle.smith_types.specs.Expressions.{Context}
 use Rattle.smith_draw_types.specs.TypeUses.{types_for}

@@ -1,4 +1,4 @@
-use Rattle.std.proofs.Common.{arith}
+use Rattle.smith_draw_imports.proofs.Common.{arith}
 use Rattle.smith_draw_imports.proofs.NoImportLemmas.{whole_takes}
 use Rattle.smith_draw_imports.proofs.import_groups.draw_group_kind.Goals as goal
 

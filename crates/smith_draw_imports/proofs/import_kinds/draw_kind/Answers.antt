@@ -1,5 +1,4 @@
-use Rattle.std.proofs.Common.{◌≡◌, ◌∙◌, sym, refl, List, ◌∷◌, [], Bool}
-use Rattle.smith_syntax.specs.declared.entity_type.ExportKind.{ExportKind}
+use Rattle.smith_draw_imports.proofs.Common.{[], Bool, ExportKind, List, refl, sym, ◌∙◌, ◌∷◌, ◌≡◌}
 use Rattle.smith_draw_imports.specs.Imported.{spaces_of}
 use Rattle.smith_draw_imports.specs.ImportedEntities.{kind_rows}
 use Rattle.smith_draw_types.proofs.EnabledLemmas.{length_enabled}

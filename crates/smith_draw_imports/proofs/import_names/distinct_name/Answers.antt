@@ -1,4 +1,4 @@
-use Rattle.std.proofs.Common.{sym, ◌∙◌}
+use Rattle.smith_draw_imports.proofs.Common.{sym, ◌∙◌}
 use Rattle.smith_draw_imports.proofs.ImportNameLemmas.{pair_added}
 use Rattle.smith_draw_imports.proofs.import_names.distinct_name.Goals as goal
 

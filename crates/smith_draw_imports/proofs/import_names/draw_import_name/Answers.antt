@@ -1,4 +1,4 @@
-use Rattle.std.proofs.Common.{◌∙◌, sym, string_bytes}
+use Rattle.smith_draw_imports.proofs.Common.{string_bytes, sym, ◌∙◌}
 use Rattle.smith_draw_imports.proofs.ImportNameLemmas.{name_made, name_is, knows_more}
 use Rattle.smith_draw_imports.proofs.import_names.draw_import_name.Goals as goal
 

@@ -1,5 +1,5 @@
-use Rattle.std.proofs.Common.{◌≡◌, ◌<◌, ◌≤◌, length, string_bytes, true, false, refl, arith, length-append, ap, ◌∙◌, sym}
-use Rattle.std.specs.Fmt.{decimal}
+use Rattle.smith_draw_imports.proofs.Common.{ap, arith, decimal, false, length, length-append, refl, string_bytes, sym, true, ◌<◌, ◌∙◌, ◌≡◌}
+use Rattle.smith_draw_imports.proofs.Common.{◌≤◌}
 use Rattle.std.proofs.lemmas.Fmt.{decimal_nonempty}
 use Rattle.smith_draw_imports.specs.ImportNames.{has_pair}
 use Rattle.smith_draw_imports.proofs.ImportNameLemmas.{longest_pair, present_short, making_start, making_more, making_done}

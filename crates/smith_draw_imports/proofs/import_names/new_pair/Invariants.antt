@@ -1,6 +1,5 @@
-use Rattle.std.proofs.Common.{◌≡◌, ◌+◌, ◌-◌, length, string_bytes}
+use Rattle.smith_draw_imports.proofs.Common.{decimal, length, string_bytes, ◌+◌, ◌-◌, ◌≡◌}
 use Rattle.std.specs.HashSet.{hash_set_len}
-use Rattle.std.specs.Fmt.{decimal}
 use Rattle.smith_draw_imports.specs.ImportNames.{has_pair}
 use Rattle.smith_draw_imports.proofs.ImportNameLemmas.{IsMaking, longest_pair}
 use Rattle.smith_draw_imports.proofs.import_names.new_pair.Given as goal

@@ -1,7 +1,4 @@
-use Rattle.std.proofs.Common.{◌≡◌, ◌∙◌, ◌++◌, sym, ap, subst, List}
-use Rattle.smith_syntax.specs.declared.imports.Import.{Import}
-use Rattle.smith_syntax.specs.declared.imports.Imports.{Imports}
-use Rattle.smith_types.specs.Imports.{flattened, imports_of}
+use Rattle.smith_draw_imports.proofs.Common.{ap, flattened, Import, Imports, imports_of, List, subst, sym, ◌++◌, ◌∙◌, ◌≡◌}
 use Rattle.smith_draw_imports.specs.Imported.{Counts, AreImportsFit}
 use Rattle.smith_draw_imports.proofs.ImportsGrownLemmas.{ends_counted, none_added}
 use Rattle.smith_draw_imports.proofs.imports.add_filled.Goals as goal

@@ -1,6 +1,5 @@
-use Rattle.std.proofs.Common.{arith}
+use Rattle.smith_draw_imports.proofs.Common.{arith, piece_short}
 use Rattle.std.proofs.lemmas.Result.{IfOk-weaker}
-use Rattle.smith_draw_types.proofs.GroupsLoop.{piece_short}
 use Rattle.smith_draw_imports.proofs.imports.add_group.Goals as goal
 
 pub returns-in-Single-clause-advances : goal.returns-in-Single-clause-advances

@@ -1,6 +1,5 @@
-use Rattle.std.proofs.Common.{arith}
+use Rattle.smith_draw_imports.proofs.Common.{arith, piece_short}
 use Rattle.smith_bytes.specs.declared.error.Count.TheVariants as counts
-use Rattle.smith_draw_types.proofs.GroupsLoop.{piece_short}
 use Rattle.smith_draw_imports.proofs.ImportGroupsLoop.{groups_stop, groups_full, groups_end, groups_more}
 use Rattle.smith_draw_imports.proofs.imports.add_groups.Goals as goal
 

@@ -1,6 +1,5 @@
-use Rattle.std.proofs.Common.{◌+◌, ◌-◌, length}
+use Rattle.smith_draw_imports.proofs.Common.{AreKeptGrounds, length, ◌+◌, ◌-◌}
 use Rattle.smith_draw_imports.specs.Importing.{groups_at}
-use Rattle.smith_draw_types.specs.KeptGrounds.{AreKeptGrounds}
 use Rattle.smith_draw_imports.specs.ImportedEntities.{import_scope}
 use Rattle.smith_draw_imports.specs.Imported.{IsImported, spaces_of}
 use Rattle.smith_draw_imports.proofs.ImportGroupsLoop.{IsGrouping}

@@ -1,10 +1,8 @@
-use Rattle.std.proofs.Common.{◌≡◌, ◌+◌, refl, sym, subst, arith}
+use Rattle.smith_draw_imports.proofs.Common.{AreKeptGrounds, arith, EntitySpaces, flattened, import_of, piece_short, refl, subst, sym, ◌+◌}
+use Rattle.smith_draw_imports.proofs.Common.{◌≡◌}
 use Rattle.smith_bytes.specs.declared.error.Count.TheVariants as counts
-use Rattle.smith_draw_types.specs.KeptGrounds.{AreKeptGrounds}
 use Rattle.smith_draw_imports.specs.ImportedEntities.{import_scope}
-use Rattle.smith_types.specs.Imports.{EntitySpaces, import_of, flattened}
 use Rattle.smith_draw_imports.specs.Imported.{IsNext, spaces_of}
-use Rattle.smith_draw_types.proofs.GroupsLoop.{piece_short}
 use Rattle.smith_draw_imports.proofs.ImportsGrownLemmas.{ends_counted, single_added}
 use Rattle.smith_draw_imports.proofs.imports.add_single.Goals as goal
 

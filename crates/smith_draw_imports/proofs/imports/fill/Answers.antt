@@ -1,9 +1,8 @@
-use Rattle.std.proofs.Common.{◌≡◌, ◌∙◌, ◌+◌, ◌++◌, ◌∷◌, [], sym, ap, refl, subst, List, arith, append_assoc}
+use Rattle.smith_draw_imports.proofs.Common.{[], ap, AreKeptGrounds, arith, EntitySpaces, flattened, Import, import_of, imports_of, List}
+use Rattle.smith_draw_imports.proofs.Common.{refl, subst, sym, ◌++◌, ◌+◌, ◌∙◌, ◌∷◌, ◌≡◌}
+use Rattle.std.proofs.Common.{append_assoc}
 use Rattle.smith_bytes.specs.declared.error.Count.TheVariants as counts
-use Rattle.smith_syntax.specs.declared.imports.Import.{Import}
-use Rattle.smith_draw_types.specs.KeptGrounds.{AreKeptGrounds}
 use Rattle.smith_draw_imports.specs.ImportedEntities.{import_scope}
-use Rattle.smith_types.specs.Imports.{EntitySpaces, import_of, imports_of, flattened}
 use Rattle.smith_draw_imports.specs.Importing.{module_name, with_import}
 use Rattle.smith_draw_imports.specs.Imported.{IsNext, spaces_of}
 use Rattle.smith_draw_imports.proofs.ImportsGrownLemmas.{fit_more, counts_more, import_added, ready_more}

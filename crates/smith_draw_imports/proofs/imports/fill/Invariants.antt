@@ -1,7 +1,5 @@
-use Rattle.std.proofs.Common.{◌≡◌, ◌≤◌, ◌-◌, ◌++◌}
+use Rattle.smith_draw_imports.proofs.Common.{AreKeptGrounds, flattened, imports_of, ◌++◌, ◌-◌, ◌≡◌, ◌≤◌}
 use Rattle.smith_bytes.specs.Source.{KeepsPieces}
-use Rattle.smith_types.specs.Imports.{imports_of, flattened}
-use Rattle.smith_draw_types.specs.KeptGrounds.{AreKeptGrounds}
 use Rattle.smith_draw_imports.specs.ImportedEntities.{import_scope}
 use Rattle.smith_draw_imports.specs.Importing.{fill_at}
 use Rattle.smith_draw_imports.specs.Imported.{Counts, AreImportsFit, IsOpen, spaces_of}

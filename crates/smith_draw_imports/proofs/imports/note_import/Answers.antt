@@ -1,4 +1,4 @@
-use Rattle.std.proofs.Common.{refl}
+use Rattle.smith_draw_imports.proofs.Common.{refl}
 use Rattle.smith_draw_imports.specs.ImportedEntities.{import_scope}
 use Rattle.smith_draw_imports.proofs.ImportGroundLemmas.{function_imported, other_imported}
 use Rattle.smith_draw_imports.proofs.imports.note_import.Goals as goal

@@ -1,4 +1,4 @@
-use Rattle.smith_config.specs.Features.{features_of}
+use Rattle.smith_draw_shape_imports.proofs.Common.{features_of}
 use Rattle.smith_types.specs.Groups.{space_of}
 use Rattle.smith_types.proofs.GroupsAddedLemmas.{valid_following}
 use Rattle.smith_draw_shape_imports.proofs.available.take_available_imports.Goals as goal

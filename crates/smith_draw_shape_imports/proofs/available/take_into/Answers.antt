@@ -1,6 +1,4 @@
-use Rattle.std.proofs.Common.{◌≡◌, ◌∙◌}
-use Rattle.smith_config.specs.Shapes.{shape_types, shape_imports}
-use Rattle.smith_types.specs.Imports.{flattened}
+use Rattle.smith_draw_shape_imports.proofs.Common.{flattened, shape_imports, shape_types, ◌∙◌, ◌≡◌}
 use Rattle.smith_draw_shape_imports.proofs.AvailableImportLemmas.{drawn_is_taken, taken_fit, offered_sized, counts_grouped}
 use Rattle.smith_draw_shape_imports.proofs.available.take_into.Goals as goal
 

@@ -1,5 +1,4 @@
-use Rattle.std.proofs.Common.{◌≡◌, take}
-use Rattle.smith_types.specs.Imports.{flattened}
+use Rattle.smith_draw_shape_imports.proofs.Common.{flattened, take, ◌≡◌}
 use Rattle.smith_draw_shape_imports.proofs.flat_imports.flat_imports.Given as goal
 
 abbrev pub invariant-loop-group : goal.invariant-loop-group

@@ -1,5 +1,4 @@
-use Rattle.std.proofs.Common.{◌≡◌, ◌++◌, take, map}
-use Rattle.smith_types.specs.Imports.{import_of}
+use Rattle.smith_draw_shape_imports.proofs.Common.{import_of, map, take, ◌++◌, ◌≡◌}
 use Rattle.smith_draw_shape_imports.proofs.flat_imports.push_names.Given as goal
 
 abbrev pub invariant-loop-name : goal.invariant-loop-name

@@ -1,4 +1,4 @@
-use Rattle.std.proofs.Common.{◌≡◌, true}
+use Rattle.smith_draw_shape_imports.proofs.Common.{true, ◌≡◌}
 use Rattle.std.proofs.lemmas.Result.{IfOk-weaker}
 use Rattle.smith_draw_shape_imports.specs.AvailableImports.{may_join}
 use Rattle.smith_draw_shape_imports.proofs.GroupedImportsLoop.{joins_group, begins_group, groups_joined}

@@ -1,6 +1,5 @@
 use Rattle.std.proofs.lemmas.Result.{IfOk-weaker}
-use Rattle.std.proofs.Common.{arith}
-use Rattle.smith_config.specs.Features.{features_of}
+use Rattle.smith_draw_shape_imports.proofs.Common.{arith, features_of}
 use Rattle.smith_draw_shape_imports.proofs.GroupedImportsLoop.{begun_one, begun_enabled}
 use Rattle.smith_draw_shape_imports.proofs.grouped_imports.begin.Goals as goal
 

@@ -1,6 +1,5 @@
-use Rattle.std.proofs.Common.{◌≡◌, ◌∙◌, ◌+◌, ◌++◌, ◌∷◌, [], take, drop, sym, ap}
+use Rattle.smith_draw_shape_imports.proofs.Common.{[], ap, drop, Import, sym, take, ◌++◌, ◌+◌, ◌∙◌, ◌∷◌, ◌≡◌}
 use Rattle.std.proofs.lemmas.List.{drop_all, take_all, take_more}
-use Rattle.smith_syntax.specs.declared.imports.Import.{Import}
 use Rattle.smith_draw_shape_imports.proofs.GroupedImportsLoop.{grouped_first, group_alone, joined_none, joining_more}
 use Rattle.smith_draw_shape_imports.proofs.TakenImportsLoop.{offered_next}
 use Rattle.smith_draw_shape_imports.proofs.grouped_imports.put_in_groups.Goals as goal

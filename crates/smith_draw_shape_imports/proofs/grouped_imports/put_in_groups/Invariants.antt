@@ -1,6 +1,5 @@
-use Rattle.std.proofs.Common.{take, drop, ◌++◌, ◌∷◌, []}
+use Rattle.smith_draw_shape_imports.proofs.Common.{[], drop, features_of, take, ◌++◌, ◌∷◌}
 use Rattle.smith_bytes.specs.Source.{KeepsPieces}
-use Rattle.smith_config.specs.Features.{features_of}
 use Rattle.smith_draw_shape_imports.specs.AvailableImports.{grouped_at, AreGroupsOf}
 use Rattle.smith_draw_shape_imports.proofs.GroupedImportsLoop.{IsJoining}
 use Rattle.smith_draw_shape_imports.proofs.grouped_imports.put_in_groups.Given as goal

@@ -1,5 +1,4 @@
-use Rattle.std.proofs.Common.{◌≡◌, ◌+◌, drop, length}
-use Rattle.smith_types.specs.Imports.{flattened}
+use Rattle.smith_draw_shape_imports.proofs.Common.{drop, flattened, length, ◌+◌, ◌≡◌}
 use Rattle.smith_draw_shape_imports.proofs.module_shape.count_imports.Given as goal
 
 abbrev pub invariant-loop-group : goal.invariant-loop-group

@@ -1,8 +1,5 @@
-use Rattle.std.proofs.Common.{◌∙◌, List, refl, ap, subst, sym}
-use Rattle.std.specs.Prelude.{All}
-use Rattle.smith_types.specs.Imports.{flattened, IsImportsValid}
-use Rattle.smith_syntax.specs.declared.imports.Imports.{Imports}
-use Rattle.smith_config.specs.Features.{features_of}
+use Rattle.smith_draw_shape_imports.proofs.Common.{All, ap, features_of, flattened, Imports, IsImportsValid, List, refl, sym, ◌∙◌}
+use Rattle.std.proofs.Common.{subst}
 use Rattle.smith_draw_shape_imports.proofs.KeptImportLemmas.{kept_flat, kept_valid, imported_valid, imported_enabled}
 use Rattle.smith_draw_shape_imports.proofs.module_shape.imports_of_shape.Goals as goal
 

@@ -1,5 +1,4 @@
-use Rattle.std.proofs.Common.{◌∙◌, ap}
-use Rattle.std.specs.List.{flat_map}
+use Rattle.smith_draw_shape_imports.proofs.Common.{ap, flat_map, ◌∙◌}
 use Rattle.std.proofs.lemmas.List.{take_all}
 use Rattle.smith_draw_shape_imports.specs.KeptImports.{kept_of}
 use Rattle.smith_draw_shape_imports.proofs.KeptImportLemmas.{kept_more, all_kept_are}

@@ -1,5 +1,4 @@
-use Rattle.std.proofs.Common.{◌≡◌, take}
-use Rattle.std.specs.List.{flat_map}
+use Rattle.smith_draw_shape_imports.proofs.Common.{flat_map, take, ◌≡◌}
 use Rattle.smith_draw_shape_imports.specs.KeptImports.{kept_of}
 use Rattle.smith_draw_shape_imports.proofs.module_shape.kept_groups_of.Given as goal
 

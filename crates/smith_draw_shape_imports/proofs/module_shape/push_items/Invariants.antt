@@ -1,7 +1,5 @@
-use Rattle.std.proofs.Common.{◌≡◌, ◌++◌, map, take}
-use Rattle.smith_types.specs.Imports.{import_of}
-use Rattle.smith_syntax.specs.declared.imports.ImportItem.{ImportItem}
-use Rattle.smith_syntax.specs.declared.imports.Imports.TheVariants.{Single}
+use Rattle.smith_draw_shape_imports.proofs.Common.{import_of, map, Single, take, ◌++◌, ◌≡◌}
+use Rattle.smith_types.specs.Syntax.imports.ImportItem.{ImportItem}
 use Rattle.smith_draw_shape_imports.proofs.module_shape.push_items.Given as goal
 
 abbrev pub invariant-loop-item : goal.invariant-loop-item

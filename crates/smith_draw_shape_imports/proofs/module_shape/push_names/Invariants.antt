@@ -1,6 +1,4 @@
-use Rattle.std.proofs.Common.{◌≡◌, ◌++◌, map, take}
-use Rattle.smith_types.specs.Imports.{import_of}
-use Rattle.smith_syntax.specs.declared.imports.Imports.TheVariants.{Single}
+use Rattle.smith_draw_shape_imports.proofs.Common.{import_of, map, Single, take, ◌++◌, ◌≡◌}
 use Rattle.smith_draw_shape_imports.proofs.module_shape.push_names.Given as goal
 
 abbrev pub invariant-loop-name : goal.invariant-loop-name

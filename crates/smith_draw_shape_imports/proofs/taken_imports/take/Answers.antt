@@ -1,5 +1,4 @@
-use Rattle.std.proofs.Common.{◌≡◌, ◌∙◌, sym, refl, false, true}
-use Rattle.smith_module_rules.specs.ShapeImports.{is_fitting}
+use Rattle.smith_draw_shape_imports.proofs.Common.{false, is_fitting, refl, sym, true, ◌∙◌, ◌≡◌}
 use Rattle.smith_draw_shape_imports.proofs.AvailableImportLemmas.{fits_is}
 use Rattle.smith_draw_shape_imports.proofs.taken_imports.take.Goals as goal
 

@@ -1,4 +1,4 @@
-use Rattle.std.proofs.Common.{drop, [], ◌≡◌, ◌+◌}
+use Rattle.smith_draw_shape_imports.proofs.Common.{[], drop, ◌+◌, ◌≡◌}
 use Rattle.std.proofs.lemmas.List.{drop_all}
 use Rattle.smith_draw_shape_imports.proofs.TakenImportsLoop.{offered_next, picked_none, picked_not, picked_one}
 use Rattle.smith_draw_shape_imports.proofs.taken_imports.take_imports.Goals as goal

@@ -1,4 +1,4 @@
-use Rattle.std.proofs.Common.{drop, []}
+use Rattle.smith_draw_shape_imports.proofs.Common.{[], drop}
 use Rattle.smith_bytes.specs.Source.{KeepsPieces}
 use Rattle.smith_draw_shape_imports.specs.AvailableImports.{picked_at, CountsTaken}
 use Rattle.smith_draw_shape_imports.proofs.TakenImportsLoop.{IsPicking}

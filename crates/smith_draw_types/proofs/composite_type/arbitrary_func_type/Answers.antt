@@ -1,5 +1,4 @@
-use Rattle.std.proofs.Common.{refl}
-use Rattle.std.proofs.lemmas.Result.{IfOk-weaker}
+use Rattle.smith_draw_types.proofs.Common.{IfOk-weaker, refl}
 use Rattle.smith_draw_types.specs.Grounding.{standing_in}
 use Rattle.smith_draw_types.proofs.ValueTypeLemmas.{values_shared}
 use Rattle.smith_draw_types.proofs.GrantedLemmas.{func_granted}

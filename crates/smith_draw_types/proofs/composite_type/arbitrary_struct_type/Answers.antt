@@ -1,7 +1,4 @@
-use Rattle.std.proofs.Common.{refl}
-use Rattle.std.proofs.lemmas.Result.{IfOk-weaker}
-use Rattle.std.proofs.lemmas.List.Elements.{All-weaker}
-use Rattle.smith_types.specs.Matching.{IsFieldInRange}
+use Rattle.smith_draw_types.proofs.Common.{All-weaker, IfOk-weaker, IsFieldInRange, refl}
 use Rattle.smith_draw_types.specs.Grounding.{standing_in}
 use Rattle.smith_draw_types.proofs.ValueTypeLemmas.{values_valid, values_shared}
 use Rattle.smith_draw_types.proofs.GrantedLemmas.{struct_granted}

@@ -1,5 +1,4 @@
-use Rattle.std.proofs.Common.{rules}
-use Rattle.smith_bytes.proofs.GrowingLoop.{grow_full}
+use Rattle.smith_draw_types.proofs.Common.{grow_full, rules}
 use Rattle.smith_draw_types.proofs.UntilLoop.{until_go}
 use Rattle.smith_draw_types.proofs.composite_type.draw_fields.Goals as goal
 

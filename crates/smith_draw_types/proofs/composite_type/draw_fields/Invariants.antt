@@ -1,4 +1,4 @@
-use Rattle.smith_bytes.proofs.GrowingLoop.{IsGrowing}
+use Rattle.smith_draw_types.proofs.Common.{IsGrowing}
 use Rattle.smith_draw_types.specs.FieldTypes.{field_type_at, fields_until_at}
 use Rattle.smith_draw_types.proofs.composite_type.draw_fields.Given as goal
 

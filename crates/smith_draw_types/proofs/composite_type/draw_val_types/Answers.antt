@@ -1,5 +1,5 @@
-use Rattle.std.proofs.Common.{rules}
-use Rattle.smith_bytes.proofs.GrowingLoop.{grow_go, grow_stop, grow_full}
+use Rattle.smith_draw_types.proofs.Common.{grow_full, rules}
+use Rattle.smith_bytes.proofs.GrowingLoop.{grow_go, grow_stop}
 use Rattle.smith_draw_types.proofs.composite_type.draw_val_types.Goals as goal
 
 pub returns-then-not-goes_on : goal.returns-then-not-goes_on

@@ -1,4 +1,4 @@
-use Rattle.smith_bytes.proofs.GrowingLoop.{IsGrowing}
+use Rattle.smith_draw_types.proofs.Common.{IsGrowing}
 use Rattle.smith_draw_types.specs.ValueTypes.{val_type_at}
 use Rattle.smith_draw_types.specs.CompositeTypes.{val_types_at}
 use Rattle.smith_draw_types.proofs.composite_type.draw_val_types.Given as goal

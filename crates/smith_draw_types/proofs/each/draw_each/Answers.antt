@@ -1,4 +1,4 @@
-use Rattle.std.proofs.Common.{rules}
+use Rattle.smith_draw_types.proofs.Common.{rules}
 use Rattle.smith_draw_types.proofs.EachLoop.{each_more, each_all}
 use Rattle.smith_draw_types.proofs.each.draw_each.Goals as goal
 

@@ -1,5 +1,4 @@
-use Rattle.std.proofs.Common.{◌≡◌, ℕ, ◌<◌, Some}
-use Rattle.std.specs.Prelude.{slice_get}
+use Rattle.smith_draw_types.proofs.Common.{slice_get, Some, ℕ, ◌<◌, ◌≡◌}
 use Rattle.smith_draw_types.proofs.early_grounds.have_types.Given as goal
 
 abbrev pub invariant-loop-function : goal.invariant-loop-function

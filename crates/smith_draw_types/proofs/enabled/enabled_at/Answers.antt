@@ -1,4 +1,4 @@
-use Rattle.std.proofs.Common.{◌∙◌}
+use Rattle.smith_draw_types.proofs.Common.{◌∙◌}
 use Rattle.smith_draw_types.proofs.EnabledLemmas.{enabled_turn}
 use Rattle.smith_draw_types.proofs.enabled.enabled_at.Goals as goal
 

@@ -1,5 +1,5 @@
-use Rattle.std.proofs.Common.{◌≡◌, get_or, drop}
-use Rattle.smith_syntax.specs.declared.entity_type.ExportKind.TheVariants.{Memory}
+use Rattle.smith_draw_types.proofs.Common.{drop, get_or, ◌≡◌}
+use Rattle.smith_types.specs.Syntax.entity_type.ExportKind.TheVariants.{Memory}
 use Rattle.smith_draw_types.specs.Choices.{enabled}
 use Rattle.smith_draw_types.proofs.enabled.enabled_at.Given as goal
 

@@ -1,4 +1,4 @@
-use Rattle.std.proofs.Common.{◌∙◌}
+use Rattle.smith_draw_types.proofs.Common.{◌∙◌}
 use Rattle.smith_draw_types.proofs.MemoryLemmas.{drawn_pages_fit, drawn_pages_kept, limits_fit, limits_kept, either_left, either_right}
 use Rattle.smith_draw_types.proofs.entity_type.draw_memory_type.Goals as goal
 

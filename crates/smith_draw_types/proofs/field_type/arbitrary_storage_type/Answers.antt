@@ -1,8 +1,4 @@
-use Rattle.std.proofs.Common.{refl}
-use Rattle.std.specs.Prelude.{All}
-use Rattle.smith_types.specs.ValidTypes.{values_of_storage}
-use Rattle.smith_syntax.specs.declared.composite_type.StorageType.{StorageType}
-use Rattle.smith_config.specs.Granted.{IsGranted}
+use Rattle.smith_draw_types.proofs.Common.{All, IsGranted, refl, StorageType, values_of_storage}
 use Rattle.smith_draw_types.specs.Grounding.{standing_in}
 use Rattle.smith_draw_types.proofs.GrantedLemmas.{storage_granted}
 use Rattle.smith_draw_types.proofs.ValueTypeLemmas.{drawn_is, values_valid, values_shared}

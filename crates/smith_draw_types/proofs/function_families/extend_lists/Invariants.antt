@@ -1,4 +1,4 @@
-use Rattle.std.proofs.Common.{ℕ, Bool, ◌+◌, ◌-◌, length}
+use Rattle.smith_draw_types.proofs.Common.{Bool, length, ℕ, ◌+◌, ◌-◌}
 use Rattle.smith_draw_types.specs.FunctionFamilies.{AreListed}
 use Rattle.smith_draw_types.proofs.function_families.extend_lists.Given as goal
 

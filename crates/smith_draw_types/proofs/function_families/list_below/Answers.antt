@@ -1,5 +1,4 @@
-use Rattle.std.proofs.Common.{◌≡◌, ◌∙◌, ℕ, false, ap}
-use Rattle.smith_types.specs.Families.{is_index}
+use Rattle.smith_draw_types.proofs.Common.{ap, false, is_index, ℕ, ◌∙◌, ◌≡◌}
 use Rattle.smith_draw_types.proofs.FunctionListLemmas.{index_itself, index_other, listed_joined, listed_passed}
 use Rattle.smith_draw_types.proofs.function_families.list_below.Goals as goal
 

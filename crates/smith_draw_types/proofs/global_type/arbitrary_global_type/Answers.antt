@@ -1,4 +1,4 @@
-use Rattle.std.proofs.Common.{refl}
+use Rattle.smith_draw_types.proofs.Common.{refl}
 use Rattle.smith_draw_types.proofs.global_type.arbitrary_global_type.Goals as goal
 
 pub returns : goal.returns

@@ -1,9 +1,6 @@
-use Rattle.std.proofs.Common.{◌≡◌, sym, subst}
+use Rattle.smith_draw_types.proofs.Common.{features_of, IsNoFloat, IsNonNullable, IsUngrounded, subst, sym, ◌≡◌}
 use Rattle.smith_types.specs.Entities.{IsGlobalValid}
-use Rattle.smith_types.specs.Floats.{IsNoFloat}
-use Rattle.smith_syntax.specs.declared.entity_type.GlobalType.{GlobalType}
-use Rattle.smith_config.specs.Features.{features_of}
-use Rattle.smith_config.specs.Granted.{IsNonNullable, IsUngrounded}
+use Rattle.smith_types.specs.Syntax.entity_type.GlobalType.{GlobalType}
 use Rattle.smith_draw_types.specs.GlobalTypes.{global_type_at}
 use Rattle.smith_draw_types.specs.Grounding.{over}
 use Rattle.smith_draw_types.proofs.FilledLemmas.{global_type_filled}

@@ -1,4 +1,4 @@
-use Rattle.std.proofs.Common.{[], refl, sym, ap, length}
+use Rattle.smith_draw_types.proofs.Common.{[], ap, length, refl, sym}
 use Rattle.smith_draw_types.specs.Grounding.{standing_in, with_functions}
 use Rattle.smith_draw_types.proofs.kept_grounds.grounds_of.Goals as goal
 

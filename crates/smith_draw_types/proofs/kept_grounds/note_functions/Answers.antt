@@ -1,4 +1,4 @@
-use Rattle.std.proofs.Common.{refl}
+use Rattle.smith_draw_types.proofs.Common.{refl}
 use Rattle.smith_draw_types.specs.Grounding.{standing_in}
 use Rattle.smith_draw_types.proofs.KeptGroundLemmas.{function_added, all_noted}
 use Rattle.smith_draw_types.proofs.kept_grounds.note_functions.Goals as goal

@@ -1,5 +1,4 @@
-use Rattle.std.proofs.Common.{take}
-use Rattle.smith_types.specs.FuncGrounds.{AreFuncGrounds}
+use Rattle.smith_draw_types.proofs.Common.{AreFuncGrounds, take}
 use Rattle.smith_draw_types.specs.Grounding.{standing_in, with_functions}
 use Rattle.smith_draw_types.proofs.kept_grounds.note_functions.Given as goal
 

@@ -2,11 +2,7 @@ use Rattle.smith_draw_types.proofs.SharedLemmas.{func_shareable}
 use Rattle.smith_draw_types.proofs.MatchingLemmas.{matching_func_match, matching_func_valid}
 use Rattle.smith_draw_types.proofs.StandingLemmas.{func_stands}
 use Rattle.smith_draw_types.proofs.DrawingLemmas.{of_drawn}
-use Rattle.std.specs.Prelude.{All}
-use Rattle.smith_types.specs.ValidTypes.{values_of}
-use Rattle.smith_syntax.specs.declared.composite_type.FuncType.{FuncType}
-use Rattle.smith_syntax.specs.declared.composite_type.CompositeInnerType.TheVariants.{Func}
-use Rattle.smith_config.specs.Granted.{IsGranted}
+use Rattle.smith_draw_types.proofs.Common.{All, Func, FuncType, IsGranted, values_of}
 use Rattle.smith_draw_types.specs.Grounding.{standing_in}
 use Rattle.smith_draw_types.proofs.GrantedLemmas.{matching_func_granted}
 use Rattle.smith_draw_types.proofs.matching.arbitrary_matching_func_type.Goals as goal

@@ -1,8 +1,7 @@
-use Rattle.std.proofs.lemmas.Result.{IfOk-weaker}
+use Rattle.smith_draw_types.proofs.Common.{below_stands, IfOk-weaker}
 use Rattle.smith_draw_types.proofs.SharedLemmas.{below_shared}
 use Rattle.smith_draw_types.proofs.HeapTypeLemmas.{matching_heap_below, matching_heap_valid}
 use Rattle.smith_draw_types.proofs.ChosenLemmas.{matching_item}
-use Rattle.smith_types.proofs.RangeLemmas.{below_stands}
 use Rattle.smith_draw_types.proofs.DrawingLemmas.{of_drawn}
 use Rattle.smith_draw_types.proofs.matching.arbitrary_matching_heap_type.Goals as goal
 

@@ -1,11 +1,8 @@
-use Rattle.std.proofs.Common.{◌≡◌, ◌⊎◌, inl, inr}
-use Rattle.smith_types.specs.Grounded.{IsGrounded}
-use Rattle.smith_syntax.specs.declared.value_type.RefType.{RefType}
+use Rattle.smith_draw_types.proofs.Common.{below_stands, inl, inr, IsGrounded, RefType, ◌≡◌, ◌⊎◌}
 use Rattle.smith_draw_types.specs.Grounding.{standing_in}
 use Rattle.smith_draw_types.proofs.GroundingLemmas.{grounded_if}
 use Rattle.smith_draw_types.proofs.SharedLemmas.{below_shared}
 use Rattle.smith_draw_types.proofs.MatchingLemmas.{matching_ref_granted, matching_ref_nullable, matching_ref_below, matching_ref_valid}
-use Rattle.smith_types.proofs.RangeLemmas.{below_stands}
 use Rattle.smith_draw_types.proofs.DrawingLemmas.{of_drawn}
 use Rattle.smith_draw_types.proofs.matching.arbitrary_matching_ref_type.Goals as goal
 

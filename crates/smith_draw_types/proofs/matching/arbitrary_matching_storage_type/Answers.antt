@@ -2,10 +2,7 @@ use Rattle.smith_draw_types.proofs.SharedLemmas.{storage_shareable}
 use Rattle.smith_draw_types.proofs.MatchingLemmas.{matching_storage_match, matching_storage_valid}
 use Rattle.smith_draw_types.proofs.StandingLemmas.{storage_stands}
 use Rattle.smith_draw_types.proofs.DrawingLemmas.{of_drawn}
-use Rattle.std.specs.Prelude.{All}
-use Rattle.smith_types.specs.ValidTypes.{values_of_storage}
-use Rattle.smith_syntax.specs.declared.composite_type.StorageType.{StorageType}
-use Rattle.smith_config.specs.Granted.{IsGranted}
+use Rattle.smith_draw_types.proofs.Common.{All, IsGranted, StorageType, values_of_storage}
 use Rattle.smith_draw_types.specs.Grounding.{standing_in}
 use Rattle.smith_draw_types.proofs.GrantedLemmas.{matching_storage_granted}
 use Rattle.smith_draw_types.proofs.matching.arbitrary_matching_storage_type.Goals as goal

@@ -2,7 +2,7 @@ use Rattle.smith_draw_types.proofs.SharedLemmas.{val_shareable}
 use Rattle.smith_draw_types.proofs.MatchingLemmas.{matching_val_below, matching_val_valid}
 use Rattle.smith_draw_types.proofs.StandingLemmas.{val_stands}
 use Rattle.smith_draw_types.proofs.DrawingLemmas.{of_drawn}
-use Rattle.smith_config.specs.Granted.{IsGranted}
+use Rattle.smith_draw_types.proofs.Common.{IsGranted}
 use Rattle.smith_draw_types.specs.Grounding.{standing_in}
 use Rattle.smith_draw_types.proofs.FilledLemmas.{matching_value}
 use Rattle.smith_draw_types.proofs.matching.arbitrary_matching_val_type.Goals as goal

@@ -1,4 +1,4 @@
-use Rattle.std.proofs.Common.{◌≡◌, ◌∷◌, [], arith}
+use Rattle.smith_draw_types.proofs.Common.{[], arith, ◌∷◌, ◌≡◌}
 use Rattle.smith_draw_types.specs.Grounding.{is_grounded}
 use Rattle.smith_draw_types.specs.Offered.{bottom_at}
 use Rattle.smith_draw_types.proofs.GroundedFamilyLemmas.{bottom_some, bottom_counted, all_counted, one_most}

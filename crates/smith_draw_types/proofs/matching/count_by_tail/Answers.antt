@@ -1,4 +1,4 @@
-use Rattle.std.proofs.Common.{refl, arith}
+use Rattle.smith_draw_types.proofs.Common.{arith, refl}
 use Rattle.smith_draw_types.specs.Grounding.{is_grounded}
 use Rattle.smith_draw_types.specs.GroundedTails.{IsGroundedTail}
 use Rattle.smith_draw_types.specs.Offered.{gc_subtypes}

@@ -1,5 +1,4 @@
-use Rattle.std.proofs.Common.{◌≡◌, ◌+◌, ◌∙◌, ℕ, length, drop, sym, subst, arith}
-use Rattle.std.specs.Prelude.{filter}
+use Rattle.smith_draw_types.proofs.Common.{arith, drop, filter, length, subst, sym, ℕ, ◌+◌, ◌∙◌, ◌≡◌}
 use Rattle.smith_draw_types.specs.Grounding.{is_grounded}
 use Rattle.smith_draw_types.specs.Offered.{gc_subtypes}
 use Rattle.smith_draw_types.proofs.GroundedLoop.{counts_one, counts_none}

@@ -1,5 +1,4 @@
-use Rattle.std.proofs.Common.{◌≡◌, ◌+◌, ◌<◌, ◌≤◌, length, drop}
-use Rattle.std.specs.Prelude.{filter}
+use Rattle.smith_draw_types.proofs.Common.{drop, filter, length, ◌+◌, ◌<◌, ◌≡◌, ◌≤◌}
 use Rattle.smith_draw_types.specs.Grounding.{is_grounded}
 use Rattle.smith_draw_types.specs.Offered.{gc_subtypes}
 use Rattle.smith_draw_types.proofs.matching.count_grounded_before.Given as goal

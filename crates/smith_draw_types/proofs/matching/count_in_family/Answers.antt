@@ -1,4 +1,4 @@
-use Rattle.std.proofs.Common.{◌++◌, arith}
+use Rattle.smith_draw_types.proofs.Common.{arith, ◌++◌}
 use Rattle.smith_draw_types.specs.Grounding.{is_grounded}
 use Rattle.smith_draw_types.specs.Offered.{offered_direct_subtypes, exact_subtypes, bottom_at}
 use Rattle.smith_draw_types.proofs.GroundedFamilyLemmas.{joined_long}

@@ -1,6 +1,5 @@
-use Rattle.std.proofs.Common.{◌≡◌, ◌+◌, ◌++◌, map, length, ◌∙◌, ap, arith, rules}
-use Rattle.std.proofs.lemmas.List.{length-append, length-map}
-use Rattle.smith_syntax.specs.declared.value_type.HeapType.TheVariants.{Abstract}
+use Rattle.smith_draw_types.proofs.Common.{Abstract, ap, arith, length, length-map, map, rules, ◌++◌, ◌+◌, ◌∙◌, ◌≡◌}
+use Rattle.std.proofs.lemmas.List.{length-append}
 use Rattle.smith_draw_types.specs.Offered.{abstract_subtypes, kinds_below, of_kinds}
 use Rattle.smith_draw_types.proofs.ChosenLemmas.{placed}
 use Rattle.smith_draw_types.proofs.matching.draw_abstract_subtype.Goals as goal

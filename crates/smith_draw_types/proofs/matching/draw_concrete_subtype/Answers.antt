@@ -1,4 +1,4 @@
-use Rattle.std.proofs.Common.{rules}
+use Rattle.smith_draw_types.proofs.Common.{rules}
 use Rattle.smith_draw_types.proofs.ChosenLemmas.{placed}
 use Rattle.smith_draw_types.proofs.matching.draw_concrete_subtype.Goals as goal
 

@@ -1,5 +1,4 @@
-use Rattle.std.proofs.Common.{◌≡◌, ℕ, suc, ◌-◌, ◌∷◌, Some, drop, refl, sym, subst, arith, rules}
-use Rattle.std.specs.Prelude.{slice_get, filter}
+use Rattle.smith_draw_types.proofs.Common.{arith, drop, filter, refl, rules, slice_get, Some, subst, suc, sym, ℕ, ◌-◌, ◌∷◌, ◌≡◌}
 use Rattle.smith_draw_types.specs.Grounding.{is_grounded}
 use Rattle.smith_draw_types.specs.Offered.{gc_subtypes}
 use Rattle.smith_draw_types.proofs.ChosenLemmas.{grounded_without_gc, grounded_with_gc}

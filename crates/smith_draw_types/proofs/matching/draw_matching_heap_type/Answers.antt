@@ -1,4 +1,4 @@
-use Rattle.std.proofs.Common.{◌∙◌, rules}
+use Rattle.smith_draw_types.proofs.Common.{rules, ◌∙◌}
 use Rattle.smith_draw_types.proofs.ChosenLemmas.{matching_without_gc, matching_with_gc}
 use Rattle.smith_draw_types.proofs.matching.draw_matching_heap_type.Goals as goal
 

@@ -1,4 +1,4 @@
-use Rattle.std.proofs.Common.{◌∙◌, sym}
+use Rattle.smith_draw_types.proofs.Common.{sym, ◌∙◌}
 use Rattle.smith_draw_types.proofs.ChosenLemmas.{all_are_offered, grounded_are_offered}
 use Rattle.smith_draw_types.proofs.matching.draw_referent.Goals as goal
 

@@ -1,5 +1,4 @@
-use Rattle.std.proofs.Common.{◌∙◌, ap, length}
-use Rattle.std.specs.Prelude.{filter}
+use Rattle.smith_draw_types.proofs.Common.{ap, filter, length, ◌∙◌}
 use Rattle.smith_draw_types.specs.Grounding.{is_grounded}
 use Rattle.smith_draw_types.proofs.GroundedKindLemmas.{kinds_follow, abstracts_some, abstracts_few, abstracts_within}
 use Rattle.smith_draw_types.proofs.matching.grounded_tail.Goals as goal

@@ -1,5 +1,4 @@
-use Rattle.std.proofs.Common.{◌≡◌, ◌-◌, ◌∷◌, [], arith}
-use Rattle.std.proofs.lemmas.Option.{slice_get-get_or}
+use Rattle.smith_draw_types.proofs.Common.{[], arith, slice_get-get_or, ◌-◌, ◌∷◌, ◌≡◌}
 use Rattle.smith_draw_types.specs.Grounding.{is_grounded}
 use Rattle.smith_draw_types.specs.Offered.{bottom_at}
 use Rattle.smith_draw_types.proofs.GroundedFamilyLemmas.{bottom_some, bottom_found, exact_found, again_found, last_found}

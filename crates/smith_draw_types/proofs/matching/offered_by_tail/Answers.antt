@@ -1,5 +1,4 @@
-use Rattle.std.proofs.Common.{◌∙◌, ◌-◌, sym, arith, ap, length}
-use Rattle.std.proofs.lemmas.Option.{slice_get-get_or}
+use Rattle.smith_draw_types.proofs.Common.{ap, arith, length, slice_get-get_or, sym, ◌-◌, ◌∙◌}
 use Rattle.std.specs.Prelude.{Some}
 use Rattle.smith_draw_types.specs.Grounding.{is_grounded}
 use Rattle.smith_draw_types.specs.Offered.{gc_subtypes}

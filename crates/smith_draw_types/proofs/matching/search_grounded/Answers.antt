@@ -1,5 +1,4 @@
-use Rattle.std.proofs.Common.{◌∙◌, drop, sym, arith}
-use Rattle.std.specs.Prelude.{filter}
+use Rattle.smith_draw_types.proofs.Common.{arith, drop, filter, sym, ◌∙◌}
 use Rattle.smith_draw_types.specs.Grounding.{is_grounded}
 use Rattle.smith_draw_types.specs.Offered.{gc_subtypes}
 use Rattle.smith_draw_types.proofs.GroundedLoop.{found_here, found_later, found_further, never_missed}

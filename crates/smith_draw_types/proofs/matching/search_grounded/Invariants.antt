@@ -1,5 +1,4 @@
-use Rattle.std.proofs.Common.{◌≡◌, drop}
-use Rattle.std.specs.Prelude.{slice_get, filter}
+use Rattle.smith_draw_types.proofs.Common.{drop, filter, slice_get, ◌≡◌}
 use Rattle.smith_draw_types.specs.Grounding.{is_grounded}
 use Rattle.smith_draw_types.specs.Offered.{gc_subtypes}
 use Rattle.smith_draw_types.proofs.matching.search_grounded.Given as goal

@@ -1,10 +1,6 @@
 use Rattle.smith_draw_types.proofs.MatchingCompositeLemmas.{matching_struct_match, matching_struct_valid, matching_struct_shareable}
 use Rattle.smith_draw_types.proofs.DrawingLemmas.{of_drawn}
-use Rattle.std.specs.Prelude.{All}
-use Rattle.smith_types.specs.ValidTypes.{values_of}
-use Rattle.smith_syntax.specs.declared.composite_type.StructType.{StructType}
-use Rattle.smith_syntax.specs.declared.composite_type.CompositeInnerType.TheVariants.{Struct}
-use Rattle.smith_config.specs.Granted.{IsGranted}
+use Rattle.smith_draw_types.proofs.Common.{All, IsGranted, Struct, StructType, values_of}
 use Rattle.smith_draw_types.specs.Grounding.{standing_in}
 use Rattle.smith_draw_types.proofs.GrantedLemmas.{matching_struct_granted}
 use Rattle.smith_draw_types.proofs.matching_composite.arbitrary_matching_struct_type.Goals as goal

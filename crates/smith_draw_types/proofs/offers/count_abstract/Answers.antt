@@ -1,4 +1,4 @@
-use Rattle.std.proofs.Common.{arith, refl}
+use Rattle.smith_draw_types.proofs.Common.{arith, refl}
 use Rattle.smith_draw_types.proofs.OfferedPlaceLemmas.{kinds_counted}
 use Rattle.smith_draw_types.proofs.offers.count_abstract.Goals as goal
 

@@ -1,4 +1,5 @@
-use Rattle.std.proofs.Common.{◌≡◌, ◌≤◌, ◌+◌, ◌*◌, ◌^◌, length, drop}
+use Rattle.smith_draw_types.proofs.Common.{drop, length, ◌+◌, ◌^◌, ◌≡◌, ◌≤◌}
+use Rattle.std.proofs.Common.{◌*◌}
 use Rattle.smith_draw_types.specs.Offered.{of_kinds}
 use Rattle.smith_draw_types.proofs.offers.count_abstract.Given as goal
 

@@ -1,4 +1,4 @@
-use Rattle.std.proofs.Common.{arith}
+use Rattle.smith_draw_types.proofs.Common.{arith}
 use Rattle.smith_draw_types.proofs.OfferedPlaceLemmas.{exact_most, bottom_most}
 use Rattle.smith_draw_types.proofs.offers.count_concrete_subtypes.Goals as goal
 

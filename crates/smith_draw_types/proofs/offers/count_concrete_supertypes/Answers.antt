@@ -1,5 +1,4 @@
-use Rattle.std.proofs.Common.{refl, ◌≡◌, Some, None}
-use Rattle.std.specs.Prelude.{slice_get}
+use Rattle.smith_draw_types.proofs.Common.{None, refl, slice_get, Some, ◌≡◌}
 use Rattle.std.proofs.lemmas.Option.{slice_get_past, slice_get_read}
 use Rattle.smith_draw_types.proofs.OfferedPlaceLemmas.{supertypes_long, supertypes_alone}
 use Rattle.smith_draw_types.proofs.offers.count_concrete_supertypes.Goals as goal

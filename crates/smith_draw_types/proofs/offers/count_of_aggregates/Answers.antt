@@ -1,5 +1,5 @@
-use Rattle.std.proofs.Common.{arith}
-use Rattle.smith_syntax.specs.declared.value_type.AbstractHeapType.TheVariants.{Array, Struct}
+use Rattle.smith_draw_types.proofs.Common.{arith}
+use Rattle.smith_types.specs.Syntax.value_type.AbstractHeapType.TheVariants.{Array, Struct}
 use Rattle.smith_draw_types.proofs.OfferedPlaceLemmas.{two_kinds}
 use Rattle.smith_draw_types.proofs.offers.count_of_aggregates.Goals as goal
 

@@ -1,4 +1,4 @@
-use Rattle.std.proofs.Common.{◌∙◌, sym}
+use Rattle.smith_draw_types.proofs.Common.{sym, ◌∙◌}
 use Rattle.smith_draw_types.proofs.OfferedPlaceLemmas.{one_kind}
 use Rattle.smith_draw_types.proofs.offers.count_of_kind.Goals as goal
 

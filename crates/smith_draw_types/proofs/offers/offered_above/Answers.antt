@@ -1,5 +1,4 @@
-use Rattle.std.proofs.Common.{arith}
-use Rattle.std.proofs.lemmas.Option.{slice_get_within}
+use Rattle.smith_draw_types.proofs.Common.{arith, slice_get_within}
 use Rattle.smith_types.proofs.SpaceLemmas.{depth_alone}
 use Rattle.smith_draw_types.proofs.OfferedPlaceLemmas.{is_up, up_found}
 use Rattle.smith_draw_types.proofs.offers.offered_above.Goals as goal

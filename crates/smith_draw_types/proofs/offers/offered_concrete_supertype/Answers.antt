@@ -1,5 +1,4 @@
-use Rattle.std.proofs.Common.{◌≡◌, None, arith}
-use Rattle.std.specs.Prelude.{slice_get}
+use Rattle.smith_draw_types.proofs.Common.{arith, None, slice_get, ◌≡◌}
 use Rattle.std.proofs.lemmas.Option.{slice_get_past}
 use Rattle.smith_draw_types.proofs.OfferedPlaceLemmas.{supertypes_alone}
 use Rattle.smith_draw_types.proofs.offers.offered_concrete_supertype.Goals as goal

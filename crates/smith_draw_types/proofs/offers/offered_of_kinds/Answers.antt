@@ -1,4 +1,4 @@
-use Rattle.std.proofs.Common.{arith, refl}
+use Rattle.smith_draw_types.proofs.Common.{arith, refl}
 use Rattle.smith_draw_types.proofs.OfferedPlaceLemmas.{kinds_counted, kinds_here, kinds_later}
 use Rattle.smith_draw_types.proofs.offers.offered_of_kinds.Goals as goal
 

@@ -1,6 +1,4 @@
-use Rattle.std.proofs.Common.{◌≡◌, ◌<◌, length, drop, Some}
-use Rattle.std.specs.Prelude.{slice_get}
-use Rattle.smith_syntax.specs.declared.value_type.HeapType.{HeapType}
+use Rattle.smith_draw_types.proofs.Common.{drop, HeapType, length, slice_get, Some, ◌<◌, ◌≡◌}
 use Rattle.smith_draw_types.specs.Offered.{of_kinds}
 use Rattle.smith_draw_types.proofs.offers.offered_of_kinds.Given as goal
 

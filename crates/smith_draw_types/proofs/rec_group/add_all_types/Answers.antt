@@ -1,5 +1,4 @@
-use Rattle.std.proofs.Common.{sym, subst}
-use Rattle.smith_types.specs.Expressions.{Context}
+use Rattle.smith_draw_types.proofs.Common.{Context, subst, sym}
 use Rattle.smith_draw_types.specs.Grounding.{functions_of, over}
 use Rattle.smith_draw_types.specs.KeptGrounds.{AreEarlyGrounds}
 use Rattle.smith_draw_types.proofs.EarlyGroundLemmas.{early_grown}

@@ -1,7 +1,6 @@
-use Rattle.std.proofs.Common.{◌≡◌, ◌-◌, get_or, length, take, drop, sym, ap, ◌∙◌, subst, arith, length-append, length-drop}
+use Rattle.smith_draw_types.proofs.Common.{ap, arith, drop, get_or, GroupedTypes, length, length-append, length-drop, subst, SubType, sym}
+use Rattle.smith_draw_types.proofs.Common.{take, ◌-◌, ◌∙◌, ◌≡◌}
 use Rattle.std.proofs.lemmas.List.{length-take}
-use Rattle.smith_types.specs.GroupedTypes.{GroupedTypes}
-use Rattle.smith_syntax.specs.declared.composite_type.SubType.{SubType}
 use Rattle.smith_draw_types.proofs.CopiesLoop.{copied, copy_follows}
 use Rattle.smith_draw_types.proofs.rec_group.add_copies.Goals as goal
 

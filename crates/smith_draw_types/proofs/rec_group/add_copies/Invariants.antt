@@ -1,4 +1,4 @@
-use Rattle.std.proofs.Common.{◌≡◌, ◌-◌, ◌++◌, take, drop}
+use Rattle.smith_draw_types.proofs.Common.{drop, take, ◌++◌, ◌-◌, ◌≡◌}
 use Rattle.smith_draw_types.proofs.rec_group.add_copies.Given as goal
 
 abbrev pub invariant-loop-index : goal.invariant-loop-index

@@ -1,4 +1,4 @@
-use Rattle.std.proofs.Common.{◌<◌, length, refl, arith, rules}
+use Rattle.smith_draw_types.proofs.Common.{arith, length, refl, rules, ◌<◌}
 use Rattle.smith_draw_types.specs.Grounding.{functions_of}
 use Rattle.smith_draw_types.proofs.EarlyGroundLemmas.{early_grown, extends_self, extends_both}
 use Rattle.smith_draw_types.proofs.GroupsLoop.{group_adds, least_go, least_full}

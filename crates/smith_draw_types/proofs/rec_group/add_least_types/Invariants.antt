@@ -1,5 +1,4 @@
-use Rattle.std.proofs.Common.{◌-◌, length}
-use Rattle.smith_types.specs.Grown.{Extends}
+use Rattle.smith_draw_types.proofs.Common.{Extends, length, ◌-◌}
 use Rattle.smith_draw_types.specs.RecGroups.{least_types_at}
 use Rattle.smith_draw_types.specs.Grounding.{functions_of}
 use Rattle.smith_draw_types.proofs.GroupsLoop.{IsReaching}

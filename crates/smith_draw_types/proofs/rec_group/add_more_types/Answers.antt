@@ -1,4 +1,4 @@
-use Rattle.std.proofs.Common.{◌+◌, Bool, length, refl, ap, ◌∙◌, arith, rules}
+use Rattle.smith_draw_types.proofs.Common.{ap, arith, Bool, length, refl, rules, ◌+◌, ◌∙◌}
 use Rattle.smith_draw_types.specs.Grounding.{functions_of}
 use Rattle.smith_draw_types.proofs.EarlyGroundLemmas.{early_grown, extends_self, extends_both}
 use Rattle.smith_draw_types.proofs.GroupsLoop.{bool_takes, piece_short, more_go, more_stop, more_full}

@@ -1,6 +1,4 @@
-use Rattle.std.proofs.Common.{ap, ◌∙◌, arith, rules}
-use Rattle.smith_bytes.proofs.GrowingLoop.{grow_full}
-use Rattle.smith_types.specs.GroupedTypes.{GroupedTypes}
+use Rattle.smith_draw_types.proofs.Common.{ap, arith, GroupedTypes, grow_full, rules, ◌∙◌}
 use Rattle.smith_draw_types.specs.SubTypes.{HasSuperType}
 use Rattle.smith_draw_types.specs.Grounding.{functions_of}
 use Rattle.smith_draw_types.proofs.EarlyGroundLemmas.{early_grown, extends_one}

@@ -1,6 +1,4 @@
-use Rattle.std.proofs.Common.{◌≡◌}
-use Rattle.smith_bytes.proofs.GrowingLoop.{IsGrowing}
-use Rattle.smith_types.specs.Grown.{Extends}
+use Rattle.smith_draw_types.proofs.Common.{Extends, IsGrowing, ◌≡◌}
 use Rattle.smith_draw_types.specs.SubTypes.{sub_type_at}
 use Rattle.smith_draw_types.specs.RecGroups.{types_until_at}
 use Rattle.smith_draw_types.specs.Grounding.{functions_of, over}

@@ -1,10 +1,5 @@
-use Rattle.std.proofs.Common.{◌≡◌, ◌≤◌, ◌<◌, false, length, refl}
-use Rattle.std.proofs.lemmas.Result.{on_ok_weaker}
-use Rattle.smith_bytes.specs.declared.error.Count.TheVariants.{Types}
-use Rattle.smith_types.specs.GroupedTypes.{GroupedTypes}
-use Rattle.smith_types.specs.ValidTypes.{AreTypesValid}
-use Rattle.smith_config.specs.Features.{features_of}
-use Rattle.smith_config.specs.Granted.{AreTypesGranted}
+use Rattle.smith_draw_types.proofs.Common.{AreTypesGranted, AreTypesValid, false, features_of, GroupedTypes, length, on_ok_weaker, refl}
+use Rattle.smith_draw_types.proofs.Common.{Types, ◌<◌, ◌≡◌, ◌≤◌}
 use Rattle.smith_draw_types.specs.Grounding.{functions_in, over}
 use Rattle.smith_draw_types.proofs.GrantedLemmas.{rec_group_granted}
 use Rattle.smith_draw_types.proofs.DrawingLemmas.{of_state}

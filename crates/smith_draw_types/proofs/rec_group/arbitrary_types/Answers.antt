@@ -1,16 +1,10 @@
-use Rattle.std.proofs.Common.{◌≤◌, length, refl}
-use Rattle.std.proofs.lemmas.Result.{on_ok_weaker}
-use Rattle.smith_bytes.specs.declared.error.Count.TheVariants.{Types}
-use Rattle.std.specs.Prelude.{All}
+use Rattle.smith_draw_types.proofs.Common.{All, AreTypesGranted, AreTypesValid, features_of, GroupedTypes, length, on_ok_weaker, refl}
+use Rattle.smith_draw_types.proofs.Common.{Types, ◌≤◌}
 use Rattle.smith_types.specs.Floats.{HasNoFloat}
-use Rattle.smith_types.specs.GroupedTypes.{GroupedTypes}
-use Rattle.smith_types.specs.ValidTypes.{AreTypesValid}
-use Rattle.smith_config.specs.Features.{features_of}
 use Rattle.smith_draw_types.proofs.DrawingLemmas.{of_state}
 use Rattle.smith_draw_types.proofs.RecGroupLemmas.{types_valid, types_most, types_least}
 use Rattle.smith_draw_types.specs.HeldFields.{HoldsNonNullableField, HoldsUngroundedField}
 use Rattle.smith_draw_types.specs.Grounding.{functions_in, over}
-use Rattle.smith_config.specs.Granted.{AreTypesGranted}
 use Rattle.smith_draw_types.proofs.FilledLemmas.{types_grounded}
 use Rattle.smith_draw_types.proofs.GrantedLemmas.{types_granted}
 use Rattle.smith_draw_types.specs.FuncSizes.{HasFewValues}

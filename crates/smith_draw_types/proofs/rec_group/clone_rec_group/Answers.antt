@@ -1,11 +1,8 @@
-use Rattle.std.proofs.Common.{◌≡◌, ℕ, ◌≤◌, Bool, List, length, subst, Result, Ok, Err}
-use Rattle.std.specs.Prelude.{IfOk, OnOk}
+use Rattle.smith_draw_types.proofs.Common.{AreTypesGranted, AreTypesValid, Bool, features_of, GroupedTypes, length, List, OnOk, subst}
+use Rattle.smith_draw_types.proofs.Common.{Types, ℕ, ◌≡◌, ◌≤◌}
+use Rattle.std.proofs.Common.{Err, Ok, Result}
+use Rattle.std.specs.Prelude.{IfOk}
 use Rattle.smith_bytes.specs.declared.error.Error.{Error}
-use Rattle.smith_bytes.specs.declared.error.Count.TheVariants.{Types}
-use Rattle.smith_types.specs.GroupedTypes.{GroupedTypes}
-use Rattle.smith_types.specs.ValidTypes.{AreTypesValid}
-use Rattle.smith_config.specs.Features.{features_of}
-use Rattle.smith_config.specs.Granted.{AreTypesGranted}
 use Rattle.smith_draw_types.specs.Grounding.{over}
 use Rattle.smith_draw_types.proofs.GrantedLemmas.{clone_granted}
 use Rattle.smith_draw_types.proofs.GroupSizeLemmas.{clone_rec_group_most}

@@ -1,13 +1,10 @@
-use Rattle.std.proofs.Common.{refl, subst}
-use Rattle.std.proofs.lemmas.Result.{IfOk-weaker}
-use Rattle.smith_types.specs.Expressions.{Context}
+use Rattle.smith_draw_types.proofs.Common.{Context, HasGranted, IfOk-weaker, refl, subst}
 use Rattle.smith_draw_types.specs.Drawing.{Draws}
 use Rattle.smith_draw_types.specs.Grounding.{functions_in, over, standing_in}
 use Rattle.smith_draw_types.specs.SubTypes.{sub_type_at}
 use Rattle.smith_draw_types.proofs.SubTypeLemmas.{sub_type_valid, sub_type_follows}
 use Rattle.smith_draw_types.proofs.TakenLemmas.{sub_type_taken}
 use Rattle.smith_draw_types.proofs.DrawingLemmas.{of_drawn}
-use Rattle.smith_config.specs.Granted.{HasGranted}
 use Rattle.smith_draw_types.proofs.GrantedLemmas.{sub_type_granted}
 use Rattle.smith_draw_types.proofs.sub_type.arbitrary_sub_type.Goals as goal
 

@@ -1,4 +1,4 @@
-use Rattle.smith_config.specs.Granted.{HasGranted}
+use Rattle.smith_draw_types.proofs.Common.{HasGranted}
 use Rattle.smith_draw_types.specs.Grounding.{functions_in, standing_in}
 use Rattle.smith_draw_types.proofs.GrantedLemmas.{sub_type_of_granted}
 use Rattle.smith_draw_types.proofs.SupertypeLemmas.{some_listed}

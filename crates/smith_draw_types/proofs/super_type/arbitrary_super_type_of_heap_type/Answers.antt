@@ -1,8 +1,7 @@
-use Rattle.std.proofs.lemmas.Result.{IfOk-weaker}
+use Rattle.smith_draw_types.proofs.Common.{above_stands, IfOk-weaker}
 use Rattle.smith_draw_types.proofs.SharedLemmas.{above_shared}
 use Rattle.smith_draw_types.proofs.HeapTypeLemmas.{super_heap_above, super_heap_valid}
 use Rattle.smith_draw_types.proofs.ChosenLemmas.{super_item}
-use Rattle.smith_types.proofs.RangeLemmas.{above_stands}
 use Rattle.smith_draw_types.proofs.DrawingLemmas.{of_drawn}
 use Rattle.smith_draw_types.proofs.super_type.arbitrary_super_type_of_heap_type.Goals as goal
 

@@ -1,6 +1,6 @@
 use Rattle.smith_draw_types.proofs.SharedLemmas.{above_shared}
 use Rattle.smith_draw_types.proofs.MatchingLemmas.{super_ref_nullable, super_ref_above, super_ref_valid}
-use Rattle.smith_types.proofs.RangeLemmas.{above_stands}
+use Rattle.smith_draw_types.proofs.Common.{above_stands}
 use Rattle.smith_draw_types.proofs.DrawingLemmas.{of_drawn}
 use Rattle.smith_draw_types.proofs.super_type.arbitrary_super_type_of_ref_type.Goals as goal
 

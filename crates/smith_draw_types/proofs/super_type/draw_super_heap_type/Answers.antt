@@ -1,4 +1,4 @@
-use Rattle.std.proofs.Common.{rules}
+use Rattle.smith_draw_types.proofs.Common.{rules}
 use Rattle.smith_draw_types.proofs.ChosenLemmas.{super_without_gc, super_with_gc}
 use Rattle.smith_draw_types.proofs.super_type.draw_super_heap_type.Goals as goal
 

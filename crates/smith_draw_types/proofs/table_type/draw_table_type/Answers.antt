@@ -1,9 +1,5 @@
-use Rattle.std.proofs.Common.{◌≡◌, true, false, length}
+use Rattle.smith_draw_types.proofs.Common.{false, features_of, IsUngrounded, length, Ref, RefType, true, ◌≡◌}
 use Rattle.smith_types.specs.Flags.{IsElementTypeEnabled}
-use Rattle.smith_syntax.specs.declared.value_type.RefType.{RefType}
-use Rattle.smith_config.specs.Features.{features_of}
-use Rattle.smith_syntax.specs.declared.value_type.ValType.TheVariants.{Ref}
-use Rattle.smith_config.specs.Granted.{IsUngrounded}
 use Rattle.smith_draw_types.proofs.FilledLemmas.{ref_type_filled}
 use Rattle.smith_draw_types.proofs.MemoryLemmas.{limits_fit}
 use Rattle.smith_draw_types.proofs.NullableLemmas.{ref_type_nullable}

@@ -1,5 +1,4 @@
-use Rattle.std.proofs.Common.{rules, arith, ◌∙◌, ap, subst, length}
-use Rattle.std.proofs.lemmas.Option.{get_or_from_slice_get, slice_get_within}
+use Rattle.smith_draw_types.proofs.Common.{ap, arith, get_or_from_slice_get, length, rules, slice_get_within, subst, ◌∙◌}
 use Rattle.smith_draw_types.specs.TypeUses.{types_for, IsUsable}
 use Rattle.smith_draw_types.proofs.ChosenLemmas.{placed}
 use Rattle.smith_draw_types.proofs.TypeUseLemmas.{types_usable}

@@ -1,4 +1,5 @@
-use Rattle.std.proofs.Common.{rules, ◌≡◌, ◌∙◌, sym, count_by}
+use Rattle.smith_draw_types.proofs.Common.{rules, sym, ◌∙◌, ◌≡◌}
+use Rattle.std.proofs.Common.{count_by}
 use Rattle.smith_draw_types.specs.TypeUses.{may_be_used}
 use Rattle.smith_draw_types.proofs.PlaceLemmas.{length_places}
 use Rattle.smith_draw_types.proofs.type_use.count_types.Goals as goal

@@ -1,4 +1,4 @@
-use Rattle.std.proofs.Common.{◌∙◌, ap, length, nat_lt}
+use Rattle.smith_draw_types.proofs.Common.{ap, length, nat_lt, ◌∙◌}
 use Rattle.smith_draw_types.proofs.type_use.has_type.Goals as goal
 
 pub returns : goal.returns

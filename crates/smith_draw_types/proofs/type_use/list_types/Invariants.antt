@@ -1,4 +1,4 @@
-use Rattle.std.proofs.Common.{◌≡◌, ◌++◌, drop}
+use Rattle.smith_draw_types.proofs.Common.{drop, ◌++◌, ◌≡◌}
 use Rattle.smith_draw_types.specs.TypeUses.{places_from, may_be_used, types_for}
 use Rattle.smith_draw_types.proofs.type_use.list_types.Given as goal
 

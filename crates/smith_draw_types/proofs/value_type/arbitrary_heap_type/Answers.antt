@@ -1,5 +1,4 @@
-use Rattle.std.proofs.Common.{refl}
-use Rattle.smith_syntax.specs.declared.value_type.HeapType.{HeapType}
+use Rattle.smith_draw_types.proofs.Common.{HeapType, refl}
 use Rattle.smith_draw_types.proofs.ValueTypeLemmas.{drawn_is, IsHeapTypeDrawn, heap_type_drawn}
 use Rattle.smith_draw_types.proofs.TakenLemmas.{heap_type_taken}
 use Rattle.smith_draw_types.proofs.value_type.arbitrary_heap_type.Goals as goal

@@ -1,8 +1,4 @@
-use Rattle.std.proofs.Common.{◌≡◌, true, false, refl}
-use Rattle.smith_types.specs.Expressions.{Context}
-use Rattle.smith_types.specs.Grounded.{IsGrounded}
-use Rattle.smith_syntax.specs.declared.value_type.HeapType.{HeapType}
-use Rattle.smith_syntax.specs.declared.value_type.RefType.{RefType}
+use Rattle.smith_draw_types.proofs.Common.{Context, false, HeapType, IsGrounded, refl, RefType, true, ◌≡◌}
 use Rattle.smith_draw_types.specs.Grounding.{standing_in}
 use Rattle.smith_draw_types.proofs.GroundingLemmas.{grounded_if}
 use Rattle.smith_draw_types.proofs.ValueTypeLemmas.{drawn_is, IsRefTypeDrawn, ref_type_drawn, ref_type_granted}

@@ -1,6 +1,4 @@
-use Rattle.std.proofs.Common.{refl}
-use Rattle.smith_syntax.specs.declared.value_type.ValType.{ValType}
-use Rattle.smith_config.specs.Granted.{IsGranted}
+use Rattle.smith_draw_types.proofs.Common.{IsGranted, refl, ValType}
 use Rattle.smith_draw_types.specs.Grounding.{standing_in}
 use Rattle.smith_draw_types.proofs.FilledLemmas.{val_type_filled}
 use Rattle.smith_draw_types.proofs.ValueTypeLemmas.{drawn_is, IsValTypeDrawn, val_type_drawn}

@@ -1,5 +1,5 @@
-use Rattle.std.proofs.lemmas.Result.{on_ok_weaker}
-use Rattle.smith_binary.proofs.WrittenLemmas.{bytes_written, written_plain}
+use Rattle.smith_encode.proofs.Common.{on_ok_weaker, written_plain}
+use Rattle.smith_binary.proofs.WrittenLemmas.{bytes_written}
 use Rattle.smith_encode.proofs.datas.write_byte_list.Goals as goal
 
 pub returns-clause-writes : goal.returns-clause-writes

@@ -1,6 +1,4 @@
-use Rattle.std.proofs.Common.{◌∙◌}
-use Rattle.std.proofs.lemmas.Result.{on_ok_weaker}
-use Rattle.smith_decode.specs.ElementReadings.{items_view}
+use Rattle.smith_encode.proofs.Common.{items_view, on_ok_weaker, ◌∙◌}
 use Rattle.smith_encode.specs.Spelled.{are_items_nested}
 use Rattle.smith_encode.proofs.ItemLemmas.{first_exprs_written, table_exprs_written}
 use Rattle.smith_encode.proofs.elements.write_active_exprs.Goals as goal

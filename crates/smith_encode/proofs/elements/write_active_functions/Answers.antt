@@ -1,4 +1,4 @@
-use Rattle.std.proofs.lemmas.Result.{on_ok_weaker}
+use Rattle.smith_encode.proofs.Common.{on_ok_weaker}
 use Rattle.smith_encode.proofs.ItemLemmas.{first_functions_written, table_functions_written}
 use Rattle.smith_encode.proofs.elements.write_active_functions.Goals as goal
 

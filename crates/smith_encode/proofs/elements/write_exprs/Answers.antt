@@ -1,10 +1,7 @@
-use Rattle.std.proofs.Common.{ℕ, [], ◌∷◌}
-use Rattle.std.proofs.lemmas.Result.{on_ok_weaker}
-use Rattle.smith_binary.proofs.WrittenLemmas.{written_plain}
+use Rattle.smith_encode.proofs.Common.{[], IsNestedExpr, on_ok_weaker, written_plain, ℕ, ◌∷◌}
 use Rattle.smith_binary_sections.proofs.ListLemmas.{list_mapped}
 use Rattle.smith_instr.specs.declared.instr.Instr.TheVariants.{Reference}
 use Rattle.smith_instr.specs.declared.reference.ReferenceInstr.TheVariants.{Func}
-use Rattle.smith_binary_read_instr.specs.Expressions.{IsNestedExpr}
 use Rattle.smith_encode.specs.Nesting.{is_nested}
 use Rattle.smith_encode.proofs.CheckedLemmas.{list_passes}
 use Rattle.smith_encode.proofs.elements.write_exprs.Goals as goal

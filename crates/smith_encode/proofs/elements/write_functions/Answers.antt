@@ -1,5 +1,4 @@
-use Rattle.std.proofs.lemmas.Result.{on_ok_weaker}
-use Rattle.smith_binary.proofs.WrittenLemmas.{written_plain}
+use Rattle.smith_encode.proofs.Common.{on_ok_weaker, written_plain}
 use Rattle.smith_encode.proofs.elements.write_functions.Goals as goal
 
 pub returns-clause-writes : goal.returns-clause-writes

@@ -1,4 +1,4 @@
-use Rattle.std.proofs.lemmas.Result.{on_ok_weaker}
+use Rattle.smith_encode.proofs.Common.{on_ok_weaker}
 use Rattle.smith_encode.proofs.ItemLemmas.{passive_functions_written, declared_functions_written}
 use Rattle.smith_encode.proofs.elements.write_listed.Goals as goal
 

@@ -1,5 +1,4 @@
-use Rattle.std.proofs.lemmas.Result.{on_ok_weaker}
-use Rattle.smith_decode.specs.ElementReadings.{items_view}
+use Rattle.smith_encode.proofs.Common.{items_view, on_ok_weaker}
 use Rattle.smith_encode.specs.Spelled.{are_items_nested}
 use Rattle.smith_encode.proofs.ItemLemmas.{passive_exprs_written, declared_exprs_written}
 use Rattle.smith_encode.proofs.elements.write_segment.Goals as goal

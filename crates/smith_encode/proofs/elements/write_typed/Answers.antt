@@ -1,5 +1,4 @@
-use Rattle.std.proofs.lemmas.Result.{on_ok_weaker}
-use Rattle.smith_decode.specs.ElementReadings.{items_view}
+use Rattle.smith_encode.proofs.Common.{items_view, on_ok_weaker}
 use Rattle.smith_encode.specs.Spelled.{are_items_nested}
 use Rattle.smith_encode.proofs.ItemLemmas.{typed_written}
 use Rattle.smith_encode.proofs.elements.write_typed.Goals as goal

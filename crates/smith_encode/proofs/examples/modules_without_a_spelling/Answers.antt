@@ -1,7 +1,5 @@
-use Rattle.std.proofs.Common.{◌≡◌, [], ◌∷◌, ◌++◌, Some, None, refl}
+use Rattle.smith_encode.proofs.Common.{[], Module, None, refl, Some, syntax_of, ◌++◌, ◌∷◌, ◌≡◌}
 use Rattle.smith_decode.specs.ExampleModules.{no_item}
-use Rattle.smith_decode.specs.declared.modules.Module.{Module}
-use Rattle.smith_decode.specs.Modules.{syntax_of}
 use Rattle.smith_encode.specs.ExampleModules.{in_open_block, with_customs_after}
 use Rattle.smith_encode.specs.Faults.{HasNoSpelling}
 use Rattle.smith_encode.specs.Places.{left_after, skipped}

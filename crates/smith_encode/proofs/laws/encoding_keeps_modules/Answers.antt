@@ -1,5 +1,5 @@
-use Rattle.std.proofs.Common.{ℕ, List, subst}
-use Rattle.smith_decode.specs.Modules.{IsModuleBinary, Syntax}
+use Rattle.smith_encode.proofs.Common.{IsModuleBinary, List, subst, ℕ}
+use Rattle.smith_decode.specs.Modules.{Syntax}
 use Rattle.smith_decode.proofs.EncoderLemmas.{module_same}
 use Rattle.smith_encode.proofs.laws.encoding_keeps_modules.Goals as goal
 

@@ -1,4 +1,4 @@
-use Rattle.std.proofs.Common.{sym, ◌∙◌}
+use Rattle.smith_encode.proofs.Common.{sym, ◌∙◌}
 use Rattle.smith_encode.proofs.ModuleLemmas.{parts_refused}
 use Rattle.smith_encode.proofs.modules.encode.Goals as goal
 

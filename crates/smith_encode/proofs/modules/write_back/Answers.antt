@@ -1,7 +1,4 @@
-use Rattle.std.proofs.Common.{[], ◌∷◌, None}
-use Rattle.smith_binary_sections.proofs.FaultLemmas.{fault_weaker}
-use Rattle.smith_decode.specs.Customs.{AreCustoms}
-use Rattle.smith_decode.specs.Modules.{syntax_of}
+use Rattle.smith_encode.proofs.Common.{[], AreCustoms, fault_weaker, None, syntax_of, ◌∷◌}
 use Rattle.smith_encode.specs.Tails.{FromDatas}
 use Rattle.smith_encode.proofs.PlaceLemmas.{before_on}
 use Rattle.smith_encode.proofs.ModuleLemmas.{back_on, from_earlier, handed_on}

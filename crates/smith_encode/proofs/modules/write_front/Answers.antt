@@ -1,6 +1,4 @@
-use Rattle.std.proofs.Common.{[], ◌∷◌, None}
-use Rattle.smith_binary_sections.proofs.FaultLemmas.{fault_weaker}
-use Rattle.smith_decode.specs.Modules.{syntax_of}
+use Rattle.smith_encode.proofs.Common.{[], fault_weaker, None, syntax_of, ◌∷◌}
 use Rattle.smith_encode.specs.Tails.{FromTypes, FromTables, FromMemories}
 use Rattle.smith_encode.proofs.PlaceLemmas.{before_on}
 use Rattle.smith_encode.proofs.ModuleLemmas.{sections_on, from_earlier, handed_on}

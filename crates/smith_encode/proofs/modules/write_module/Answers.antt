@@ -1,4 +1,4 @@
-use Rattle.smith_decode.specs.declared.customs.Custom.{Custom}
+use Rattle.smith_encode.proofs.Common.{Custom}
 use Rattle.smith_encode.specs.TooLong.{IsTooLong}
 use Rattle.smith_encode.proofs.ModuleLemmas.{module_spelled, module_refused, nothing_left, some_left, handed_on}
 use Rattle.smith_encode.proofs.modules.write_module.Goals as goal

@@ -1,7 +1,4 @@
-use Rattle.std.proofs.Common.{◌++◌, None}
-use Rattle.smith_binary_sections.proofs.FaultLemmas.{fault_weaker}
-use Rattle.smith_decode.specs.Customs.{AreCustoms}
-use Rattle.smith_decode.specs.Modules.{syntax_of}
+use Rattle.smith_encode.proofs.Common.{AreCustoms, fault_weaker, None, syntax_of, ◌++◌}
 use Rattle.smith_encode.specs.Tails.{FromElements, FromTypes, front_ids, middle_ids, start_ids, back_ids}
 use Rattle.smith_encode.proofs.PlaceLemmas.{before_on}
 use Rattle.smith_encode.proofs.ModuleLemmas.{counted_on, from_earlier, from_start, handed_on}

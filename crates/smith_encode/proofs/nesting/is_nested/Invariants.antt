@@ -1,4 +1,5 @@
-use Rattle.std.proofs.Common.{◌≡◌, drop, reverse}
+use Rattle.smith_encode.proofs.Common.{drop, ◌≡◌}
+use Rattle.std.proofs.Common.{reverse}
 use Rattle.smith_encode.specs.Nesting.{are_closed, blocks_left, is_nested}
 use Rattle.smith_encode.proofs.nesting.is_nested.Given as goal
 

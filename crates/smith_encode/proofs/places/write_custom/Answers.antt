@@ -1,6 +1,4 @@
-use Rattle.std.proofs.lemmas.Result.{on_ok_weaker}
-use Rattle.smith_binary.proofs.WrittenLemmas.{written_plain}
-use Rattle.smith_binary_sections.proofs.FaultLemmas.{fault_weaker}
+use Rattle.smith_encode.proofs.Common.{fault_weaker, on_ok_weaker, written_plain}
 use Rattle.smith_encode.proofs.places.write_custom.Goals as goal
 
 pub returns-clause-writes : goal.returns-clause-writes

@@ -1,4 +1,4 @@
-use Rattle.std.proofs.Common.{sym, ◌∙◌}
+use Rattle.smith_encode.proofs.Common.{sym, ◌∙◌}
 use Rattle.smith_encode.proofs.PlaceLemmas.{none_yet, custom_written}
 use Rattle.smith_encode.proofs.places.write_customs.Goals as goal
 

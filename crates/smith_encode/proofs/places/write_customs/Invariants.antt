@@ -1,4 +1,4 @@
-use Rattle.std.proofs.Common.{length}
+use Rattle.smith_encode.proofs.Common.{length}
 use Rattle.smith_encode.specs.Places.{WritesCustoms}
 use Rattle.smith_encode.proofs.places.write_customs.Given as goal
 

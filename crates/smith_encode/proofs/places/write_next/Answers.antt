@@ -1,6 +1,5 @@
-use Rattle.std.proofs.Common.{◌≡◌, ◌<◌, ◌||◌, false, List, Option, ℕ, sym, subst, ◌∙◌, arith}
+use Rattle.smith_encode.proofs.Common.{arith, Custom, false, List, Option, subst, sym, ℕ, ◌<◌, ◌||◌, ◌∙◌, ◌≡◌}
 use Rattle.smith_binary.specs.Spelling.Spelling.{any}
-use Rattle.smith_decode.specs.declared.customs.Custom.{Custom}
 use Rattle.smith_encode.specs.Places.{WritesNext, is_due}
 use Rattle.smith_encode.proofs.PlaceLemmas.{next_written, written_filled, written_due}
 use Rattle.smith_encode.proofs.places.write_next.Goals as goal

@@ -1,5 +1,4 @@
-use Rattle.std.proofs.Common.{◌≡◌, drop}
-use Rattle.smith_decode.specs.BodyReadings.{name_data}
+use Rattle.smith_encode.proofs.Common.{drop, name_data, ◌≡◌}
 use Rattle.smith_encode.proofs.sections.name_data.Given as goal
 
 abbrev pub invariant-loop-body : goal.invariant-loop-body

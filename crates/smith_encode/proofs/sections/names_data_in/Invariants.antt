@@ -1,4 +1,4 @@
-use Rattle.std.proofs.Common.{◌≡◌, drop}
+use Rattle.smith_encode.proofs.Common.{drop, ◌≡◌}
 use Rattle.std.specs.List.{list_any}
 use Rattle.smith_instr.specs.Enabled.{names_data}
 use Rattle.smith_encode.proofs.sections.names_data_in.Given as goal

@@ -1,14 +1,11 @@
 use Rattle.smith_encode.proofs.CheckedLemmas.{list_passes}
 use Rattle.smith_encode.specs.Spelled.{is_body_spelled}
-use Rattle.std.proofs.Common.{ap, map}
-use Rattle.smith_binary_read.proofs.ViewLemmas.{list_viewed}
-use Rattle.smith_decode.specs.BodyReadings.{body_view, IsRunBody}
+use Rattle.smith_encode.proofs.Common.{ap, body_view, fault_weaker, list_viewed, map, syntax_of}
+use Rattle.smith_decode.specs.BodyReadings.{IsRunBody}
 use Rattle.smith_decode.proofs.ViewLemmas.{body_viewed}
 use Rattle.smith_encode.proofs.SectionLemmas.{late_written, long_section, long_passes, passes_of}
 use Rattle.smith_encode.specs.Tails.{FromDatas}
-use Rattle.smith_decode.specs.Modules.{syntax_of}
 use Rattle.smith_encode.specs.TooLong.{IsTooLong}
-use Rattle.smith_binary_sections.proofs.FaultLemmas.{fault_weaker}
 use Rattle.smith_encode.proofs.sections.write_bodies.Goals as goal
 
 pub returns-clause-writes : goal.returns-clause-writes

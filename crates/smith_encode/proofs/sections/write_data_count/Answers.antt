@@ -1,8 +1,6 @@
-use Rattle.std.proofs.Common.{sym, ◌∙◌}
+use Rattle.smith_encode.proofs.Common.{fault_weaker, name_data, sym, ◌∙◌}
 use Rattle.std.specs.Prelude.{is_some}
 use Rattle.std.proofs.lemmas.Bool.{or_parts}
-use Rattle.smith_binary_sections.proofs.FaultLemmas.{fault_weaker}
-use Rattle.smith_decode.specs.BodyReadings.{name_data}
 use Rattle.smith_encode.proofs.SectionLemmas.{count_written, long_count, long_section}
 use Rattle.smith_encode.proofs.sections.write_data_count.Goals as goal
 

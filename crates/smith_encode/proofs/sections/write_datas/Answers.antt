@@ -1,13 +1,10 @@
 use Rattle.smith_encode.proofs.CheckedLemmas.{list_passes}
 use Rattle.smith_encode.specs.Spelled.{is_data_nested}
-use Rattle.std.proofs.Common.{ap, map}
-use Rattle.smith_binary_read.proofs.ViewLemmas.{list_viewed}
-use Rattle.smith_decode.specs.DataReadings.{segment_view, IsSegment}
+use Rattle.smith_encode.proofs.Common.{ap, AreCustoms, fault_weaker, list_viewed, map, segment_view}
+use Rattle.smith_decode.specs.DataReadings.{IsSegment}
 use Rattle.smith_decode.proofs.ViewLemmas.{data_viewed}
 use Rattle.smith_encode.proofs.SectionLemmas.{late_written, long_section, long_passes, passes_of}
-use Rattle.smith_decode.specs.Customs.{AreCustoms}
 use Rattle.smith_encode.specs.TooLong.{IsTooLong}
-use Rattle.smith_binary_sections.proofs.FaultLemmas.{fault_weaker}
 use Rattle.smith_encode.proofs.sections.write_datas.Goals as goal
 
 pub returns-clause-writes : goal.returns-clause-writes

@@ -1,15 +1,12 @@
 use Rattle.smith_encode.proofs.CheckedLemmas.{list_passes}
 use Rattle.smith_encode.specs.Spelled.{is_element_nested}
-use Rattle.std.proofs.Common.{ap, map}
+use Rattle.smith_encode.proofs.Common.{ap, fault_weaker, IsElem, map, syntax_of}
 use Rattle.smith_binary_sections.proofs.ListLemmas.{list_mapped}
-use Rattle.smith_decode.specs.Elements.{IsElem}
 use Rattle.smith_decode.specs.ElementReadings.{element_view}
 use Rattle.smith_encode.specs.Segments.{IsSeenElem}
 use Rattle.smith_encode.proofs.SectionLemmas.{section_written, long_section, long_passes, passes_of}
 use Rattle.smith_encode.specs.Tails.{FromCount}
-use Rattle.smith_decode.specs.Modules.{syntax_of}
 use Rattle.smith_encode.specs.TooLong.{IsTooLong}
-use Rattle.smith_binary_sections.proofs.FaultLemmas.{fault_weaker}
 use Rattle.smith_encode.proofs.sections.write_elements.Goals as goal
 
 pub returns-clause-writes : goal.returns-clause-writes

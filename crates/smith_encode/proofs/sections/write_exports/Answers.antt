@@ -1,12 +1,9 @@
-use Rattle.std.proofs.Common.{ap, map}
-use Rattle.smith_binary_read.proofs.ViewLemmas.{list_viewed}
+use Rattle.smith_encode.proofs.Common.{ap, fault_weaker, list_viewed, map, syntax_of}
 use Rattle.smith_decode.specs.Modules.{export_triple}
 use Rattle.smith_decode.proofs.ViewLemmas.{export_viewed}
 use Rattle.smith_encode.proofs.SectionLemmas.{section_written, long_section}
 use Rattle.smith_encode.specs.Tails.{FromStart}
-use Rattle.smith_decode.specs.Modules.{syntax_of}
 use Rattle.smith_encode.specs.TooLong.{IsTooLong}
-use Rattle.smith_binary_sections.proofs.FaultLemmas.{fault_weaker}
 use Rattle.smith_encode.proofs.sections.write_exports.Goals as goal
 
 pub returns-clause-writes : goal.returns-clause-writes

@@ -1,8 +1,7 @@
 use Rattle.smith_encode.proofs.SectionLemmas.{section_written, long_section}
 use Rattle.smith_encode.specs.Tails.{FromTables}
-use Rattle.smith_decode.specs.Modules.{syntax_of}
+use Rattle.smith_encode.proofs.Common.{fault_weaker, syntax_of}
 use Rattle.smith_encode.specs.TooLong.{IsTooLong}
-use Rattle.smith_binary_sections.proofs.FaultLemmas.{fault_weaker}
 use Rattle.smith_encode.proofs.sections.write_functions.Goals as goal
 
 pub returns-clause-writes : goal.returns-clause-writes

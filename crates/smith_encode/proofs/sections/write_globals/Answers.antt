@@ -1,15 +1,12 @@
 use Rattle.smith_encode.proofs.CheckedLemmas.{list_passes}
 use Rattle.smith_encode.specs.Spelled.{is_global_nested}
-use Rattle.std.proofs.Common.{ap, map}
-use Rattle.smith_binary_read.proofs.ViewLemmas.{list_viewed}
+use Rattle.smith_encode.proofs.Common.{ap, fault_weaker, list_viewed, map, syntax_of}
 use Rattle.smith_decode.specs.Modules.{global_pair}
 use Rattle.smith_decode.specs.DefinitionReadings.{IsGlobalDefinition}
 use Rattle.smith_decode.proofs.ViewLemmas.{global_viewed}
 use Rattle.smith_encode.proofs.SectionLemmas.{section_written, long_section, long_passes, passes_of}
 use Rattle.smith_encode.specs.Tails.{FromExports}
-use Rattle.smith_decode.specs.Modules.{syntax_of}
 use Rattle.smith_encode.specs.TooLong.{IsTooLong}
-use Rattle.smith_binary_sections.proofs.FaultLemmas.{fault_weaker}
 use Rattle.smith_encode.proofs.sections.write_globals.Goals as goal
 
 pub returns-clause-writes : goal.returns-clause-writes

@@ -1,11 +1,9 @@
-use Rattle.std.proofs.Common.{ap}
+use Rattle.smith_encode.proofs.Common.{ap, fault_weaker, syntax_of}
 use Rattle.smith_types.specs.Imports.{flattened}
 use Rattle.smith_decode.proofs.ViewLemmas.{imports_viewed}
 use Rattle.smith_encode.proofs.SectionLemmas.{section_written, long_section}
 use Rattle.smith_encode.specs.Tails.{FromFunctions}
-use Rattle.smith_decode.specs.Modules.{syntax_of}
 use Rattle.smith_encode.specs.TooLong.{IsTooLong}
-use Rattle.smith_binary_sections.proofs.FaultLemmas.{fault_weaker}
 use Rattle.smith_encode.proofs.sections.write_imports.Goals as goal
 
 pub returns-clause-writes : goal.returns-clause-writes

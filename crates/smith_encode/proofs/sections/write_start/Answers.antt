@@ -1,5 +1,4 @@
-use Rattle.smith_decode.specs.Modules.{syntax_of}
-use Rattle.smith_binary_sections.proofs.FaultLemmas.{fault_weaker}
+use Rattle.smith_encode.proofs.Common.{fault_weaker, syntax_of}
 use Rattle.smith_encode.specs.Tails.{FromElements}
 use Rattle.smith_encode.proofs.SectionLemmas.{start_written, no_start_written, long_index, long_section}
 use Rattle.smith_encode.proofs.sections.write_start.Goals as goal

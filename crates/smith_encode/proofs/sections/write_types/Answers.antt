@@ -3,9 +3,8 @@ use Rattle.smith_binary_sections.proofs.ListLemmas.{list_as}
 use Rattle.smith_binary_sections.proofs.SpelledFormLemmas.{group_spelled}
 use Rattle.smith_encode.proofs.SectionLemmas.{section_written, long_section}
 use Rattle.smith_encode.specs.Tails.{FromImports}
-use Rattle.smith_decode.specs.Modules.{syntax_of}
+use Rattle.smith_encode.proofs.Common.{fault_weaker, syntax_of}
 use Rattle.smith_encode.specs.TooLong.{IsTooLong}
-use Rattle.smith_binary_sections.proofs.FaultLemmas.{fault_weaker}
 use Rattle.smith_encode.proofs.sections.write_types.Goals as goal
 
 pub returns-clause-writes : goal.returns-clause-writes

@@ -1,5 +1,5 @@
-use Rattle.std.proofs.Common.{◌≡◌, ◌+◌, ◌<◌, ◌^◌, drop}
-use Rattle.smith_decode.specs.BodyReadings.{total}
+use Rattle.smith_encode.proofs.Common.{drop, total, ◌<◌, ◌^◌, ◌≡◌}
+use Rattle.std.proofs.Common.{◌+◌}
 use Rattle.smith_encode.proofs.spelled.are_few.Given as goal
 
 abbrev pub invariant-loop-run : goal.invariant-loop-run

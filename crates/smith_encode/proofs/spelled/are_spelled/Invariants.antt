@@ -1,5 +1,4 @@
-use Rattle.std.proofs.Common.{◌≡◌, drop}
-use Rattle.std.specs.List.{list_all}
+use Rattle.smith_encode.proofs.Common.{drop, list_all, ◌≡◌}
 use Rattle.smith_encode.proofs.spelled.are_spelled.Given as goal
 
 abbrev pub invariant-loop-item : goal.invariant-loop-item

@@ -1,5 +1,4 @@
-use Rattle.std.proofs.Common.{refl, arith}
-use Rattle.smith_instr_examples.specs.ExampleBodies.{wide_memory}
+use Rattle.smith_instr_examples.proofs.Common.{arith, refl, wide_memory}
 use Rattle.smith_instr_examples.proofs.bulk.memories.Goals as goal
 
 pub returns-clause-grown : goal.returns-clause-grown

@@ -1,6 +1,6 @@
 use Rattle.smith_instr_examples.proofs.Common.{◌≡◌, true, false, List, [], ◌∷◌, ◌++◌, refl, subst, ap, funcref, FuncType, Abstract}
 use Rattle.smith_instr_examples.proofs.Common.{Concrete, RefType, ValType, F32, I32, I64, Ref, nullable_to, managed, narrows}
-use Rattle.smith_syntax.specs.declared.value_type.AbstractHeapType.TheVariants as heap
+use Rattle.smith_types.specs.Syntax.value_type.AbstractHeapType.TheVariants as heap
 use Rattle.smith_instr_examples.proofs.SequenceExamples.{valid_one}
 use Rattle.smith_instr_examples.proofs.ManagedExamples.{narrows_there, narrows_alone, narrow_table}
 use Rattle.smith_instr_examples.proofs.calls.tail.Goals as goal

@@ -1,5 +1,5 @@
 use Rattle.smith_instr_examples.proofs.Common.{true, false, [], ◌∷◌, refl, I32, Ref, IsRefBelow-refl, managed_types, anything, something}
-use Rattle.smith_syntax.specs.declared.value_type.AbstractHeapType.TheVariants as heap
+use Rattle.smith_types.specs.Syntax.value_type.AbstractHeapType.TheVariants as heap
 use Rattle.smith_instr_examples.proofs.ManagedExamples.{struct_below, struct_apart, struct_valid, any_valid}
 use Rattle.smith_instr_examples.proofs.casts.branches_on_failure.Goals as goal
 

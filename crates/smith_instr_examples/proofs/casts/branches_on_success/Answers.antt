@@ -1,6 +1,6 @@
 use Rattle.smith_instr_examples.proofs.Common.{◌≡◌, true, false, [], ◌∷◌, refl, subst, IsRefBelow, itself, funcref, I32, Ref}
 use Rattle.smith_instr_examples.proofs.Common.{IsRefBelow-refl, managed_types, any_struct, some_struct}
-use Rattle.smith_syntax.specs.declared.value_type.AbstractHeapType.TheVariants as heap
+use Rattle.smith_types.specs.Syntax.value_type.AbstractHeapType.TheVariants as heap
 use Rattle.smith_instr_examples.proofs.ManagedExamples.{struct_below, struct_apart, struct_valid, any_valid, only}
 use Rattle.smith_instr_examples.proofs.casts.branches_on_success.Goals as goal
 

@@ -1,6 +1,6 @@
 use Rattle.smith_instr_examples.proofs.Common.{◌≡◌, true, false, [], refl, subst, IsRefBelow, managed_types, anything, external}
 use Rattle.smith_instr_examples.proofs.Common.{some_struct}
-use Rattle.smith_syntax.specs.declared.value_type.AbstractHeapType.TheVariants as heap
+use Rattle.smith_types.specs.Syntax.value_type.AbstractHeapType.TheVariants as heap
 use Rattle.smith_instr_examples.proofs.ManagedExamples.{struct_below, struct_apart, struct_valid, any_valid}
 use Rattle.smith_instr_examples.proofs.casts.casts.Goals as goal
 

@@ -1,5 +1,4 @@
-use Rattle.std.proofs.Common.{refl}
-use Rattle.smith_instr_examples.specs.ExampleBodies.{functions}
+use Rattle.smith_instr_examples.proofs.Common.{functions, refl}
 use Rattle.smith_instr_examples.proofs.instructions.tables.Goals as goal
 
 pub returns-clause-get : goal.returns-clause-get

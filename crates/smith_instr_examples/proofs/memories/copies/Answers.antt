@@ -1,5 +1,4 @@
-use Rattle.std.proofs.Common.{refl}
-use Rattle.smith_instr_examples.specs.ExampleBodies.{narrow_memory, wide_memory}
+use Rattle.smith_instr_examples.proofs.Common.{narrow_memory, refl, wide_memory}
 use Rattle.smith_instr_examples.proofs.memories.copies.Goals as goal
 
 pub returns-clause-from_narrow_to_narrow : goal.returns-clause-from_narrow_to_narrow

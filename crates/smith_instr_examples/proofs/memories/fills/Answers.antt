@@ -1,5 +1,4 @@
-use Rattle.std.proofs.Common.{refl}
-use Rattle.smith_instr_examples.specs.ExampleBodies.{narrow_memory}
+use Rattle.smith_instr_examples.proofs.Common.{narrow_memory, refl}
 use Rattle.smith_instr_examples.proofs.memories.fills.Goals as goal
 
 pub returns-clause-fill : goal.returns-clause-fill

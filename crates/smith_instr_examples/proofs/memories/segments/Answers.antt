@@ -1,5 +1,4 @@
-use Rattle.std.proofs.Common.{refl, arith}
-use Rattle.smith_instr_examples.specs.ExampleBodies.{narrow_memory}
+use Rattle.smith_instr_examples.proofs.Common.{arith, narrow_memory, refl}
 use Rattle.smith_instr_examples.proofs.memories.segments.Goals as goal
 
 pub returns-clause-init : goal.returns-clause-init

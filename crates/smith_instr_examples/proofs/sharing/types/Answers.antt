@@ -1,4 +1,4 @@
-use Rattle.smith_syntax.specs.declared.composite_type.StorageType.TheVariants.{I16}
+use Rattle.smith_types.specs.Syntax.composite_type.StorageType.TheVariants.{I16}
 use Rattle.smith_instr_examples.proofs.Common.{[], ◌∷◌, refl, constant, variable, I32, I64, Val, narrows}
 use Rattle.smith_instr_examples.proofs.SharedExamples as example
 use Rattle.smith_instr_examples.proofs.sharing.types.Goals as goal

@@ -1,8 +1,4 @@
-use Rattle.std.proofs.Common.{refl}
-use Rattle.smith_instr_examples.specs.ExampleBodies.{functions}
-use Rattle.smith_instr_examples.specs.ExampleManaged.{managed_types, wide_functions}
-use Rattle.smith_types.proofs.GrowthLemmas.{IsRefBelow-refl}
-use Rattle.smith_types.specs.Flags.{funcref}
+use Rattle.smith_instr_examples.proofs.Common.{funcref, functions, IsRefBelow-refl, managed_types, refl, wide_functions}
 use Rattle.smith_instr_examples.proofs.tables.copies.Goals as goal
 
 pub returns-clause-from_narrow_to_narrow : goal.returns-clause-from_narrow_to_narrow

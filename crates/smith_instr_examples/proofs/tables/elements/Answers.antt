@@ -1,6 +1,5 @@
-use Rattle.std.proofs.Common.{refl}
-use Rattle.smith_instr_examples.specs.ExampleBodies.{functions}
-use Rattle.smith_instr_examples.specs.ExampleManaged.{externals, wide_functions}
+use Rattle.smith_instr_examples.proofs.Common.{functions, refl, wide_functions}
+use Rattle.smith_instr_examples.specs.ExampleManaged.{externals}
 use Rattle.smith_instr_examples.proofs.tables.elements.Goals as goal
 
 pub returns-clause-get : goal.returns-clause-get

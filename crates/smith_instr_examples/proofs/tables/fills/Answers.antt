@@ -1,5 +1,4 @@
-use Rattle.std.proofs.Common.{refl}
-use Rattle.smith_instr_examples.specs.ExampleBodies.{functions}
+use Rattle.smith_instr_examples.proofs.Common.{functions, refl}
 use Rattle.smith_instr_examples.proofs.tables.fills.Goals as goal
 
 pub returns-clause-fill : goal.returns-clause-fill

@@ -1,7 +1,4 @@
-use Rattle.std.proofs.Common.{refl}
-use Rattle.smith_instr_examples.specs.ExampleManaged.{managed_types, wide_functions}
-use Rattle.smith_types.proofs.GrowthLemmas.{IsRefBelow-refl}
-use Rattle.smith_types.specs.Flags.{funcref}
+use Rattle.smith_instr_examples.proofs.Common.{funcref, IsRefBelow-refl, managed_types, refl, wide_functions}
 use Rattle.smith_instr_examples.proofs.tables.segments.Goals as goal
 
 pub returns-clause-init_of_a_wide_table : goal.returns-clause-init_of_a_wide_table

@@ -1,6 +1,4 @@
-use Rattle.std.proofs.Common.{refl}
-use Rattle.smith_instr_examples.specs.ExampleBodies.{functions}
-use Rattle.smith_instr_examples.specs.ExampleManaged.{wide_functions}
+use Rattle.smith_instr_examples.proofs.Common.{functions, refl, wide_functions}
 use Rattle.smith_instr_examples.proofs.tables.sizes.Goals as goal
 
 pub returns-clause-size : goal.returns-clause-size

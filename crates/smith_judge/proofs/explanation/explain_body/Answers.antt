@@ -1,4 +1,4 @@
-use Rattle.smith_syntax.specs.FeatureBits.{features_in}
+use Rattle.smith_types.specs.Syntax.FeatureBits.{features_in}
 use Rattle.smith_judge.proofs.ExplanationLemmas.{explained_file}
 use Rattle.smith_judge.proofs.explanation.explain_body.Goals as goal
 

@@ -1,4 +1,4 @@
-use Rattle.smith_syntax.specs.FeatureBits.{features_in}
+use Rattle.smith_types.specs.Syntax.FeatureBits.{features_in}
 use Rattle.smith_judge.proofs.AnswerLemmas.{decides_all}
 use Rattle.smith_judge.proofs.judgement.judge.Goals as goal
 

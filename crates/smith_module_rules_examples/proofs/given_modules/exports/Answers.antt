@@ -1,6 +1,6 @@
 use Rattle.smith_module_rules_examples.proofs.Common.{rules, ℕ, List, [], ◌∷◌, refl, codes, All-from_recursion, IsFuncTypeIndex, IsEntityAt}
 use Rattle.smith_module_rules_examples.proofs.Common.{AreDistinct, EntityType, ExportKind, module_spaces, two_exports}
-use Rattle.smith_syntax.specs.declared.entity_type.EntityType.TheVariants as entity
+use Rattle.smith_types.specs.Syntax.entity_type.EntityType.TheVariants as entity
 use Rattle.smith_module_rules_examples.proofs.PartExamples.{function_types, function_at}
 use Rattle.smith_module_rules_examples.proofs.given_modules.exports.Goals as goal
 

@@ -1,7 +1,7 @@
 use Rattle.smith_module_rules_examples.proofs.Common.{rules, arith, ℕ, ◌<◌, List, pos, true, false, refl, All-from_recursion, IsEntityAt}
 use Rattle.smith_module_rules_examples.proofs.Common.{I32, EntityType, ExportKind, I32Const, GlobalGet, distinct_alone, module_spaces}
 use Rattle.smith_module_rules_examples.proofs.Common.{global_context, number_given, global, number, exported_number, three_numbers}
-use Rattle.smith_syntax.specs.declared.entity_type.EntityType.TheVariants as entity
+use Rattle.smith_types.specs.Syntax.entity_type.EntityType.TheVariants as entity
 use Rattle.smith_module_rules_examples.proofs.PartExamples.{first_read, globals_defined}
 use Rattle.smith_module_rules_examples.proofs.given_modules.globals.Goals as goal
 

@@ -4,8 +4,8 @@ use Rattle.smith_module_rules_examples.proofs.Common.{IsEntityAt, AreDistinct, I
 use Rattle.smith_module_rules_examples.proofs.Common.{RefNull, IsRefBelow-refl, foo_type, quux_type, each_place, IsTableDefined}
 use Rattle.smith_module_rules_examples.proofs.Common.{module_features, module_types, module_spaces, table_context, global_context, memory}
 use Rattle.smith_module_rules_examples.proofs.Common.{table, global, one_of_each, group_of}
-use Rattle.smith_syntax.specs.declared.value_type.AbstractHeapType.TheVariants as heap
-use Rattle.smith_syntax.specs.declared.entity_type.EntityType.TheVariants as entity
+use Rattle.smith_types.specs.Syntax.value_type.AbstractHeapType.TheVariants as heap
+use Rattle.smith_types.specs.Syntax.entity_type.EntityType.TheVariants as entity
 use Rattle.smith_module_rules_examples.proofs.PartExamples.{alone, globals_defined, group_valid}
 use Rattle.smith_module_rules_examples.proofs.modules.all_kinds.Goals as goal
 

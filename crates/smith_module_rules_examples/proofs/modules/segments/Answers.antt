@@ -2,7 +2,7 @@ use Rattle.smith_module_rules_examples.proofs.Common.{rules, arith, common_steps
 use Rattle.smith_module_rules_examples.proofs.Common.{IsTagValid, IsConstExpr, IsElementSegmentValid, IsDataValid, IsEntityAt, EntityType}
 use Rattle.smith_module_rules_examples.proofs.Common.{ExportKind, Ref, distinct_alone, module_spaces, segment_context, no_function}
 use Rattle.smith_module_rules_examples.proofs.Common.{shared_memory, two_elements, one_data_segment, one_tag}
-use Rattle.smith_syntax.specs.declared.entity_type.EntityType.TheVariants as entity
+use Rattle.smith_types.specs.Syntax.entity_type.EntityType.TheVariants as entity
 use Rattle.smith_module_rules_examples.proofs.PartExamples.{no_function_given, function_types, functions_valid, function_at}
 use Rattle.smith_module_rules_examples.proofs.modules.segments.Goals as goal
 

@@ -2,7 +2,7 @@ use Rattle.smith_module_rules_examples.proofs.Common.{rules, arith, [], refl, Al
 use Rattle.smith_module_rules_examples.proofs.Common.{module_context, HoldsGranted, HoldsNonNullable, one_number, with_references}
 use Rattle.smith_module_rules_examples.proofs.Common.{holding_reference, for_exports, exporting, memories_in_and_out}
 use Rattle.smith_bytes.specs.declared.error.Which.TheVariants as which
-use Rattle.smith_syntax.specs.declared.value_type.AbstractHeapType.TheVariants as heap
+use Rattle.smith_types.specs.Syntax.value_type.AbstractHeapType.TheVariants as heap
 use Rattle.smith_module_rules_examples.proofs.GrantedExamples.{any_not_granted, to_any}
 use Rattle.smith_module_rules_examples.proofs.PromiseExamples.{not_distinct, past_the_table}
 use Rattle.smith_module_rules_examples.proofs.ShapeExamples.{no_imports_fixed}

@@ -1,7 +1,7 @@
 use Rattle.smith_module_rules_examples.proofs.Common.{[], ◌∷◌, true, None, refl, inr, All-head, All-from_recursion, ValType, Ref, plain}
 use Rattle.smith_module_rules_examples.proofs.Common.{not_null, below_kind, IsGranted, a_type, plain_function, module_context, one_function}
 use Rattle.smith_module_rules_examples.proofs.Common.{one_number, with_references}
-use Rattle.smith_syntax.specs.declared.value_type.AbstractHeapType.TheVariants as heap
+use Rattle.smith_types.specs.Syntax.value_type.AbstractHeapType.TheVariants as heap
 use Rattle.smith_module_rules_examples.proofs.GrantedExamples.{any_not_granted, to_any}
 use Rattle.smith_module_rules_examples.proofs.promises.locals.Goals as goal
 

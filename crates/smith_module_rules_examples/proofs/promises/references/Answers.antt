@@ -3,7 +3,7 @@ use Rattle.smith_module_rules_examples.proofs.Common.{All-from_recursion, itself
 use Rattle.smith_module_rules_examples.proofs.Common.{plain, not_null, grounded_at, default_config, IsGranted, HasGroundedItems, final}
 use Rattle.smith_module_rules_examples.proofs.Common.{taking, ModuleParts, module_context, one_number, one_table, passive_elements}
 use Rattle.smith_module_rules_examples.proofs.Common.{with_references, holding_reference}
-use Rattle.smith_syntax.specs.declared.value_type.AbstractHeapType.TheVariants as heap
+use Rattle.smith_types.specs.Syntax.value_type.AbstractHeapType.TheVariants as heap
 use Rattle.smith_module_rules_examples.proofs.GrantedExamples.{any_not_granted, any_taken, to_any}
 use Rattle.smith_module_rules_examples.proofs.promises.references.Goals as goal
 

@@ -1,7 +1,7 @@
 use Rattle.smith_module_rules_examples.proofs.Common.{rules, ℕ, List, [], ◌∷◌, refl, codes, All-from_recursion, All-head, IsEntityAt}
 use Rattle.smith_module_rules_examples.proofs.Common.{AreDistinct, EntityType, ExportKind, module_spaces, exported_twice, one_number}
-use Rattle.smith_syntax.specs.declared.entity_type.EntityType.TheVariants as entity
-use Rattle.smith_syntax.specs.declared.entity_type.ExportKind.TheVariants as kind
+use Rattle.smith_types.specs.Syntax.entity_type.EntityType.TheVariants as entity
+use Rattle.smith_types.specs.Syntax.entity_type.ExportKind.TheVariants as kind
 use Rattle.smith_module_rules_examples.proofs.RefusedExamples.{name_refused}
 use Rattle.smith_module_rules_examples.proofs.refused_modules.exports.Goals as goal
 

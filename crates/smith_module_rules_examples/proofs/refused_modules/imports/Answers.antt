@@ -1,6 +1,6 @@
 use Rattle.smith_module_rules_examples.proofs.Common.{arith, [], ◌∷◌, false, codes, All-head, IsImportsValid, Compact2, default_config}
 use Rattle.smith_module_rules_examples.proofs.Common.{features_of, module_features, number, two_imports}
-use Rattle.smith_syntax.specs.declared.entity_type.EntityType.TheVariants as entity
+use Rattle.smith_types.specs.Syntax.entity_type.EntityType.TheVariants as entity
 use Rattle.smith_module_rules_examples.proofs.refused_modules.imports.Goals as goal
 
 pub returns-clause-an_empty_group : goal.returns-clause-an_empty_group

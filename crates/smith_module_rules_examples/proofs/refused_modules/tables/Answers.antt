@@ -2,7 +2,7 @@ use Rattle.smith_module_rules_examples.proofs.Common.{rules, arith, [], ◌∷�
 use Rattle.smith_module_rules_examples.proofs.Common.{common_steps, IsConstExpr, nullable, plain, TableType, Ref, I32Const, GlobalGet}
 use Rattle.smith_module_rules_examples.proofs.Common.{RefNull, IsRefBelow-refl, by_cases_from_below, each_place, IsTableDefined}
 use Rattle.smith_module_rules_examples.proofs.Common.{table_context, table, global, no_function, table_from_import, table_after, one_table}
-use Rattle.smith_syntax.specs.declared.value_type.AbstractHeapType.TheVariants as heap
+use Rattle.smith_types.specs.Syntax.value_type.AbstractHeapType.TheVariants as heap
 use Rattle.smith_module_rules_examples.proofs.PartExamples.{alone, pushed_alone, no_function_given}
 use Rattle.smith_module_rules_examples.proofs.RefusedExamples.{null_refused}
 use Rattle.smith_module_rules_examples.proofs.refused_modules.tables.Goals as goal

@@ -2,7 +2,7 @@ use Rattle.smith_module_rules_examples.proofs.Common.{rules, arith, common_steps
 use Rattle.smith_module_rules_examples.proofs.Common.{same_Some, All-head, Concrete, Ref, SubType, plain, nullable, anyref, eqref}
 use Rattle.smith_module_rules_examples.proofs.Common.{IsValTypeValid, IsGroupValid, IsSupertypeValid, by_cases_from_below, a_type}
 use Rattle.smith_module_rules_examples.proofs.Common.{bytes_array, taking, module_features, referring_to, types_together, group_of}
-use Rattle.smith_syntax.specs.declared.value_type.AbstractHeapType.TheVariants as heap
+use Rattle.smith_types.specs.Syntax.value_type.AbstractHeapType.TheVariants as heap
 use Rattle.smith_module_rules_examples.proofs.refused_modules.types.Goals as goal
 
 pub returns : goal.returns

@@ -1,7 +1,7 @@
 use Rattle.smith_module_rules_examples.proofs.Common.{Some, false, refl, codes, F32, foo_type, memory, global, exporting, exported}
 use Rattle.smith_module_rules_examples.proofs.Common.{equal_types, of_equal_types}
-use Rattle.smith_syntax.specs.declared.entity_type.EntityType.TheVariants as entity
-use Rattle.smith_syntax.specs.declared.entity_type.ExportKind.TheVariants as kind
+use Rattle.smith_types.specs.Syntax.entity_type.EntityType.TheVariants as entity
+use Rattle.smith_types.specs.Syntax.entity_type.ExportKind.TheVariants as kind
 use Rattle.smith_module_rules_examples.proofs.ShapeExamples.{export_kept, same_function, five_kept}
 use Rattle.smith_module_rules_examples.proofs.shapes.exports.Goals as goal
 

@@ -1,5 +1,5 @@
 use Rattle.smith_module_rules_examples.proofs.Common.{[], None, refl, memory}
-use Rattle.smith_syntax.specs.declared.entity_type.EntityType.TheVariants as entity
+use Rattle.smith_types.specs.Syntax.entity_type.EntityType.TheVariants as entity
 use Rattle.smith_module_rules_examples.proofs.shapes.module_shapes.Goals as goal
 
 pub returns-clause-imports_and_an_export : goal.returns-clause-imports_and_an_export

@@ -1,7 +1,4 @@
-use Rattle.std.proofs.Common.{◌≡◌, Some, length, ap, arith}
-use Rattle.std.proofs.lemmas.Grind.{common_steps}
-use Rattle.std.specs.Prelude.{slice_get}
-use Rattle.smith_syntax.specs.declared.code.Code.{Code}
+use Rattle.smith_program.proofs.Common.{ap, arith, Code, common_steps, length, slice_get, Some, ◌≡◌}
 use Rattle.smith_program.specs.Bodies.{IsDrawnAt, IsOfBody}
 use Rattle.smith_program.proofs.DrawnBodiesLemmas.{all_drawn, none_drawn, one_drawn, still_held}
 use Rattle.smith_program.proofs.bodies.draw_each.Goals as goal

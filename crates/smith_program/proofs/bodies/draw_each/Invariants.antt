@@ -1,7 +1,5 @@
-use Rattle.std.proofs.Common.{◌≡◌, ℕ, Some, drop, length}
-use Rattle.std.specs.Prelude.{slice_get}
+use Rattle.smith_program.proofs.Common.{Code, drop, length, slice_get, Some, ℕ, ◌≡◌}
 use Rattle.smith_bytes.specs.Source.{KeepsPieces}
-use Rattle.smith_syntax.specs.declared.code.Code.{Code}
 use Rattle.smith_program.specs.Bodies.{IsDrawnAt, IsOfBody}
 use Rattle.smith_program.specs.DrawnBodies.{bodies_at, bodies_from}
 use Rattle.smith_program.specs.declared.program.Body.{Body}

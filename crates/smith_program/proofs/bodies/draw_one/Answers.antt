@@ -1,4 +1,4 @@
-use Rattle.std.proofs.Common.{◌≡◌, ◌<◌, ◌≤◌}
+use Rattle.smith_program.proofs.Common.{◌<◌, ◌≡◌, ◌≤◌}
 use Rattle.smith_body_leaves.specs.Leaves.{longest_leaf}
 use Rattle.smith_body_nodes.specs.Scopes.{most}
 use Rattle.smith_program.specs.DrawnBodies.{budget_at}

@@ -1,5 +1,4 @@
-use Rattle.std.proofs.Common.{◌≡◌, take}
-use Rattle.std.specs.Prelude.{map}
+use Rattle.smith_program.proofs.Common.{map, take, ◌≡◌}
 use Rattle.smith_program.specs.Canonical.{canonical_body}
 use Rattle.smith_program.proofs.canonical.canonical_bodies.Given as goal
 

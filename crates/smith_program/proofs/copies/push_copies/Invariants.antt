@@ -1,4 +1,4 @@
-use Rattle.std.proofs.Common.{◌≡◌, ◌++◌, take}
+use Rattle.smith_program.proofs.Common.{take, ◌++◌, ◌≡◌}
 use Rattle.smith_program.proofs.copies.push_copies.Given as goal
 
 abbrev pub invariant-loop-instr : goal.invariant-loop-instr

@@ -1,8 +1,6 @@
-use Rattle.std.proofs.Common.{◌≡◌, ℕ, List, ◌++◌, ap, arith, length, min, take, ◌∙◌}
-use Rattle.std.proofs.lemmas.Grind.{common_steps}
+use Rattle.smith_program.proofs.Common.{ap, arith, common_steps, Instr, length, List, take, ValType, ℕ, ◌++◌, ◌∙◌, ◌≡◌}
+use Rattle.std.proofs.Common.{min}
 use Rattle.std.proofs.lemmas.List.{take_min}
-use Rattle.smith_instr.specs.declared.instr.Instr.{Instr}
-use Rattle.smith_syntax.specs.declared.value_type.ValType.{ValType}
 use Rattle.smith_program.specs.Observed.{mixes_from}
 use Rattle.smith_program.proofs.MixedLoop.{mixes_more}
 use Rattle.smith_program.proofs.mixes.mixes.Goals as goal

@@ -1,4 +1,4 @@
-use Rattle.std.proofs.Common.{◌≡◌, take}
+use Rattle.smith_program.proofs.Common.{take, ◌≡◌}
 use Rattle.smith_program.specs.Observed.{mixes_from}
 use Rattle.smith_program.proofs.mixes.mixes.Given as goal
 

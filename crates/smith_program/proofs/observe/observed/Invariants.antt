@@ -1,5 +1,4 @@
-use Rattle.std.proofs.Common.{◌≡◌, take}
-use Rattle.std.specs.List.{flat_map}
+use Rattle.smith_program.proofs.Common.{flat_map, take, ◌≡◌}
 use Rattle.smith_program.specs.Observed.{after_mixes}
 use Rattle.smith_program.proofs.observe.observed.Given as goal
 

@@ -1,5 +1,4 @@
-use Rattle.std.proofs.Common.{arith}
-use Rattle.std.proofs.lemmas.Grind.{common_steps}
+use Rattle.smith_program.proofs.Common.{arith, common_steps}
 use Rattle.smith_program.proofs.ObservedBodiesLemmas.{all_observed, none_observed, one_observed}
 use Rattle.smith_program.proofs.observe.observed_bodies.Goals as goal
 

@@ -1,4 +1,4 @@
-use Rattle.std.proofs.Common.{◌≡◌, length}
+use Rattle.smith_program.proofs.Common.{length, ◌≡◌}
 use Rattle.smith_program.proofs.ObservedBodiesLemmas.{AreObservedTo}
 use Rattle.smith_program.proofs.observe.observed_bodies.Given as goal
 

@@ -1,4 +1,4 @@
-use Rattle.std.proofs.Common.{refl}
+use Rattle.smith_program.proofs.Common.{refl}
 use Rattle.smith_program.proofs.ObservedBodiesLemmas.{is_observed}
 use Rattle.smith_program.proofs.observe.observed_body.Goals as goal
 

@@ -1,4 +1,4 @@
-use Rattle.std.proofs.Common.{◌≡◌, ◌++◌, take}
+use Rattle.smith_program.proofs.Common.{take, ◌++◌, ◌≡◌}
 use Rattle.smith_program.proofs.references.push_all.Given as goal
 
 abbrev pub invariant-loop-function : goal.invariant-loop-function

@@ -1,6 +1,5 @@
-use Rattle.std.proofs.Common.{◌≡◌, ◌++◌, ℕ, List, take}
-use Rattle.std.specs.List.{flat_map}
-use Rattle.smith_syntax.specs.declared.entity_type.ExportKind.{ExportKind}
+use Rattle.smith_program.proofs.Common.{flat_map, List, take, ℕ, ◌++◌, ◌≡◌}
+use Rattle.smith_types.specs.Syntax.entity_type.ExportKind.{ExportKind}
 use Rattle.smith_program.specs.References.{exported_by}
 use Rattle.smith_program.proofs.references.push_exported.Given as goal
 

@@ -1,5 +1,4 @@
-use Rattle.std.proofs.Common.{◌≡◌, ◌++◌, take}
-use Rattle.std.specs.List.{flat_map}
+use Rattle.smith_program.proofs.Common.{flat_map, take, ◌++◌, ◌≡◌}
 use Rattle.smith_program.specs.References.{named_in}
 use Rattle.smith_program.proofs.references.push_of_expressions.Given as goal
 

@@ -1,6 +1,5 @@
-use Rattle.std.proofs.Common.{◌≡◌, ◌++◌, ℕ, List, take}
-use Rattle.std.specs.List.{flat_map}
-use Rattle.smith_syntax.specs.declared.const_instr.ConstInstr.{ConstInstr}
+use Rattle.smith_program.proofs.Common.{flat_map, List, take, ℕ, ◌++◌, ◌≡◌}
+use Rattle.smith_types.specs.Syntax.const_instr.ConstInstr.{ConstInstr}
 use Rattle.smith_program.specs.References.{named_in}
 use Rattle.smith_program.proofs.references.push_of_globals.Given as goal
 

@@ -1,6 +1,4 @@
-use Rattle.std.proofs.Common.{◌≡◌, ◌++◌, take}
-use Rattle.std.specs.List.{flat_map}
-use Rattle.smith_syntax.specs.declared.segments.ElementSegment.{ElementSegment}
+use Rattle.smith_program.proofs.Common.{ElementSegment, flat_map, take, ◌++◌, ◌≡◌}
 use Rattle.smith_program.specs.References.{named_by_items}
 use Rattle.smith_program.proofs.references.push_of_segments.Given as goal
 

@@ -1,4 +1,4 @@
-use Rattle.std.proofs.Common.{append_assoc}
+use Rattle.smith_program.proofs.Common.{append_assoc}
 use Rattle.smith_program.proofs.references.references_of.Goals as goal
 
 pub returns-clause-references : goal.returns-clause-references

@@ -1,5 +1,5 @@
-use Rattle.std.proofs.Common.{◌≡◌, map, take}
-use Rattle.smith_syntax.specs.declared.segments.ElementSegment.{ElementSegment}
+use Rattle.smith_program.proofs.Common.{ElementSegment, take, ◌≡◌}
+use Rattle.std.proofs.Common.{map}
 use Rattle.smith_program.proofs.references.segment_types.Given as goal
 
 abbrev pub invariant-loop-segment : goal.invariant-loop-segment

@@ -1,5 +1,4 @@
-use Rattle.std.proofs.Common.{arith, ◌≡◌, ℕ, refl}
-use Rattle.std.proofs.lemmas.Bool.{false≢true}
+use Rattle.smith_program_examples.proofs.Common.{arith, false≢true, refl, ℕ, ◌≡◌}
 use Rattle.smith_program_examples.proofs.forms.accesses.Goals as goal
 
 pub returns : goal.returns

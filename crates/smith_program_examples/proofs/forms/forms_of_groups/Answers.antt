@@ -1,5 +1,4 @@
-use Rattle.std.proofs.Common.{refl, sym}
-use Rattle.std.proofs.lemmas.Bool.{false≢true}
+use Rattle.smith_program_examples.proofs.Common.{false≢true, refl, sym}
 use Rattle.smith_program_examples.proofs.forms.forms_of_groups.Goals as goal
 
 pub returns : goal.returns

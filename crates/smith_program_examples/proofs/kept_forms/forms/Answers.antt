@@ -1,5 +1,4 @@
-use Rattle.std.proofs.Common.{[], ◌∷◌, refl}
-use Rattle.smith_module_rules_examples.specs.ExampleParts.{trapping}
+use Rattle.smith_program_examples.proofs.Common.{[], refl, trapping, ◌∷◌}
 use Rattle.smith_program.specs.declared.program.Body.TheVariants as body
 use Rattle.smith_program_examples.specs.ExamplePrograms.{after_an_import, constant, raw, raw_alone}
 use Rattle.smith_program_examples.proofs.BodyExamples as example

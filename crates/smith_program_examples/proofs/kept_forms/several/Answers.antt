@@ -1,7 +1,4 @@
-use Rattle.std.proofs.Common.{◌≡◌, ℕ, [], ◌∷◌, refl, arith}
-use Rattle.smith_config.specs.Config.{default_config}
-use Rattle.smith_module_rules_examples.specs.ExampleModules.{empty_module}
-use Rattle.smith_module_rules_examples.specs.ExampleParts.{trapping}
+use Rattle.smith_program_examples.proofs.Common.{[], arith, default_config, empty_module, refl, trapping, ℕ, ◌∷◌, ◌≡◌}
 use Rattle.smith_program.specs.declared.program.Body.TheVariants as body
 use Rattle.smith_program_examples.specs.ExamplePrograms.{constant, raw_between}
 use Rattle.smith_program_examples.proofs.BodyExamples as example

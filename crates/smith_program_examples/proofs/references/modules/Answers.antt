@@ -1,8 +1,7 @@
-use Rattle.std.proofs.Common.{true, None, arith, refl}
-use Rattle.smith_syntax.specs.declared.value_type.ValType.TheVariants.{Ref}
+use Rattle.smith_program_examples.proofs.Common.{arith, Ref, refl, trapping}
+use Rattle.std.proofs.Common.{None, true}
 use Rattle.smith_types.specs.ExampleEntities.{constant_global, table}
 use Rattle.smith_config.specs.ExampleMembers.{a_type, giving}
-use Rattle.smith_module_rules_examples.specs.ExampleParts.{trapping}
 use Rattle.smith_instr.specs.declared.instr.Instr.TheVariants as instr
 use Rattle.smith_program_examples.specs.ExamplePrograms.{block_of, indexed, indexed_elements, with_indexed_local}
 use Rattle.smith_program_examples.proofs.ReferenceExamples as example

@@ -1,6 +1,4 @@
-use Rattle.std.proofs.Common.{[], arith, refl}
-use Rattle.std.proofs.lemmas.List.Elements.{All-cons, All-nil}
-use Rattle.smith_syntax.specs.declared.value_type.ValType.TheVariants.{Ref}
+use Rattle.smith_program_examples.proofs.Common.{[], All-cons, All-nil, arith, Ref, refl}
 use Rattle.smith_types.specs.ExampleFeatures.{no_features}
 use Rattle.smith_types.specs.Flags.{funcref}
 use Rattle.smith_binary_program.specs.Forms.{IsValFormEnabled}

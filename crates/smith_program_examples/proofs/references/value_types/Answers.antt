@@ -1,4 +1,4 @@
-use Rattle.std.proofs.Common.{inl, refl}
+use Rattle.smith_program_examples.proofs.Common.{inl, refl}
 use Rattle.smith_program_examples.proofs.ReferenceExamples as example
 use Rattle.smith_program_examples.proofs.references.value_types.Goals as goal
 

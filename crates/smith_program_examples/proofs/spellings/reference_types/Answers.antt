@@ -1,4 +1,4 @@
-use Rattle.std.proofs.Common.{◌≡◌, ℕ, [], ◌∷◌, arith, length, refl, ap}
+use Rattle.smith_program_examples.proofs.Common.{[], ap, arith, length, refl, ℕ, ◌∷◌, ◌≡◌}
 use Rattle.smith_binary.proofs.NumberLemmas.{positive_last}
 use Rattle.smith_binary_sections.specs.Types.IsRefType.{full}
 use Rattle.smith_program_examples.proofs.SpellingExamples.{both}

@@ -1,4 +1,4 @@
-use Rattle.std.proofs.Common.{◌≤◌, [], ◌∷◌, arith}
+use Rattle.smith_program_examples.proofs.Common.{[], arith, ◌∷◌, ◌≤◌}
 use Rattle.smith_binary.proofs.NumberLemmas.{positive_last}
 use Rattle.smith_program_examples.proofs.spellings.signed_integers.Goals as goal
 

@@ -1,4 +1,4 @@
-use Rattle.std.proofs.Common.{ℕ, ◌≤◌, List, [], ◌∷◌, arith, refl}
+use Rattle.smith_program_examples.proofs.Common.{[], arith, List, refl, ℕ, ◌∷◌, ◌≤◌}
 use Rattle.smith_binary.proofs.NumberLemmas.{unsigned_last}
 use Rattle.smith_program_examples.proofs.SpellingExamples as example
 use Rattle.smith_program_examples.proofs.spellings.unsigned_integers.Goals as goal

@@ -1,4 +1,4 @@
-use Rattle.smith_module_rules_examples.specs.ExampleParts.{trapping}
+use Rattle.smith_program_examples.proofs.Common.{trapping}
 use Rattle.smith_program_examples.specs.ExamplePrograms.{after_an_import}
 use Rattle.smith_program_examples.proofs.BodyExamples as example
 use Rattle.smith_program_examples.proofs.types.bodies.Goals as goal

@@ -1,5 +1,4 @@
-use Rattle.std.proofs.Common.{◌≡◌, ℕ, length, refl, ap, arith}
-use Rattle.smith_syntax.specs.declared.composite_type.FuncType.{FuncType}
+use Rattle.smith_program_examples.proofs.Common.{ap, arith, FuncType, length, refl, ℕ, ◌≡◌}
 use Rattle.smith_program_examples.specs.ExamplePrograms.{after_an_import, gives_nothing, gives_number}
 use Rattle.smith_program_examples.proofs.BodyExamples as example
 use Rattle.smith_program_examples.proofs.types.functions.Goals as goal

@@ -1,6 +1,6 @@
-use Rattle.std.proofs.Common.{arith, ◌≡◌, ℕ, [], ◌∷◌, refl}
+use Rattle.smith_program_examples.proofs.Common.{[], All-cons, All-nil, arith, refl, ℕ, ◌∷◌, ◌≡◌}
 use Rattle.std.specs.List.{Contains}
-use Rattle.std.proofs.lemmas.List.Elements.{All-cons, All-contains, All-nil}
+use Rattle.std.proofs.lemmas.List.Elements.{All-contains}
 use Rattle.smith_program_examples.proofs.valid.named_functions.Goals as goal
 
 -- the one number of a list

@@ -1,8 +1,6 @@
-use Rattle.std.proofs.Common.{arith, ◌<◌, [], ◌∷◌, refl}
+use Rattle.smith_program_examples.proofs.Common.{[], arith, false≢true, Instr, refl, ◌<◌, ◌∷◌}
 use Rattle.std.specs.Prelude.{IsTrue}
-use Rattle.std.proofs.lemmas.Bool.{false≢true}
 use Rattle.smith_instr.specs.Enabled.{names_data}
-use Rattle.smith_instr.specs.declared.instr.Instr.{Instr}
 use Rattle.smith_instr.specs.declared.instr.Instr.TheVariants as instr
 use Rattle.smith_instr.specs.declared.memory.MemoryInstr.TheVariants as memory
 use Rattle.smith_instr.specs.declared.table.TableInstr.TheVariants as table

@@ -4,7 +4,10 @@ use Rattle.smith_request.proofs.AdditionLemmas.{counter_room, none_before, sinks
 use Rattle.smith_request.proofs.additions.extend.Goals as goal
 
 pub add_sinks-requires : goal.add_sinks-requires
-add_sinks-requires c = record { valid = c.requires.valid; room = sinks_room c.args.additions.is_observed c.args.additions.fuel _ c.requires.room }
+add_sinks-requires c = record {
+  valid = c.requires.valid;
+  room = sinks_room c.args.additions.is_observed c.args.additions.fuel _ c.requires.room;
+}
 
 pub add_counter-requires : goal.add_counter-requires
 add_counter-requires c = record {

@@ -12,7 +12,8 @@ pub returns-clause-of_a_text : goal.returns-clause-of_a_text
 returns-clause-of_a_text c = λ text input bytes h. binary_valid h.config (additions_of text) input bytes h.left h.binary
 
 pub returns-clause-of_a_text_without_customs : goal.returns-clause-of_a_text_without_customs
-returns-clause-of_a_text_without_customs c = λ text input bytes h off. plain_valid h.config (additions_of text) input bytes h.left off h.binary
+returns-clause-of_a_text_without_customs c = λ text input bytes h off.
+    plain_valid h.config (additions_of text) input bytes h.left off h.binary
 
 pub returns-clause-of_shapes : goal.returns-clause-of_shapes
 returns-clause-of_shapes c =

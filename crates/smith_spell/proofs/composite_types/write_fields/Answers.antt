@@ -1,5 +1,4 @@
-use Rattle.std.proofs.Common.{refl}
-use Rattle.smith_draw_types.specs.Spelling.{SpellsField}
+use Rattle.smith_spell.proofs.Common.{refl, SpellsField}
 use Rattle.smith_spell.proofs.WritingLoop.{leads_each, each_written}
 use Rattle.smith_spell.proofs.composite_types.write_fields.Goals as goal
 

@@ -1,6 +1,4 @@
-use Rattle.std.proofs.Common.{drop}
-use Rattle.smith_bytes.specs.Spelling.{Each}
-use Rattle.smith_draw_types.specs.Spelling.{SpellsField}
+use Rattle.smith_spell.proofs.Common.{drop, Each, SpellsField}
 use Rattle.smith_spell.proofs.WritingLoop.{Leads}
 use Rattle.smith_spell.proofs.composite_types.write_fields.Given as goal
 

@@ -1,4 +1,4 @@
-use Rattle.std.proofs.lemmas.Result.{on_ok_weaker}
+use Rattle.smith_spell.proofs.Common.{on_ok_weaker}
 use Rattle.smith_spell.proofs.WrittenLemmas.{joined_written}
 use Rattle.smith_spell.proofs.composite_types.write_inner.Goals as goal
 

@@ -1,4 +1,4 @@
-use Rattle.std.proofs.lemmas.Result.{on_ok_weaker}
+use Rattle.smith_spell.proofs.Common.{on_ok_weaker}
 use Rattle.smith_spell.proofs.WrittenCompositeLemmas.{struct_written}
 use Rattle.smith_spell.proofs.composite_types.write_struct_type.Goals as goal
 

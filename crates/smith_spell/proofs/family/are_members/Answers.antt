@@ -1,6 +1,5 @@
-use Rattle.std.proofs.Common.{◌↔◌, ◌∙◌, ◌+◌, List, [], drop, subst, arith}
+use Rattle.smith_spell.proofs.Common.{[], arith, drop, List, subst, SubType, ◌+◌, ◌↔◌, ◌∙◌}
 use Rattle.std.proofs.lemmas.List.Folds.{length-flat_map-take}
-use Rattle.smith_syntax.specs.declared.composite_type.SubType.{SubType}
 use Rattle.smith_spell.specs.Decided.{AreMembersAfter, IsKnown}
 use Rattle.smith_spell.proofs.GroupsWrittenLoop.{types_turn}
 use Rattle.smith_spell.proofs.MemberLemmas.{all_types, groups_turn, group_among}

@@ -1,4 +1,4 @@
-use Rattle.std.proofs.Common.{◌↔◌, [], take, drop}
+use Rattle.smith_spell.proofs.Common.{[], drop, take, ◌↔◌}
 use Rattle.smith_spell.specs.Decided.{AreMembersAfter, IsKnown}
 use Rattle.smith_spell.proofs.MemberLemmas.{all_types}
 use Rattle.smith_spell.proofs.family.are_members.Given as goal

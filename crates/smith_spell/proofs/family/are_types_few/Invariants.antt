@@ -1,6 +1,4 @@
-use Rattle.std.proofs.Common.{◌≡◌, ◌+◌, List, length, drop}
-use Rattle.std.specs.List.{flat_map}
-use Rattle.smith_syntax.specs.declared.composite_type.SubType.{SubType}
+use Rattle.smith_spell.proofs.Common.{drop, flat_map, length, List, SubType, ◌+◌, ◌≡◌}
 use Rattle.smith_spell.proofs.family.are_types_few.Given as goal
 
 abbrev pub invariant-loop-group : goal.invariant-loop-group

@@ -1,6 +1,6 @@
-use Rattle.std.proofs.Common.{◌++◌, List, take, length-append, length-take, append-nil, sym, subst, arith}
+use Rattle.smith_spell.proofs.Common.{append-nil, arith, length-append, List, subst, SubType, sym, take, ◌++◌}
+use Rattle.std.proofs.Common.{length-take}
 use Rattle.std.proofs.lemmas.List.{drop_all, take_all}
-use Rattle.smith_syntax.specs.declared.composite_type.SubType.{SubType}
 use Rattle.smith_spell.specs.Decided.{AreMembersAfter, IsKnown}
 use Rattle.smith_spell.specs.Family.{IsMemberType}
 use Rattle.smith_spell.proofs.MemberLemmas.{all_types, after_same, type_taken, type_turn, type_among}

@@ -1,7 +1,5 @@
-use Rattle.std.proofs.Common.{◌≡◌, ◌∙◌, ap, sym, subst, rules, List}
-use Rattle.smith_types.specs.Groups.{space_of}
+use Rattle.smith_spell.proofs.Common.{ap, List, rules, space_of, subst, SubType, sym, ◌∙◌, ◌≡◌}
 use Rattle.smith_validity.specs.Decided.{AreFuncsValid}
-use Rattle.smith_syntax.specs.declared.composite_type.SubType.{SubType}
 use Rattle.smith_spell.proofs.AnsweredLemmas.{on_refusal}
 use Rattle.smith_spell.proofs.MemberLemmas.{groups_of_family, family_of_groups, groups_alone}
 use Rattle.smith_spell.proofs.family.member_space.Goals as goal

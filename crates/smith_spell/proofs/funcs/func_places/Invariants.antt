@@ -1,4 +1,4 @@
-use Rattle.std.proofs.Common.{◌≡◌, ◌≤◌, ◌++◌, drop}
+use Rattle.smith_spell.proofs.Common.{drop, ◌++◌, ◌≡◌, ◌≤◌}
 use Rattle.smith_draw_types.specs.TypeUses.{may_be_used}
 use Rattle.smith_draw_types.specs.declared.type_use.TypeUse.TheVariants.{DefinedFunc}
 use Rattle.smith_spell.proofs.FuncPlaceLemmas.{counts_from}

@@ -1,8 +1,5 @@
-use Rattle.std.proofs.Common.{◌≡◌, ◌-◌, ℕ, Some, length, get_or, refl, sym, subst, ◌∙◌, arith}
-use Rattle.std.specs.Prelude.{slice_get}
-use Rattle.std.proofs.lemmas.Result.{on_ok_weaker}
-use Rattle.smith_draw_types.specs.Spelling.{SpellsPlace}
-use Rattle.smith_draw_types.specs.TypeUses.{func_types}
+use Rattle.smith_spell.proofs.Common.{arith, func_types, get_or, length, on_ok_weaker, refl, slice_get, Some, SpellsPlace, subst, sym, ℕ}
+use Rattle.smith_spell.proofs.Common.{◌-◌, ◌∙◌, ◌≡◌}
 use Rattle.smith_spell.proofs.WrittenLemmas.{nothing_written}
 use Rattle.smith_spell.proofs.WrittenTypeLemmas.{place_within, place_written}
 use Rattle.smith_spell.proofs.WritingLoop.{leads_listed, listed_written}

@@ -1,8 +1,4 @@
-use Rattle.std.proofs.Common.{◌-◌, drop}
-use Rattle.smith_bytes.specs.Spelling.{Listed}
-use Rattle.smith_draw_types.specs.Spelling.{SpellsPlace}
-use Rattle.smith_draw_types.specs.TypeUses.{func_types}
-use Rattle.smith_draw_types.specs.SpelledParts.{SpellsFuncs}
+use Rattle.smith_spell.proofs.Common.{drop, func_types, Listed, SpellsFuncs, SpellsPlace, ◌-◌}
 use Rattle.smith_spell.proofs.WritingLoop.{Leads}
 use Rattle.smith_spell.proofs.funcs.write_funcs.Given as goal
 

@@ -1,4 +1,4 @@
-use Rattle.std.proofs.lemmas.Result.{on_ok_weaker}
+use Rattle.smith_spell.proofs.Common.{on_ok_weaker}
 use Rattle.smith_spell.proofs.GroupsWrittenLoop.{group_written}
 use Rattle.smith_spell.proofs.groups.write_group.Goals as goal
 

@@ -1,5 +1,4 @@
-use Rattle.std.proofs.Common.{◌∙◌, arith}
-use Rattle.std.proofs.lemmas.Result.{on_ok_weaker}
+use Rattle.smith_spell.proofs.Common.{arith, on_ok_weaker, ◌∙◌}
 use Rattle.smith_spell.proofs.GroupsWrittenLoop.{group_members, group_room, summary_turn, leads_groups, groups_written}
 use Rattle.smith_spell.proofs.groups.write_groups.Goals as goal
 

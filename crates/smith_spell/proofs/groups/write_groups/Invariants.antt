@@ -1,6 +1,4 @@
-use Rattle.std.proofs.Common.{false, [], take, drop}
-use Rattle.smith_types.specs.Groups.{space_of}
-use Rattle.smith_draw_types.specs.Spelling.{SpellsGroups}
+use Rattle.smith_spell.proofs.Common.{[], drop, false, space_of, SpellsGroups, take}
 use Rattle.smith_spell.specs.Written.{IsSummary}
 use Rattle.smith_spell.proofs.WritingLoop.{Leads}
 use Rattle.smith_spell.proofs.groups.write_groups.Given as goal

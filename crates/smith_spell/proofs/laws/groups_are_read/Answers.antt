@@ -1,5 +1,5 @@
-use Rattle.std.proofs.Common.{ap}
-use Rattle.smith_syntax.specs.Features.{Features}
+use Rattle.smith_spell.proofs.Common.{ap}
+use Rattle.smith_types.specs.Syntax.Features.{Features}
 use Rattle.smith_draw_types.proofs.SpelledGroupLemmas.{types_read}
 use Rattle.smith_spell.proofs.FamilyFitLemmas.{family_fits}
 use Rattle.smith_spell.proofs.laws.groups_are_read.Goals as goal

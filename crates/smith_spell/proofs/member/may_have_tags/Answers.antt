@@ -1,5 +1,4 @@
-use Rattle.std.proofs.Common.{arith}
-use Rattle.std.proofs.lemmas.Bool.{lt-ltb}
+use Rattle.smith_spell.proofs.Common.{arith, lt-ltb}
 use Rattle.smith_draw_types.specs.TypeUses.{is_tag_type}
 use Rattle.smith_spell.proofs.MemberWrittenLemmas.{some_passes}
 use Rattle.smith_spell.proofs.member.may_have_tags.Goals as goal

@@ -1,5 +1,4 @@
-use Rattle.std.proofs.Common.{arith}
-use Rattle.std.proofs.lemmas.Result.{on_ok_weaker}
+use Rattle.smith_spell.proofs.Common.{arith, on_ok_weaker}
 use Rattle.smith_spell.proofs.WrittenLemmas.{nothing_written}
 use Rattle.smith_spell.proofs.DigitLemmas.{no_digits, digit_written}
 use Rattle.smith_spell.proofs.pieces.+write_digits.Goals as goal

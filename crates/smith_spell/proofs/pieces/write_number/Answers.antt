@@ -1,4 +1,4 @@
-use Rattle.std.proofs.lemmas.Result.{on_ok_weaker}
+use Rattle.smith_spell.proofs.Common.{on_ok_weaker}
 use Rattle.smith_spell.proofs.WrittenLemmas.{written_as}
 use Rattle.smith_spell.proofs.DigitLemmas.{number_of_digits}
 use Rattle.smith_spell.proofs.pieces.write_number.Goals as goal

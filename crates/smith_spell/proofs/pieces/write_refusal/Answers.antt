@@ -1,4 +1,4 @@
-use Rattle.std.proofs.lemmas.Result.{on_ok_weaker}
+use Rattle.smith_spell.proofs.Common.{on_ok_weaker}
 use Rattle.smith_spell.proofs.WrittenLemmas.{written_as}
 use Rattle.smith_spell.proofs.DigitLemmas.{refusal_of_digits}
 use Rattle.smith_spell.proofs.pieces.write_refusal.Goals as goal

@@ -1,7 +1,6 @@
-use Rattle.std.proofs.Common.{◌≡◌, ◌≤◌, ◌^◌, true, false, sym, subst, ◌∙◌}
+use Rattle.smith_spell.proofs.Common.{Config, false, sanitized, subst, sym, true, ◌∙◌, ◌≡◌, ◌≤◌}
+use Rattle.std.proofs.Common.{◌^◌}
 use Rattle.smith_bytes.specs.declared.error.Count.TheVariants as counts
-use Rattle.smith_config.specs.declared.config.Config.{Config}
-use Rattle.smith_config.specs.Sanitized.{sanitized}
 use Rattle.smith_spell.proofs.AskedLemmas.{asked_at_first}
 use Rattle.smith_spell.proofs.AnsweredLemmas.{asked_in_vain, answered}
 use Rattle.smith_spell.proofs.spelling.spell.Goals as goal

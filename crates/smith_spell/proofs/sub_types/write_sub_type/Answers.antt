@@ -1,4 +1,4 @@
-use Rattle.std.proofs.lemmas.Result.{on_ok_weaker}
+use Rattle.smith_spell.proofs.Common.{on_ok_weaker}
 use Rattle.smith_spell.proofs.SubTypesLoop.{declared_written}
 use Rattle.smith_spell.proofs.sub_types.write_sub_type.Goals as goal
 

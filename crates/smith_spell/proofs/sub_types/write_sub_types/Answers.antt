@@ -1,5 +1,4 @@
-use Rattle.std.proofs.Common.{sym, subst, arith}
-use Rattle.smith_syntax.specs.declared.composite_type.SubType.{SubType}
+use Rattle.smith_spell.proofs.Common.{arith, subst, SubType, sym}
 use Rattle.smith_spell.specs.Family.{IsMemberType}
 use Rattle.smith_spell.specs.Written.{OverSome}
 use Rattle.smith_spell.proofs.SubTypesLoop.{leads_sub_types, summary_more, sub_types_written}

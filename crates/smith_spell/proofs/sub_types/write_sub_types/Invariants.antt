@@ -1,6 +1,4 @@
-use Rattle.std.proofs.Common.{◌≡◌, ◌+◌, ◌++◌, List, take, drop}
-use Rattle.smith_syntax.specs.declared.composite_type.SubType.{SubType}
-use Rattle.smith_draw_types.specs.Spelling.{SpellsSubTypes}
+use Rattle.smith_spell.proofs.Common.{drop, List, SpellsSubTypes, SubType, take, ◌++◌, ◌+◌, ◌≡◌}
 use Rattle.smith_spell.specs.Written.{IsSummary}
 use Rattle.smith_spell.proofs.WritingLoop.{Leads}
 use Rattle.smith_spell.proofs.sub_types.write_sub_types.Given as goal

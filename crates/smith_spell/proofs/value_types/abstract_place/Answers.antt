@@ -1,4 +1,4 @@
-use Rattle.std.proofs.Common.{◌+◌, refl, arith}
+use Rattle.smith_spell.proofs.Common.{arith, refl, ◌+◌}
 use Rattle.smith_spell.proofs.ListedTypeLemmas.{collected_at, offered_from_listed}
 use Rattle.smith_spell.proofs.value_types.abstract_place.Goals as goal
 

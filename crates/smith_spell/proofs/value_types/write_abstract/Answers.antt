@@ -1,6 +1,4 @@
-use Rattle.std.proofs.lemmas.Result.{on_ok_weaker}
-use Rattle.smith_draw_types.specs.Choices.{enabled}
-use Rattle.smith_draw_types.specs.ValueTypes.{abstract_heap_types}
+use Rattle.smith_spell.proofs.Common.{abstract_heap_types, enabled, on_ok_weaker}
 use Rattle.smith_spell.proofs.WrittenTypeLemmas.{place_within, place_written}
 use Rattle.smith_spell.proofs.value_types.write_abstract.Goals as goal
 

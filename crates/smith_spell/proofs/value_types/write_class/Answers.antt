@@ -1,5 +1,4 @@
-use Rattle.std.proofs.lemmas.Result.{on_ok_weaker}
-use Rattle.smith_draw_types.specs.Choices.{enabled}
+use Rattle.smith_spell.proofs.Common.{enabled, on_ok_weaker}
 use Rattle.smith_draw_types.specs.ValueTypes.{value_classes}
 use Rattle.smith_draw_types.specs.Spelling.{class_of}
 use Rattle.smith_spell.proofs.WrittenTypeLemmas.{place_within, place_written}

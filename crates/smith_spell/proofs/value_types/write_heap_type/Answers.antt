@@ -1,5 +1,4 @@
-use Rattle.std.proofs.Common.{◌<◌, arith}
-use Rattle.std.proofs.lemmas.Result.{on_ok_weaker}
+use Rattle.smith_spell.proofs.Common.{arith, on_ok_weaker, ◌<◌}
 use Rattle.smith_spell.proofs.WrittenTypeLemmas.{abstract_written, index_written}
 use Rattle.smith_spell.proofs.value_types.write_heap_type.Goals as goal
 

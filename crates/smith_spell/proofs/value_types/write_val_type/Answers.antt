@@ -1,4 +1,4 @@
-use Rattle.std.proofs.lemmas.Result.{on_ok_weaker}
+use Rattle.smith_spell.proofs.Common.{on_ok_weaker}
 use Rattle.smith_spell.proofs.WrittenTypeLemmas.{reference_written, number_written}
 use Rattle.smith_spell.proofs.value_types.write_val_type.Goals as goal
 

@@ -1,6 +1,4 @@
-use Rattle.std.proofs.Common.{◌≡◌, ◌-◌, length, refl, arith}
-use Rattle.std.proofs.lemmas.Result.{on_ok_weaker}
-use Rattle.smith_draw_types.specs.Spelling.{SpellsValType}
+use Rattle.smith_spell.proofs.Common.{arith, length, on_ok_weaker, refl, SpellsValType, ◌-◌, ◌≡◌}
 use Rattle.smith_spell.proofs.WritingLoop.{leads_listed, listed_written}
 use Rattle.smith_spell.proofs.value_types.write_val_types.Goals as goal
 

@@ -1,6 +1,4 @@
-use Rattle.std.proofs.Common.{◌-◌, drop}
-use Rattle.smith_bytes.specs.Spelling.{Listed}
-use Rattle.smith_draw_types.specs.Spelling.{SpellsValType}
+use Rattle.smith_spell.proofs.Common.{drop, Listed, SpellsValType, ◌-◌}
 use Rattle.smith_spell.proofs.WritingLoop.{Leads}
 use Rattle.smith_spell.proofs.value_types.write_val_types.Given as goal
 

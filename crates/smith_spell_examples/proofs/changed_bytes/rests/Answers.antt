@@ -1,13 +1,14 @@
-use Rattle.std.proofs.Common.{arith, ◌≡◌, ℕ, ◌+◌, ◌-◌, ◌%◌, true, false, List, [], ◌∷◌, refl}
+use Rattle.smith_spell_examples.proofs.Common.{[], arith, default_config, digit_count, false, Joined, List, Listed, refl, SpellsAnyByte}
+use Rattle.smith_spell_examples.proofs.Common.{SpellsBool, SpellsBytes, SpellsGlobal, SpellsNumber, true, ℕ, ◌%◌, ◌+◌, ◌∷◌, ◌≡◌}
+use Rattle.std.proofs.Common.{◌-◌}
 use Rattle.std.specs.Prelude.{pos}
 use Rattle.std.specs.Int.{cast_signed, w32}
-use Rattle.smith_bytes.specs.Draws.{big_endian, little_endian, digit_count}
-use Rattle.smith_bytes.specs.Spelling.{SpellsBool, SpellsNumber, SpellsAnyByte, Joined, Listed, SpellsNone}
-use Rattle.smith_config.specs.Config.{default_config}
+use Rattle.smith_bytes.specs.Draws.{big_endian, little_endian}
+use Rattle.smith_bytes.specs.Spelling.{SpellsNone}
 use Rattle.smith_draw_types.specs.Spelling.{SpellsUnshared}
 use Rattle.smith_draw_types.specs.SpelledConstants.{SpellsI32}
 use Rattle.smith_spell.specs.Spelling.{SpellsRest, SpellsSegments}
-use Rattle.smith_draw_types.specs.SpelledParts.{SpellsGlobal, SpellsBytes, SpellsNoStart}
+use Rattle.smith_draw_types.specs.SpelledParts.{SpellsNoStart}
 use Rattle.smith_spell_examples.proofs.SpelledExamples.{one_odd, bool_first, any_first, digit_first, this_first, word_first}
 use Rattle.smith_spell_examples.proofs.SpelledExamples.{without_nothing, global_parts, opened}
 use Rattle.smith_spell_examples.proofs.changed_bytes.rests.Goals as goal

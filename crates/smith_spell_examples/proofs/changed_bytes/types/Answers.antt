@@ -1,7 +1,8 @@
-use Rattle.std.proofs.Common.{rules, ◌≡◌, ℕ, List, refl, [], ◌∷◌}
-use Rattle.smith_bytes.specs.Draws.{bool_at, range_at, ratio_at, digit_count}
+use Rattle.smith_spell_examples.proofs.Common.{[], alone, default_config, digit_count, GroupedTypes, GroupsFit, is_tag_type}
+use Rattle.smith_spell_examples.proofs.Common.{is_unshared_function, List, Listed, one_function_type, refl, rules, space_of, SpellsGroups}
+use Rattle.smith_spell_examples.proofs.Common.{SpellsMember, with_non_nullable, ℕ, ◌∷◌, ◌≡◌}
+use Rattle.smith_bytes.specs.Draws.{bool_at, range_at, ratio_at}
 use Rattle.smith_bytes.specs.Growth.{grow_at}
-use Rattle.smith_bytes.specs.Spelling.{Listed}
 use Rattle.smith_draw_types.specs.Choices.{chosen_at}
 use Rattle.smith_draw_types.specs.Grounding.{is_grounded}
 use Rattle.smith_draw_types.specs.ValueTypes.{sharedness_at, abstract_heap_type_at, type_index_at, heap_type_at, granted_at, ref_type_at}
@@ -12,15 +13,9 @@ use Rattle.smith_draw_types.specs.Offered.{ancestors}
 use Rattle.smith_draw_types.specs.SubTypes.{supertypes, root_type_at, sub_type_of_at, sub_type_at}
 use Rattle.smith_draw_types.specs.RecGroups.{types_at, more_types_at, least_types_at, rec_group_at, clone_rec_group_at, new_group_at}
 use Rattle.smith_draw_types.specs.RecGroups.{types_until_at}
-use Rattle.smith_draw_types.specs.Spelling.{GroupsFit, SpellsGroups}
-use Rattle.smith_config.specs.Config.{default_config}
 use Rattle.smith_config.specs.Sanitized.{IsSanitized}
-use Rattle.smith_config.specs.Shapes.{space_of}
-use Rattle.smith_types.specs.GroupedTypes.{GroupedTypes}
-use Rattle.smith_draw_types.specs.TypeUses.{is_tag_type, is_unshared_function}
-use Rattle.smith_spell.specs.Spelling.{SpellsMember}
-use Rattle.smith_config.specs.ExampleMembers.{alone, one_function_type, array_and_struct, struct_and_holder, taking_a_number}
-use Rattle.smith_config.specs.ExampleMembers.{one_of_each_without_gc, with_non_nullable}
+use Rattle.smith_config.specs.ExampleMembers.{array_and_struct, struct_and_holder, taking_a_number}
+use Rattle.smith_config.specs.ExampleMembers.{one_of_each_without_gc}
 use Rattle.smith_spell.proofs.FamilyFitLemmas.{family_fits}
 use Rattle.smith_spell_examples.proofs.SpellExamples.{holder_in_family}
 use Rattle.smith_spell_examples.proofs.SpelledExamples.{joined, any_byte, one_odd, bool_first, any_first, place_alone, without_nothing}

@@ -1,15 +1,13 @@
-use Rattle.std.proofs.Common.{rules, arith, [], ◌∷◌, take, refl, inl, inr, false}
-use Rattle.std.proofs.lemmas.List.Elements.{All-from_recursion, All-head}
-use Rattle.smith_syntax.specs.declared.value_type.AbstractHeapType.TheVariants as heap
-use Rattle.smith_syntax.specs.declared.value_type.HeapType.TheVariants.{Concrete}
-use Rattle.smith_syntax.specs.declared.value_type.ValType.TheVariants.{I32, Ref}
-use Rattle.smith_syntax.specs.declared.composite_type.StorageType.TheVariants.{Val}
-use Rattle.smith_types.specs.ExampleTypes.{plain, constant, not_null}
+use Rattle.smith_spell_examples.proofs.Common.{[], All-from_recursion, alone, arith, Concrete, default_config, false, final, I32, inl, inr}
+use Rattle.smith_spell_examples.proofs.Common.{not_null, plain, Ref, refl, rules, struct_of_bytes, struct_with, Val, with_non_nullable, ◌∷◌}
+use Rattle.std.proofs.Common.{take}
+use Rattle.std.proofs.lemmas.List.Elements.{All-head}
+use Rattle.smith_types.specs.Syntax.value_type.AbstractHeapType.TheVariants as heap
+use Rattle.smith_types.specs.ExampleTypes.{constant}
 use Rattle.smith_types.specs.Entities.{IsFuncTypeIndex}
-use Rattle.smith_config.specs.Config.{default_config}
 use Rattle.smith_spell.specs.Family.{IsMemberType, IsMemberField}
-use Rattle.smith_config.specs.ExampleMembers.{final, alone, field_of, struct_of, struct_of_bytes, struct_with, taking_a_number}
-use Rattle.smith_config.specs.ExampleMembers.{one_of_each_without_gc, with_non_nullable}
+use Rattle.smith_config.specs.ExampleMembers.{field_of, struct_of, taking_a_number}
+use Rattle.smith_config.specs.ExampleMembers.{one_of_each_without_gc}
 use Rattle.smith_types.proofs.EachPlaceLemmas.{each_place}
 use Rattle.smith_spell_examples.proofs.SpellExamples.{function_in_family, holder_in_family}
 use Rattle.smith_spell_examples.proofs.GroundedExamples.{none_grounded}

@@ -1,7 +1,6 @@
-use Rattle.std.proofs.Common.{◌≡◌, true, false, refl, inl, inr, arith}
-use Rattle.smith_syntax.specs.declared.value_type.AbstractHeapType.TheVariants as heap
-use Rattle.smith_config.specs.ExampleMembers.{bytes_array, struct_of_bytes, struct_with}
-use Rattle.smith_types.specs.ExampleTypes.{plain}
+use Rattle.smith_spell_examples.proofs.Common.{arith, false, inl, inr, plain, refl, struct_of_bytes, struct_with, true, ◌≡◌}
+use Rattle.smith_types.specs.Syntax.value_type.AbstractHeapType.TheVariants as heap
+use Rattle.smith_config.specs.ExampleMembers.{bytes_array}
 use Rattle.smith_spell_examples.proofs.GroundedExamples.{grounds_itself, grounds_above}
 use Rattle.smith_spell_examples.proofs.family.nullability.Goals as goal
 

@@ -1,5 +1,4 @@
-use Rattle.std.proofs.Common.{refl}
-use Rattle.smith_draw_types.specs.TypeUses.{is_tag_type, is_unshared_function}
+use Rattle.smith_spell_examples.proofs.Common.{is_tag_type, is_unshared_function, refl}
 use Rattle.smith_spell_examples.proofs.func_types.chosen_types.Goals as goal
 
 pub returns-clause-functions_alone : goal.returns-clause-functions_alone

@@ -1,4 +1,5 @@
-use Rattle.std.proofs.Common.{arith, ◌≡◌, ◌≤◌}
+use Rattle.smith_spell_examples.proofs.Common.{arith, ◌≡◌}
+use Rattle.std.proofs.Common.{◌≤◌}
 use Rattle.smith_bytes.specs.declared.error.Count.TheVariants as counts
 use Rattle.smith_spell_examples.proofs.spell_answers.not_spelled.Goals as goal
 

@@ -1,4 +1,4 @@
-use Rattle.std.proofs.Common.{◌≡◌}
+use Rattle.smith_spell_examples.proofs.Common.{◌≡◌}
 use Rattle.smith_bytes.specs.declared.error.Count.TheVariants as counts
 use Rattle.smith_spell_examples.proofs.spell_answers.refused.Goals as goal
 

@@ -1,8 +1,5 @@
-use Rattle.std.proofs.Common.{◌≡◌, [], ◌∷◌, ◌++◌, refl, ap, ◌∙◌}
-use Rattle.smith_bytes.specs.Spelling.{Listed}
-use Rattle.smith_bytes.specs.Draws.{digit_count}
-use Rattle.smith_draw_types.specs.Spelling.{SpellsGroups}
-use Rattle.smith_spell.specs.Spelling.{SpellsMember}
+use Rattle.smith_spell_examples.proofs.Common.{[], ap, digit_count, Listed, refl, SpellsGroups, SpellsMember, ◌∙◌, ◌∷◌, ◌≡◌}
+use Rattle.std.proofs.Common.{◌++◌}
 use Rattle.smith_spell_examples.proofs.SpelledExamples.{joined, stop, any_byte, one_function_spelled}
 use Rattle.smith_spell_examples.proofs.SpellExamples.{nothing_spellable, function_spellable}
 use Rattle.smith_spell_examples.proofs.spell_answers.spelled.Goals as goal

@@ -1,11 +1,7 @@
-use Rattle.std.proofs.Common.{true, false, [], ◌∷◌, refl}
-use Rattle.smith_bytes.specs.Draws.{digit_count}
-use Rattle.smith_bytes.specs.Spelling.{SpellsNothing, Joined}
-use Rattle.smith_syntax.specs.declared.value_type.AbstractHeapType.TheVariants.{Func}
-use Rattle.smith_draw_types.specs.Choices.{enabled}
+use Rattle.smith_spell_examples.proofs.Common.{[], digit_count, enabled, false, Joined, refl, SpellsNothing, SpellsPlace, SpellsValType}
+use Rattle.smith_spell_examples.proofs.Common.{true, with_non_nullable, ◌∷◌}
+use Rattle.smith_types.specs.Syntax.value_type.AbstractHeapType.TheVariants.{Func}
 use Rattle.smith_draw_types.specs.ValueTypes.{abstract_heap_types}
-use Rattle.smith_draw_types.specs.Spelling.{SpellsPlace, SpellsValType}
-use Rattle.smith_config.specs.ExampleMembers.{with_non_nullable}
 use Rattle.smith_spell_examples.proofs.SpelledExamples.{joined, go, stop, one_odd, zero_even, place_first, without_nothing, opened}
 use Rattle.smith_spell_examples.proofs.SpelledExamples.{after_reference}
 use Rattle.smith_spell_examples.proofs.spelled_types.nullability.Goals as goal

@@ -1,6 +1,6 @@
-use Rattle.std.proofs.Common.{◌≡◌, ℕ, zero, suc, Some, [], ◌∷◌, refl, subst}
+use Rattle.smith_spell_examples.proofs.Common.{[], digit_count, refl, subst, ℕ, ◌∷◌, ◌≡◌}
+use Rattle.std.proofs.Common.{Some, suc, zero}
 use Rattle.std.specs.Prelude.{slice_get}
-use Rattle.smith_bytes.specs.Draws.{digit_count}
 use Rattle.smith_spell_examples.proofs.spelled_types.places.Goals as goal
 
 pub returns-clause-a_place : goal.returns-clause-a_place

@@ -1,19 +1,15 @@
-use Rattle.std.proofs.Common.{rules, arith, ◌≡◌, ◌<◌, true, false, List, [], ◌∷◌, ap, sym, subst, ◌∙◌, refl, inl, inr}
+use Rattle.smith_spell_examples.proofs.Common.{[], All-from_recursion, alone, ap, arith, Concrete, default_config, digit_count, false}
+use Rattle.smith_spell_examples.proofs.Common.{final, GroupedTypes, GroupsFit, inl, inr, List, Listed, not_null, one_function_type, plain}
+use Rattle.smith_spell_examples.proofs.Common.{Ref, refl, rules, space_of, SpellsFuncType, SpellsGroup, SpellsGroups, SpellsNothing}
+use Rattle.smith_spell_examples.proofs.Common.{SpellsNumber, SpellsSubTypes, struct_of_bytes, struct_with, subst, SubType, sym, true}
+use Rattle.smith_spell_examples.proofs.Common.{with_non_nullable, ◌<◌, ◌∙◌, ◌∷◌, ◌≡◌}
 use Rattle.std.proofs.lemmas.List.{append-nil}
-use Rattle.std.proofs.lemmas.List.Elements.{All-head, All-nil, All-from_recursion}
-use Rattle.smith_bytes.specs.Draws.{digit_count}
-use Rattle.smith_bytes.specs.Spelling.{SpellsNothing, SpellsNumber, Listed}
-use Rattle.smith_types.specs.GroupedTypes.{GroupedTypes}
-use Rattle.smith_syntax.specs.declared.value_type.AbstractHeapType.TheVariants as heap
-use Rattle.smith_syntax.specs.declared.value_type.HeapType.TheVariants.{Concrete}
-use Rattle.smith_syntax.specs.declared.value_type.ValType.TheVariants.{Ref}
-use Rattle.smith_types.specs.ExampleTypes.{plain, nullable, not_null}
-use Rattle.smith_syntax.specs.declared.composite_type.SubType.{SubType}
-use Rattle.smith_config.specs.Config.{default_config}
-use Rattle.smith_config.specs.Shapes.{space_of}
-use Rattle.smith_draw_types.specs.Spelling.{RefersTo, ReferBack, GroupsFit, SpellsGroup, SpellsGroups, SpellsSubTypes, SpellsFuncType}
-use Rattle.smith_config.specs.ExampleMembers.{final, alone, one_function_type, struct_of, struct_of_bytes, struct_with, bytes_array}
-use Rattle.smith_config.specs.ExampleMembers.{plain_function, with_non_nullable}
+use Rattle.std.proofs.lemmas.List.Elements.{All-head, All-nil}
+use Rattle.smith_types.specs.Syntax.value_type.AbstractHeapType.TheVariants as heap
+use Rattle.smith_types.specs.ExampleTypes.{nullable}
+use Rattle.smith_draw_types.specs.Spelling.{ReferBack, RefersTo}
+use Rattle.smith_config.specs.ExampleMembers.{bytes_array, struct_of}
+use Rattle.smith_config.specs.ExampleMembers.{plain_function}
 use Rattle.smith_spell_examples.proofs.GroundedExamples.{grounds_itself, none_grounded}
 use Rattle.smith_spell_examples.proofs.SpelledExamples.{joined, go, stop, bool_first, digit_first, without_nothing, opened}
 use Rattle.smith_spell_examples.proofs.spelled_types.spaces.Goals as goal

@@ -1,7 +1,5 @@
-use Rattle.std.proofs.Common.{arith, ◌<◌, [], ◌∷◌, refl}
-use Rattle.smith_bytes.specs.Draws.{digit_count}
-use Rattle.smith_bytes.specs.Spelling.{SpellsNothing, SpellsNumber}
-use Rattle.smith_draw_types.specs.Spelling.{SpellsField, SpellsGroup, SpellsSubTypes}
+use Rattle.smith_spell_examples.proofs.Common.{[], arith, digit_count, refl, SpellsField, SpellsGroup, SpellsNothing, SpellsNumber}
+use Rattle.smith_spell_examples.proofs.Common.{SpellsSubTypes, ◌<◌, ◌∷◌}
 use Rattle.smith_spell_examples.proofs.SpelledExamples.{joined, go, stop, no_supertype, not_shared, digit_first, refused_first}
 use Rattle.smith_spell_examples.proofs.SpelledExamples.{without_nothing, opened}
 use Rattle.smith_spell_examples.proofs.spelled_types.types.Goals as goal

@@ -1,9 +1,7 @@
-use Rattle.std.proofs.Common.{true, false, [], ◌∷◌, refl}
-use Rattle.smith_bytes.specs.Draws.{digit_count}
-use Rattle.smith_bytes.specs.Spelling.{SpellsBool, SpellsNumber, SpellsNothing, Listed, Each}
-use Rattle.smith_draw_types.specs.Spelling.{class_of, SpellsPlace, SpellsField, SpellsValType, SpellsFuncType, SpellsStructType}
-use Rattle.smith_syntax.specs.declared.value_type.ValType.TheVariants.{I32}
-use Rattle.smith_draw_types.specs.Choices.{enabled}
+use Rattle.smith_spell_examples.proofs.Common.{[], digit_count, enabled, false, I32, Listed, refl, SpellsBool, SpellsField, SpellsFuncType}
+use Rattle.smith_spell_examples.proofs.Common.{SpellsNothing, SpellsNumber, SpellsPlace, SpellsValType, true, ◌∷◌}
+use Rattle.smith_bytes.specs.Spelling.{Each}
+use Rattle.smith_draw_types.specs.Spelling.{class_of, SpellsStructType}
 use Rattle.smith_draw_types.specs.ValueTypes.{value_classes}
 use Rattle.smith_config.specs.ExampleMembers.{single_results}
 use Rattle.smith_spell_examples.proofs.SpelledExamples.{joined, go, stop, one_odd, bool_first, digit_first, place_first, without_nothing}

@@ -1,10 +1,7 @@
-use Rattle.std.proofs.Common.{[], ◌∷◌, refl}
-use Rattle.smith_bytes.specs.Spelling.{Listed, Each}
-use Rattle.smith_bytes.specs.Draws.{digit_count}
-use Rattle.smith_draw_types.specs.Spelling.{SpellsGroups, SpellsGroup, SpellsSubTypes, SpellsFuncType, SpellsValType, SpellsField}
+use Rattle.smith_spell_examples.proofs.Common.{[], digit_count, is_tag_type, is_unshared_function, Listed, refl, SpellsField}
+use Rattle.smith_spell_examples.proofs.Common.{SpellsFuncType, SpellsGroup, SpellsGroups, SpellsMember, SpellsSubTypes, SpellsValType, ◌∷◌}
+use Rattle.smith_bytes.specs.Spelling.{Each}
 use Rattle.smith_draw_types.specs.Spelling.{SpellsStructType}
-use Rattle.smith_draw_types.specs.TypeUses.{is_tag_type, is_unshared_function}
-use Rattle.smith_spell.specs.Spelling.{SpellsMember}
 use Rattle.smith_spell_examples.proofs.SpelledExamples.{joined, go, stop, any_byte, no_clone, one_function_spelled}
 use Rattle.smith_spell_examples.proofs.spelling.members.Goals as goal
 

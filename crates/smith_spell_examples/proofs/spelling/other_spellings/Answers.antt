@@ -1,5 +1,4 @@
-use Rattle.std.proofs.Common.{◌≡◌, ◌%◌, refl, ap, ◌∙◌}
-use Rattle.smith_draw_types.specs.Spelling.{SpellsGroups}
+use Rattle.smith_spell_examples.proofs.Common.{ap, refl, SpellsGroups, ◌%◌, ◌∙◌, ◌≡◌}
 use Rattle.smith_spell_examples.proofs.SpelledExamples.{stop}
 use Rattle.smith_spell_examples.proofs.spelling.other_spellings.Goals as goal
 

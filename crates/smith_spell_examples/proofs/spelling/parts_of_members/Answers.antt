@@ -1,7 +1,4 @@
-use Rattle.std.proofs.Common.{[], ◌∷◌, refl}
-use Rattle.smith_bytes.specs.Spelling.{Listed}
-use Rattle.smith_bytes.specs.Draws.{digit_count}
-use Rattle.smith_draw_types.specs.TypeUses.{is_tag_type, is_unshared_function}
+use Rattle.smith_spell_examples.proofs.Common.{[], digit_count, is_tag_type, is_unshared_function, Listed, refl, ◌∷◌}
 use Rattle.smith_spell_examples.proofs.SpelledExamples.{joined, go, stop, one_odd, bool_first, place_first}
 use Rattle.smith_spell_examples.proofs.spelling.parts_of_members.Goals as goal
 

@@ -1,9 +1,5 @@
-use Rattle.std.proofs.Common.{arith, ◌≡◌, [], ◌∷◌, refl}
+use Rattle.smith_spell_examples.proofs.Common.{[], arith, default_config, digit_count, Listed, refl, SpellsBytes, SpellsGlobal, ◌∷◌, ◌≡◌}
 use Rattle.std.specs.Prelude.{pos}
-use Rattle.smith_bytes.specs.Draws.{digit_count}
-use Rattle.smith_bytes.specs.Spelling.{Listed}
-use Rattle.smith_config.specs.Config.{default_config}
-use Rattle.smith_draw_types.specs.SpelledParts.{SpellsGlobal, SpellsBytes}
 use Rattle.smith_spell_examples.proofs.SpelledExamples.{joined, go, stop, one_odd, bool_first, digit_first, this_first, without_nothing}
 use Rattle.smith_spell_examples.proofs.SpelledExamples.{not_shared, global_parts}
 use Rattle.smith_spell_examples.proofs.spelling.parts_of_rests.Goals as goal

@@ -1,8 +1,5 @@
-use Rattle.std.proofs.Common.{[], ◌∷◌, refl}
-use Rattle.smith_bytes.specs.Spelling.{Listed}
-use Rattle.smith_bytes.specs.Draws.{digit_count}
+use Rattle.smith_spell_examples.proofs.Common.{[], digit_count, Listed, refl, SpellsBytes, SpellsGlobal, ◌∷◌}
 use Rattle.smith_spell.specs.Spelling.{SpellsRest}
-use Rattle.smith_draw_types.specs.SpelledParts.{SpellsGlobal, SpellsBytes}
 use Rattle.smith_spell_examples.proofs.SpelledExamples.{joined, go, stop, any_byte}
 use Rattle.smith_spell_examples.proofs.spelling.rests.Goals as goal
 

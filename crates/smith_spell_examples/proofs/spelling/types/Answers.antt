@@ -1,5 +1,4 @@
-use Rattle.std.proofs.Common.{arith, ◌<◌, [], ◌∷◌, refl}
-use Rattle.smith_bytes.specs.Draws.{digit_count}
+use Rattle.smith_spell_examples.proofs.Common.{[], arith, digit_count, refl, ◌<◌, ◌∷◌}
 use Rattle.smith_spell_examples.proofs.SpelledExamples.{joined, refused_first, no_clone, not_shared}
 use Rattle.smith_spell_examples.proofs.spelling.types.Goals as goal
 

@@ -1,6 +1,5 @@
-use Rattle.std.proofs.Common.{◌≡◌, drop}
+use Rattle.smith_types.proofs.Common.{drop, flat_map, ◌≡◌}
 use Rattle.smith_types.specs.EntitySpaces.{spaces_in, with_entities, entities_of}
-use Rattle.std.specs.List.{flat_map}
 use Rattle.smith_types.proofs.entity_spaces.push_groups.Given as goal
 
 abbrev pub invariant-loop-group : goal.invariant-loop-group

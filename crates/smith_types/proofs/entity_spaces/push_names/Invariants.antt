@@ -1,4 +1,5 @@
-use Rattle.std.proofs.Common.{◌≡◌, drop, map}
+use Rattle.smith_types.proofs.Common.{drop, ◌≡◌}
+use Rattle.std.proofs.Common.{map}
 use Rattle.smith_types.specs.EntitySpaces.{spaces_in, with_entities}
 use Rattle.smith_types.proofs.entity_spaces.push_names.Given as goal
 

@@ -1,4 +1,4 @@
-use Rattle.std.proofs.Common.{◌+◌, ◌-◌, length}
+use Rattle.smith_types.proofs.Common.{length, ◌+◌, ◌-◌}
 use Rattle.smith_types.specs.Families.{AreFamilies}
 use Rattle.smith_types.proofs.family.extend_families.Given as goal
 

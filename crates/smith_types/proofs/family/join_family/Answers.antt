@@ -1,4 +1,4 @@
-use Rattle.std.proofs.Common.{◌<◌, length, refl, arith}
+use Rattle.smith_types.proofs.Common.{arith, length, refl, ◌<◌}
 use Rattle.smith_types.proofs.FamilyLemmas.{families_same, families_linked, family_room, supertype_before}
 use Rattle.smith_types.proofs.family.join_family.Goals as goal
 

@@ -1,4 +1,4 @@
-use Rattle.std.proofs.Common.{arith}
+use Rattle.smith_types.proofs.Common.{arith}
 use Rattle.smith_types.proofs.FuncGroundLemmas.{type_noted}
 use Rattle.smith_types.proofs.func_grounds.note_type.Goals as goal
 

@@ -1,4 +1,4 @@
-use Rattle.std.proofs.Common.{◌∙◌}
+use Rattle.smith_types.proofs.Common.{◌∙◌}
 use Rattle.smith_types.specs.declared.ground.Ground.{Ground}
 use Rattle.smith_types.proofs.GroundLemmas.{grounds_closed, grounds_more}
 use Rattle.smith_types.proofs.MarkLemmas.{said_last}

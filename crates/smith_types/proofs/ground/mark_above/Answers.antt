@@ -1,5 +1,4 @@
-use Rattle.std.proofs.Common.{refl, sym, ◌∙◌, subst, arith, true}
-use Rattle.std.proofs.lemmas.Option.{slice_get-get_or}
+use Rattle.smith_types.proofs.Common.{arith, refl, slice_get-get_or, subst, sym, true, ◌∙◌}
 use Rattle.smith_types.specs.declared.ground.Ground.{Ground}
 use Rattle.smith_types.specs.Grounds.{IsMarking}
 use Rattle.smith_types.proofs.MarkLemmas.{said_is, steps_less, marking_begins, marking_goes_on, marking_stops, marking_ends}

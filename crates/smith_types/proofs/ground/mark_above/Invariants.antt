@@ -1,5 +1,4 @@
-use Rattle.std.proofs.Common.{◌≡◌}
-use Rattle.std.specs.Prelude.{vec_capacity}
+use Rattle.smith_types.proofs.Common.{vec_capacity, ◌≡◌}
 use Rattle.smith_types.specs.Grounds.{IsMarking}
 use Rattle.smith_types.proofs.MarkLemmas.{steps_left}
 use Rattle.smith_types.proofs.ground.mark_above.Given as goal

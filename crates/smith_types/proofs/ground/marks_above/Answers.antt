@@ -1,5 +1,4 @@
-use Rattle.std.proofs.Common.{◌≡◌, ◌∙◌, true, false, get_or, refl, sym, subst}
-use Rattle.std.proofs.lemmas.Option.{same_Some}
+use Rattle.smith_types.proofs.Common.{false, get_or, refl, same_Some, subst, sym, true, ◌∙◌, ◌≡◌}
 use Rattle.smith_types.specs.declared.ground.Ground.{Ground}
 use Rattle.smith_types.specs.Grounds.{below_at}
 use Rattle.smith_types.proofs.MarkLemmas.{said_is, not_off}

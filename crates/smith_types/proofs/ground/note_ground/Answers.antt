@@ -1,6 +1,4 @@
-use Rattle.std.proofs.Common.{◌≡◌, ◌+◌, ◌∙◌, refl, sym, ap, length, arith, ◌++◌, ◌∷◌, []}
-use Rattle.std.proofs.lemmas.Option.{slice_get_within}
-use Rattle.std.proofs.lemmas.List.{length-append}
+use Rattle.smith_types.proofs.Common.{[], ap, arith, length, length-append, refl, slice_get_within, sym, ◌++◌, ◌+◌, ◌∙◌, ◌∷◌, ◌≡◌}
 use Rattle.smith_types.proofs.GroundLemmas.{marks_unchanged}
 use Rattle.smith_types.proofs.MarkedLemmas.{marked_unchanged}
 use Rattle.smith_types.proofs.ground.note_ground.Goals as goal

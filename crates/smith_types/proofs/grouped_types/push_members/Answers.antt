@@ -1,4 +1,4 @@
-use Rattle.std.proofs.Common.{ap, rules}
+use Rattle.smith_types.proofs.Common.{ap, rules}
 use Rattle.smith_types.proofs.GroupsAddedLemmas.{not_following}
 use Rattle.smith_types.proofs.grouped_types.push_members.Goals as goal
 

@@ -1,4 +1,4 @@
-use Rattle.std.proofs.Common.{◌∙◌}
+use Rattle.smith_types.proofs.Common.{◌∙◌}
 use Rattle.smith_types.proofs.GroupsAddedLemmas.{groups_room, groups_refused, groups_turn}
 use Rattle.smith_types.proofs.grouped_types.type_space_of.Goals as goal
 

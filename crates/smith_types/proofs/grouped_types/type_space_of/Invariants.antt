@@ -1,4 +1,4 @@
-use Rattle.std.proofs.Common.{◌≡◌, take}
+use Rattle.smith_types.proofs.Common.{take, ◌≡◌}
 use Rattle.smith_types.specs.Groups.{space_of}
 use Rattle.smith_types.proofs.grouped_types.type_space_of.Given as goal
 

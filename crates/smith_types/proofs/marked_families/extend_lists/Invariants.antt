@@ -1,5 +1,4 @@
-use Rattle.std.proofs.Common.{List, ◌+◌, ◌-◌, length}
-use Rattle.smith_syntax.specs.declared.composite_type.SubType.{SubType}
+use Rattle.smith_types.proofs.Common.{length, List, SubType, ◌+◌, ◌-◌}
 use Rattle.smith_types.specs.declared.ground.Ground.{Ground}
 use Rattle.smith_types.specs.MarkedFamilies.{AreFamilyLists}
 use Rattle.smith_types.proofs.marked_families.extend_lists.Given as goal

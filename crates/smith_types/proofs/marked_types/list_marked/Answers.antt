@@ -1,6 +1,6 @@
-use Rattle.std.proofs.Common.{◌≡◌, ◌∙◌, ◌<◌, ◌++◌, ◌∷◌, [], false, get_or, ℕ, List, refl, sym, ap, length, arith}
-use Rattle.std.specs.Prelude.{if◌then◌else◌, slice_get, Some}
-use Rattle.std.proofs.lemmas.Option.{slice_get-get_or}
+use Rattle.smith_types.proofs.Common.{[], ap, arith, false, get_or, if◌then◌else◌, length, List, refl, slice_get, slice_get-get_or, sym, ℕ}
+use Rattle.smith_types.proofs.Common.{◌++◌, ◌<◌, ◌∙◌, ◌∷◌, ◌≡◌}
+use Rattle.std.specs.Prelude.{Some}
 use Rattle.smith_types.specs.declared.ground.Ground.{Ground}
 use Rattle.smith_types.specs.Grounds.{is_marked}
 use Rattle.smith_types.proofs.MarkedLemmas.{one_with, marked_read}

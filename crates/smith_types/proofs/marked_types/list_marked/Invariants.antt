@@ -1,5 +1,5 @@
-use Rattle.std.proofs.Common.{◌≡◌, ◌≤◌}
-use Rattle.std.specs.Prelude.{vec_len, vec_capacity}
+use Rattle.smith_types.proofs.Common.{vec_capacity, ◌≡◌, ◌≤◌}
+use Rattle.std.specs.Prelude.{vec_len}
 use Rattle.smith_types.specs.Grounds.{is_marked, indices_where}
 use Rattle.smith_types.proofs.marked_types.list_marked.Given as goal
 

@@ -1,4 +1,4 @@
-use Rattle.std.proofs.Common.{◌↔◌, drop}
+use Rattle.smith_types.proofs.Common.{drop, ◌↔◌}
 use Rattle.smith_types.specs.Matching.{AreBelow}
 use Rattle.smith_types.proofs.matching.are_below.Given as goal
 

@@ -1,4 +1,4 @@
-use Rattle.std.proofs.Common.{arith}
+use Rattle.smith_types.proofs.Common.{arith}
 use Rattle.smith_types.proofs.LengthLemmas.{AreFieldsMatched-length}
 use Rattle.smith_types.proofs.matching.fields_are_matched.Goals as goal
 

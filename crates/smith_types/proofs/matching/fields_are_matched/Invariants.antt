@@ -1,4 +1,4 @@
-use Rattle.std.proofs.Common.{◌↔◌, drop}
+use Rattle.smith_types.proofs.Common.{drop, ◌↔◌}
 use Rattle.smith_types.specs.Matching.{AreFieldsMatched}
 use Rattle.smith_types.proofs.matching.fields_are_matched.Given as goal
 

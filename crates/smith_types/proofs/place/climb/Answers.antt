@@ -1,4 +1,4 @@
-use Rattle.std.proofs.Common.{arith}
+use Rattle.smith_types.proofs.Common.{arith}
 use Rattle.smith_types.proofs.PlaceLemmas.{place_at, climb_declared, climb_jumped}
 use Rattle.smith_types.proofs.place.climb.Goals as goal
 

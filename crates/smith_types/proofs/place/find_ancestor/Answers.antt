@@ -1,4 +1,4 @@
-use Rattle.std.proofs.Common.{◌≡◌, ◌≤◌, get_or, subst, arith}
+use Rattle.smith_types.proofs.Common.{arith, get_or, subst, ◌≡◌, ◌≤◌}
 use Rattle.smith_types.specs.GroupedTypes.{HasDepth}
 use Rattle.smith_types.specs.Subtyping.{itself}
 use Rattle.smith_types.proofs.GrowthLemmas.{IsBelow-trans}

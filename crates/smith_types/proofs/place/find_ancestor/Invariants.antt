@@ -1,5 +1,4 @@
-use Rattle.std.proofs.Common.{ℕ, ◌<◌, ◌≤◌, length}
-use Rattle.smith_syntax.specs.declared.value_type.HeapType.TheVariants.{Concrete}
+use Rattle.smith_types.proofs.Common.{Concrete, length, ℕ, ◌<◌, ◌≤◌}
 use Rattle.smith_types.specs.GroupedTypes.{HasDepth}
 use Rattle.smith_types.specs.Subtyping.{IsBelow}
 use Rattle.smith_types.proofs.place.find_ancestor.Given as goal

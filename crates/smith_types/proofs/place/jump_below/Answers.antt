@@ -1,4 +1,4 @@
-use Rattle.std.proofs.Common.{arith}
+use Rattle.smith_types.proofs.Common.{arith}
 use Rattle.smith_types.proofs.PlaceLemmas.{jumps_known, IsLink-itself}
 use Rattle.smith_types.proofs.place.jump_below.Goals as goal
 

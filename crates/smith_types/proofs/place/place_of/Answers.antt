@@ -1,4 +1,4 @@
-use Rattle.std.proofs.Common.{arith, rules}
+use Rattle.smith_types.proofs.Common.{arith, rules}
 use Rattle.smith_types.proofs.PlaceLemmas.{place_above, place_below, place_alone, counts_more, counts_room}
 use Rattle.smith_types.proofs.place.place_of.Goals as goal
 

@@ -1,4 +1,4 @@
-use Rattle.std.proofs.Common.{rules}
+use Rattle.smith_types.proofs.Common.{rules}
 use Rattle.smith_types.proofs.WalkLemmas.{decides_at, bottom_read, under_read, reaches_read}
 use Rattle.smith_types.proofs.subtyping.heap_type_is_below.Goals as goal
 

@@ -1,4 +1,4 @@
-use Rattle.std.proofs.Common.{◌≡◌, ◌∙◌, sym, ap, arith, ◌++◌, ◌∷◌, [], length}
+use Rattle.smith_types.proofs.Common.{[], ap, arith, length, sym, ◌++◌, ◌∙◌, ◌∷◌, ◌≡◌}
 use Rattle.std.proofs.lemmas.List.{map-append}
 use Rattle.smith_types.specs.GroupedTypes.{extensible_from}
 use Rattle.smith_types.specs.Places.{depths_in}

@@ -1,7 +1,7 @@
 use Rattle.smith_types_examples.proofs.Common.{◌≡◌, ℕ, List, [], ◌∷◌, rules, arith, refl, codes, All-from_recursion, EntityType, ExportKind}
 use Rattle.smith_types_examples.proofs.Common.{IsEntityAt, AreDistinct, one_of_each}
-use Rattle.smith_syntax.specs.declared.entity_type.EntityType.TheVariants as entity
-use Rattle.smith_syntax.specs.declared.entity_type.ExportKind.TheVariants as kind
+use Rattle.smith_types.specs.Syntax.entity_type.EntityType.TheVariants as entity
+use Rattle.smith_types.specs.Syntax.entity_type.ExportKind.TheVariants as kind
 use Rattle.smith_types_examples.proofs.exports.exports.Goals as goal
 
 abbrev Stands : (List ℕ × ExportKind × ℕ) → Type 0

@@ -1,6 +1,6 @@
 use Rattle.smith_types_examples.proofs.Common.{refl, I32, Ref, Val, Array, IsArrayAt, final_type, constant, variable, plain, not_null}
 use Rattle.smith_types_examples.proofs.Common.{context_types}
-use Rattle.smith_syntax.specs.declared.value_type.AbstractHeapType.TheVariants as heap
+use Rattle.smith_types.specs.Syntax.value_type.AbstractHeapType.TheVariants as heap
 use Rattle.smith_types_examples.proofs.expressions.arrays.Goals as goal
 
 numbers_at : IsArrayAt context_types 2 (variable (Val I32))

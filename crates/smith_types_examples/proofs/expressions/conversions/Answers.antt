@@ -1,7 +1,7 @@
 use Rattle.smith_types_examples.proofs.Common.{rules, [], ◌∷◌, true, false, pos, refl, I32, Ref, I32Const, RefNull, RefI31}
 use Rattle.smith_types_examples.proofs.Common.{ExternConvertAny, usual_features, plain, nullable, not_null, anyref, context_types}
 use Rattle.smith_types_examples.proofs.Common.{context_with, IsRefBelow-refl, below_abstract, one_step, after_one}
-use Rattle.smith_syntax.specs.declared.value_type.AbstractHeapType.TheVariants as heap
+use Rattle.smith_types.specs.Syntax.value_type.AbstractHeapType.TheVariants as heap
 use Rattle.smith_types_examples.proofs.expressions.conversions.Goals as goal
 
 pub returns-clause-null_given_out : goal.returns-clause-null_given_out

@@ -1,7 +1,7 @@
 use Rattle.smith_types_examples.proofs.Common.{rules, false, pos, refl, Concrete, I32, Ref, I32Const, RefNull, RefFunc, RefI31, funcref}
 use Rattle.smith_types_examples.proofs.Common.{usual_features, plain, not_null, anyref, context_types, context_with, IsRefBelow-refl}
 use Rattle.smith_types_examples.proofs.Common.{below_abstract, alone, after_one}
-use Rattle.smith_syntax.specs.declared.value_type.AbstractHeapType.TheVariants as heap
+use Rattle.smith_types.specs.Syntax.value_type.AbstractHeapType.TheVariants as heap
 use Rattle.smith_types_examples.proofs.expressions.references.Goals as goal
 
 pub returns-clause-null_function : goal.returns-clause-null_function

@@ -1,7 +1,7 @@
 use Rattle.smith_types_examples.proofs.Common.{◌≡◌, ◌++◌, List, [], ◌∷◌, false, ap, sym, subst, refl, same_Some, slice_get, AllZip, ValType}
 use Rattle.smith_types_examples.proofs.Common.{I32, I64, Ref, I32Add, ExternConvertAny, IsValBelow, usual_features, plain, not_null}
 use Rattle.smith_types_examples.proofs.Common.{context_types, context_with, below_abstract, one_step}
-use Rattle.smith_syntax.specs.declared.value_type.AbstractHeapType.TheVariants as heap
+use Rattle.smith_types.specs.Syntax.value_type.AbstractHeapType.TheVariants as heap
 use Rattle.smith_types_examples.proofs.expressions.steps.Goals as goal
 
 pub returns-clause-above_others : goal.returns-clause-above_others

@@ -1,5 +1,5 @@
 use Rattle.smith_types_examples.proofs.Common.{[], ◌∷◌, true, false, refl, rules, usual_features, final_type, shared_type, empty_struct}
-use Rattle.smith_syntax.specs.declared.value_type.AbstractHeapType.TheVariants as heap
+use Rattle.smith_types.specs.Syntax.value_type.AbstractHeapType.TheVariants as heap
 use Rattle.smith_types_examples.proofs.GroundExamples.{above_a_struct, not_above_a_struct}
 use Rattle.smith_types_examples.proofs.grounding.shared_types.Goals as goal
 

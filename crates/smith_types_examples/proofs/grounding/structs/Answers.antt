@@ -1,6 +1,6 @@
 use Rattle.smith_types_examples.proofs.Common.{rules, arith, common_steps, [], ◌∷◌, false, refl, inl, Concrete, itself, usual_features}
 use Rattle.smith_types_examples.proofs.Common.{final_type, empty_struct, grounded_at}
-use Rattle.smith_syntax.specs.declared.value_type.AbstractHeapType.TheVariants as heap
+use Rattle.smith_types.specs.Syntax.value_type.AbstractHeapType.TheVariants as heap
 use Rattle.smith_types_examples.proofs.GroundExamples.{above_a_struct, not_above_a_struct}
 use Rattle.smith_types_examples.proofs.grounding.structs.Goals as goal
 

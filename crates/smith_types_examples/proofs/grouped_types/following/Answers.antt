@@ -1,6 +1,6 @@
 use Rattle.smith_types_examples.proofs.Common.{◌≡◌, ◌<◌, ◌∙◌, ℕ, zero, suc, Some, None, refl, sym, ap, subst, arith, slice_get, same_Some}
 use Rattle.smith_types_examples.proofs.Common.{SubType, kind, IsAlike, open_type, empty_struct, plain_func, struct_and_below}
-use Rattle.smith_syntax.specs.declared.value_type.AbstractHeapType.TheVariants as heap
+use Rattle.smith_types.specs.Syntax.value_type.AbstractHeapType.TheVariants as heap
 use Rattle.smith_types_examples.proofs.grouped_types.following.Goals as goal
 
 stands_before : (i s : ℕ) (t : SubType) → slice_get struct_and_below i ≡ Some t → t.supertype ≡ Some s

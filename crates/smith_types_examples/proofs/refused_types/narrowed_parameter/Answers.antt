@@ -1,6 +1,6 @@
 use Rattle.smith_types_examples.proofs.Common.{rules, [], ◌∷◌, Some, None, refl, Func, open_type, func, func_and_below, anyref, eqref}
 use Rattle.smith_types_examples.proofs.Common.{plain, AreBelow-refl, by_cases_from_below}
-use Rattle.smith_syntax.specs.declared.value_type.AbstractHeapType.TheVariants as heap
+use Rattle.smith_types.specs.Syntax.value_type.AbstractHeapType.TheVariants as heap
 use Rattle.smith_types_examples.proofs.TypeExamples.{two_valid, below_first, first_above, eq_below_any}
 use Rattle.smith_types_examples.proofs.refused_types.narrowed_parameter.Goals as goal
 

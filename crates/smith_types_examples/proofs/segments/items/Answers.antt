@@ -1,7 +1,7 @@
 use Rattle.smith_types_examples.proofs.Common.{rules, [], ◌∷◌, refl, All-from_recursion, Concrete, Exact, Ref, RefNull, funcref, IsRefBelow}
 use Rattle.smith_types_examples.proofs.Common.{IsItem, IsConstExpr, usual_features, final_type, shared_type, plain_func, plain, not_null}
 use Rattle.smith_types_examples.proofs.Common.{context_types, context_with, IsRefBelow-refl, below_kind, alone}
-use Rattle.smith_syntax.specs.declared.value_type.AbstractHeapType.TheVariants as heap
+use Rattle.smith_types.specs.Syntax.value_type.AbstractHeapType.TheVariants as heap
 use Rattle.smith_types_examples.proofs.segments.items.Goals as goal
 
 below : IsRefBelow context_types (not_null (Concrete 0)) funcref

@@ -2,7 +2,7 @@ use Rattle.smith_types_examples.proofs.Common.{rules, arith, common_steps, lit<,
 use Rattle.smith_types_examples.proofs.Common.{Concrete, I8, bottom, itself, open_type, final_type, shared_type, array, empty_struct}
 use Rattle.smith_types_examples.proofs.Common.{plain_func, struct_and_below, plain, variable, IsBelow-trans, below_declared, below_kind}
 use Rattle.smith_types_examples.proofs.Common.{below_abstract, above_bottom, by_cases_from_below, below_alone}
-use Rattle.smith_syntax.specs.declared.value_type.AbstractHeapType.TheVariants as heap
+use Rattle.smith_types.specs.Syntax.value_type.AbstractHeapType.TheVariants as heap
 use Rattle.smith_types_examples.proofs.TypeExamples.{struct_orderly, upper_not_below, not_under, not_over}
 use Rattle.smith_types_examples.proofs.subtyping.concrete_types.Goals as goal
 

@@ -1,7 +1,7 @@
 use Rattle.smith_types_examples.proofs.Common.{arith, true, false, ◌≡◌, Some, None, refl, Abstract, Concrete, Exact, bottom, itself}
 use Rattle.smith_types_examples.proofs.Common.{open_type, empty_struct, struct_and_below, plain, IsBelow-trans, below_declared, below_kind}
 use Rattle.smith_types_examples.proofs.Common.{exact_below, exact_above_bottom, by_cases_from_below, below_from_by_cases}
-use Rattle.smith_syntax.specs.declared.value_type.AbstractHeapType.TheVariants as heap
+use Rattle.smith_types.specs.Syntax.value_type.AbstractHeapType.TheVariants as heap
 use Rattle.smith_types_examples.proofs.TypeExamples.{struct_orderly, upper_not_below, not_over}
 use Rattle.smith_types_examples.proofs.subtyping.exact_types.Goals as goal
 

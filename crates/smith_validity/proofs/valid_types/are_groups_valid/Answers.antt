@@ -1,7 +1,7 @@
 use Rattle.std.proofs.Common.{refl, take_all, subst}
 use Rattle.std.specs.Prelude.{All}
 use Rattle.std.proofs.lemmas.List.Elements.{All-more}
-use Rattle.smith_syntax.specs.FeatureBits.{features_in}
+use Rattle.smith_types.specs.Syntax.FeatureBits.{features_in}
 use Rattle.smith_types.specs.ValidTypes.{IsGroupValid}
 use Rattle.smith_validity.proofs.GroupTestLemmas.{all_within}
 use Rattle.smith_validity.proofs.valid_types.are_groups_valid.Goals as goal

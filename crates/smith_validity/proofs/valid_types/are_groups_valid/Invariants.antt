@@ -1,6 +1,6 @@
 use Rattle.std.proofs.Common.{take}
 use Rattle.std.specs.List.{All}
-use Rattle.smith_syntax.specs.FeatureBits.{features_in}
+use Rattle.smith_types.specs.Syntax.FeatureBits.{features_in}
 use Rattle.smith_types.specs.ValidTypes.{IsGroupValid}
 use Rattle.smith_validity.proofs.valid_types.are_groups_valid.Given as goal
 

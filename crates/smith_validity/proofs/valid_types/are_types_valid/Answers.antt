@@ -1,5 +1,5 @@
 use Rattle.std.proofs.Common.{rules}
-use Rattle.smith_syntax.specs.FeatureBits.{features_in}
+use Rattle.smith_types.specs.Syntax.FeatureBits.{features_in}
 use Rattle.smith_validity.proofs.ReferredTypeLemmas.{all_in_range, valid_in_range}
 use Rattle.smith_validity.proofs.valid_types.are_types_valid.Goals as goal
 

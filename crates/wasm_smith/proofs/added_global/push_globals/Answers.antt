@@ -1,8 +1,5 @@
-use Rattle.std.proofs.Common.{pos}
-use Rattle.smith_syntax.specs.declared.value_type.ValType.{ValType}
-use Rattle.smith_syntax.specs.declared.value_type.ValType.TheVariants.{I32}
-use Rattle.smith_syntax.specs.declared.const_instr.ConstInstr.{ConstInstr}
-use Rattle.smith_syntax.specs.declared.const_instr.ConstInstr.TheVariants.{I32Const}
+use Rattle.wasm_smith.proofs.Common.{ConstInstr, I32Const, pos, ValType}
+use Rattle.smith_types.specs.Syntax.value_type.ValType.TheVariants.{I32}
 use Rattle.wasm_smith.proofs.PushedGlobalLemmas.{types_pushed, definitions_pushed, room_left}
 use Rattle.wasm_smith.proofs.added_global.push_globals.Goals as goal
 

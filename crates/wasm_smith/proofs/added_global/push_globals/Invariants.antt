@@ -1,4 +1,5 @@
-use Rattle.std.proofs.Common.{◌≡◌, ◌++◌, length, take}
+use Rattle.wasm_smith.proofs.Common.{length, ◌++◌, ◌≡◌}
+use Rattle.std.proofs.Common.{take}
 use Rattle.wasm_smith.specs.AddedGlobals.{added_types, added_definitions}
 use Rattle.wasm_smith.proofs.added_global.push_globals.Given as goal
 

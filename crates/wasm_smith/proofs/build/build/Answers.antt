@@ -1,9 +1,7 @@
-use Rattle.std.proofs.Common.{◌≡◌, Ok, refl, subst, sym}
-use Rattle.smith_config.specs.declared.config.Config.{Config}
+use Rattle.wasm_smith.proofs.Common.{Config, HasInterestingValues, IsValid, refl, subst, sym, ◌≡◌}
+use Rattle.std.proofs.Common.{Ok}
 use Rattle.smith_module_rules.specs.Bounds.{KeepsBounds, MeetsMinimums}
 use Rattle.wasm_smith.specs.Build.{as_drawn, module_at, parts_of}
-use Rattle.smith_module_rules.specs.InterestingValues.{HasInterestingValues}
-use Rattle.smith_module_rules.specs.Module.{IsValid}
 use Rattle.smith_module_rules.specs.Promises.{KeepsPromises}
 use Rattle.smith_module_rules.specs.ShapesKept.{KeepsShapes}
 use Rattle.wasm_smith.proofs.DrawnModuleLemmas.{bodies_there}

@@ -1,5 +1,5 @@
-use Rattle.std.proofs.Common.{◌≡◌, drop}
-use Rattle.smith_draw_contents.specs.Exporting.{is_exported}
+use Rattle.wasm_smith.proofs.Common.{is_exported, ◌≡◌}
+use Rattle.std.proofs.Common.{drop}
 use Rattle.wasm_smith.proofs.global_export.is_taken.Given as goal
 
 -- no earlier export has the name

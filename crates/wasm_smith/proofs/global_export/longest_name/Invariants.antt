@@ -1,4 +1,5 @@
-use Rattle.std.proofs.Common.{◌≡◌, max, drop}
+use Rattle.wasm_smith.proofs.Common.{max, ◌≡◌}
+use Rattle.std.proofs.Common.{drop}
 use Rattle.smith_draw_contents.specs.Exporting.{longest_export}
 use Rattle.wasm_smith.proofs.global_export.longest_name.Given as goal
 

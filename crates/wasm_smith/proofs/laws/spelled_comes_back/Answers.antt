@@ -1,4 +1,4 @@
-use Rattle.std.proofs.Common.{refl}
+use Rattle.wasm_smith.proofs.Common.{refl}
 use Rattle.wasm_smith.proofs.laws.spelled_comes_back.Goals as goal
 
 pub returns : goal.returns

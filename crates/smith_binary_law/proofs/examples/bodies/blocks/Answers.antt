@@ -1,4 +1,4 @@
-use Rattle.std.proofs.Common.{true, false, [], ◌∷◌, refl}
+use Rattle.smith_binary_law.proofs.Common.{[], false, refl, true, ◌∷◌}
 use Rattle.std.proofs.lemmas.Bool.{false≢true}
 use Rattle.smith_instr.specs.declared.control.BlockType.TheVariants.{Empty}
 use Rattle.smith_instr.specs.declared.instr.Instr.TheVariants.{Block, If, Else, End, Nop}

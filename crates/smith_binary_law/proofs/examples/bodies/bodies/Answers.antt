@@ -1,10 +1,7 @@
-use Rattle.std.proofs.Common.{ℕ, List, [], ◌∷◌, ◌<◌, refl, arith}
+use Rattle.smith_binary_law.proofs.Common.{[], arith, I32, IsInstr, IsRun, List, refl, ValType, ℕ, ◌<◌, ◌∷◌}
 use Rattle.smith_binary_law.proofs.CheckLemmas.{both}
-use Rattle.smith_binary_sections.specs.Codes.{IsRun}
-use Rattle.smith_syntax.specs.declared.value_type.ValType.{ValType}
-use Rattle.smith_syntax.specs.declared.value_type.ValType.TheVariants.{I32}
 use Rattle.smith_instr.specs.declared.instr.Instr.TheVariants as instr
-use Rattle.smith_binary_instr.specs.Instructions.{IsInstr, IsInstrWritten, IsExpr, IsExprWritten}
+use Rattle.smith_binary_instr.specs.Instructions.{IsExpr, IsExprWritten, IsInstrWritten}
 use Rattle.smith_binary_law.proofs.SpelledExamples.{index, no_item, more_items}
 use Rattle.smith_binary_law.proofs.examples.bodies.bodies.Goals as goal
 

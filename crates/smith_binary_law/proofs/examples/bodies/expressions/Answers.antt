@@ -1,9 +1,7 @@
-use Rattle.std.proofs.Common.{◌≡◌, [], ◌∷◌, ◌++◌, length, refl, ap, arith, length-append}
-use Rattle.smith_binary.specs.Pieces.{Each}
+use Rattle.smith_binary_law.proofs.Common.{[], ap, arith, Each, IsInstr, length, length-append, refl, ◌++◌, ◌∷◌, ◌≡◌}
 use Rattle.smith_binary_law.proofs.CheckLemmas.{both}
 use Rattle.smith_instr.specs.declared.control.BlockType.TheVariants as block
 use Rattle.smith_instr.specs.declared.instr.Instr.TheVariants as instr
-use Rattle.smith_binary_instr.specs.Instructions.{IsInstr}
 use Rattle.smith_binary_law.proofs.SpelledExamples.{no_item, more_items}
 use Rattle.smith_binary_law.proofs.examples.bodies.expressions.Goals as goal
 

@@ -1,9 +1,5 @@
-use Rattle.std.proofs.Common.{inl, inr, [], ◌∷◌, refl, subst, sym, arith}
+use Rattle.smith_binary_law.proofs.Common.{[], All-from_recursion, arith, Each, I32, inl, inr, IsRun, refl, subst, sym, ◌∷◌}
 use Rattle.std.specs.Prelude.{Any}
-use Rattle.std.proofs.lemmas.List.Elements.{All-from_recursion}
-use Rattle.smith_binary.specs.Pieces.{Each}
-use Rattle.smith_syntax.specs.declared.value_type.ValType.TheVariants.{I32}
-use Rattle.smith_binary_sections.specs.Codes.{IsRun}
 use Rattle.smith_binary_sections.specs.Long.{IsNeverLong}
 use Rattle.smith_binary_sections.proofs.SizeLemmas.{AtMost, bytes_within, joined_within, none_within, not_long, no_long_items}
 use Rattle.smith_binary_sections.proofs.SizeLemmas.{number_within, one_long_item, one_within}

@@ -1,7 +1,6 @@
-use Rattle.std.proofs.Common.{ℕ, ◌<◌, [], ◌∷◌, refl, arith}
-use Rattle.smith_syntax.specs.declared.segments.DataSegmentKind.TheVariants as data_kind
+use Rattle.smith_binary_law.proofs.Common.{[], arith, offset_of, refl, ℕ, ◌<◌, ◌∷◌}
+use Rattle.smith_types.specs.Syntax.segments.DataSegmentKind.TheVariants as data_kind
 use Rattle.smith_binary_sections.specs.Data.{IsDataIn, data_of, named_memory}
-use Rattle.smith_binary_sections.specs.Instructions.{offset_of}
 use Rattle.smith_binary_law.proofs.CheckLemmas.{both}
 use Rattle.smith_binary_law.specs.ExampleSegments.{a_byte, start}
 use Rattle.smith_binary_law.proofs.SpelledExamples.{index, one_byte, other_number, start_spelled}

@@ -1,7 +1,7 @@
-use Rattle.std.proofs.Common.{[], ◌∷◌, refl, arith}
-use Rattle.smith_types.specs.ExampleTypes.{nullable, plain}
-use Rattle.smith_syntax.specs.declared.value_type.AbstractHeapType.TheVariants as heap
-use Rattle.smith_binary_sections.specs.Instructions.{IsExpression, offset_of}
+use Rattle.smith_binary_law.proofs.Common.{[], arith, offset_of, plain, refl, ◌∷◌}
+use Rattle.smith_types.specs.ExampleTypes.{nullable}
+use Rattle.smith_types.specs.Syntax.value_type.AbstractHeapType.TheVariants as heap
+use Rattle.smith_binary_sections.specs.Instructions.{IsExpression}
 use Rattle.smith_binary_sections.specs.Types.{IsRefType}
 use Rattle.smith_binary_law.proofs.CheckLemmas.{both}
 use Rattle.smith_binary_law.specs.ExampleSegments.{no_function, start}

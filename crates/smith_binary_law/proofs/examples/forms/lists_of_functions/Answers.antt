@@ -1,7 +1,6 @@
-use Rattle.std.proofs.Common.{ℕ, ◌<◌, [], ◌∷◌, None, Some, refl, arith}
-use Rattle.smith_syntax.specs.declared.segments.ElementKind.TheVariants.{Active}
+use Rattle.smith_binary_law.proofs.Common.{[], arith, None, offset_of, refl, Some, ℕ, ◌<◌, ◌∷◌}
+use Rattle.smith_types.specs.Syntax.segments.ElementKind.TheVariants.{Active}
 use Rattle.smith_binary_sections.specs.Elements.{IsElemIn, IsKindFuncs, elem_of, first_funcs, table_funcs}
-use Rattle.smith_binary_sections.specs.Instructions.{offset_of}
 use Rattle.smith_binary_law.proofs.CheckLemmas.{both}
 use Rattle.smith_binary_law.specs.ExampleSegments.{a_function, start}
 use Rattle.smith_binary_law.proofs.SpelledExamples.{index, one_function, other_number, start_spelled}

@@ -1,6 +1,4 @@
-use Rattle.std.proofs.Common.{◌≡◌, [], ◌∷◌, None, refl, arith}
-use Rattle.smith_types.specs.ExampleEntities.{table}
-use Rattle.smith_types.specs.Flags.{funcref}
+use Rattle.smith_binary_law.proofs.Common.{[], arith, funcref, None, refl, table, ◌∷◌, ◌≡◌}
 use Rattle.smith_binary_sections.specs.Definitions.{IsInitialisedTable, IsTable}
 use Rattle.smith_binary_sections.specs.Entities.{IsTableType}
 use Rattle.smith_binary_sections.specs.Types.{IsRefType}

@@ -1,7 +1,6 @@
-use Rattle.std.proofs.Common.{◌≡◌, ℕ, ◌<◌, List, [], ◌∷◌, ◌++◌, refl, subst, ap, ◌∙◌, arith}
+use Rattle.smith_binary_law.proofs.Common.{[], ap, arith, IsUnsigned, Joined, List, refl, subst, ℕ, ◌++◌, ◌<◌, ◌∙◌, ◌∷◌, ◌≡◌}
 use Rattle.smith_binary_law.proofs.CheckLemmas.{both}
-use Rattle.smith_binary.specs.Numbers.{IsUnsigned}
-use Rattle.smith_binary.specs.Pieces.{IsByte, Joined}
+use Rattle.smith_binary.specs.Pieces.{IsByte}
 use Rattle.smith_instr.specs.declared.memory.MemArg.{MemArg}
 use Rattle.smith_binary_instr.specs.Memory.{IsMemArg}
 use Rattle.smith_binary_law.proofs.InstructionLemmas.{instr_whole}

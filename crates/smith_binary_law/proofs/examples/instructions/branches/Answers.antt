@@ -1,9 +1,7 @@
-use Rattle.std.proofs.Common.{◌≡◌, ℕ, ◌<◌, [], ◌∷◌, refl, ap, arith}
-use Rattle.smith_binary.specs.Pieces.{IsList}
+use Rattle.smith_binary_law.proofs.Common.{[], ap, arith, IsInstr, IsList, refl, ℕ, ◌<◌, ◌∷◌, ◌≡◌}
 use Rattle.smith_binary_law.proofs.CheckLemmas.{both}
 use Rattle.smith_binary_sections.specs.Instructions.{IsIndex}
 use Rattle.smith_instr.specs.declared.instr.Instr.TheVariants as instr
-use Rattle.smith_binary_instr.specs.Instructions.{IsInstr}
 use Rattle.smith_binary_law.proofs.InstructionLemmas.{instr_whole}
 use Rattle.smith_binary_law.proofs.SpelledExamples.{small, index, prefixed, no_item, more_items, table_of}
 use Rattle.smith_binary_law.proofs.examples.instructions.branches.Goals as goal

@@ -1,5 +1,4 @@
-use Rattle.std.proofs.Common.{ℕ, ◌≡◌, List, [], ◌∷◌, ◌++◌, refl, ap, ◌∙◌, arith}
-use Rattle.smith_binary.specs.Numbers.{IsUnsigned}
+use Rattle.smith_binary_law.proofs.Common.{[], ap, arith, IsUnsigned, List, refl, ℕ, ◌++◌, ◌∙◌, ◌∷◌, ◌≡◌}
 use Rattle.smith_binary.proofs.UnambiguousLemmas.{same_head}
 use Rattle.smith_binary_law.proofs.CheckLemmas.{both}
 use Rattle.smith_binary_law.proofs.SpelledExamples.{prefixed}

@@ -1,9 +1,5 @@
-use Rattle.std.proofs.Common.{pos, None, refl}
-use Rattle.smith_syntax.specs.declared.const_instr.ConstInstr.TheVariants.{I32Const}
-use Rattle.smith_syntax.specs.declared.value_type.ValType.TheVariants.{I32}
-use Rattle.smith_types.specs.ExampleContexts.{context_with}
+use Rattle.smith_binary_law.proofs.Common.{context_with, I32, I32Const, None, pos, refl, usual_features}
 use Rattle.smith_types.specs.ExampleEntities.{memory}
-use Rattle.smith_types.specs.ExampleFeatures.{usual_features}
 use Rattle.smith_binary_law.proofs.SegmentLemmas.{alone}
 use Rattle.smith_binary_law.proofs.examples.modules.data_segments.Goals as goal
 

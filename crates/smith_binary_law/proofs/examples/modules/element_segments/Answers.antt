@@ -1,17 +1,12 @@
-use Rattle.std.proofs.Common.{false, None, [], ◌∷◌, pos, refl}
-use Rattle.std.proofs.lemmas.List.Elements.{All-from_recursion}
-use Rattle.smith_syntax.specs.declared.const_instr.ConstInstr.TheVariants.{I32Const, RefFunc}
-use Rattle.smith_syntax.specs.declared.value_type.HeapType.TheVariants.{Concrete}
-use Rattle.smith_syntax.specs.declared.value_type.ValType.TheVariants.{I32, Ref}
+use Rattle.smith_binary_law.proofs.Common.{[], All-from_recursion, Concrete, context_with, false, func_ref, funcref, I32, I32Const}
+use Rattle.smith_binary_law.proofs.Common.{IsRefBelow, itself, None, pos, refl, table, usual_features, ◌∷◌}
+use Rattle.smith_types.specs.Syntax.const_instr.ConstInstr.TheVariants.{RefFunc}
+use Rattle.smith_types.specs.Syntax.value_type.ValType.TheVariants.{Ref}
 use Rattle.smith_types.specs.Expressions.{reference_to}
-use Rattle.smith_types.specs.Flags.{funcref}
-use Rattle.smith_types.specs.Subtyping.{itself, IsRefBelow}
-use Rattle.smith_types.specs.ExampleContexts.{context_types, context_with}
-use Rattle.smith_types.specs.ExampleEntities.{table}
-use Rattle.smith_types.specs.ExampleFeatures.{usual_features}
+use Rattle.smith_types.specs.ExampleContexts.{context_types}
 use Rattle.smith_types.specs.ExampleTypes.{final_type, plain_func, not_null}
 use Rattle.smith_types.proofs.PathLemmas.{below_kind}
-use Rattle.smith_binary_sections.specs.Elements.{func_ref, func_items}
+use Rattle.smith_binary_sections.specs.Elements.{func_items}
 use Rattle.smith_binary_law.specs.Segments.{IsTyped}
 use Rattle.smith_binary_law.proofs.SegmentLemmas.{alone}
 use Rattle.smith_binary_law.proofs.examples.modules.element_segments.Goals as goal

@@ -1,8 +1,6 @@
-use Rattle.std.proofs.Common.{◌^◌, ◌≤◌, inl, inr, [], ◌∷◌, ◌++◌, length, refl, arith, length-append}
-use Rattle.smith_binary.specs.Pieces.{Each}
-use Rattle.smith_binary.proofs.NumberLemmas.{unsigned_last}
-use Rattle.smith_syntax.specs.declared.value_type.ValType.TheVariants.{I32}
-use Rattle.smith_binary_sections.specs.Codes.{IsRun}
+use Rattle.smith_binary_law.proofs.Common.{[], arith, Each, I32, inl, inr, IsRun, length, length-append, refl, unsigned_last, ◌++◌, ◌^◌}
+use Rattle.smith_binary_law.proofs.Common.{◌∷◌}
+use Rattle.std.proofs.Common.{◌≤◌}
 use Rattle.smith_binary_sections.specs.Long.{IsNeverLong, IsLongBody}
 use Rattle.smith_binary_sections.proofs.SizeLemmas.{AtMost, bytes_within, joined_within, none_within, not_long, no_long_items}
 use Rattle.smith_binary_sections.proofs.SizeLemmas.{number_within, one_long_item, one_within}

@@ -1,18 +1,14 @@
-use Rattle.std.proofs.Common.{rules, ◌≡◌, ◌∙◌, false, None, [], ◌∷◌, lit<, refl, sym, ap, subst}
-use Rattle.std.proofs.lemmas.List.Elements.{All-from_recursion}
+use Rattle.smith_binary_law.proofs.Common.{[], All-from_recursion, ap, Concrete, context_with, false, func_ref, IsRefBelow, itself, None}
+use Rattle.smith_binary_law.proofs.Common.{plain, refl, subst, sym, table, TableType, usual_features, ◌∙◌, ◌∷◌, ◌≡◌}
+use Rattle.std.proofs.Common.{lit<, rules}
 use Rattle.std.proofs.lemmas.Option.{same_Some}
-use Rattle.smith_syntax.specs.declared.entity_type.TableType.{TableType}
-use Rattle.smith_syntax.specs.declared.value_type.AbstractHeapType.TheVariants as heap
-use Rattle.smith_syntax.specs.declared.value_type.HeapType.TheVariants.{Concrete}
-use Rattle.smith_syntax.specs.Kinds.{bottom}
+use Rattle.smith_types.specs.Syntax.value_type.AbstractHeapType.TheVariants as heap
+use Rattle.smith_types.specs.Syntax.Kinds.{bottom}
 use Rattle.smith_types.specs.Segments.{IsItem}
-use Rattle.smith_types.specs.Subtyping.{itself, IsBelow, IsRefBelow}
-use Rattle.smith_types.specs.ExampleContexts.{context_types, context_with}
-use Rattle.smith_types.specs.ExampleEntities.{table}
-use Rattle.smith_types.specs.ExampleFeatures.{usual_features}
-use Rattle.smith_types.specs.ExampleTypes.{final_type, plain_func, plain, nullable}
+use Rattle.smith_types.specs.Subtyping.{IsBelow}
+use Rattle.smith_types.specs.ExampleContexts.{context_types}
+use Rattle.smith_types.specs.ExampleTypes.{final_type, nullable, plain_func}
 use Rattle.smith_types.proofs.WalkLemmas.{by_cases_from_below}
-use Rattle.smith_binary_sections.specs.Elements.{func_ref}
 use Rattle.smith_binary_law.proofs.examples.modules.lists_of_functions_of_one_type.Goals as goal
 
 -- the type of all functions matches no type of a module

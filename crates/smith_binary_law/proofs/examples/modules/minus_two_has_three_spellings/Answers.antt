@@ -1,4 +1,4 @@
-use Rattle.std.proofs.Common.{inr, refl, arith}
+use Rattle.smith_binary_law.proofs.Common.{arith, inr, refl}
 use Rattle.std.specs.Prelude.{negsuc}
 use Rattle.smith_binary.specs.Numbers.{IsSigned}
 use Rattle.smith_binary_law.proofs.examples.modules.minus_two_has_three_spellings.Goals as goal

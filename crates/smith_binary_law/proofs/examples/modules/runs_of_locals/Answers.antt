@@ -1,10 +1,6 @@
-use Rattle.std.proofs.Common.{◌≡◌, ℕ, List, [], ◌∷◌, ◌<◌, refl, sym, arith}
-use Rattle.smith_binary.specs.Numbers.{IsUnsigned}
-use Rattle.smith_binary.specs.Pieces.{Each, Joined, IsList}
-use Rattle.smith_binary.proofs.NumberLemmas.{unsigned_last}
+use Rattle.smith_binary_law.proofs.Common.{[], arith, Each, I32, IsList, IsRun, IsUnsigned, Joined, List, refl, sym, unsigned_last, ℕ, ◌<◌}
+use Rattle.smith_binary_law.proofs.Common.{◌∷◌, ◌≡◌}
 use Rattle.smith_binary.proofs.UnambiguousLemmas.{unsigned_is_unambiguous}
-use Rattle.smith_syntax.specs.declared.value_type.ValType.TheVariants.{I32}
-use Rattle.smith_binary_sections.specs.Codes.{IsRun}
 use Rattle.smith_binary_law.proofs.CheckLemmas.{both}
 use Rattle.smith_binary_law.proofs.examples.modules.runs_of_locals.Goals as goal
 

@@ -1,5 +1,4 @@
-use Rattle.std.proofs.Common.{List, [], ℕ, refl}
-use Rattle.smith_binary.specs.Pieces.{Joined}
+use Rattle.smith_binary_law.proofs.Common.{[], Joined, List, refl, ℕ}
 use Rattle.smith_binary_sections.specs.Sections.{IsOptionalSection}
 use Rattle.smith_binary_law.proofs.CheckLemmas.{both}
 use Rattle.smith_binary_law.proofs.examples.modules.the_preamble_is_a_module.Goals as goal

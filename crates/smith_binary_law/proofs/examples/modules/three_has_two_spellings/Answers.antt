@@ -1,5 +1,4 @@
-use Rattle.std.proofs.Common.{refl, arith}
-use Rattle.smith_binary.specs.Numbers.{IsUnsigned}
+use Rattle.smith_binary_law.proofs.Common.{arith, IsUnsigned, refl}
 use Rattle.smith_binary_law.proofs.examples.modules.three_has_two_spellings.Goals as goal
 
 pub returns-clause-short : goal.returns-clause-short

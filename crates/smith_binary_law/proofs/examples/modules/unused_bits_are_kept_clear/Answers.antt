@@ -1,5 +1,5 @@
-use Rattle.std.proofs.Common.{inl, inr, arith}
-use Rattle.smith_binary.specs.Numbers.{IsUnsigned, IsSigned}
+use Rattle.smith_binary_law.proofs.Common.{arith, inl, inr, IsUnsigned}
+use Rattle.smith_binary.specs.Numbers.{IsSigned}
 use Rattle.smith_binary_law.proofs.examples.modules.unused_bits_are_kept_clear.Goals as goal
 
 pub returns-clause-unsigned : goal.returns-clause-unsigned

@@ -1,8 +1,4 @@
-use Rattle.std.proofs.Common.{◌≡◌, length, inl, arith}
-use Rattle.std.specs.List.{zip}
-use Rattle.std.proofs.lemmas.Result.{on_ok_weaker}
-use Rattle.std.proofs.lemmas.Slice.Zip.{length-zip}
-use Rattle.smith_binary.proofs.WrittenLemmas.{joined_written}
+use Rattle.smith_binary_program.proofs.Common.{arith, inl, joined_written, length, length-zip, on_ok_weaker, zip, ◌≡◌}
 use Rattle.smith_binary_module.proofs.MappedLemmas.{handed_on}
 use Rattle.smith_binary_program.proofs.bodies.BodiesEncode.encode.Goals as goal
 

@@ -1,5 +1,4 @@
-use Rattle.std.proofs.Common.{inr}
-use Rattle.smith_binary.proofs.WrittenLemmas.{joined_written}
+use Rattle.smith_binary_sections.proofs.Common.{inr, joined_written}
 use Rattle.smith_binary_sections.proofs.FaultLemmas.{fault_weaker, long_content}
 use Rattle.smith_binary_sections.proofs.codes.BodiesEncodeItemCode.encode_item.Goals as goal
 

@@ -1,4 +1,4 @@
-use Rattle.std.proofs.lemmas.Result.{on_ok_weaker}
+use Rattle.smith_binary_sections.proofs.Common.{on_ok_weaker}
 use Rattle.smith_binary_sections.proofs.FormLemmas.{no_memory_written}
 use Rattle.smith_binary_sections.proofs.data.DataSegmentEncode.encode.Goals as goal
 

@@ -1,7 +1,6 @@
 use Rattle.std.specs.Prelude.{OnOk}
-use Rattle.std.proofs.Common.{rules, ◌≡◌, List, [], ◌∷◌, subst}
-use Rattle.smith_binary.specs.Pieces.{Writes}
-use Rattle.smith_syntax.specs.declared.const_instr.ConstInstr.{ConstInstr}
+use Rattle.smith_binary_sections.proofs.Common.{[], ConstInstr, List, subst, Writes, ◌∷◌, ◌≡◌}
+use Rattle.std.proofs.Common.{rules}
 use Rattle.smith_binary_sections.specs.Instructions.{IsExpressionIn, offset_of}
 use Rattle.smith_binary_sections.proofs.instructions.OffsetEncode.encode.Goals.{in-Const32, in-Const64, in-Global}
 use Rattle.smith_binary_sections.proofs.instructions.OffsetEncode.encode.Goals as goal

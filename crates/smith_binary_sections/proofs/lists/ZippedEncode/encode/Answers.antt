@@ -1,8 +1,6 @@
-use Rattle.std.proofs.Common.{◌≡◌, length, arith}
-use Rattle.std.specs.List.{zip}
-use Rattle.std.proofs.lemmas.Result.{on_ok_weaker, err_from_is_err_and}
+use Rattle.smith_binary_sections.proofs.Common.{arith, joined_written, length, on_ok_weaker, zip, ◌≡◌}
+use Rattle.std.proofs.lemmas.Result.{err_from_is_err_and}
 use Rattle.std.proofs.lemmas.Slice.Zip.{length-zip}
-use Rattle.smith_binary.proofs.WrittenLemmas.{joined_written}
 use Rattle.smith_binary_sections.proofs.lists.ZippedEncode.encode.Goals as goal
 
 pub returns-in_err-write_length-clause-fault : goal.returns-in_err-write_length-clause-fault

@@ -1,6 +1,4 @@
-use Rattle.std.proofs.Common.{sym, ◌∙◌}
-use Rattle.std.proofs.lemmas.Result.{on_ok_weaker}
-use Rattle.smith_binary.proofs.WrittenLemmas.{joined_written}
+use Rattle.smith_binary_sections.proofs.Common.{joined_written, on_ok_weaker, sym, ◌∙◌}
 use Rattle.smith_binary_sections.proofs.types.SubTypeEncode.encode.Goals as goal
 
 pub returns-then-is_alone-clause-writes : goal.returns-then-is_alone-clause-writes

@@ -1,5 +1,4 @@
-use Rattle.std.proofs.Common.{◌<◌, length, arith}
-use Rattle.smith_body_nodes.specs.Scopes.{bare}
+use Rattle.smith_body_aggregates.proofs.Common.{arith, bare, length, ◌<◌}
 use Rattle.smith_body_aggregates.proofs.AggregateLemmas.{field_tested}
 use Rattle.smith_body_nodes.proofs.IndexedTypeLemmas.{field_valid}
 use Rattle.smith_body_aggregates.proofs.aggregates.FieldOfferOffer.is_offered.Goals as goal

@@ -1,5 +1,4 @@
-use Rattle.smith_body_nodes.specs.Scopes.{bare}
-use Rattle.smith_body_nodes.proofs.IndexedTypeLemmas.{struct_fields, struct_there}
+use Rattle.smith_body_aggregates.proofs.Common.{bare, struct_fields, struct_there}
 use Rattle.smith_body_aggregates.proofs.aggregates.StructOfferOffer.is_offered.Goals as goal
 
 pub count_offered-requires : goal.count_offered-requires

@@ -1,4 +1,5 @@
-use Rattle.std.proofs.Common.{◌≡◌, true}
+use Rattle.smith_check.proofs.Common.{◌≡◌}
+use Rattle.std.proofs.Common.{true}
 use Rattle.smith_check.proofs.JudgeLemmas.{body_read, many_judgement, rights_valid, untyped_judgement, wrong_judgement}
 use Rattle.smith_check.proofs.functions.FunctionJudge.check_function.Goals as goal
 

@@ -1,4 +1,4 @@
-use Rattle.std.proofs.Common.{◌≡◌, ap, arith, length}
+use Rattle.smith_check.proofs.Common.{ap, arith, length, ◌≡◌}
 use Rattle.smith_check.proofs.JudgeLemmas.{body_read, explained, rights_valid}
 use Rattle.smith_check.proofs.functions.FunctionJudge.explain.Goals as goal
 

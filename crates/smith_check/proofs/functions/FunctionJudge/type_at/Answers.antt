@@ -1,4 +1,4 @@
-use Rattle.std.proofs.Common.{arith}
+use Rattle.smith_check.proofs.Common.{arith}
 use Rattle.smith_check.proofs.JudgeLemmas.{found_type}
 use Rattle.smith_check.proofs.functions.FunctionJudge.type_at.Goals as goal
 

@@ -1,4 +1,4 @@
-use Rattle.std.proofs.Common.{◌∙◌, refl}
+use Rattle.smith_check.proofs.Common.{refl, ◌∙◌}
 use Rattle.smith_check.proofs.ContextLemmas.{is_scope, same_verdict}
 use Rattle.smith_check.proofs.functions.FunctionJudge.verdict.Goals as goal
 

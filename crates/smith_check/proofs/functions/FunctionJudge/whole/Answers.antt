@@ -1,4 +1,4 @@
-use Rattle.std.proofs.Common.{arith}
+use Rattle.smith_check.proofs.Common.{arith}
 use Rattle.smith_check.proofs.JudgeLemmas.{whole_valid}
 use Rattle.smith_check.proofs.functions.FunctionJudge.whole.Goals as goal
 

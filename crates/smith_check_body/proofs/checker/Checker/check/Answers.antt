@@ -1,7 +1,6 @@
-use Rattle.std.proofs.Common.{MatchBool, subst}
+use Rattle.smith_check_body.proofs.Common.{bare, MatchBool, subst}
 use Rattle.std.specs.Prelude.{IfOk}
 use Rattle.smith_instr.specs.declared.instr.Instr.TheVariants as instr
-use Rattle.smith_check_operands.specs.Scopes.{bare}
 use Rattle.smith_check_body.specs.Checks.{Goes, Stops}
 use Rattle.smith_check_body.proofs.checker.Checker.check.Goals as goal
 

@@ -1,9 +1,4 @@
-use Rattle.std.proofs.Common.{sym, subst, refl, arith}
-use Rattle.smith_instr.specs.Contexts.{AreValid}
-use Rattle.smith_check_rules.specs.Slots.{values}
-use Rattle.smith_check_operands.specs.Scopes.{bare}
-use Rattle.smith_check_operands.specs.Covers.{held, Pushes}
-use Rattle.smith_check_operands.specs.Closes.{EndsHere}
+use Rattle.smith_check_body.proofs.Common.{AreValid, arith, bare, EndsHere, held, Pushes, refl, subst, sym, values}
 use Rattle.smith_check_body.proofs.CheckLemmas.{close_goes, close_stops_ends, close_stops_may, close_stops_empty, outer_known}
 use Rattle.smith_check_body.proofs.checker.Checker.close.Goals as goal
 

@@ -1,8 +1,4 @@
-use Rattle.std.proofs.Common.{subst, sym, arith, MatchBool}
-use Rattle.smith_instr.specs.Contexts.{AreValid}
-use Rattle.smith_check_operands.specs.Scopes.{bare}
-use Rattle.smith_check_operands.specs.Covers.{held}
-use Rattle.smith_check_operands.specs.Closes.{EndsHere}
+use Rattle.smith_check_body.proofs.Common.{AreValid, arith, bare, EndsHere, held, MatchBool, subst, sym}
 use Rattle.smith_check_body.proofs.BodyLemmas.{finished_tried, unfinished_open}
 use Rattle.smith_check_body.proofs.checker.Checker.is_finished.Goals as goal
 

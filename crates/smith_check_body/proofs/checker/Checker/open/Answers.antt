@@ -1,8 +1,6 @@
-use Rattle.std.proofs.Common.{subst}
+use Rattle.smith_check_body.proofs.Common.{bare, held, subst, values}
 use Rattle.std.specs.Prelude.{MatchOption}
-use Rattle.smith_check_rules.specs.Slots.{values}
-use Rattle.smith_check_operands.specs.Scopes.{bare}
-use Rattle.smith_check_operands.specs.Covers.{held, PopsNothing}
+use Rattle.smith_check_operands.specs.Covers.{PopsNothing}
 use Rattle.smith_check_body.specs.Opens.{taken_by}
 use Rattle.smith_check_body.specs.Checks.{HasNoType, IsShapeOf}
 use Rattle.smith_check_body.proofs.CheckLemmas.{open_stops_untyped, open_stops, open_entered}

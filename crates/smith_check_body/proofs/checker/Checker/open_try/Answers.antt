@@ -1,8 +1,4 @@
-use Rattle.std.proofs.Common.{◌∷◌, reverse, sym, subst}
-use Rattle.std.specs.Prelude.{All}
-use Rattle.smith_instr.specs.Contexts.{AreValid}
-use Rattle.smith_check_operands.specs.Scopes.{bare}
-use Rattle.smith_check_operands.specs.Closes.{label_of, labels_of}
+use Rattle.smith_check_body.proofs.Common.{All, AreValid, bare, label_of, labels_of, reverse, subst, sym, ◌∷◌}
 use Rattle.smith_check_body.proofs.CheckLemmas.{labels_valid}
 use Rattle.smith_check_body.proofs.TryLemmas.{try_tried, try_uncaught_at}
 use Rattle.smith_check_body.proofs.checker.Checker.open_try.Goals as goal

@@ -1,10 +1,5 @@
-use Rattle.std.proofs.Common.{◌∙◌, ◌++◌, ◌∷◌, sym, ap, subst, refl, reverse}
-use Rattle.std.specs.Prelude.{All}
-use Rattle.std.proofs.lemmas.List.{append-nil}
-use Rattle.smith_instr.specs.Contexts.{AreValid}
-use Rattle.smith_check_operands.specs.Scopes.{bare}
-use Rattle.smith_check_operands.specs.Covers.{held}
-use Rattle.smith_check_operands.specs.Closes.{label_of, labels_of}
+use Rattle.smith_check_body.proofs.Common.{All, ap, append-nil, AreValid, bare, held, label_of, labels_of, refl, reverse, subst, sym, ◌++◌}
+use Rattle.smith_check_body.proofs.Common.{◌∙◌, ◌∷◌}
 use Rattle.smith_check_body.proofs.CheckLemmas.{labels_valid, plain_refused, plain_taken}
 use Rattle.smith_check_body.proofs.checker.Checker.plain.Goals as goal
 

@@ -1,9 +1,4 @@
-use Rattle.std.proofs.Common.{◌∙◌, ap, sym, subst, refl, arith, false}
-use Rattle.smith_instr.specs.Contexts.{AreValid}
-use Rattle.smith_check_rules.specs.Slots.{values}
-use Rattle.smith_check_operands.specs.Scopes.{bare}
-use Rattle.smith_check_operands.specs.Covers.{held, holding}
-use Rattle.smith_check_operands.specs.Closes.{EndsHere}
+use Rattle.smith_check_body.proofs.Common.{ap, AreValid, arith, bare, EndsHere, false, held, holding, refl, subst, sym, values, ◌∙◌}
 use Rattle.smith_check_body.proofs.CheckLemmas.{else_goes, else_stops_ends, else_stops_first, else_stops_empty}
 use Rattle.smith_check_body.proofs.checker.Checker.second.Goals as goal
 

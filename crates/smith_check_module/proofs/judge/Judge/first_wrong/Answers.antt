@@ -1,4 +1,4 @@
-use Rattle.std.proofs.Common.{◌≤◌, ℕ, subst}
+use Rattle.smith_check_module.proofs.Common.{subst, ℕ, ◌≤◌}
 use Rattle.smith_check_module.proofs.JudgeLemmas.{all_right, one_more}
 use Rattle.smith_check_module.proofs.judge.Judge.first_wrong.Goals as goal
 

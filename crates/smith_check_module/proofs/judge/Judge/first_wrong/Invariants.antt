@@ -1,4 +1,4 @@
-use Rattle.std.proofs.Common.{ℕ, ◌<◌}
+use Rattle.smith_check_module.proofs.Common.{ℕ, ◌<◌}
 use Rattle.smith_check_module.specs.Judges.{IsRight}
 use Rattle.smith_check_module.proofs.judge.Judge.first_wrong.Given as goal
 

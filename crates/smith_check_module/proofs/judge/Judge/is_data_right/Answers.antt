@@ -1,7 +1,4 @@
-use Rattle.std.proofs.Common.{◌≡◌, ◌↔◌, ◌∙◌, ℕ, ap, subst, sym}
-use Rattle.std.specs.Prelude.{IfOk, IsTrue}
-use Rattle.smith_types.specs.EntitySpaces.{spaces_in}
-use Rattle.smith_types.specs.Expressions.{seeing, seen_by_segments}
+use Rattle.smith_check_module.proofs.Common.{ap, IfOk, IsTrue, seeing, seen_by_segments, spaces_in, subst, sym, ℕ, ◌↔◌, ◌∙◌, ◌≡◌}
 use Rattle.smith_decode.specs.Data.{Data}
 use Rattle.smith_decode.specs.DataReadings.{mode_view, segment_view}
 use Rattle.smith_decode.specs.declared.data.DataSegment.{DataSegment}

@@ -1,8 +1,6 @@
-use Rattle.std.proofs.Common.{◌≡◌, Bool, Some, map, nat_eq, not, subst, true}
-use Rattle.std.specs.Prelude.{slice_get}
-use Rattle.std.proofs.lemmas.Bool.{eq-eqb, false≢true}
-use Rattle.smith_types.specs.EntitySpaces.{spaces_in}
-use Rattle.smith_decode.specs.Modules.{export_triple}
+use Rattle.smith_check_module.proofs.Common.{Bool, export_triple, false≢true, map, slice_get, Some, spaces_in, subst, true, ◌≡◌}
+use Rattle.std.proofs.Common.{nat_eq, not}
+use Rattle.std.proofs.lemmas.Bool.{eq-eqb}
 use Rattle.smith_check_module.proofs.JudgeLemmas.{export_decided, export_wrong}
 use Rattle.smith_check_module.proofs.RightLemmas.{mapped_at}
 use Rattle.smith_check_module.proofs.judge.Judge.is_export_right.Goals as goal

@@ -1,13 +1,8 @@
-use Rattle.std.proofs.Common.{◌≡◌, ◌↔◌, ◌∙◌, ℕ, ◌+◌, ◌-◌, List, ap, arith, length, subst, sym}
-use Rattle.std.specs.Prelude.{IfOk, IsTrue, if◌then◌else◌}
-use Rattle.smith_syntax.specs.FeatureBits.{features_in}
-use Rattle.smith_syntax.specs.declared.entity_type.GlobalType.{GlobalType}
-use Rattle.smith_instr.specs.declared.instr.Instr.{Instr}
-use Rattle.smith_types.specs.Expressions.{seeing, seen_by_global}
-use Rattle.smith_types.specs.Imports.{imported_spaces}
-use Rattle.smith_decode.specs.Modules.{global_pair, syntax_of}
+use Rattle.smith_check_module.proofs.Common.{ap, arith, canonical_index, features_in, global_pair, GlobalType, IfOk, imported_spaces, Instr}
+use Rattle.smith_check_module.proofs.Common.{IsTrue, length, List, seeing, subst, sym, syntax_of, ℕ, ◌+◌, ◌-◌, ◌↔◌, ◌∙◌, ◌≡◌}
+use Rattle.std.specs.Prelude.{if◌then◌else◌}
+use Rattle.smith_types.specs.Expressions.{seen_by_global}
 use Rattle.smith_check_types.specs.Renamed.{renamed_val}
-use Rattle.smith_check_types.specs.TypeSections.{canonical_index}
 use Rattle.smith_check_module.specs.ConstScopes.{IsScope, context_of}
 use Rattle.smith_check_module.specs.ValidModules.{IsConstant}
 use Rattle.smith_check_module.specs.declared.scope.Scope.{Scope}

@@ -1,9 +1,7 @@
-use Rattle.std.proofs.Common.{◌<◌, ℕ, Ok, subst}
-use Rattle.std.specs.Prelude.{IsTrue}
-use Rattle.smith_syntax.specs.FeatureBits.{features_in}
-use Rattle.smith_syntax.specs.declared.entity_type.MemoryType.{MemoryType}
-use Rattle.smith_syntax.specs.declared.entity_type.TableType.{TableType}
-use Rattle.smith_types.specs.Entities.{IsFuncTypeIndex, IsGlobalValid, IsMemoryValid, IsTableValid}
+use Rattle.smith_check_module.proofs.Common.{features_in, IsFuncTypeIndex, IsGlobalValid, IsMemoryValid, IsTableValid, IsTrue, subst}
+use Rattle.smith_check_module.proofs.Common.{TableType, ℕ, ◌<◌}
+use Rattle.std.proofs.Common.{Ok}
+use Rattle.smith_types.specs.Syntax.entity_type.MemoryType.{MemoryType}
 use Rattle.smith_check_module.specs.Judges.{IsRight, count_in}
 use Rattle.smith_check_module.specs.declared.faults.Part.{Part}
 use Rattle.smith_check_module.specs.declared.faults.Part.TheVariants as part

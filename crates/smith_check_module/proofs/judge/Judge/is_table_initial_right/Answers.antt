@@ -1,7 +1,5 @@
-use Rattle.std.proofs.Common.{◌↔◌, subst, sym}
-use Rattle.std.specs.Prelude.{IfOk, IsTrue}
-use Rattle.smith_types.specs.Expressions.{seeing, seen_by_tables}
-use Rattle.smith_decode.specs.Modules.{table_pair}
+use Rattle.smith_check_module.proofs.Common.{IfOk, IsTrue, seeing, subst, sym, table_pair, ◌↔◌}
+use Rattle.smith_types.specs.Expressions.{seen_by_tables}
 use Rattle.smith_check_module.specs.ConstScopes.{IsScope, context_of}
 use Rattle.smith_check_module.specs.ValidModules.{IsTableInitialised}
 use Rattle.smith_check_module.specs.declared.scope.Scope.{Scope}

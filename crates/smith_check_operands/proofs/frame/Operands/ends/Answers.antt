@@ -1,4 +1,4 @@
-use Rattle.std.proofs.Common.{◌-◌, length, arith}
+use Rattle.smith_check_operands.proofs.Common.{arith, length, ◌-◌}
 use Rattle.smith_check_operands.specs.Scopes.{bare}
 use Rattle.smith_check_operands.proofs.EndLemmas.{ends_even, ends_beyond, ends_long, ends_short}
 use Rattle.smith_check_operands.proofs.RangeLemmas.{all_in_range, slots_whole, values_part}

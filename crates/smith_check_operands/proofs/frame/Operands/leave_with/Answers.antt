@@ -1,4 +1,4 @@
-use Rattle.smith_check_rules.specs.Slots.{values}
+use Rattle.smith_check_operands.proofs.Common.{values}
 use Rattle.smith_check_operands.specs.Scopes.{bare}
 use Rattle.smith_check_operands.specs.Covers.{held}
 use Rattle.smith_check_operands.proofs.StepLemmas.{left}

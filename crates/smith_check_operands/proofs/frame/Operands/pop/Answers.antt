@@ -1,4 +1,4 @@
-use Rattle.std.proofs.Common.{arith}
+use Rattle.smith_check_operands.proofs.Common.{arith}
 use Rattle.smith_check_operands.specs.Scopes.{bare}
 use Rattle.smith_check_operands.proofs.PushLemmas.{popped_some, popped_bottom, popped_nothing}
 use Rattle.smith_check_operands.proofs.frame.Operands.pop.Goals as goal

@@ -1,5 +1,4 @@
-use Rattle.std.proofs.Common.{◌-◌, sym, ◌∙◌, arith, length}
-use Rattle.std.proofs.lemmas.Bool.{false≢true}
+use Rattle.smith_check_operands.proofs.Common.{arith, false≢true, length, sym, ◌-◌, ◌∙◌}
 use Rattle.smith_check_operands.specs.Scopes.{bare}
 use Rattle.smith_check_operands.proofs.FitLemmas.{taken_enough, refused_enough, taken_beyond, refused_beyond, refused_short}
 use Rattle.smith_check_operands.proofs.RangeLemmas.{slots_part, slots_whole, values_part}

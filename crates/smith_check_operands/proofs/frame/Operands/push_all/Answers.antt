@@ -1,6 +1,5 @@
-use Rattle.std.proofs.Common.{◌≡◌, ◌++◌, ◌∙◌, ap, take, arith}
+use Rattle.smith_check_operands.proofs.Common.{ap, arith, take, values, ◌++◌, ◌∙◌, ◌≡◌}
 use Rattle.std.proofs.lemmas.List.{take_all}
-use Rattle.smith_check_rules.specs.Slots.{values}
 use Rattle.smith_check_operands.specs.Scopes.{bare}
 use Rattle.smith_check_operands.proofs.PushLemmas.{pushed}
 use Rattle.smith_check_operands.proofs.frame.Operands.push_all.Goals as goal

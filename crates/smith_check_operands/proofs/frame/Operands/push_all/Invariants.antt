@@ -1,5 +1,4 @@
-use Rattle.std.proofs.Common.{◌≡◌, ◌++◌, take}
-use Rattle.smith_check_rules.specs.Slots.{values}
+use Rattle.smith_check_operands.proofs.Common.{take, values, ◌++◌, ◌≡◌}
 use Rattle.smith_check_operands.proofs.frame.Operands.push_all.Given as goal
 
 abbrev pub invariant-loop-value : goal.invariant-loop-value

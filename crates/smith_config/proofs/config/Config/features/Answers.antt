@@ -1,5 +1,5 @@
 use Rattle.std.proofs.Common.{◌≡◌, refl, true, ◌∙◌}
-use Rattle.smith_syntax.specs.FeatureBits.{joined, feature_rows}
+use Rattle.smith_types.specs.Syntax.FeatureBits.{joined, feature_rows}
 use Rattle.smith_syntax.proofs.FeatureBitLemmas.{joined_all, features_in-joined}
 use Rattle.smith_config.specs.Features.{features_of}
 use Rattle.smith_config.proofs.FeatureNumberLemmas.{joined_all-number}

@@ -5,7 +5,7 @@ use Rattle.std.proofs.lemmas.Iterator.Splits.{YieldsList-from_str_split}
 use Rattle.std.proofs.lemmas.Option.{slice_get_read}
 use Rattle.std.proofs.lemmas.List.{take_more_set}
 use Rattle.std.proofs.lemmas.Grind.{common_steps}
-use Rattle.smith_syntax.specs.SplitTexts.{split_at_commas}
+use Rattle.smith_types.specs.Syntax.SplitTexts.{split_at_commas}
 use Rattle.smith_syntax.proofs.PartLemmas.{AllZip-next}
 use Rattle.smith_config.specs.OffsetChoices.{IsNumber, AllNumbers}
 use Rattle.smith_config.proofs.offset_choices.MemoryOffsetChoicesFromStr.from_str.Goals as goal

@@ -1,6 +1,6 @@
 use Rattle.std.proofs.Common.{◌≡◌, ◌≤◌, length, take}
 use Rattle.smith_config.specs.OffsetChoices.{IsNumber}
-use Rattle.smith_syntax.specs.SplitTexts.{split_at_commas}
+use Rattle.smith_types.specs.Syntax.SplitTexts.{split_at_commas}
 use Rattle.std.specs.List.{AllZip}
 use Rattle.smith_config.proofs.offset_choices.MemoryOffsetChoicesFromStr.from_str.Given as goal
 

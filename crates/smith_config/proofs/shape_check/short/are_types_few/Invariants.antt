@@ -1,6 +1,6 @@
 use Rattle.std.proofs.Common.{◌≡◌, ◌+◌, List, length, drop}
 use Rattle.std.specs.List.{flat_map}
-use Rattle.smith_syntax.specs.declared.composite_type.SubType.{SubType}
+use Rattle.smith_types.specs.Syntax.composite_type.SubType.{SubType}
 use Rattle.smith_config.specs.Shapes.{most_listed}
 use Rattle.smith_config.proofs.shape_check.short.are_types_few.Given as goal
 

@@ -2,7 +2,7 @@ use Rattle.std.proofs.Common.{List}
 use Rattle.std.specs.List.{All}
 use Rattle.std.proofs.lemmas.List.Elements.{All-from_recursion, recursion_from_All}
 use Rattle.smith_validity.proofs.HeldValueLemmas.{all_of_parts, parts_of_all}
-use Rattle.smith_syntax.specs.declared.composite_type.SubType.{SubType}
+use Rattle.smith_types.specs.Syntax.composite_type.SubType.{SubType}
 use Rattle.smith_config.specs.Shapes.{IsInnerShort}
 use Rattle.smith_config.proofs.shape_check.short.is_short.Goals as goal
 

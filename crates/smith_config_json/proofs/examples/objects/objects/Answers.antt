@@ -1,6 +1,6 @@
 use Rattle.std.proofs.Common.{Ok, refl}
-use Rattle.smith_syntax.specs.declared.instruction_kind.InstructionKind.TheVariants.{Table, Control}
-use Rattle.smith_syntax.specs.Instructions as instructions
+use Rattle.smith_types.specs.Syntax.instruction_kind.InstructionKind.TheVariants.{Table, Control}
+use Rattle.smith_types.specs.Syntax.Instructions as instructions
 use Rattle.smith_config_json.specs.Fields.{fields}
 use Rattle.smith_config_json.specs.Objects.{ends, sets}
 use Rattle.smith_config_json.specs.Values.{ends as list_ends, names}

@@ -1,6 +1,5 @@
-use Rattle.std.proofs.Common.{◌≡◌, ◌∙◌, ◌*◌, ◌/◌, inl, inr, min, true, false, ap, arith, sym}
-use Rattle.std.specs.Prelude.{not}
-use Rattle.std.proofs.lemmas.Bool.Decides.{eqb_tells}
+use Rattle.smith_draw_consts.proofs.Common.{ap, arith, eqb_tells, false, inl, inr, not, sym, true, ◌*◌, ◌∙◌, ◌≡◌}
+use Rattle.std.proofs.Common.{min, ◌/◌}
 use Rattle.smith_draw_consts.proofs.BlockCountLemmas.{none_near}
 use Rattle.smith_draw_consts.proofs.block_counts.BlockCounts.may_offer.Goals as goal
 

@@ -1,4 +1,5 @@
-use Rattle.std.proofs.Common.{◌≡◌, ◌≢◌, ◌⊎◌, ◌%◌, ◌∷◌, ◌++◌, [], ◌∙◌, inl, inr, ap, arith}
+use Rattle.smith_draw_consts.proofs.Common.{[], ap, arith, inl, inr, ◌%◌, ◌++◌, ◌∙◌, ◌∷◌, ◌≡◌, ◌⊎◌}
+use Rattle.std.proofs.Common.{◌≢◌}
 use Rattle.smith_draw_consts.specs.declared.block_counts.BlockCounts.{BlockCounts}
 use Rattle.smith_draw_consts.proofs.BlockCountLemmas.{counted_next}
 use Rattle.smith_draw_consts.proofs.block_counts.BlockCounts.read_to.Goals as goal

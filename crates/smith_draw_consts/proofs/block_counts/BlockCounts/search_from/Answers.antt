@@ -1,4 +1,4 @@
-use Rattle.std.proofs.Common.{◌≡◌, ◌*◌, ◌∙◌, ap, arith, get_or, length, List, ℕ}
+use Rattle.smith_draw_consts.proofs.Common.{ap, arith, get_or, length, List, ℕ, ◌*◌, ◌∙◌, ◌≡◌}
 use Rattle.smith_draw_consts.proofs.BlockCountLemmas.{block_counted, blocks_counted, first_start, some_block}
 use Rattle.smith_draw_consts.proofs.block_counts.BlockCounts.search_from.Goals as goal
 

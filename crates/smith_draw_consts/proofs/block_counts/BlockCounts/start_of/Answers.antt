@@ -1,4 +1,4 @@
-use Rattle.std.proofs.Common.{◌∙◌, ap, arith, get_or, length}
+use Rattle.smith_draw_consts.proofs.Common.{ap, arith, get_or, length, ◌∙◌}
 use Rattle.smith_draw_consts.proofs.BlockCountLemmas.{all_counted, start_counted}
 use Rattle.smith_draw_consts.proofs.block_counts.BlockCounts.start_of.Goals as goal
 

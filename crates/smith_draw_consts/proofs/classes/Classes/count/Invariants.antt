@@ -1,4 +1,4 @@
-use Rattle.std.proofs.Common.{◌≡◌, ◌+◌, ◌≤◌, ℕ}
+use Rattle.smith_draw_consts.proofs.Common.{ℕ, ◌+◌, ◌≡◌, ◌≤◌}
 use Rattle.smith_draw_consts.specs.KeptOffers.{IsTally}
 use Rattle.smith_draw_consts.proofs.classes.Classes.count.Given as goal
 

@@ -1,8 +1,4 @@
-use Rattle.std.proofs.Common.{◌∙◌, ap}
-use Rattle.std.specs.Prelude.{Some}
-use Rattle.std.proofs.lemmas.Option.{get_or_from_slice_get}
-use Rattle.smith_types.specs.Expressions.{function_reference}
-use Rattle.smith_syntax.specs.declared.value_type.ValType.{ValType}
+use Rattle.smith_draw_consts.proofs.Common.{ap, function_reference, get_or_from_slice_get, Some, ValType, ◌∙◌}
 use Rattle.smith_draw_consts.specs.ConstScopes.{context_of}
 use Rattle.smith_draw_consts.proofs.few_items.FewItems.recorded_function.Goals as goal
 

@@ -1,4 +1,4 @@
-use Rattle.std.proofs.Common.{arith, Bool, List, subst, sym}
+use Rattle.smith_draw_consts.proofs.Common.{arith, Bool, List, subst, sym}
 use Rattle.smith_draw_consts.specs.ConstOffers.{global_offers}
 use Rattle.smith_draw_consts.specs.KeptOffers.{IsTally, offered_before}
 use Rattle.smith_draw_consts.proofs.ClassLemmas.{tally_globals}

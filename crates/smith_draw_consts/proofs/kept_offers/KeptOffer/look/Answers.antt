@@ -1,4 +1,4 @@
-use Rattle.std.proofs.Common.{◌≡◌, ◌∙◌, ap, arith}
+use Rattle.smith_draw_consts.proofs.Common.{ap, arith, ◌∙◌, ◌≡◌}
 use Rattle.smith_draw_consts.specs.ConstScopes.{context_of}
 use Rattle.smith_draw_consts.specs.declared.block_counts.BlockCounts.{BlockCounts}
 use Rattle.smith_draw_consts.proofs.KeptOfferLemmas.{whole_for}

@@ -1,6 +1,4 @@
-use Rattle.std.proofs.Common.{◌≡◌, ◌+◌, Bool, List, arith, subst, sym}
-use Rattle.std.specs.Prelude.{Some}
-use Rattle.smith_types.specs.Expressions.{function_reference}
+use Rattle.smith_draw_consts.proofs.Common.{arith, Bool, function_reference, List, Some, subst, sym, ◌+◌, ◌≡◌}
 use Rattle.smith_draw_consts.specs.ConstScopes.{context_of}
 use Rattle.smith_draw_consts.specs.KeptOffers.{IsTally, offered_before}
 use Rattle.smith_draw_consts.specs.ConstOffers.{function_offers}

@@ -1,4 +1,4 @@
-use Rattle.std.proofs.Common.{◌≡◌, ◌-◌, length}
+use Rattle.smith_draw_consts.proofs.Common.{length, ◌-◌, ◌≡◌}
 use Rattle.smith_draw_consts.specs.ConstScopes.{context_of}
 use Rattle.smith_draw_consts.specs.KeptOffers.{IsEntry, IsTested}
 use Rattle.smith_draw_consts.proofs.kept_offers.KeptOffer.look_at_funcs.Given as goal

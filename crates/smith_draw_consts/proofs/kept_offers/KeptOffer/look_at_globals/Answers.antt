@@ -1,6 +1,4 @@
-use Rattle.std.proofs.Common.{false, arith}
-use Rattle.smith_syntax.specs.declared.entity_type.GlobalType.{GlobalType}
-use Rattle.smith_syntax.specs.declared.value_type.ValType.TheVariants.{I32}
+use Rattle.smith_draw_consts.proofs.Common.{arith, false, GlobalType, I32}
 use Rattle.smith_draw_consts.specs.ConstScopes.{context_of}
 use Rattle.smith_draw_consts.specs.KeptOffers.{offered_before, readable}
 use Rattle.smith_draw_consts.specs.ConstOffers.{global_offers}

@@ -1,4 +1,5 @@
-use Rattle.std.proofs.Common.{◌≡◌, ◌≤◌, ◌-◌, max}
+use Rattle.smith_draw_consts.proofs.Common.{◌-◌, ◌≡◌, ◌≤◌}
+use Rattle.std.proofs.Common.{max}
 use Rattle.smith_draw_consts.specs.ConstScopes.{context_of}
 use Rattle.smith_draw_consts.specs.KeptOffers.{IsEntry, IsTested}
 use Rattle.smith_draw_consts.proofs.kept_offers.KeptOffer.look_at_globals.Given as goal

@@ -1,4 +1,4 @@
-use Rattle.std.proofs.Common.{arith, refl}
+use Rattle.smith_draw_consts.proofs.Common.{arith, refl}
 use Rattle.smith_draw_consts.specs.ConstOffers.{function_offers, global_offers}
 use Rattle.smith_draw_consts.specs.KeptOffers.{offered_before}
 use Rattle.smith_draw_consts.proofs.ClassLemmas.{no_flags}

@@ -1,5 +1,4 @@
-use Rattle.std.proofs.Common.{arith}
-use Rattle.std.proofs.lemmas.Option.{slice_get_within}
+use Rattle.smith_draw_consts.proofs.Common.{arith, slice_get_within}
 use Rattle.smith_draw_consts.proofs.KeptOfferLemmas.{whole_there}
 use Rattle.smith_draw_consts.proofs.kept_offers.KeptOffers.known_at.Goals as goal
 

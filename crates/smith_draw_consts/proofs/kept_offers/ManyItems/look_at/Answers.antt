@@ -1,7 +1,4 @@
-use Rattle.std.proofs.Common.{◌≡◌, ◌∙◌, ap, arith, set, subst, sym}
-use Rattle.std.proofs.lemmas.List.Elements.{All-set}
-use Rattle.smith_syntax.specs.declared.value_type.ValType.{ValType}
-use Rattle.smith_draw_types.specs.Below.{is_val_below}
+use Rattle.smith_draw_consts.proofs.Common.{All-set, ap, arith, is_val_below, set, subst, sym, ValType, ◌∙◌, ◌≡◌}
 use Rattle.smith_draw_consts.specs.ConstScopes.{context_of}
 use Rattle.smith_draw_consts.specs.KeptOffers.{AreAllRead, IsEntry, IsFor, IsWhole}
 use Rattle.smith_draw_consts.specs.declared.kept_offers.KeptOffer.{KeptOffer}

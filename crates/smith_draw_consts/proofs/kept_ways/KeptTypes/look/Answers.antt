@@ -1,6 +1,4 @@
-use Rattle.std.proofs.Common.{arith, subst, sym}
-use Rattle.std.proofs.lemmas.List.Elements.{All-set}
-use Rattle.smith_syntax.specs.declared.value_type.ValType.{ValType}
+use Rattle.smith_draw_consts.proofs.Common.{All-set, arith, subst, sym, ValType}
 use Rattle.smith_draw_consts.specs.ConstScopes.{context_of}
 use Rattle.smith_draw_consts.specs.KeptOffers.{AreWaysWhole, IsKeptWays}
 use Rattle.smith_draw_consts.proofs.KeptWayLemmas.{set_there, ways_for, ways_within}

@@ -1,4 +1,4 @@
-use Rattle.std.proofs.Common.{arith, false, true}
+use Rattle.smith_draw_consts.proofs.Common.{arith, false, true}
 use Rattle.smith_draw_consts.specs.ConstScopes.{context_of}
 use Rattle.smith_draw_consts.proofs.KeptWayLemmas.{fuelled}
 use Rattle.smith_draw_consts.proofs.kept_ways.KeptWays.look.Goals as goal

@@ -1,4 +1,4 @@
-use Rattle.std.proofs.Common.{arith, false, refl, true}
+use Rattle.smith_draw_consts.proofs.Common.{arith, false, refl, true}
 use Rattle.smith_draw_consts.specs.ConstOffers.{ways_by}
 use Rattle.smith_draw_consts.specs.KeptOffers.{offered_before}
 use Rattle.smith_draw_consts.proofs.kept_ways.KeptWays.new.Goals as goal

@@ -1,5 +1,4 @@
-use Rattle.std.specs.Prelude.{Some}
-use Rattle.smith_types.specs.Expressions.{function_reference}
+use Rattle.smith_draw_consts.proofs.Common.{function_reference, Some}
 use Rattle.smith_draw_consts.specs.KeptOffers.{readable}
 use Rattle.smith_draw_consts.proofs.ClassLemmas.{no_classes}
 use Rattle.smith_draw_consts.proofs.read_items.ReadItems.new.Goals as goal

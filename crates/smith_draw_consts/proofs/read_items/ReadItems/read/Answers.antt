@@ -1,4 +1,4 @@
-use Rattle.std.proofs.lemmas.Result.{on_ok_weaker}
+use Rattle.smith_draw_consts.proofs.Common.{on_ok_weaker}
 use Rattle.smith_draw_consts.proofs.read_items.ReadItems.read.Goals as goal
 
 pub returns-clause-globals : goal.returns-clause-globals

@@ -1,5 +1,4 @@
-use Rattle.std.proofs.Common.{true}
-use Rattle.smith_draw_consts.specs.ConstScopes.{seen_by}
+use Rattle.smith_draw_contents.proofs.Common.{seen_by, true}
 use Rattle.smith_draw_contents.proofs.DataSegmentLemmas.{both_tell, both_none}
 use Rattle.smith_draw_contents.proofs.DataTargetsLoop.{indexed_stand}
 use Rattle.smith_draw_contents.proofs.data_targets.Targets.new.Goals as goal

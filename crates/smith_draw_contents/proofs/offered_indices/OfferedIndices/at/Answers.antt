@@ -1,5 +1,4 @@
-use Rattle.std.proofs.Common.{rules, arith}
-use Rattle.std.specs.Prelude.{nat_le}
+use Rattle.smith_draw_contents.proofs.Common.{arith, nat_le, rules}
 use Rattle.std.proofs.lemmas.List.Sorted.{IsPartitionPoint-from_clause, IsPartitionedBy-leb}
 use Rattle.smith_draw_contents.proofs.OfferedIndexLemmas.{length_offered, found_at}
 use Rattle.smith_draw_contents.proofs.offered_indices.OfferedIndices.at.Goals as goal

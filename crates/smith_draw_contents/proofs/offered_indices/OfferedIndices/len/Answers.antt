@@ -1,4 +1,4 @@
-use Rattle.std.proofs.Common.{sym}
+use Rattle.smith_draw_contents.proofs.Common.{sym}
 use Rattle.smith_draw_contents.proofs.OfferedIndexLemmas.{length_offered}
 use Rattle.smith_draw_contents.proofs.offered_indices.OfferedIndices.len.Goals as goal
 

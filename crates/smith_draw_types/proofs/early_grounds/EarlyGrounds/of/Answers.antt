@@ -1,5 +1,4 @@
-use Rattle.std.proofs.Common.{refl}
-use Rattle.std.proofs.lemmas.Option.{IfSome_then}
+use Rattle.smith_draw_types.proofs.Common.{IfSome_then, refl}
 use Rattle.smith_draw_types.specs.Grounding.{functions_in, over}
 use Rattle.smith_draw_types.proofs.EarlyGroundLemmas.{record_begun, families_begun}
 use Rattle.smith_draw_types.proofs.early_grounds.EarlyGrounds.of.Goals as goal

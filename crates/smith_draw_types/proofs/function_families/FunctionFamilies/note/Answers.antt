@@ -1,5 +1,5 @@
-use Rattle.std.proofs.Common.{◌∙◌, sym, true, false}
-use Rattle.std.specs.Prelude.{Result, Ok, Err, OnOk}
+use Rattle.smith_draw_types.proofs.Common.{false, OnOk, sym, true, ◌∙◌}
+use Rattle.std.specs.Prelude.{Err, Ok, Result}
 use Rattle.smith_draw_types.specs.FunctionFamilies.{is_noted_below}
 use Rattle.smith_draw_types.proofs.FunctionListLemmas.{families_passed, below_is, functions_more}
 use Rattle.smith_draw_types.proofs.function_families.FunctionFamilies.note.Goals as goal

@@ -1,7 +1,4 @@
-use Rattle.std.proofs.Common.{◌≡◌, ◌<◌, ◌∙◌, List, Some, sym, ap, length, arith}
-use Rattle.std.specs.Prelude.{slice_get}
-use Rattle.std.proofs.lemmas.Option.{slice_get-get_or}
-use Rattle.smith_syntax.specs.declared.composite_type.SubType.{SubType}
+use Rattle.smith_draw_types.proofs.Common.{ap, arith, length, List, slice_get, slice_get-get_or, Some, SubType, sym, ◌<◌, ◌∙◌, ◌≡◌}
 use Rattle.smith_draw_types.proofs.FunctionListLemmas.{none_listed, noted_is}
 use Rattle.smith_draw_types.proofs.function_families.FunctionFamilies.of.Goals as goal
 

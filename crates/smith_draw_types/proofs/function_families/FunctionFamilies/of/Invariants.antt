@@ -1,6 +1,4 @@
-use Rattle.std.proofs.Common.{◌≡◌}
-use Rattle.smith_types.specs.Expressions.{Context}
-use Rattle.smith_types.specs.FuncGrounds.{AreFuncGrounds}
+use Rattle.smith_draw_types.proofs.Common.{AreFuncGrounds, Context, ◌≡◌}
 use Rattle.smith_draw_types.specs.FunctionFamilies.{AreFunctionFamilies}
 use Rattle.smith_draw_types.proofs.function_families.FunctionFamilies.of.Given as goal
 

@@ -1,5 +1,4 @@
-use Rattle.std.proofs.Common.{◌∙◌, sym, subst, ap}
-use Rattle.smith_types.specs.Expressions.{Context}
+use Rattle.smith_draw_types.proofs.Common.{ap, Context, subst, sym, ◌∙◌}
 use Rattle.smith_draw_types.specs.KeptGrounds.{AreEarlyFamilies}
 use Rattle.smith_draw_types.proofs.EarlyGroundLemmas.{early_record}
 use Rattle.smith_draw_types.proofs.FunctionFamilyLemmas.{direct_listed}

@@ -1,7 +1,5 @@
-use Rattle.std.proofs.Common.{◌∷◌, [], map}
-use Rattle.std.proofs.lemmas.Option.{IfSome_then}
-use Rattle.smith_syntax.specs.declared.value_type.AbstractHeapType.TheVariants as heap
-use Rattle.smith_syntax.specs.declared.value_type.HeapType.TheVariants.{Concrete}
+use Rattle.smith_draw_types.proofs.Common.{[], Concrete, IfSome_then, map, ◌∷◌}
+use Rattle.smith_types.specs.Syntax.value_type.AbstractHeapType.TheVariants as heap
 use Rattle.smith_draw_types.proofs.GroundedKindLemmas.{kinds_after_none}
 use Rattle.smith_draw_types.proofs.reference_scope.ReferenceScope.grounded_aggregates.Goals as goal
 

@@ -1,7 +1,4 @@
-use Rattle.std.proofs.Common.{◌<◌, length, ap}
-use Rattle.std.proofs.lemmas.Option.{IfSome_then}
-use Rattle.smith_syntax.specs.declared.value_type.HeapType.TheVariants.{Concrete}
-use Rattle.smith_types.specs.Expressions.{Context}
+use Rattle.smith_draw_types.proofs.Common.{ap, Concrete, Context, IfSome_then, length, ◌<◌}
 use Rattle.smith_draw_types.proofs.GroundedFamilyLemmas.{family_listed}
 use Rattle.smith_draw_types.proofs.GroundingLemmas.{no_functions}
 use Rattle.smith_draw_types.proofs.reference_scope.ReferenceScope.grounded_direct.Goals as goal

@@ -1,7 +1,4 @@
-use Rattle.std.proofs.Common.{◌∙◌, sym, subst, ap, map}
-use Rattle.std.proofs.lemmas.Option.{IfSome_then}
-use Rattle.smith_syntax.specs.declared.value_type.HeapType.TheVariants.{Concrete}
-use Rattle.smith_types.specs.Expressions.{Context}
+use Rattle.smith_draw_types.proofs.Common.{ap, Concrete, Context, IfSome_then, map, subst, sym, ◌∙◌}
 use Rattle.smith_draw_types.specs.KeptGrounds.{AreEarlyFamilies}
 use Rattle.smith_draw_types.proofs.EarlyGroundLemmas.{early_record}
 use Rattle.smith_draw_types.proofs.FunctionFamilyLemmas.{functions_listed}

@@ -1,6 +1,4 @@
-use Rattle.std.proofs.Common.{◌∙◌, sym, ap, map}
-use Rattle.std.proofs.lemmas.Option.{IfSome_then}
-use Rattle.smith_syntax.specs.declared.value_type.HeapType.TheVariants.{Concrete}
+use Rattle.smith_draw_types.proofs.Common.{ap, Concrete, IfSome_then, map, sym, ◌∙◌}
 use Rattle.smith_draw_types.proofs.reference_scope.ReferenceScope.grounded_of_kinds.Goals as goal
 
 pub returns-in-Any : goal.returns-in-Any

@@ -1,8 +1,5 @@
-use Rattle.std.proofs.Common.{◌∙◌, sym, ap}
-use Rattle.std.proofs.lemmas.Option.{IfSome_then}
-use Rattle.smith_syntax.specs.declared.value_type.AbstractHeapType.TheVariants as heap
-use Rattle.smith_syntax.specs.declared.value_type.HeapType.TheVariants.{Abstract}
-use Rattle.smith_types.specs.Expressions.{Context}
+use Rattle.smith_draw_types.proofs.Common.{Abstract, ap, Context, IfSome_then, sym, ◌∙◌}
+use Rattle.smith_types.specs.Syntax.value_type.AbstractHeapType.TheVariants as heap
 use Rattle.smith_draw_types.proofs.GroundedKindLemmas.{structs_listed}
 use Rattle.smith_draw_types.proofs.GroundingLemmas.{no_functions}
 use Rattle.smith_draw_types.proofs.reference_scope.ReferenceScope.grounded_structs.Goals as goal

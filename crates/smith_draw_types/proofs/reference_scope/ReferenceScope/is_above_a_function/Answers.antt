@@ -1,6 +1,4 @@
-use Rattle.std.proofs.Common.{◌∙◌, sym, ap}
-use Rattle.std.proofs.lemmas.Option.{slice_get-get_or}
-use Rattle.smith_types.specs.Expressions.{Context}
+use Rattle.smith_draw_types.proofs.Common.{ap, Context, slice_get-get_or, sym, ◌∙◌}
 use Rattle.smith_draw_types.specs.Grounding.{any_from, function_grounds}
 use Rattle.smith_draw_types.proofs.GroundingLemmas.{any_here, any_later, any_never}
 use Rattle.smith_draw_types.proofs.reference_scope.ReferenceScope.is_above_a_function.Goals as goal

@@ -1,4 +1,4 @@
-use Rattle.std.proofs.Common.{◌≡◌, drop}
+use Rattle.smith_draw_types.proofs.Common.{drop, ◌≡◌}
 use Rattle.smith_draw_types.specs.Grounding.{any_from, function_grounds}
 use Rattle.smith_draw_types.proofs.reference_scope.ReferenceScope.is_above_a_function.Given as goal
 

@@ -1,5 +1,4 @@
-use Rattle.std.proofs.Common.{◌<◌, length, ap}
-use Rattle.smith_types.specs.Expressions.{Context}
+use Rattle.smith_draw_types.proofs.Common.{ap, Context, length, ◌<◌}
 use Rattle.smith_draw_types.proofs.GroundingLemmas.{inside_grounds}
 use Rattle.smith_draw_types.proofs.reference_scope.ReferenceScope.is_function_below.Goals as goal
 

@@ -1,5 +1,4 @@
-use Rattle.std.proofs.Common.{◌∙◌, sym, ap}
-use Rattle.smith_types.specs.Expressions.{Context}
+use Rattle.smith_draw_types.proofs.Common.{ap, Context, sym, ◌∙◌}
 use Rattle.smith_draw_types.proofs.GroundingLemmas.{ungrounded, by_structs, by_functions}
 use Rattle.smith_draw_types.proofs.reference_scope.ReferenceScope.is_grounded.Goals as goal
 

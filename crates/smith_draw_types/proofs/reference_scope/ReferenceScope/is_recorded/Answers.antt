@@ -1,4 +1,4 @@
-use Rattle.std.proofs.Common.{take}
+use Rattle.smith_draw_types.proofs.Common.{take}
 use Rattle.smith_draw_types.specs.Grounding.{over}
 use Rattle.smith_draw_types.proofs.EarlyGroundLemmas.{by_early}
 use Rattle.smith_draw_types.proofs.reference_scope.ReferenceScope.is_recorded.Goals as goal

@@ -1,4 +1,4 @@
-use Rattle.std.proofs.Common.{refl, sym, ◌∙◌}
+use Rattle.smith_draw_types.proofs.Common.{refl, sym, ◌∙◌}
 use Rattle.smith_draw_types.proofs.GroundedKindLemmas.{none_of_kind}
 use Rattle.smith_draw_types.proofs.reference_scope.ReferenceScope.none_grounded.Goals as goal
 

@@ -1,4 +1,4 @@
-use Rattle.std.proofs.lemmas.Result.{on_ok_weaker}
+use Rattle.smith_encode.proofs.Common.{on_ok_weaker}
 use Rattle.smith_encode.proofs.ItemLemmas.{no_memory_written}
 use Rattle.smith_encode.proofs.datas.DecodedEncodeItemDataSegment.encode_item.Goals as goal
 

@@ -1,4 +1,4 @@
-use Rattle.std.proofs.lemmas.Result.{on_ok_weaker}
+use Rattle.smith_encode.proofs.Common.{on_ok_weaker}
 use Rattle.smith_encode.proofs.ItemLemmas.{function_expr_written}
 use Rattle.smith_encode.proofs.elements.FunctionExprsEncodeItemU32.encode_item.Goals as goal
 

@@ -1,5 +1,5 @@
-use Rattle.std.proofs.lemmas.Result.{on_ok_weaker}
-use Rattle.smith_binary.proofs.WrittenLemmas.{content_written, joined_written}
+use Rattle.smith_encode.proofs.Common.{joined_written, on_ok_weaker}
+use Rattle.smith_binary.proofs.WrittenLemmas.{content_written}
 use Rattle.smith_encode.proofs.ItemLemmas.{body_written}
 use Rattle.smith_encode.proofs.items.DecodedEncodeItemBody.encode_item.Goals as goal
 

@@ -1,5 +1,4 @@
-use Rattle.std.proofs.lemmas.Result.{on_ok_weaker}
-use Rattle.smith_binary.proofs.WrittenLemmas.{joined_written, written_plain}
+use Rattle.smith_encode.proofs.Common.{joined_written, on_ok_weaker, written_plain}
 use Rattle.smith_encode.proofs.items.DecodedEncodeItemExport.encode_item.Goals as goal
 
 pub returns-clause-writes : goal.returns-clause-writes

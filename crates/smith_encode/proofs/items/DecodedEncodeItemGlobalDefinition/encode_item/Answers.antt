@@ -1,4 +1,4 @@
-use Rattle.std.proofs.lemmas.Result.{on_ok_weaker}
+use Rattle.smith_encode.proofs.Common.{on_ok_weaker}
 use Rattle.smith_encode.proofs.ItemLemmas.{global_written}
 use Rattle.smith_encode.proofs.items.DecodedEncodeItemGlobalDefinition.encode_item.Goals as goal
 

@@ -1,5 +1,4 @@
-use Rattle.std.proofs.Common.{◌≡◌, ℕ, subst, sym}
-use Rattle.std.specs.Prelude.{map}
+use Rattle.smith_program.proofs.Common.{map, subst, sym, ℕ, ◌≡◌}
 use Rattle.wasm_smith.specs.Scratch.{has_vectors}
 use Rattle.smith_program.specs.Canonical.{canonical_body}
 use Rattle.smith_program.proofs.CanonicalProgramLemmas.{canonical_bodies}

@@ -1,5 +1,4 @@
-use Rattle.std.proofs.Common.{length, sym, ap, ◌∙◌}
-use Rattle.smith_syntax.specs.declared.code.Code.{Code}
+use Rattle.smith_program.proofs.Common.{ap, Code, length, sym, ◌∙◌}
 use Rattle.std.specs.Prelude.{List}
 use Rattle.smith_program.proofs.TerminationLemmas.{answered_bodies, code_kept, counted_bodies}
 use Rattle.smith_program.proofs.program.Program.ensure_termination.Goals as goal

@@ -1,4 +1,4 @@
-use Rattle.std.proofs.Common.{ℕ, subst, sym}
+use Rattle.smith_program.proofs.Common.{subst, sym, ℕ}
 use Rattle.smith_program.specs.Observed.{AreObserved}
 use Rattle.smith_program.proofs.ObservedProgramLemmas.{observed_bodies}
 use Rattle.smith_program.proofs.program.Program.observe.Goals as goal

@@ -1,5 +1,4 @@
-use Rattle.std.proofs.Common.{◌∙◌, refl, sym, ap}
-use Rattle.std.proofs.lemmas.Option.{same_Some}
+use Rattle.smith_spell.proofs.Common.{ap, refl, same_Some, sym, ◌∙◌}
 use Rattle.smith_types.specs.Grounds.{is_ground}
 use Rattle.smith_spell.proofs.EarlierLoop.{walked_within, walked_on, found_in_group, found_after}
 use Rattle.smith_spell.proofs.earlier.Earlier.is_ground_at.Goals as goal

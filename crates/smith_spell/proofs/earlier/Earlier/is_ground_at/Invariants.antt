@@ -1,5 +1,4 @@
-use Rattle.std.proofs.Common.{◌≡◌, ◌++◌, ◌<◌, length, drop}
-use Rattle.std.specs.Prelude.{slice_get}
+use Rattle.smith_spell.proofs.Common.{drop, length, slice_get, ◌++◌, ◌<◌, ◌≡◌}
 use Rattle.smith_spell.proofs.MemberLemmas.{all_types}
 use Rattle.smith_spell.proofs.earlier.Earlier.is_ground_at.Given as goal
 

@@ -1,5 +1,4 @@
-use Rattle.std.proofs.Common.{List, subst}
-use Rattle.smith_syntax.specs.declared.composite_type.SubType.{SubType}
+use Rattle.smith_spell.proofs.Common.{List, subst, SubType}
 use Rattle.smith_types.proofs.GroundedLemmas.{and_on, and_off}
 use Rattle.smith_spell.specs.Decided.{IsKnown}
 use Rattle.smith_spell.proofs.KnownLemmas.{abstract_known, concrete_known}

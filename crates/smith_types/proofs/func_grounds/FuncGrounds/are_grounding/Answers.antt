@@ -1,4 +1,4 @@
-use Rattle.std.proofs.Common.{◌≡◌, sym}
+use Rattle.smith_types.proofs.Common.{sym, ◌≡◌}
 use Rattle.smith_types.specs.FuncGrounds.{is_noted}
 use Rattle.smith_types.specs.declared.ground.Ground.{Ground}
 use Rattle.smith_types.proofs.MarkLemmas.{said_is}

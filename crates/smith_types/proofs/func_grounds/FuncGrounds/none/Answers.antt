@@ -1,4 +1,4 @@
-use Rattle.std.proofs.Common.{sym, ◌∙◌}
+use Rattle.smith_types.proofs.Common.{sym, ◌∙◌}
 use Rattle.smith_types.proofs.FuncGroundLemmas.{none_grounded}
 use Rattle.smith_types.proofs.func_grounds.FuncGrounds.none.Goals as goal
 

@@ -1,4 +1,4 @@
-use Rattle.std.proofs.Common.{arith, true, false}
+use Rattle.smith_types.proofs.Common.{arith, false, true}
 use Rattle.smith_syntax.specs.declared.value_type.AbstractHeapType.TheVariants as heap
 use Rattle.smith_types.specs.declared.kind_counts.TypeSet.TheVariants.{OfKind, WithoutResults}
 use Rattle.smith_types.proofs.kind_counts.KindCounts.with.Goals as goal

@@ -1,4 +1,4 @@
-use Rattle.std.proofs.Common.{arith}
+use Rattle.smith_types.proofs.Common.{arith}
 use Rattle.smith_types.proofs.MarkedFamilyLemmas.{room_at}
 use Rattle.smith_types.proofs.marked_families.MarkedFamilies.make_room.Goals as goal
 

@@ -1,5 +1,4 @@
-use Rattle.std.proofs.Common.{◌∙◌, ◌++◌, ◌∷◌, [], ℕ, Some, sym, ap, arith}
-use Rattle.std.proofs.lemmas.Option.{slice_get_within, slice_get-get_or, same_Some}
+use Rattle.smith_types.proofs.Common.{[], ap, arith, same_Some, slice_get-get_or, slice_get_within, Some, sym, ℕ, ◌++◌, ◌∙◌, ◌∷◌}
 use Rattle.smith_types.proofs.MarkedFamilyLemmas.{lists_unmarked, lists_rootless, lists_joined}
 use Rattle.smith_types.proofs.marked_families.MarkedFamilies.note.Goals as goal
 

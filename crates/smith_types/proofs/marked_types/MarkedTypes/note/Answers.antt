@@ -1,4 +1,4 @@
-use Rattle.std.proofs.Common.{true, false, refl}
+use Rattle.smith_types.proofs.Common.{false, refl, true}
 use Rattle.smith_types.proofs.MarkedLemmas.{marked_kept, marked_pushed, list_fits}
 use Rattle.smith_types.proofs.marked_types.MarkedTypes.note.Goals as goal
 

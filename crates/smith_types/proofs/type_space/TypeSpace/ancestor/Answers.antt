@@ -1,4 +1,4 @@
-use Rattle.std.proofs.Common.{ap}
+use Rattle.smith_types.proofs.Common.{ap}
 use Rattle.smith_types.proofs.type_space.TypeSpace.ancestor.Goals as goal
 
 pub find_ancestor-requires : goal.find_ancestor-requires

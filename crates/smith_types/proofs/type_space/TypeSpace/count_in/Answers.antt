@@ -1,4 +1,4 @@
-use Rattle.std.proofs.Common.{◌∙◌, ap}
+use Rattle.smith_types.proofs.Common.{ap, ◌∙◌}
 use Rattle.smith_types.specs.KindCounts.{count_in}
 use Rattle.smith_types.specs.Places.{last_counts}
 use Rattle.smith_types.proofs.PlaceLemmas.{count_of_all, count_fits}

@@ -1,5 +1,4 @@
-use Rattle.std.proofs.Common.{◌≡◌, ◌≤◌, Some}
-use Rattle.std.specs.Prelude.{slice_get}
+use Rattle.smith_types.proofs.Common.{slice_get, Some, ◌≡◌, ◌≤◌}
 use Rattle.smith_types.specs.Families.{direct_subtypes}
 use Rattle.smith_types.proofs.type_space.TypeSpace.direct_subtype.Given as goal
 

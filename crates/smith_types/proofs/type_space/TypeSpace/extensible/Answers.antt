@@ -1,4 +1,4 @@
-use Rattle.std.proofs.Common.{◌∙◌, ap, subst}
+use Rattle.smith_types.proofs.Common.{ap, subst, ◌∙◌}
 use Rattle.smith_types.specs.Places.{depths_in}
 use Rattle.smith_types.specs.GroupedTypes.{AreExtensible}
 use Rattle.smith_types.proofs.PlaceLemmas.{depths_known}

@@ -1,4 +1,4 @@
-use Rattle.std.proofs.Common.{ap, arith}
+use Rattle.smith_types.proofs.Common.{ap, arith}
 use Rattle.smith_types.proofs.GroundedLemmas.{grounded_by_none}
 use Rattle.smith_types.proofs.type_space.TypeSpace.finds_ground.Goals as goal
 

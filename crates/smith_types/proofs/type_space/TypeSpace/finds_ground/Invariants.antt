@@ -1,4 +1,4 @@
-use Rattle.std.proofs.Common.{ℕ, ◌<◌}
+use Rattle.smith_types.proofs.Common.{ℕ, ◌<◌}
 use Rattle.smith_types.specs.Grounded.{IsGroundedBy}
 use Rattle.smith_types.proofs.type_space.TypeSpace.finds_ground.Given as goal
 

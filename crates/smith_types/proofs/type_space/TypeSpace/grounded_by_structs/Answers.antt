@@ -1,4 +1,4 @@
-use Rattle.std.proofs.Common.{ap}
+use Rattle.smith_types.proofs.Common.{ap}
 use Rattle.smith_types.proofs.GroundedLemmas.{marked_decided}
 use Rattle.smith_types.proofs.type_space.TypeSpace.grounded_by_structs.Goals as goal
 

@@ -1,4 +1,4 @@
-use Rattle.std.proofs.Common.{ap}
+use Rattle.smith_types.proofs.Common.{ap}
 use Rattle.std.proofs.lemmas.Option.{IfSome_then}
 use Rattle.smith_types.proofs.GroundedLemmas.{family_decided}
 use Rattle.smith_types.proofs.type_space.TypeSpace.grounded_direct_subtypes.Goals as goal

@@ -1,4 +1,5 @@
-use Rattle.std.proofs.Common.{◌≡◌, ◌∙◌, ◌+◌, ◌-◌, ◌/◌, ◌≤◌, ◌<◌, ℕ, suc, take, length, ap, subst, arith}
+use Rattle.smith_types.proofs.Common.{ap, arith, length, subst, suc, take, ℕ, ◌+◌, ◌-◌, ◌<◌, ◌∙◌, ◌≡◌, ◌≤◌}
+use Rattle.std.proofs.Common.{◌/◌}
 use Rattle.smith_types.specs.KindCounts.{is_in, count_where}
 use Rattle.smith_types.proofs.KindCountLemmas.{search_begins, search_ends}
 use Rattle.smith_types.proofs.PlaceLemmas.{count_read, count_up_to_fits}

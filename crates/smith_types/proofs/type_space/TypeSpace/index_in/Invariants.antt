@@ -1,4 +1,4 @@
-use Rattle.std.proofs.Common.{◌-◌, ◌<◌, ◌≤◌, suc, length, take}
+use Rattle.smith_types.proofs.Common.{length, suc, take, ◌-◌, ◌<◌, ◌≤◌}
 use Rattle.smith_types.specs.KindCounts.{is_in, count_where}
 use Rattle.smith_types.proofs.type_space.TypeSpace.index_in.Given as goal
 

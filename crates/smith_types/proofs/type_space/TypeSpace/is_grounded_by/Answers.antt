@@ -1,4 +1,4 @@
-use Rattle.std.proofs.Common.{◌∙◌, sym, ap}
+use Rattle.smith_types.proofs.Common.{ap, sym, ◌∙◌}
 use Rattle.smith_types.proofs.GroundedLemmas.{grounds_nothing, grounds_where_below}
 use Rattle.smith_types.proofs.type_space.TypeSpace.is_grounded_by.Goals as goal
 

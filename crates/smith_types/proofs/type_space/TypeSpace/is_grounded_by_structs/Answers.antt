@@ -1,4 +1,4 @@
-use Rattle.std.proofs.Common.{◌∙◌, sym, ap}
+use Rattle.smith_types.proofs.Common.{ap, sym, ◌∙◌}
 use Rattle.smith_types.proofs.GroundedLemmas.{and_on, and_off, abstract_read, concrete_read, exact_read, exact_off}
 use Rattle.smith_types.proofs.type_space.TypeSpace.is_grounded_by_structs.Goals as goal
 

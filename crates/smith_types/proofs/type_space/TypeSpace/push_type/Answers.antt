@@ -1,6 +1,4 @@
-use Rattle.std.proofs.Common.{◌≡◌, ◌∙◌, ap, List, arith, ◌++◌, ◌∷◌, []}
-use Rattle.std.proofs.lemmas.List.{length-append}
-use Rattle.smith_syntax.specs.declared.composite_type.SubType.{SubType}
+use Rattle.smith_types.proofs.Common.{[], ap, arith, length-append, List, SubType, ◌++◌, ◌∙◌, ◌∷◌, ◌≡◌}
 use Rattle.smith_types.specs.declared.place.Place.{Place}
 use Rattle.smith_types.specs.GroupedTypes.{MayFollow}
 use Rattle.smith_types.proofs.ListLemmas.{slice_get-last}

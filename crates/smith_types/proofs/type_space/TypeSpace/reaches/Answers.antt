@@ -1,4 +1,4 @@
-use Rattle.std.proofs.Common.{◌≡◌, ◌<◌, ap, length, arith}
+use Rattle.smith_types.proofs.Common.{ap, arith, length, ◌<◌, ◌≡◌}
 use Rattle.smith_types.specs.Types.{IsOrderly}
 use Rattle.smith_types.specs.GroupedTypes.{HasDepth}
 use Rattle.smith_types.proofs.SpaceLemmas.{depth_some, depth_alone}

@@ -1,4 +1,4 @@
-use Rattle.smith_types.specs.EntitySpaces.{spaces_in}
+use Rattle.wasm_smith.proofs.Common.{spaces_in}
 use Rattle.wasm_smith.proofs.ContentsLemmas.{imports_told}
 use Rattle.wasm_smith.proofs.MadeExportsLemmas.{may_hold_contents}
 use Rattle.wasm_smith.specs.DrawnSteps.{drawn_next}

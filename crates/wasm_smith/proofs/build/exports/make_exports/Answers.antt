@@ -1,10 +1,4 @@
-use Rattle.std.proofs.Common.{◌≡◌, arith}
-use Rattle.std.specs.Prelude.{None}
-use Rattle.std.proofs.lemmas.Result.{IfErr-weaker}
-use Rattle.smith_types.specs.Imports.{flattened, imported_spaces}
-use Rattle.smith_types.specs.EntitySpaces.{spaces_in}
-use Rattle.smith_draw_consts.proofs.ConstStepLemmas.{passed_on}
-use Rattle.smith_draw_definitions.proofs.StandsAfterLemmas.{defined_end}
+use Rattle.wasm_smith.proofs.Common.{arith, defined_end, flattened, IfErr-weaker, imported_spaces, None, passed_on, spaces_in, ◌≡◌}
 use Rattle.wasm_smith.specs.FirstParts.{ModuleSoFar}
 use Rattle.wasm_smith.proofs.ContentsLemmas.{may_draw_exports}
 use Rattle.wasm_smith.proofs.RefusalLemmas.{exports_refuse}

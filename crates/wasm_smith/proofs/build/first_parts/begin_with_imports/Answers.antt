@@ -1,10 +1,6 @@
-use Rattle.std.proofs.Common.{◌≡◌, ap, subst, sym}
-use Rattle.std.specs.Prelude.{All}
-use Rattle.std.specs.List.{Contains}
-use Rattle.smith_types.specs.Imports.{EntitySpaces, flattened, imported_spaces}
-use Rattle.smith_config.specs.Shapes.{shape_imports, shape_spaces, space_of}
+use Rattle.wasm_smith.proofs.Common.{All, ap, Contains, EntitySpaces, flattened, imported_spaces, nothing_defined, shape_imports}
+use Rattle.wasm_smith.proofs.Common.{shape_spaces, space_of, subst, sym, ◌≡◌}
 use Rattle.wasm_smith.specs.FirstParts.{ModuleSoFar}
-use Rattle.smith_draw_definitions.specs.Defined.{nothing_defined}
 use Rattle.wasm_smith.proofs.FirstPartsLemmas.{stands_alone, taken_enabled, offered_all}
 use Rattle.wasm_smith.proofs.build.first_parts.begin_with_imports.Goals as goal
 

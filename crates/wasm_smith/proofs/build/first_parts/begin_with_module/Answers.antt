@@ -1,18 +1,10 @@
-use Rattle.std.proofs.Common.{◌≡◌, ◌∙◌, ◌+◌, List, ap}
-use Rattle.smith_types.specs.Imports.{EntitySpaces, imported_spaces}
-use Rattle.smith_types.specs.EntitySpaces.{spaces_in}
-use Rattle.smith_types.specs.GroupedTypes.{GroupedTypes}
+use Rattle.wasm_smith.proofs.Common.{ap, count_in, Definitions, EntitySpaces, Export, features_of, GroupedTypes, imported_spaces}
+use Rattle.wasm_smith.proofs.Common.{items_of_exports, List, nothing_defined, passed_on, shape_imports, space_of, spaces_in, then_with, ◌+◌}
+use Rattle.wasm_smith.proofs.Common.{◌∙◌, ◌≡◌}
 use Rattle.smith_types.proofs.GroupsAddedLemmas.{valid_following}
-use Rattle.smith_config.specs.Features.{features_of}
-use Rattle.smith_config.specs.Shapes.{shape_imports, space_of}
-use Rattle.smith_draw_consts.proofs.ConstStepLemmas.{passed_on}
-use Rattle.smith_module_rules.specs.ExportedItems.{Export}
-use Rattle.smith_module_rules.specs.ShapeImports.{count_in, kept_groups}
+use Rattle.smith_module_rules.specs.ShapeImports.{kept_groups}
 use Rattle.wasm_smith.specs.FirstParts.{ModuleSoFar, first_parts_by_module_at}
-use Rattle.smith_draw_definitions.specs.Defined.{nothing_defined}
-use Rattle.smith_module_rules.specs.Bounds.{items_of_exports}
-use Rattle.smith_draw_definitions.specs.declared.definitions.Definitions.{Definitions}
-use Rattle.smith_draw_definitions.specs.RequiredExports.{Required, standing_with, then_with}
+use Rattle.smith_draw_definitions.specs.RequiredExports.{Required, standing_with}
 use Rattle.wasm_smith.proofs.FirstPartsLemmas.{stands_alone, may_begin, items_of_one_shape, tables_of_shape, memories_of_shape}
 use Rattle.wasm_smith.proofs.FirstPartsLemmas.{globals_of_shape, refused_with}
 use Rattle.wasm_smith.proofs.build.first_parts.begin_with_module.Goals as goal

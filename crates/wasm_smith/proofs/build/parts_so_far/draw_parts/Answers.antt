@@ -1,6 +1,4 @@
-use Rattle.std.proofs.Common.{arith}
-use Rattle.smith_draw_definitions.proofs.StandsAfterLemmas.{defined_end}
-use Rattle.smith_draw_contents.specs.declared.exports_so_far.Exports.{Exports}
+use Rattle.wasm_smith.proofs.Common.{arith, defined_end, Exports}
 use Rattle.wasm_smith.specs.FirstParts.{module_so_far}
 use Rattle.wasm_smith.specs.declared.build.contents.Contents.{Contents}
 use Rattle.wasm_smith.specs.declared.build.parts_so_far.PartsSoFar.{PartsSoFar}

@@ -1,13 +1,9 @@
-use Rattle.std.proofs.Common.{true, subst, arith}
-use Rattle.std.specs.Prelude.{All}
-use Rattle.smith_types.specs.Expressions.{Context}
+use Rattle.wasm_smith.proofs.Common.{All, arith, Context, drawn_beside, passed_on, subst, true}
 use Rattle.smith_types.specs.Segments.{IsElementSegmentValid, IsDataValid}
 use Rattle.wasm_smith.specs.DrawnContents.{imported_in}
 use Rattle.wasm_smith.proofs.ContentsLemmas.{may_draw_elements, spaces_valid, memories_few}
 use Rattle.smith_draw_consts.specs.ConstScopes.{seen_by}
-use Rattle.smith_draw_consts.proofs.ConstStepLemmas.{passed_on}
 use Rattle.smith_draw_imports.specs.Imported.{spaces_of}
-use Rattle.smith_draw_definitions.specs.Defined.{drawn_beside}
 use Rattle.wasm_smith.proofs.RefusalLemmas.{elements_refuse, none_lacks}
 use Rattle.wasm_smith.proofs.SegmentScopeLemmas.{data_refused, elements_refused, seen_over}
 use Rattle.wasm_smith.proofs.build.segments.draw_segments.Goals as goal

@@ -1,4 +1,4 @@
-use Rattle.std.proofs.lemmas.Result.{IfErr-weaker}
+use Rattle.wasm_smith.proofs.Common.{IfErr-weaker}
 use Rattle.wasm_smith.specs.DrawnSteps.{drawn_next}
 use Rattle.wasm_smith.proofs.EntitiesDrawnLemmas.{may_define_drawn, entities_drawn, defined_refuse}
 use Rattle.wasm_smith.proofs.build.steps.add_definitions.Goals as goal

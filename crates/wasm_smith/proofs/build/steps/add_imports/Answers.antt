@@ -1,6 +1,5 @@
-use Rattle.std.proofs.Common.{sym, subst}
-use Rattle.std.proofs.lemmas.Result.{on_ok_weaker, IfErr-weaker}
-use Rattle.smith_types.specs.Expressions.{Context}
+use Rattle.wasm_smith.proofs.Common.{Context, IfErr-weaker, subst, sym}
+use Rattle.std.proofs.lemmas.Result.{on_ok_weaker}
 use Rattle.smith_draw_types.specs.KeptGrounds.{AreKeptGrounds}
 use Rattle.wasm_smith.proofs.AddedImportLemmas.{imports_beyond, imports_drawn, imports_read, in_scope, may_import, none_there}
 use Rattle.wasm_smith.proofs.RefusalLemmas.{imports_refuse}

@@ -1,4 +1,4 @@
-use Rattle.smith_draw_consts.proofs.ConstStepLemmas.{passed_on}
+use Rattle.wasm_smith.proofs.Common.{passed_on}
 use Rattle.wasm_smith.specs.DrawnSteps.{drawn_next}
 use Rattle.wasm_smith.proofs.FirstPartsStandLemmas.{first_parts_stand}
 use Rattle.wasm_smith.proofs.FirstPartsTypedLemmas.{types_after, drawn_after}

@@ -1,6 +1,5 @@
-use Rattle.std.proofs.Common.{◌≡◌, ℕ, List, ap}
+use Rattle.wasm_smith.proofs.Common.{ap, GroupedTypes, List, ℕ, ◌≡◌}
 use Rattle.smith_bytes.specs.declared.error.Count.TheVariants.{Types}
-use Rattle.smith_types.specs.GroupedTypes.{GroupedTypes}
 use Rattle.std.proofs.lemmas.Result.{on_ok_weaker}
 use Rattle.wasm_smith.specs.Build.{functions_over}
 use Rattle.wasm_smith.proofs.TypesGrownLemmas.{types_after, types_full}

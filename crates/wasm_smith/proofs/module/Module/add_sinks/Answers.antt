@@ -1,4 +1,4 @@
-use Rattle.std.proofs.Common.{rules}
+use Rattle.wasm_smith.proofs.Common.{rules}
 use Rattle.wasm_smith.proofs.SinkLemmas.{sinks_answered_valid}
 use Rattle.wasm_smith.proofs.module.Module.add_sinks.Goals as goal
 

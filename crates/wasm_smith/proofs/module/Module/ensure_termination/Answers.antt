@@ -1,4 +1,4 @@
-use Rattle.std.proofs.Common.{rules}
+use Rattle.wasm_smith.proofs.Common.{rules}
 use Rattle.wasm_smith.proofs.CountingLemmas.{answered_valid}
 use Rattle.wasm_smith.proofs.module.Module.ensure_termination.Goals as goal
 

@@ -1,4 +1,4 @@
-use Rattle.std.proofs.Common.{rules}
+use Rattle.wasm_smith.proofs.Common.{rules}
 use Rattle.wasm_smith.proofs.FuelExportLemmas.{exported_valid, fuel_is_new}
 use Rattle.wasm_smith.proofs.module.Module.export_fuel.Goals as goal
 

@@ -1,4 +1,4 @@
-use Rattle.std.proofs.Common.{rules}
+use Rattle.wasm_smith.proofs.Common.{rules}
 use Rattle.wasm_smith.proofs.SinkExportLemmas.{sinks_exported_valid}
 use Rattle.wasm_smith.proofs.module.Module.export_sinks.Goals as goal
 

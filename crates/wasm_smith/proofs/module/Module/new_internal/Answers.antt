@@ -1,18 +1,13 @@
-use Rattle.std.proofs.Common.{rules, ◌≡◌, ℕ, Bool, List, Result, Ok, Err, refl, sym, subst}
-use Rattle.std.proofs.lemmas.Result.{IfErr-weaker}
-use Rattle.std.specs.Prelude.{IfErr, IsErrAnd, OnOk}
-use Rattle.smith_bytes.specs.declared.error.Error.{Error}
+use Rattle.wasm_smith.proofs.Common.{AreShapesValid, AsksNothingImpossible, Bool, Config, Error, IfErr, IfErr-weaker, is_memory, IsErrAnd}
+use Rattle.wasm_smith.proofs.Common.{IsSanitized, List, MayRefuse, ModuleParts, OnOk, Passes, refl, Returns, rules, subst, sym, ℕ, ◌≡◌}
+use Rattle.std.proofs.Common.{Err, Ok, Result}
 use Rattle.smith_bytes.specs.declared.error.Error.TheVariants.{Memory}
 use Rattle.smith_bytes.proofs.PieceLemmas.{piece_same}
-use Rattle.smith_config.specs.declared.config.Config.{Config}
-use Rattle.smith_config.specs.Faults.{Passes}
-use Rattle.smith_config.specs.Sanitized.{IsSanitized, sanitized}
-use Rattle.smith_bytes.specs.Steps.{Returns, is_memory}
+use Rattle.smith_config.specs.Sanitized.{sanitized}
 use Rattle.wasm_smith.specs.Build.{IsGiven, as_drawn, module_at}
 use Rattle.wasm_smith.specs.CheckedShapes.{IsFirstFaulty}
 use Rattle.wasm_smith.specs.Generated.{IsFaulted, IsGenerated, is_distinct}
-use Rattle.smith_module_rules.specs.Module.{ModuleParts}
-use Rattle.smith_module_rules.specs.Refusals.{AreShapesValid, AsksNothingImpossible, MayGive, MayRefuse}
+use Rattle.smith_module_rules.specs.Refusals.{MayGive}
 use Rattle.wasm_smith.proofs.NeedlessLemmas.{memory_alone, first_faulty_refuses, first_faulty_memory}
 use Rattle.wasm_smith.proofs.ReachedLemmas.{members_reached, rests_reached}
 use Rattle.wasm_smith.proofs.module.Module.new_internal.Goals as goal
