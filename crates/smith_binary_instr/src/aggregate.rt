@@ -14,11 +14,7 @@ fn get_number(first: u32, extension: Extension) -> u32
     requires { first < 200 }
     ensures { result ≡ get_number first extension }
 {
-    match extension {
-        Extension::Unpacked => first,
-        Extension::Signed => first + 1,
-        Extension::Unsigned => first + 2,
-    }
+    first + extension as u32
 }
 
 // Writes the aggregate instruction with the number `number`, then the index `index`.

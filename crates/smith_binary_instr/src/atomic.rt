@@ -8,15 +8,7 @@ fn sized_number(first: u32, width: AtomicWidth) -> u32
     requires { first < 200 }
     ensures { result ≡ first + width_number width }
 {
-    match width {
-        AtomicWidth::I32 => first,
-        AtomicWidth::I64 => first + 1,
-        AtomicWidth::I32Of8 => first + 2,
-        AtomicWidth::I32Of16 => first + 3,
-        AtomicWidth::I64Of8 => first + 4,
-        AtomicWidth::I64Of16 => first + 5,
-        AtomicWidth::I64Of32 => first + 6,
-    }
+    first + width as u32
 }
 
 // Returns the number of the update `update` of the first width.
@@ -24,14 +16,7 @@ fn update_number(update: AtomicUpdate) -> u32
     ensures is { result ≡ update_number update }
     ensures small { result < 200 }
 {
-    match update {
-        AtomicUpdate::Add => 0x1E,
-        AtomicUpdate::Sub => 0x25,
-        AtomicUpdate::And => 0x2C,
-        AtomicUpdate::Or => 0x33,
-        AtomicUpdate::Xor => 0x3A,
-        AtomicUpdate::Exchange => 0x41,
-    }
+    update as u32
 }
 
 // Returns the number of an atomic access, after its prefix.

@@ -78,6 +78,7 @@ fn write_fence(sink: &mut Sink) -> Result<(), EncodeError>
 }
 
 // Writes `instruction`.
+#[rattlefmt::skip]
 fn write_instr(instruction: &Instr, sink: &mut Sink) -> Result<(), EncodeError>
     ensures writes { OnOk result (Writes (λ s. IsInstrWrittenIn s instruction.now) sink.old sink.new) }
     ensures fault { IfErr result (IsFault (IsLongInstr instruction.now)) }
@@ -126,25 +127,13 @@ fn write_instr(instruction: &Instr, sink: &mut Sink) -> Result<(), EncodeError>
         Instr::F64Const(bits) => write_f64_const(*bits, sink),
         Instr::Numeric(op) => write_numeric(*op, sink),
         Instr::Aggregate(op) => write_aggregate(*op, sink),
-        Instr::VectorLoad(op, at) => {
-            write_prefixed_access(0xFD, vector_load_number(*op), *at, sink)
-        }
+        Instr::VectorLoad(op, at) => { write_prefixed_access(0xFD, vector_load_number(*op), *at, sink) }
         Instr::VectorStore(at) => write_prefixed_access(0xFD, 11, *at, sink),
         Instr::V128Const(value) => write_vector_const(*value, sink),
-        Instr::VectorLoadLane {
-            log2_bytes,
-            at,
-            lane,
-        } => write_lane_access(84, *log2_bytes, *at, *lane, sink),
-        Instr::VectorStoreLane {
-            log2_bytes,
-            at,
-            lane,
-        } => write_lane_access(88, *log2_bytes, *at, *lane, sink),
+        Instr::VectorLoadLane { log2_bytes, at, lane } => write_lane_access(84, *log2_bytes, *at, *lane, sink),
+        Instr::VectorStoreLane { log2_bytes, at, lane } => write_lane_access(88, *log2_bytes, *at, *lane, sink),
         Instr::Vector(op) => write_vector(*op, sink),
-        Instr::Atomic(access, at) => {
-            write_prefixed_access(0xFE, atomic_number(*access), *at, sink)
-        }
+        Instr::Atomic(access, at) => { write_prefixed_access(0xFE, atomic_number(*access), *at, sink) }
         Instr::AtomicFence => write_fence(sink),
     }
 }

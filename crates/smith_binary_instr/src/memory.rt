@@ -80,60 +80,21 @@ pub(crate) fn write_lane_access(
 pub(crate) fn load_opcode(op: Load) -> u8
     ensures { result ≡ load_opcode op }
 {
-    match op {
-        Load::I32 => 0x28,
-        Load::I64 => 0x29,
-        Load::F32 => 0x2A,
-        Load::F64 => 0x2B,
-        Load::I32From8S => 0x2C,
-        Load::I32From8U => 0x2D,
-        Load::I32From16S => 0x2E,
-        Load::I32From16U => 0x2F,
-        Load::I64From8S => 0x30,
-        Load::I64From8U => 0x31,
-        Load::I64From16S => 0x32,
-        Load::I64From16U => 0x33,
-        Load::I64From32S => 0x34,
-        Load::I64From32U => 0x35,
-    }
+    op as u8
 }
 
 // Returns the opcode of a store.
 pub(crate) fn store_opcode(op: Store) -> u8
     ensures { result ≡ store_opcode op }
 {
-    match op {
-        Store::I32 => 0x36,
-        Store::I64 => 0x37,
-        Store::F32 => 0x38,
-        Store::F64 => 0x39,
-        Store::I32To8 => 0x3A,
-        Store::I32To16 => 0x3B,
-        Store::I64To8 => 0x3C,
-        Store::I64To16 => 0x3D,
-        Store::I64To32 => 0x3E,
-    }
+    op as u8
 }
 
 // Returns the number of a load of a vector, after its prefix.
 pub(crate) fn vector_load_number(op: VectorLoad) -> u32
     ensures { result ≡ vector_load_number op }
 {
-    match op {
-        VectorLoad::V128 => 0,
-        VectorLoad::I8x8S => 1,
-        VectorLoad::I8x8U => 2,
-        VectorLoad::I16x4S => 3,
-        VectorLoad::I16x4U => 4,
-        VectorLoad::I32x2S => 5,
-        VectorLoad::I32x2U => 6,
-        VectorLoad::Splat8 => 7,
-        VectorLoad::Splat16 => 8,
-        VectorLoad::Splat32 => 9,
-        VectorLoad::Splat64 => 10,
-        VectorLoad::Zero32 => 92,
-        VectorLoad::Zero64 => 93,
-    }
+    op as u32
 }
 
 // Writes the instruction `instruction` on a whole memory or a data segment.

@@ -55,42 +55,20 @@ fn has_useless_key(case: &Case, keys: Keys) -> bool {
         || ((case.input.is_some() || case.inputs.is_some()) && !keys.input)
 }
 
+#[rattlefmt::skip]
 fn keys_of(call: Call) -> Keys {
     match call {
         Call::Module(call) => keys_of_module(call),
-        Call::Program(_) => Keys {
-            shapes: true,
-            ..DRAWN
-        },
+        Call::Program(_) => Keys { shapes: true, ..DRAWN },
         Call::Config(call) => keys_of_config(call),
         Call::Shape(call) => keys_of_shape(call),
         Call::Draw(DrawCall::Number(_)) => DRAWN,
-        Call::Draw(_) => Keys {
-            types: true,
-            ..DRAWN
-        },
-        Call::Source(_) | Call::Name(_) => Keys {
-            args: true,
-            input: true,
-            ..NONE
-        },
+        Call::Draw(_) => Keys { types: true, ..DRAWN },
+        Call::Source(_) | Call::Name(_) => Keys { args: true, input: true, ..NONE },
         Call::Parser(_) | Call::ReadConfig => Keys { args: true, ..NONE },
-        Call::File(_) => Keys {
-            config: true,
-            input: true,
-            ..NONE
-        },
-        Call::Space(_) => Keys {
-            types: true,
-            args: true,
-            ..NONE
-        },
-        Call::Recorded => Keys {
-            config: true,
-            shapes: true,
-            args: true,
-            ..NONE
-        },
+        Call::File(_) => Keys { config: true, input: true, ..NONE },
+        Call::Space(_) => Keys { types: true, args: true, ..NONE },
+        Call::Recorded => Keys { config: true, shapes: true, args: true, ..NONE },
     }
 }
 

@@ -1,5 +1,5 @@
 ghost use Rattle.std.specs.Prelude.{◌≡◌, ℕ, ℤ, List, ◌∷◌, IfOk, IfErr, All, reverse};
-ghost use Rattle.smith_syntax.specs.declared.value_type.ValType.{ValType};
+ghost use Rattle.smith_types.specs.Syntax.value_type.ValType.{ValType};
 ghost use Rattle.smith_instr.specs.declared.instr.Instr.TheVariants as instr;
 ghost use Rattle.smith_check_rules.specs.Slots.{AreSlotsValid};
 ghost use Rattle.smith_check_operands.specs.Scopes.{bare, IsScope};
@@ -21,6 +21,7 @@ use smith_check_references::{aggregate, reference, table};
 use smith_instr::{Instr, SetLocals};
 
 /// Tries an instruction that opens and closes no block.
+#[rattlefmt::skip]
 pub fn step(
     operands: &mut Operands,
     scope: &Scope,
@@ -52,38 +53,16 @@ pub fn step(
         Instr::Reference(op) => reference(operands, scope, *op),
         Instr::Table(op) => table(operands, scope, *op),
         Instr::Aggregate(op) => aggregate(operands, scope, *op),
-        Instr::Br(_)
-        | Instr::BrIf(_)
-        | Instr::BrTable(_, _)
-        | Instr::BrOnNull(_)
-        | Instr::BrOnNonNull(_)
-        | Instr::BrOnCast(_)
+        Instr::Br(_) | Instr::BrIf(_) | Instr::BrTable(_, _) | Instr::BrOnNull(_) | Instr::BrOnNonNull(_) | Instr::BrOnCast(_)
         | Instr::BrOnCastFail(_) => { step_branch(operands, scope, shape, outers, instr) }
-        Instr::Return
-        | Instr::Call(_)
-        | Instr::CallIndirect { .. }
-        | Instr::CallRef(_)
-        | Instr::ReturnCall(_)
-        | Instr::ReturnCallIndirect { .. }
-        | Instr::ReturnCallRef(_) => { step_call(operands, scope, instr) }
-        Instr::LocalGet(_)
-        | Instr::LocalSet(_)
-        | Instr::LocalTee(_)
-        | Instr::GlobalGet(_)
+        Instr::Return | Instr::Call(_) | Instr::CallIndirect { .. } | Instr::CallRef(_) | Instr::ReturnCall(_)
+        | Instr::ReturnCallIndirect { .. } | Instr::ReturnCallRef(_) => { step_call(operands, scope, instr) }
+        Instr::LocalGet(_) | Instr::LocalSet(_) | Instr::LocalTee(_) | Instr::GlobalGet(_)
         | Instr::GlobalSet(_) => step_variable(operands, scope, log, instr),
-        Instr::I32Const(_)
-        | Instr::I64Const(_)
-        | Instr::F32Const(_)
-        | Instr::F64Const(_)
+        Instr::I32Const(_) | Instr::I64Const(_) | Instr::F32Const(_) | Instr::F64Const(_)
         | Instr::V128Const(_) => step_constant(operands, scope, instr),
-        Instr::Load(_, _)
-        | Instr::Store(_, _)
-        | Instr::Memory(_)
-        | Instr::VectorLoad(_, _)
-        | Instr::VectorStore(_)
-        | Instr::VectorLoadLane { .. }
-        | Instr::VectorStoreLane { .. }
-        | Instr::Atomic(_, _)
+        Instr::Load(_, _) | Instr::Store(_, _) | Instr::Memory(_) | Instr::VectorLoad(_, _) | Instr::VectorStore(_)
+        | Instr::VectorLoadLane { .. } | Instr::VectorStoreLane { .. } | Instr::Atomic(_, _)
         | Instr::AtomicFence => step_access(operands, scope, instr),
         Instr::Block(_) | Instr::Loop(_) | Instr::If(_) | Instr::TryTable(_, _) => Ok(false),
         Instr::Else | Instr::End => Ok(false),

@@ -1,9 +1,9 @@
 ghost use Rattle.std.specs.Prelude.{◌≡◌, ◌↔◌, ◌∷◌, [], ℕ, List, IfOk, IfErr, IsTrue, MatchBool, All, replicate};
 ghost use Rattle.std.specs.List.{AllByRecursion as Each};
-ghost use Rattle.smith_syntax.specs.declared.value_type.ValType.{ValType};
-ghost use Rattle.smith_syntax.specs.declared.value_type.ValType.TheVariants.{I32};
-ghost use Rattle.smith_syntax.specs.declared.value_type.AbstractHeapType.TheVariants as abstract;
-ghost use Rattle.smith_syntax.specs.declared.value_type.HeapType.TheVariants.{Abstract};
+ghost use Rattle.smith_types.specs.Syntax.value_type.ValType.{ValType};
+ghost use Rattle.smith_types.specs.Syntax.value_type.ValType.TheVariants.{I32};
+ghost use Rattle.smith_types.specs.Syntax.value_type.AbstractHeapType.TheVariants as abstract;
+ghost use Rattle.smith_types.specs.Syntax.value_type.HeapType.TheVariants.{Abstract};
 ghost use Rattle.smith_types.specs.Expressions.{reference_to};
 ghost use Rattle.smith_types.specs.Subtyping.{IsValInRange};
 ghost use Rattle.smith_types.specs.Matching.{IsStorageInRange, IsStorageMatch};
@@ -458,6 +458,7 @@ fn ref_i31_shared(operands: &mut Operands, scope: &Scope) -> Result<bool, Error>
 }
 
 /// Tries an aggregate instruction.
+#[rattlefmt::skip]
 pub fn aggregate(operands: &mut Operands, scope: &Scope, op: AggregateInstr) -> Result<bool, Error>
     requires known { AreSlotsValid (bare scope.now) operands.old.known.items }
     requires scope { IsScope (bare scope.now) }
@@ -469,32 +470,20 @@ pub fn aggregate(operands: &mut Operands, scope: &Scope, op: AggregateInstr) -> 
     match op {
         AggregateInstr::StructNew(ty) => struct_new(operands, scope, ty),
         AggregateInstr::StructNewDefault(ty) => struct_new_default(operands, scope, ty),
-        AggregateInstr::StructGet {
-            ty,
-            field,
-            extension,
-        } => struct_get(operands, scope, ty, field, extension),
+        AggregateInstr::StructGet { ty, field, extension } => struct_get(operands, scope, ty, field, extension),
         AggregateInstr::StructSet { ty, field } => struct_set(operands, scope, ty, field),
         AggregateInstr::ArrayNew(ty) => array_new(operands, scope, ty),
         AggregateInstr::ArrayNewDefault(ty) => array_new_default(operands, scope, ty),
         AggregateInstr::ArrayNewFixed { ty, size } => array_new_fixed(operands, scope, ty, size),
-        AggregateInstr::ArrayNewData { ty, segment } => array_new_data(
-            operands, scope, ty, segment,
-        ),
-        AggregateInstr::ArrayNewElem { ty, segment } => array_new_elem(
-            operands, scope, ty, segment,
-        ),
+        AggregateInstr::ArrayNewData { ty, segment } => array_new_data(operands, scope, ty, segment),
+        AggregateInstr::ArrayNewElem { ty, segment } => array_new_elem(operands, scope, ty, segment),
         AggregateInstr::ArrayGet { ty, extension } => array_get(operands, scope, ty, extension),
         AggregateInstr::ArraySet(ty) => array_set(operands, scope, ty),
         AggregateInstr::ArrayLen => array_len(operands, scope),
         AggregateInstr::ArrayFill(ty) => array_fill(operands, scope, ty),
         AggregateInstr::ArrayCopy { to, from } => array_copy(operands, scope, to, from),
-        AggregateInstr::ArrayInitData { ty, segment } => array_init_data(
-            operands, scope, ty, segment,
-        ),
-        AggregateInstr::ArrayInitElem { ty, segment } => array_init_elem(
-            operands, scope, ty, segment,
-        ),
+        AggregateInstr::ArrayInitData { ty, segment } => array_init_data(operands, scope, ty, segment),
+        AggregateInstr::ArrayInitElem { ty, segment } => array_init_elem(operands, scope, ty, segment),
         AggregateInstr::RefI31 => ref_i31(operands, scope),
         AggregateInstr::RefI31Shared => ref_i31_shared(operands, scope),
         AggregateInstr::I31GetS => i31_get_s(operands, scope),

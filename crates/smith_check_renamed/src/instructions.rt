@@ -36,6 +36,7 @@ fn copied_variable(instr: &Instr) -> Instr
 }
 
 // Returns a copy of a numeric vector instruction, or of one that accesses a memory.
+#[rattlefmt::skip]
 fn copied_access(instr: &Instr) -> Instr
     requires { IsTrue (is_access instr.now) }
     ensures { result ≡ instr.now }
@@ -47,24 +48,8 @@ fn copied_access(instr: &Instr) -> Instr
         Instr::Vector(op) => Instr::Vector(*op),
         Instr::VectorLoad(op, at) => Instr::VectorLoad(*op, *at),
         Instr::VectorStore(at) => Instr::VectorStore(*at),
-        Instr::VectorLoadLane {
-            log2_bytes,
-            at,
-            lane,
-        } => Instr::VectorLoadLane {
-            log2_bytes: *log2_bytes,
-            at: *at,
-            lane: *lane,
-        },
-        Instr::VectorStoreLane {
-            log2_bytes,
-            at,
-            lane,
-        } => Instr::VectorStoreLane {
-            log2_bytes: *log2_bytes,
-            at: *at,
-            lane: *lane,
-        },
+        Instr::VectorLoadLane { log2_bytes, at, lane } => Instr::VectorLoadLane { log2_bytes: *log2_bytes, at: *at, lane: *lane },
+        Instr::VectorStoreLane { log2_bytes, at, lane } => Instr::VectorStoreLane { log2_bytes: *log2_bytes, at: *at, lane: *lane },
         Instr::Atomic(access, at) => Instr::Atomic(*access, *at),
         Instr::AtomicFence => Instr::AtomicFence,
         _ => unreachable!(),
@@ -73,6 +58,7 @@ fn copied_access(instr: &Instr) -> Instr
 
 // Returns a copy of an instruction that changes the flow of control, and names no type but that of a
 // call.
+#[rattlefmt::skip]
 fn copied_jump(alloc: Global, indices: &[u32], instr: &Instr) -> Result<Instr, Error>
     requires { IsTrue (is_jump instr.now) }
     ensures ok { IfOk result (λ made. made ≡ renamed_instr (canonical_index indices.now) instr.now) }
@@ -86,16 +72,10 @@ fn copied_jump(alloc: Global, indices: &[u32], instr: &Instr) -> Result<Instr, E
         Instr::BrOnNull(label) => Instr::BrOnNull(*label),
         Instr::BrOnNonNull(label) => Instr::BrOnNonNull(*label),
         Instr::Call(function) => Instr::Call(*function),
-        Instr::CallIndirect { table, ty } => Instr::CallIndirect {
-            table: *table,
-            ty: canonical_index(indices, *ty),
-        },
+        Instr::CallIndirect { table, ty } => Instr::CallIndirect { table: *table, ty: canonical_index(indices, *ty) },
         Instr::CallRef(ty) => Instr::CallRef(canonical_index(indices, *ty)),
         Instr::ReturnCall(function) => Instr::ReturnCall(*function),
-        Instr::ReturnCallIndirect { table, ty } => Instr::ReturnCallIndirect {
-            table: *table,
-            ty: canonical_index(indices, *ty),
-        },
+        Instr::ReturnCallIndirect { table, ty } => Instr::ReturnCallIndirect { table: *table, ty: canonical_index(indices, *ty) },
         Instr::ReturnCallRef(ty) => Instr::ReturnCallRef(canonical_index(indices, *ty)),
         _ => unreachable!(),
     })

@@ -70,32 +70,19 @@ fn keeps_reference(indices: &[u32], op: &ReferenceInstr) -> bool
     }
 }
 
+#[rattlefmt::skip]
 fn keeps_aggregate(indices: &[u32], op: &AggregateInstr) -> bool
     ensures { IsTrue result → renamed_aggregate (canonical_index indices.now) op.now ≡ op.now }
 {
     match op {
-        AggregateInstr::StructNew(ty) | AggregateInstr::StructNewDefault(ty) => {
-            keeps_index(indices, *ty)
-        }
-        AggregateInstr::StructGet { ty, .. } | AggregateInstr::StructSet { ty, .. } => {
-            keeps_index(indices, *ty)
-        }
-        AggregateInstr::ArrayNew(ty) | AggregateInstr::ArrayNewDefault(ty) => {
-            keeps_index(indices, *ty)
-        }
-        AggregateInstr::ArrayNewFixed { ty, .. } | AggregateInstr::ArrayNewData { ty, .. } => {
-            keeps_index(indices, *ty)
-        }
-        AggregateInstr::ArrayNewElem { ty, .. } | AggregateInstr::ArrayGet { ty, .. } => {
-            keeps_index(indices, *ty)
-        }
+        AggregateInstr::StructNew(ty) | AggregateInstr::StructNewDefault(ty) => keeps_index(indices, *ty),
+        AggregateInstr::StructGet { ty, .. } | AggregateInstr::StructSet { ty, .. } => keeps_index(indices, *ty),
+        AggregateInstr::ArrayNew(ty) | AggregateInstr::ArrayNewDefault(ty) => keeps_index(indices, *ty),
+        AggregateInstr::ArrayNewFixed { ty, .. } | AggregateInstr::ArrayNewData { ty, .. } => keeps_index(indices, *ty),
+        AggregateInstr::ArrayNewElem { ty, .. } | AggregateInstr::ArrayGet { ty, .. } => keeps_index(indices, *ty),
         AggregateInstr::ArraySet(ty) | AggregateInstr::ArrayFill(ty) => keeps_index(indices, *ty),
-        AggregateInstr::ArrayCopy { to, from } => {
-            keeps_index(indices, *to) && keeps_index(indices, *from)
-        }
-        AggregateInstr::ArrayInitData { ty, .. } | AggregateInstr::ArrayInitElem { ty, .. } => {
-            keeps_index(indices, *ty)
-        }
+        AggregateInstr::ArrayCopy { to, from } => keeps_index(indices, *to) && keeps_index(indices, *from),
+        AggregateInstr::ArrayInitData { ty, .. } | AggregateInstr::ArrayInitElem { ty, .. } => keeps_index(indices, *ty),
         _ => true,
     }
 }

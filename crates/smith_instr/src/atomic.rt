@@ -1,3 +1,5 @@
+// The numbers of `AtomicUpdate` are those of the binary format for `i32`, after the prefix.
+
 /// The value of an atomic access, and the bytes of memory that it accesses: the threads proposal.
 #[derive(Clone, Copy, Debug)]
 pub enum AtomicWidth {
@@ -13,12 +15,12 @@ pub enum AtomicWidth {
 /// An update of a value by an atomic access: the threads proposal.
 #[derive(Clone, Copy, Debug)]
 pub enum AtomicUpdate {
-    Add,
-    Sub,
-    And,
-    Or,
-    Xor,
-    Exchange,
+    Add = 0x1E,
+    Sub = 0x25,
+    And = 0x2C,
+    Or = 0x33,
+    Xor = 0x3A,
+    Exchange = 0x41,
 }
 
 /// An atomic access to memory: the threads proposal.

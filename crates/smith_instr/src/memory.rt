@@ -1,36 +1,38 @@
+// The numbers of loads and stores are their opcodes in the binary format.
+
 /// The value that a load produces, and the bytes that it reads: the standard's section Structure,
 /// Memory Instructions.
 #[derive(Clone, Copy, Debug)]
 pub enum Load {
-    I32,
-    I64,
-    F32,
-    F64,
-    I32From8S,
-    I32From8U,
-    I32From16S,
-    I32From16U,
-    I64From8S,
-    I64From8U,
-    I64From16S,
-    I64From16U,
-    I64From32S,
-    I64From32U,
+    I32 = 0x28,
+    I64 = 0x29,
+    F32 = 0x2A,
+    F64 = 0x2B,
+    I32From8S = 0x2C,
+    I32From8U = 0x2D,
+    I32From16S = 0x2E,
+    I32From16U = 0x2F,
+    I64From8S = 0x30,
+    I64From8U = 0x31,
+    I64From16S = 0x32,
+    I64From16U = 0x33,
+    I64From32S = 0x34,
+    I64From32U = 0x35,
 }
 
 /// The value that a store takes, and the bytes that it writes: the standard's section Structure,
 /// Memory Instructions.
 #[derive(Clone, Copy, Debug)]
 pub enum Store {
-    I32,
-    I64,
-    F32,
-    F64,
-    I32To8,
-    I32To16,
-    I64To8,
-    I64To16,
-    I64To32,
+    I32 = 0x36,
+    I64 = 0x37,
+    F32 = 0x38,
+    F64 = 0x39,
+    I32To8 = 0x3A,
+    I32To16 = 0x3B,
+    I64To8 = 0x3C,
+    I64To16 = 0x3D,
+    I64To32 = 0x3E,
 }
 
 /// A memory argument: the standard's section Structure, Memory Instructions.

@@ -1,3 +1,5 @@
+// Numbers of variants are their opcodes in the binary format, or their numbers after the prefix.
+
 /// An operator on one integer: the standard's section Structure, Numeric Instructions, unop at an
 /// integer type.
 #[derive(Clone, Copy, Debug)]
@@ -80,63 +82,63 @@ pub enum FloatCompare {
 /// A conversion between number types, except saturating ones: cvtop.
 #[derive(Clone, Copy, Debug)]
 pub enum Conversion {
-    I32WrapI64,
-    I64ExtendI32S,
-    I64ExtendI32U,
-    I32TruncF32S,
-    I32TruncF32U,
-    I32TruncF64S,
-    I32TruncF64U,
-    I64TruncF32S,
-    I64TruncF32U,
-    I64TruncF64S,
-    I64TruncF64U,
-    F32ConvertI32S,
-    F32ConvertI32U,
-    F32ConvertI64S,
-    F32ConvertI64U,
-    F32DemoteF64,
-    F64ConvertI32S,
-    F64ConvertI32U,
-    F64ConvertI64S,
-    F64ConvertI64U,
-    F64PromoteF32,
-    I32ReinterpretF32,
-    I64ReinterpretF64,
-    F32ReinterpretI32,
-    F64ReinterpretI64,
+    I32WrapI64 = 0xA7,
+    I64ExtendI32S = 0xAC,
+    I64ExtendI32U = 0xAD,
+    I32TruncF32S = 0xA8,
+    I32TruncF32U = 0xA9,
+    I32TruncF64S = 0xAA,
+    I32TruncF64U = 0xAB,
+    I64TruncF32S = 0xAE,
+    I64TruncF32U = 0xAF,
+    I64TruncF64S = 0xB0,
+    I64TruncF64U = 0xB1,
+    F32ConvertI32S = 0xB2,
+    F32ConvertI32U = 0xB3,
+    F32ConvertI64S = 0xB4,
+    F32ConvertI64U = 0xB5,
+    F32DemoteF64 = 0xB6,
+    F64ConvertI32S = 0xB7,
+    F64ConvertI32U = 0xB8,
+    F64ConvertI64S = 0xB9,
+    F64ConvertI64U = 0xBA,
+    F64PromoteF32 = 0xBB,
+    I32ReinterpretF32 = 0xBC,
+    I64ReinterpretF64 = 0xBD,
+    F32ReinterpretI32 = 0xBE,
+    F64ReinterpretI64 = 0xBF,
 }
 
 /// A saturating conversion of a float to an integer: cvtop, trunc_sat.
 #[derive(Clone, Copy, Debug)]
 pub enum SaturatingConversion {
-    I32TruncSatF32S,
-    I32TruncSatF32U,
-    I32TruncSatF64S,
-    I32TruncSatF64U,
-    I64TruncSatF32S,
-    I64TruncSatF32U,
-    I64TruncSatF64S,
-    I64TruncSatF64U,
+    I32TruncSatF32S = 0,
+    I32TruncSatF32U = 1,
+    I32TruncSatF64S = 2,
+    I32TruncSatF64U = 3,
+    I64TruncSatF32S = 4,
+    I64TruncSatF32U = 5,
+    I64TruncSatF64S = 6,
+    I64TruncSatF64U = 7,
 }
 
 /// A sign extension within an integer: unop, extendN_s.
 #[derive(Clone, Copy, Debug)]
 pub enum SignExtension {
-    I32From8,
-    I32From16,
-    I64From8,
-    I64From16,
-    I64From32,
+    I32From8 = 0xC0,
+    I32From16 = 0xC1,
+    I64From8 = 0xC2,
+    I64From16 = 0xC3,
+    I64From32 = 0xC4,
 }
 
 /// Arithmetic on integers of 128 bits, each as two of 64: the wide arithmetic proposal.
 #[derive(Clone, Copy, Debug)]
 pub enum WideArithmetic {
-    Add128,
-    Sub128,
-    MulWideS,
-    MulWideU,
+    Add128 = 19,
+    Sub128 = 20,
+    MulWideS = 21,
+    MulWideU = 22,
 }
 
 /// A numeric instruction without immediates: the standard's section Structure, Numeric

@@ -22,25 +22,25 @@ pub struct Finding {
 #[derive(Clone, Copy, Debug, PartialEq, Eq)]
 pub enum Item {
     /// A recursive group of types.
-    Types,
+    Types = 1,
     /// A tag.
-    Tag,
+    Tag = 2,
     /// A function.
-    Function,
+    Function = 3,
     /// A table.
-    Table,
+    Table = 4,
     /// A memory.
-    Memory,
+    Memory = 5,
     /// A global.
-    Global,
+    Global = 6,
     /// An export.
-    Export,
+    Export = 7,
     /// The start function.
-    Start,
+    Start = 8,
     /// An element segment.
-    Element,
+    Element = 9,
     /// A data segment.
-    Data,
+    Data = 10,
 }
 
 impl Item {
@@ -48,18 +48,7 @@ impl Item {
     pub fn number(self) -> u32
         ensures { result ≡ item_number self }
     {
-        match self {
-            Item::Types => 1,
-            Item::Tag => 2,
-            Item::Function => 3,
-            Item::Table => 4,
-            Item::Memory => 5,
-            Item::Global => 6,
-            Item::Export => 7,
-            Item::Start => 8,
-            Item::Element => 9,
-            Item::Data => 10,
-        }
+        self as u32
     }
 
     /// Returns the kind in the words of the standard.

@@ -29,53 +29,53 @@ use std::alloc::Global;
 #[derive(Clone, Copy, Debug, PartialEq, Eq)]
 pub enum Rule {
     /// Of a recursive group of types.
-    Types,
+    Types = 1,
     /// Of the type of a tag.
-    Tag,
+    Tag = 2,
     /// Of the type of a function.
-    Function,
+    Function = 3,
     /// Of the type of a table.
-    Table,
+    Table = 4,
     /// Of the type of a memory.
-    Memory,
+    Memory = 5,
     /// Of the type of a global.
-    Global,
+    Global = 6,
     /// Of the initialiser of a table.
-    TableInitial,
+    TableInitial = 7,
     /// Of the initialiser of a global.
-    GlobalInitial,
+    GlobalInitial = 8,
     /// That an export names an entity that is there.
-    Export,
+    Export = 9,
     /// That the names of exports differ.
-    ExportName,
+    ExportName = 10,
     /// Of the start function.
-    Start,
+    Start = 11,
     /// Of an element segment.
-    Element,
+    Element = 12,
     /// Of a data segment.
-    Data,
+    Data = 13,
     /// Of the types of locals.
-    Local,
+    Local = 14,
     /// Of numeric instructions.
-    NumericInstruction,
+    NumericInstruction = 15,
     /// Of vector instructions.
-    VectorInstruction,
+    VectorInstruction = 16,
     /// Of reference instructions.
-    ReferenceInstruction,
+    ReferenceInstruction = 17,
     /// Of parametric instructions.
-    ParametricInstruction,
+    ParametricInstruction = 18,
     /// Of variable instructions.
-    VariableInstruction,
+    VariableInstruction = 19,
     /// Of table instructions.
-    TableInstruction,
+    TableInstruction = 20,
     /// Of memory instructions, atomic ones among them.
-    MemoryInstruction,
+    MemoryInstruction = 21,
     /// Of aggregate instructions.
-    AggregateInstruction,
+    AggregateInstruction = 22,
     /// Of control instructions, `else` and `end` aside.
-    ControlInstruction,
+    ControlInstruction = 23,
     /// Of the end of a block or a body: `else` and `end`.
-    End,
+    End = 24,
 }
 
 impl Rule {
@@ -83,32 +83,7 @@ impl Rule {
     pub fn number(self) -> u32
         ensures { result ≡ rule_number self }
     {
-        match self {
-            Rule::Types => 1,
-            Rule::Tag => 2,
-            Rule::Function => 3,
-            Rule::Table => 4,
-            Rule::Memory => 5,
-            Rule::Global => 6,
-            Rule::TableInitial => 7,
-            Rule::GlobalInitial => 8,
-            Rule::Export => 9,
-            Rule::ExportName => 10,
-            Rule::Start => 11,
-            Rule::Element => 12,
-            Rule::Data => 13,
-            Rule::Local => 14,
-            Rule::NumericInstruction => 15,
-            Rule::VectorInstruction => 16,
-            Rule::ReferenceInstruction => 17,
-            Rule::ParametricInstruction => 18,
-            Rule::VariableInstruction => 19,
-            Rule::TableInstruction => 20,
-            Rule::MemoryInstruction => 21,
-            Rule::AggregateInstruction => 22,
-            Rule::ControlInstruction => 23,
-            Rule::End => 24,
-        }
+        self as u32
     }
 
     /// Returns the name of the rule, in lower case and with hyphens.

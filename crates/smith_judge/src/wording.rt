@@ -60,30 +60,15 @@ pub fn wording_of(rule: Rule) -> Wording {
     }
 }
 
+#[rattlefmt::skip]
 fn definition_wording(rule: Rule) -> Wording {
     match rule {
-        Rule::TableInitial => row(
-            "table-initial",
-            "Tables",
-            "its elements begin with no constant expression of their type",
-        ),
-        Rule::GlobalInitial => row(
-            "global-initial",
-            "Globals",
-            "it begins with no constant expression of its type",
-        ),
+        Rule::TableInitial => row("table-initial", "Tables", "its elements begin with no constant expression of their type"),
+        Rule::GlobalInitial => row("global-initial", "Globals", "it begins with no constant expression of its type"),
         Rule::Export => row("export", "Exports", "what it names is not there"),
         Rule::ExportName => row("export-name", "Modules", "an earlier export has this name"),
-        Rule::Start => row(
-            "start",
-            "Start Function",
-            "it is not there, or has parameters or results",
-        ),
-        Rule::Element => row(
-            "element",
-            "Element Segments",
-            "its type, an item, its table or its offset is not valid",
-        ),
+        Rule::Start => row("start", "Start Function", "it is not there, or has parameters or results"),
+        Rule::Element => row("element", "Element Segments", "its type, an item, its table or its offset is not valid"),
         Rule::Data => row(
             "data",
             "Data Segments",
@@ -93,29 +78,18 @@ fn definition_wording(rule: Rule) -> Wording {
     }
 }
 
+#[rattlefmt::skip]
 fn body_wording(rule: Rule) -> Wording {
     match rule {
         Rule::Local => row("local", "Functions", "their type is not valid"),
         Rule::NumericInstruction => row("numeric-instruction", "Numeric Instructions", NUMERIC),
         Rule::VectorInstruction => row("vector-instruction", "Vector Instructions", VECTOR),
-        Rule::ReferenceInstruction => row(
-            "reference-instruction",
-            "Reference Instructions",
-            REFERENCE,
-        ),
-        Rule::ParametricInstruction => row(
-            "parametric-instruction",
-            "Parametric Instructions",
-            PARAMETRIC,
-        ),
+        Rule::ReferenceInstruction => row("reference-instruction", "Reference Instructions", REFERENCE),
+        Rule::ParametricInstruction => row("parametric-instruction", "Parametric Instructions", PARAMETRIC),
         Rule::VariableInstruction => row("variable-instruction", "Variable Instructions", VARIABLE),
         Rule::TableInstruction => row("table-instruction", "Table Instructions", TABLE),
         Rule::MemoryInstruction => row("memory-instruction", "Memory Instructions", MEMORY),
-        Rule::AggregateInstruction => row(
-            "aggregate-instruction",
-            "Aggregate Instructions",
-            AGGREGATE,
-        ),
+        Rule::AggregateInstruction => row("aggregate-instruction", "Aggregate Instructions", AGGREGATE),
         Rule::ControlInstruction => row("control-instruction", "Control Instructions", CONTROL),
         _ => row("end", "Instruction Sequences", END),
     }

@@ -28,6 +28,7 @@ fn copied_variable(instr: &Instr) -> Instr
 }
 
 // Returns a copy of a numeric vector instruction, or of one that accesses a memory.
+#[rattlefmt::skip]
 fn copied_access(instr: &Instr) -> Instr
     requires { IsTrue (is_access instr.now) }
     ensures { result ≡ instr.now }
@@ -39,24 +40,8 @@ fn copied_access(instr: &Instr) -> Instr
         Instr::Vector(op) => Instr::Vector(*op),
         Instr::VectorLoad(op, at) => Instr::VectorLoad(*op, *at),
         Instr::VectorStore(at) => Instr::VectorStore(*at),
-        Instr::VectorLoadLane {
-            log2_bytes,
-            at,
-            lane,
-        } => Instr::VectorLoadLane {
-            log2_bytes: *log2_bytes,
-            at: *at,
-            lane: *lane,
-        },
-        Instr::VectorStoreLane {
-            log2_bytes,
-            at,
-            lane,
-        } => Instr::VectorStoreLane {
-            log2_bytes: *log2_bytes,
-            at: *at,
-            lane: *lane,
-        },
+        Instr::VectorLoadLane { log2_bytes, at, lane } => Instr::VectorLoadLane { log2_bytes: *log2_bytes, at: *at, lane: *lane },
+        Instr::VectorStoreLane { log2_bytes, at, lane } => Instr::VectorStoreLane { log2_bytes: *log2_bytes, at: *at, lane: *lane },
         Instr::Atomic(access, at) => Instr::Atomic(*access, *at),
         Instr::AtomicFence => Instr::AtomicFence,
         _ => unreachable!(),
@@ -64,6 +49,7 @@ fn copied_access(instr: &Instr) -> Instr
 }
 
 // Returns a copy of a branch, a call or an exception.
+#[rattlefmt::skip]
 fn copied_jump(alloc: Global, instr: &Instr) -> Result<Instr, Error>
     requires { IsTrue (is_jump instr.now) }
     ensures ok { IfOk result (λ made. made ≡ instr.now) }
@@ -77,16 +63,10 @@ fn copied_jump(alloc: Global, instr: &Instr) -> Result<Instr, Error>
         Instr::BrOnNull(label) => Instr::BrOnNull(*label),
         Instr::BrOnNonNull(label) => Instr::BrOnNonNull(*label),
         Instr::Call(function) => Instr::Call(*function),
-        Instr::CallIndirect { table, ty } => Instr::CallIndirect {
-            table: *table,
-            ty: *ty,
-        },
+        Instr::CallIndirect { table, ty } => Instr::CallIndirect { table: *table, ty: *ty },
         Instr::CallRef(ty) => Instr::CallRef(*ty),
         Instr::ReturnCall(function) => Instr::ReturnCall(*function),
-        Instr::ReturnCallIndirect { table, ty } => Instr::ReturnCallIndirect {
-            table: *table,
-            ty: *ty,
-        },
+        Instr::ReturnCallIndirect { table, ty } => Instr::ReturnCallIndirect { table: *table, ty: *ty },
         Instr::ReturnCallRef(ty) => Instr::ReturnCallRef(*ty),
         _ => unreachable!(),
     })

@@ -58,42 +58,28 @@ fn numeric_nan(op: NumericInstr) -> Option<Float>
     }
 }
 
+#[rattlefmt::skip]
 fn vector_unary_nan(op: VectorFloatUnary) -> Option<Float>
     ensures { result ≡ vector_unary_nan op }
 {
     match op {
-        VectorFloatUnary::F32x4Sqrt
-        | VectorFloatUnary::F32x4Ceil
-        | VectorFloatUnary::F32x4Floor
-        | VectorFloatUnary::F32x4Trunc
-        | VectorFloatUnary::F32x4Nearest
-        | VectorFloatUnary::F32x4DemoteF64x2Zero => Some(Float::F32x4),
-        VectorFloatUnary::F64x2Sqrt
-        | VectorFloatUnary::F64x2Ceil
-        | VectorFloatUnary::F64x2Floor
-        | VectorFloatUnary::F64x2Trunc
-        | VectorFloatUnary::F64x2Nearest
-        | VectorFloatUnary::F64x2PromoteLowF32x4 => Some(Float::F64x2),
+        VectorFloatUnary::F32x4Sqrt | VectorFloatUnary::F32x4Ceil | VectorFloatUnary::F32x4Floor | VectorFloatUnary::F32x4Trunc
+        | VectorFloatUnary::F32x4Nearest | VectorFloatUnary::F32x4DemoteF64x2Zero => Some(Float::F32x4),
+        VectorFloatUnary::F64x2Sqrt | VectorFloatUnary::F64x2Ceil | VectorFloatUnary::F64x2Floor | VectorFloatUnary::F64x2Trunc
+        | VectorFloatUnary::F64x2Nearest | VectorFloatUnary::F64x2PromoteLowF32x4 => Some(Float::F64x2),
         _ => None,
     }
 }
 
+#[rattlefmt::skip]
 fn vector_binary_nan(op: VectorFloatBinary) -> Option<Float>
     ensures { result ≡ vector_binary_nan op }
 {
     match op {
-        VectorFloatBinary::F32x4Add
-        | VectorFloatBinary::F32x4Sub
-        | VectorFloatBinary::F32x4Mul
-        | VectorFloatBinary::F32x4Div
-        | VectorFloatBinary::F32x4Min
-        | VectorFloatBinary::F32x4Max => Some(Float::F32x4),
-        VectorFloatBinary::F64x2Add
-        | VectorFloatBinary::F64x2Sub
-        | VectorFloatBinary::F64x2Mul
-        | VectorFloatBinary::F64x2Div
-        | VectorFloatBinary::F64x2Min
-        | VectorFloatBinary::F64x2Max => Some(Float::F64x2),
+        VectorFloatBinary::F32x4Add | VectorFloatBinary::F32x4Sub | VectorFloatBinary::F32x4Mul | VectorFloatBinary::F32x4Div
+        | VectorFloatBinary::F32x4Min | VectorFloatBinary::F32x4Max => Some(Float::F32x4),
+        VectorFloatBinary::F64x2Add | VectorFloatBinary::F64x2Sub | VectorFloatBinary::F64x2Mul | VectorFloatBinary::F64x2Div
+        | VectorFloatBinary::F64x2Min | VectorFloatBinary::F64x2Max => Some(Float::F64x2),
         _ => None,
     }
 }

@@ -141,11 +141,9 @@ fn imports_are_written(rt: HostRuntime) -> Result<(), Fail> {
 }
 
 // Constant instructions, and their texts.
+#[rattlefmt::skip]
 static CONSTANTS: [(ConstInstr, &str); 38] = [
-    (
-        ConstInstr::I32Const(-2_147_483_648),
-        "i32.const -2147483648",
-    ),
+    (ConstInstr::I32Const(-2_147_483_648), "i32.const -2147483648"),
     (ConstInstr::I64Const(-1), "i64.const -1"),
     (ConstInstr::F32Const(0), "f32.const 0x0p+0"),
     (ConstInstr::F32Const(0x8000_0000), "f32.const -0x0p+0"),
@@ -153,46 +151,19 @@ static CONSTANTS: [(ConstInstr, &str); 38] = [
     (ConstInstr::F32Const(0xbfc0_0000), "f32.const -0x1.8p+0"),
     (ConstInstr::F32Const(1), "f32.const 0x0.000002p-126"),
     (ConstInstr::F32Const(0x0080_0000), "f32.const 0x1p-126"),
-    (
-        ConstInstr::F32Const(0x7f7f_ffff),
-        "f32.const 0x1.fffffep+127",
-    ),
+    (ConstInstr::F32Const(0x7f7f_ffff), "f32.const 0x1.fffffep+127"),
     (ConstInstr::F32Const(0x7f80_0000), "f32.const inf"),
     (ConstInstr::F32Const(0x7fc0_0000), "f32.const nan:0x400000"),
     (ConstInstr::F32Const(0xff80_0001), "f32.const -nan:0x1"),
-    (
-        ConstInstr::F64Const(0x3fb9_9999_9999_999a),
-        "f64.const 0x1.999999999999ap-4",
-    ),
+    (ConstInstr::F64Const(0x3fb9_9999_9999_999a), "f64.const 0x1.999999999999ap-4"),
     (ConstInstr::F64Const(1), "f64.const 0x0.0000000000001p-1022"),
-    (
-        ConstInstr::F64Const(0x000f_ffff_ffff_fff0),
-        "f64.const 0x0.ffffffffffffp-1022",
-    ),
-    (
-        ConstInstr::F64Const(0xfff0_0000_0000_0000),
-        "f64.const -inf",
-    ),
-    (
-        ConstInstr::F64Const(0x7ff8_0000_0000_0000),
-        "f64.const nan:0x8000000000000",
-    ),
-    (
-        ConstInstr::V128Const(0x0f0e_0d0c_0b0a_0908_0706_0504_0302_0100),
-        "v128.const i32x4 0x03020100 0x07060504 0x0b0a0908 0x0f0e0d0c",
-    ),
-    (
-        ConstInstr::V128Const(-1),
-        "v128.const i32x4 0xffffffff 0xffffffff 0xffffffff 0xffffffff",
-    ),
+    (ConstInstr::F64Const(0x000f_ffff_ffff_fff0), "f64.const 0x0.ffffffffffffp-1022"),
+    (ConstInstr::F64Const(0xfff0_0000_0000_0000), "f64.const -inf"),
+    (ConstInstr::F64Const(0x7ff8_0000_0000_0000), "f64.const nan:0x8000000000000"),
+    (ConstInstr::V128Const(0x0f0e_0d0c_0b0a_0908_0706_0504_0302_0100), "v128.const i32x4 0x03020100 0x07060504 0x0b0a0908 0x0f0e0d0c"),
+    (ConstInstr::V128Const(-1), "v128.const i32x4 0xffffffff 0xffffffff 0xffffffff 0xffffffff"),
     (ConstInstr::GlobalGet(4), "global.get 4"),
-    (
-        ConstInstr::RefNull(HeapType::Abstract {
-            shared: true,
-            ty: AbstractHeapType::Eq,
-        }),
-        "ref.null (shared eq)",
-    ),
+    (ConstInstr::RefNull(HeapType::Abstract { shared: true, ty: AbstractHeapType::Eq }), "ref.null (shared eq)"),
     (ConstInstr::RefNull(HeapType::Concrete(2)), "ref.null 2"),
     (ConstInstr::RefFunc(0), "ref.func 0"),
     (ConstInstr::I32Add, "i32.add"),
@@ -207,13 +178,7 @@ static CONSTANTS: [(ConstInstr, &str); 38] = [
     (ConstInstr::StructNewDefault(1), "struct.new_default 1"),
     (ConstInstr::ArrayNew(1), "array.new 1"),
     (ConstInstr::ArrayNewDefault(1), "array.new_default 1"),
-    (
-        ConstInstr::ArrayNewFixed {
-            array_type_index: 1,
-            array_size: 3,
-        },
-        "array.new_fixed 1 3",
-    ),
+    (ConstInstr::ArrayNewFixed { array_type_index: 1, array_size: 3 }, "array.new_fixed 1 3"),
     (ConstInstr::AnyConvertExtern, "any.convert_extern"),
     (ConstInstr::ExternConvertAny, "extern.convert_any"),
 ];

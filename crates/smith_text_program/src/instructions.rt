@@ -33,6 +33,7 @@ fn use_of(index: u32, signatures: &[SubType]) -> TypeUse<'_> {
 /// # Errors
 ///
 /// Returns the error of the first write that fails. Nothing is written after it.
+#[rattlefmt::skip]
 pub fn write_instr<S: Sink>(
     instruction: &Instr,
     signatures: &[SubType],
@@ -62,19 +63,10 @@ pub fn write_instr<S: Sink>(
         Instr::BrOnCastFail(cast) => write_branch_cast("br_on_cast_fail", *cast, sink),
         Instr::Return => sink.write_str("return"),
         Instr::Call(function) => write_indexed("call", *function, sink),
-        Instr::CallIndirect { table, ty } => {
-            write_indirect("call_indirect", *table, use_of(*ty, signatures), sink)
-        }
+        Instr::CallIndirect { table, ty } => write_indirect("call_indirect", *table, use_of(*ty, signatures), sink),
         Instr::CallRef(ty) => write_indexed("call_ref", *ty, sink),
         Instr::ReturnCall(function) => write_indexed("return_call", *function, sink),
-        Instr::ReturnCallIndirect { table, ty } => {
-            write_indirect(
-                "return_call_indirect",
-                *table,
-                use_of(*ty, signatures),
-                sink,
-            )
-        }
+        Instr::ReturnCallIndirect { table, ty } => write_indirect("return_call_indirect", *table, use_of(*ty, signatures), sink),
         Instr::ReturnCallRef(ty) => write_indexed("return_call_ref", *ty, sink),
         Instr::Drop => sink.write_str("drop"),
         Instr::Select => sink.write_str("select"),
@@ -99,16 +91,8 @@ pub fn write_instr<S: Sink>(
         Instr::Vector(op) => write_vector(*op, sink),
         Instr::VectorLoad(op, at) => write_access(vector_load_keyword(*op), *at, sink),
         Instr::VectorStore(at) => write_access("v128.store", *at, sink),
-        Instr::VectorLoadLane {
-            log2_bytes,
-            at,
-            lane,
-        } => write_lane_access("load", *log2_bytes, *at, *lane, sink),
-        Instr::VectorStoreLane {
-            log2_bytes,
-            at,
-            lane,
-        } => write_lane_access("store", *log2_bytes, *at, *lane, sink),
+        Instr::VectorLoadLane { log2_bytes, at, lane } => write_lane_access("load", *log2_bytes, *at, *lane, sink),
+        Instr::VectorStoreLane { log2_bytes, at, lane } => write_lane_access("store", *log2_bytes, *at, *lane, sink),
         Instr::Atomic(access, at) => write_atomic(*access, *at, sink),
         Instr::AtomicFence => sink.write_str("atomic.fence"),
     }

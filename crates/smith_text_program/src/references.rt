@@ -80,6 +80,7 @@ fn array_get(extension: Extension) -> &'static str {
 
 /// Writes an aggregate instruction, and `ref.i31_shared` as the shared-everything-threads proposal
 /// does.
+#[rattlefmt::skip]
 pub(crate) fn write_aggregate<S: Sink>(instruction: AggregateInstr, sink: &mut S) -> fmt::Result
     requires open { S.failed sink.old ≡ false }
     ensures fault { S.failed sink.new ≡ is_err result }
@@ -88,44 +89,20 @@ pub(crate) fn write_aggregate<S: Sink>(instruction: AggregateInstr, sink: &mut S
     match instruction {
         AggregateInstr::StructNew(ty) => write_indexed("struct.new", ty, sink),
         AggregateInstr::StructNewDefault(ty) => write_indexed("struct.new_default", ty, sink),
-        AggregateInstr::StructGet {
-            ty,
-            field,
-            extension,
-        } => write_indexed_twice(struct_get(extension), ty, field, sink),
-        AggregateInstr::StructSet { ty, field } => write_indexed_twice(
-            "struct.set",
-            ty,
-            field,
-            sink,
-        ),
+        AggregateInstr::StructGet { ty, field, extension } => write_indexed_twice(struct_get(extension), ty, field, sink),
+        AggregateInstr::StructSet { ty, field } => write_indexed_twice("struct.set", ty, field, sink),
         AggregateInstr::ArrayNew(ty) => write_indexed("array.new", ty, sink),
         AggregateInstr::ArrayNewDefault(ty) => write_indexed("array.new_default", ty, sink),
-        AggregateInstr::ArrayNewFixed { ty, size } => write_indexed_twice(
-            "array.new_fixed",
-            ty,
-            size,
-            sink,
-        ),
-        AggregateInstr::ArrayNewData { ty, segment } => {
-            write_indexed_twice("array.new_data", ty, segment, sink)
-        }
-        AggregateInstr::ArrayNewElem { ty, segment } => {
-            write_indexed_twice("array.new_elem", ty, segment, sink)
-        }
-        AggregateInstr::ArrayGet { ty, extension } => {
-            write_indexed(array_get(extension), ty, sink)
-        }
+        AggregateInstr::ArrayNewFixed { ty, size } => write_indexed_twice("array.new_fixed", ty, size, sink),
+        AggregateInstr::ArrayNewData { ty, segment } => write_indexed_twice("array.new_data", ty, segment, sink),
+        AggregateInstr::ArrayNewElem { ty, segment } => write_indexed_twice("array.new_elem", ty, segment, sink),
+        AggregateInstr::ArrayGet { ty, extension } => write_indexed(array_get(extension), ty, sink),
         AggregateInstr::ArraySet(ty) => write_indexed("array.set", ty, sink),
         AggregateInstr::ArrayLen => sink.write_str("array.len"),
         AggregateInstr::ArrayFill(ty) => write_indexed("array.fill", ty, sink),
         AggregateInstr::ArrayCopy { to, from } => write_indexed_twice("array.copy", to, from, sink),
-        AggregateInstr::ArrayInitData { ty, segment } => {
-            write_indexed_twice("array.init_data", ty, segment, sink)
-        }
-        AggregateInstr::ArrayInitElem { ty, segment } => {
-            write_indexed_twice("array.init_elem", ty, segment, sink)
-        }
+        AggregateInstr::ArrayInitData { ty, segment } => write_indexed_twice("array.init_data", ty, segment, sink),
+        AggregateInstr::ArrayInitElem { ty, segment } => write_indexed_twice("array.init_elem", ty, segment, sink),
         AggregateInstr::RefI31 => sink.write_str("ref.i31"),
         AggregateInstr::RefI31Shared => sink.write_str("ref.i31_shared"),
         AggregateInstr::I31GetS => sink.write_str("i31.get_s"),

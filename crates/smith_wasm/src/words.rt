@@ -7,7 +7,7 @@ use std::alloc::Global;
 
 /// The version of the program, the library for C and its callers. Versions with the same second
 /// number produce the same file of the same configuration and bytes.
-const VERSION: &str = "0.9.0";
+const VERSION: &str = "0.10.0";
 
 /// The command that prints a file.
 pub(crate) const PRINT: &str = "print";
@@ -131,59 +131,23 @@ const SHARED_WORDS: [&str; 8] = [
 ];
 
 /// Its other words, its input and the fields aside.
+#[rattlefmt::skip]
 static INVALID_WORDS: [Word; 2] = [
-    Word {
-        name: FAMILIES,
-        short: None,
-        takes: Takes::Text("NAMES"),
-        needs: None,
-        excludes: &[],
-        about: "The families of changes that are drawn, with commas between them. The default is all; a wrong name lists them.",
-    },
-    Word {
-        name: TWINS,
-        short: None,
-        takes: Takes::Nothing,
-        needs: Some(OUTPUT_DIR),
-        excludes: &[],
-        about: "Writes the valid file from which each file of a corpus differs, too, into the folder twins.",
-    },
+    Word { name: FAMILIES, short: None, takes: Takes::Text("NAMES"), needs: None, excludes: &[],
+        about: "The families of changes that are drawn, with commas between them. The default is all; a wrong name lists them." },
+    Word { name: TWINS, short: None, takes: Takes::Nothing, needs: Some(OUTPUT_DIR), excludes: &[],
+        about: "Writes the valid file from which each file of a corpus differs, too, into the folder twins." },
 ];
 
 /// The words of the command that judges files, its files and the fields aside.
+#[rattlefmt::skip]
 static CHECK_WORDS: [Word; 4] = [
-    Word {
-        name: JSON,
-        short: None,
-        takes: Takes::Nothing,
-        needs: None,
-        excludes: &[],
-        about: "Shows each answer as a JSON object in a line.",
-    },
-    Word {
-        name: QUIET,
-        short: Some('q'),
-        takes: Takes::Nothing,
-        needs: None,
-        excludes: &[],
-        about: "Shows nothing but how many files have each answer.",
-    },
-    Word {
-        name: CONFIG,
-        short: Some('c'),
-        takes: Takes::Text("FILE"),
-        needs: None,
-        excludes: &[],
-        about: CONFIG_ABOUT,
-    },
-    Word {
-        name: PRESET,
-        short: None,
-        takes: Takes::Text("NAME"),
-        needs: None,
-        excludes: &[],
-        about: PRESET_ABOUT,
-    },
+    Word { name: JSON, short: None, takes: Takes::Nothing, needs: None, excludes: &[],
+        about: "Shows each answer as a JSON object in a line." },
+    Word { name: QUIET, short: Some('q'), takes: Takes::Nothing, needs: None, excludes: &[],
+        about: "Shows nothing but how many files have each answer." },
+    Word { name: CONFIG, short: Some('c'), takes: Takes::Text("FILE"), needs: None, excludes: &[], about: CONFIG_ABOUT },
+    Word { name: PRESET, short: None, takes: Takes::Text("NAME"), needs: None, excludes: &[], about: PRESET_ABOUT },
 ];
 /// What the command prints of a shape.
 const SHAPE_ABOUT: &str =
@@ -206,143 +170,38 @@ const OBSERVE_ABOUT: &str =
 after all other exports: as `sink_i32`, `sink_i64` and `sink_i64_2`, each with `_` after it if an export has that name, as after `fuel`. \
 Also exports the global that counts.";
 
+#[rattlefmt::skip]
 static WORDS: [Word; 17] = [
-    Word {
-        name: OUTPUT,
-        short: Some('o'),
-        takes: Takes::Text("FILE"),
-        needs: None,
-        excludes: &[],
-        about: OUTPUT_ABOUT,
-    },
-    Word {
-        name: WAT,
-        short: Some('t'),
-        takes: Takes::Nothing,
-        needs: None,
-        excludes: &[],
-        about: "Writes the text format instead of the binary format.",
-    },
-    Word {
-        name: NOTES,
-        short: None,
-        takes: Takes::Nothing,
-        needs: Some(WAT),
-        excludes: &[],
-        about: "Adds comments to a text: raw bodies, and values of interest to who runs the module.",
-    },
-    Word {
-        name: CONFIG,
-        short: Some('c'),
-        takes: Takes::Text("FILE"),
-        needs: None,
-        excludes: &[],
-        about: CONFIG_ABOUT,
-    },
-    Word {
-        name: PRESET,
-        short: None,
-        takes: Takes::Text("NAME"),
-        needs: None,
-        excludes: &[],
-        about: PRESET_ABOUT,
-    },
-    Word {
-        name: ARBITRARY,
-        short: None,
-        takes: Takes::Nothing,
-        needs: None,
-        excludes: &[],
-        about: "Draws the configuration from the input first, then the module from the bytes left.",
-    },
-    Word {
-        name: ENSURE_TERMINATION,
-        short: None,
-        takes: Takes::Nothing,
-        needs: None,
-        excludes: &[],
-        about: "Adds a global that counts calls and iterations of loops, so that each call ends.",
-    },
-    Word {
-        name: FUEL,
-        short: Some('f'),
-        takes: Takes::Number,
-        needs: Some(ENSURE_TERMINATION),
-        excludes: &[],
-        about: "The number of calls and iterations before the module traps. The default is 100.",
-    },
-    Word {
-        name: FUEL_EXPORT,
-        short: None,
-        takes: Takes::Nothing,
-        needs: Some(ENSURE_TERMINATION),
-        excludes: &[],
-        about: FUEL_EXPORT_ABOUT,
-    },
-    Word {
-        name: OBSERVE,
-        short: None,
-        takes: Takes::Nothing,
-        needs: None,
-        excludes: &[],
-        about: OBSERVE_ABOUT,
-    },
-    Word {
-        name: COUNT,
-        short: None,
-        takes: Takes::Number,
-        needs: Some(OUTPUT_DIR),
-        excludes: &[INPUT, OUTPUT],
-        about: "Makes a corpus of this number of pseudorandom inputs.",
-    },
-    Word {
-        name: UNTIL,
-        short: None,
-        takes: Takes::Number,
-        needs: Some(OUTPUT_DIR),
-        excludes: &[INPUT, OUTPUT, COUNT],
-        about: "Makes a corpus of pseudorandom inputs until this number of modules is written.",
-    },
-    Word {
-        name: SEED,
-        short: None,
-        takes: Takes::Number,
-        needs: Some(OUTPUT_DIR),
-        excludes: &[],
-        about: "The seed of the pseudorandom inputs. The default is 0.",
-    },
-    Word {
-        name: SIZE,
-        short: None,
-        takes: Takes::Number,
-        needs: Some(OUTPUT_DIR),
-        excludes: &[],
-        about: "The length of each pseudorandom input in bytes. The default is 4096.",
-    },
-    Word {
-        name: OUTPUT_DIR,
-        short: None,
-        takes: Takes::Text("DIR"),
-        needs: None,
-        excludes: &[INPUT, OUTPUT],
-        about: "Writes a corpus into this folder, each module in a file named by its number.",
-    },
-    Word {
-        name: INPUTS,
-        short: None,
-        takes: Takes::Nothing,
-        needs: Some(OUTPUT_DIR),
-        excludes: &[],
-        about: "Writes the input of each module of a corpus, too, into a file of the same number that ends in .bin.",
-    },
-    Word {
-        name: VERBOSE,
-        short: None,
-        takes: Takes::Nothing,
-        needs: Some(OUTPUT_DIR),
-        excludes: &[],
-        about: "Lists each refused input of a corpus.",
-    },
+    Word { name: OUTPUT, short: Some('o'), takes: Takes::Text("FILE"), needs: None, excludes: &[], about: OUTPUT_ABOUT },
+    Word { name: WAT, short: Some('t'), takes: Takes::Nothing, needs: None, excludes: &[],
+        about: "Writes the text format instead of the binary format." },
+    Word { name: NOTES, short: None, takes: Takes::Nothing, needs: Some(WAT), excludes: &[],
+        about: "Adds comments to a text: raw bodies, and values of interest to who runs the module." },
+    Word { name: CONFIG, short: Some('c'), takes: Takes::Text("FILE"), needs: None, excludes: &[], about: CONFIG_ABOUT },
+    Word { name: PRESET, short: None, takes: Takes::Text("NAME"), needs: None, excludes: &[], about: PRESET_ABOUT },
+    Word { name: ARBITRARY, short: None, takes: Takes::Nothing, needs: None, excludes: &[],
+        about: "Draws the configuration from the input first, then the module from the bytes left." },
+    Word { name: ENSURE_TERMINATION, short: None, takes: Takes::Nothing, needs: None, excludes: &[],
+        about: "Adds a global that counts calls and iterations of loops, so that each call ends." },
+    Word { name: FUEL, short: Some('f'), takes: Takes::Number, needs: Some(ENSURE_TERMINATION), excludes: &[],
+        about: "The number of calls and iterations before the module traps. The default is 100." },
+    Word { name: FUEL_EXPORT, short: None, takes: Takes::Nothing, needs: Some(ENSURE_TERMINATION), excludes: &[],
+        about: FUEL_EXPORT_ABOUT },
+    Word { name: OBSERVE, short: None, takes: Takes::Nothing, needs: None, excludes: &[], about: OBSERVE_ABOUT },
+    Word { name: COUNT, short: None, takes: Takes::Number, needs: Some(OUTPUT_DIR), excludes: &[INPUT, OUTPUT],
+        about: "Makes a corpus of this number of pseudorandom inputs." },
+    Word { name: UNTIL, short: None, takes: Takes::Number, needs: Some(OUTPUT_DIR), excludes: &[INPUT, OUTPUT, COUNT],
+        about: "Makes a corpus of pseudorandom inputs until this number of modules is written." },
+    Word { name: SEED, short: None, takes: Takes::Number, needs: Some(OUTPUT_DIR), excludes: &[],
+        about: "The seed of the pseudorandom inputs. The default is 0." },
+    Word { name: SIZE, short: None, takes: Takes::Number, needs: Some(OUTPUT_DIR), excludes: &[],
+        about: "The length of each pseudorandom input in bytes. The default is 4096." },
+    Word { name: OUTPUT_DIR, short: None, takes: Takes::Text("DIR"), needs: None, excludes: &[INPUT, OUTPUT],
+        about: "Writes a corpus into this folder, each module in a file named by its number." },
+    Word { name: INPUTS, short: None, takes: Takes::Nothing, needs: Some(OUTPUT_DIR), excludes: &[],
+        about: "Writes the input of each module of a corpus, too, into a file of the same number that ends in .bin." },
+    Word { name: VERBOSE, short: None, takes: Takes::Nothing, needs: Some(OUTPUT_DIR), excludes: &[],
+        about: "Lists each refused input of a corpus." },
 ];
 
 /// The end of the help.

@@ -42,68 +42,11 @@ fn find_numbered(families: &[Family], number: u32) -> Option<Family>
 fn item_number(family: ModuleFamily) -> u32
     ensures { result ≡ item_number family }
 {
-    match family {
-        ModuleFamily::OperandType => 1,
-        ModuleFamily::MissingOperand => 2,
-        ModuleFamily::ExtraOperand => 3,
-        ModuleFamily::BlockType => 4,
-        ModuleFamily::FunctionResult => 5,
-        ModuleFamily::IndexPastEnd => 6,
-        ModuleFamily::OtherEntity => 7,
-        ModuleFamily::ReferenceType => 8,
-        ModuleFamily::Label => 9,
-        ModuleFamily::CastHierarchy => 10,
-        ModuleFamily::TailCall => 11,
-        ModuleFamily::DeadCode => 12,
-        ModuleFamily::UnsetLocal => 13,
-        ModuleFamily::ImmutableGlobal => 14,
-        ModuleFamily::ImmutableField => 15,
-        ModuleFamily::PackedField => 16,
-        ModuleFamily::UndeclaredFunction => 17,
-        ModuleFamily::Alignment => 18,
-        ModuleFamily::Offset => 19,
-        ModuleFamily::Lane => 20,
-        ModuleFamily::Supertype => 21,
-        ModuleFamily::FinalType => 22,
-        ModuleFamily::ForwardReference => 23,
-        ModuleFamily::Limits => 24,
-        ModuleFamily::DuplicateExport => 25,
-        ModuleFamily::ExportIndex => 26,
-        ModuleFamily::StartFunction => 27,
-        ModuleFamily::ConstantType => 28,
-        ModuleFamily::NonConstant => 29,
-        ModuleFamily::LaterGlobal => 30,
-        ModuleFamily::FunctionType => 31,
-        ModuleFamily::TagType => 32,
-        ModuleFamily::ImportType => 33,
-        ModuleFamily::ElementSegment => 34,
-        ModuleFamily::DataSegment => 35,
-    }
+    family as u32
 }
 
 fn bytes_number(family: BytesFamily) -> u32
     ensures { result ≡ bytes_number family }
 {
-    match family {
-        BytesFamily::LongInteger => 36,
-        BytesFamily::UnusedBits => 37,
-        BytesFamily::SectionSize => 38,
-        BytesFamily::BodySize => 39,
-        BytesFamily::ListCount => 40,
-        BytesFamily::FunctionCount => 41,
-        BytesFamily::DataCount => 42,
-        BytesFamily::SectionOrder => 43,
-        BytesFamily::SectionTwice => 44,
-        BytesFamily::UnknownSection => 45,
-        BytesFamily::LeftOverByte => 46,
-        BytesFamily::NotUtf8 => 47,
-        BytesFamily::UnknownFlag => 48,
-        BytesFamily::UnknownType => 49,
-        BytesFamily::UnknownOpcode => 50,
-        BytesFamily::MissingEnd => 51,
-        BytesFamily::SecondEnd => 52,
-        BytesFamily::Preamble => 53,
-        BytesFamily::CutFile => 54,
-        BytesFamily::DataCountMissing => 55,
-    }
+    family as u32
 }

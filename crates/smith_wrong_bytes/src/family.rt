@@ -2,50 +2,51 @@ ghost use Rattle.std.specs.Prelude.{◌≡◌};
 ghost use Rattle.smith_wrong_bytes.specs.Families.{family_name};
 
 /// A family of changes of the bytes of a file: which production is changed, and how. The sizes of the
-/// contents that a change is in are kept right, except by the families that are about sizes.
+/// contents that a change is in are kept right, except by the families that are about sizes. Its
+/// discriminant is its number among all families, which later versions keep.
 #[derive(Clone, Copy, Debug, PartialEq, Eq)]
 pub enum BytesFamily {
     /// An integer has more bytes than its type allows (Integers).
-    LongInteger,
+    LongInteger = 36,
     /// Unused bits of the last byte of an integer are set, or differ from its sign (Integers).
-    UnusedBits,
+    UnusedBits = 37,
     /// The size of a section is one more or one less (Sections).
-    SectionSize,
+    SectionSize = 38,
     /// The size of a body is one more or one less (Code Section).
-    BodySize,
+    BodySize = 39,
     /// The number of items of a list is one more or one less (Lists).
-    ListCount,
+    ListCount = 40,
     /// The number of functions is not that of bodies (Modules).
-    FunctionCount,
+    FunctionCount = 41,
     /// The number of data segments is not the stated one (Modules).
-    DataCount,
+    DataCount = 42,
     /// The number of data segments is not stated, though a body may name one (Modules).
-    DataCountMissing,
+    DataCountMissing = 55,
     /// Two sections are exchanged, or one has the identifier of the one before it (Modules).
-    SectionOrder,
+    SectionOrder = 43,
     /// A section occurs twice (Modules).
-    SectionTwice,
+    SectionTwice = 44,
     /// A section has an identifier that no section has (Sections).
-    UnknownSection,
+    UnknownSection = 45,
     /// A byte is left over at the end of a section or a body (Sections, Code Section).
-    LeftOverByte,
+    LeftOverByte = 46,
     /// A name is not UTF-8 (Names).
-    NotUtf8,
+    NotUtf8 = 47,
     /// A byte that chooses among forms is another, or an integer of two bytes: flags of limits, the form of
     /// a segment, mutability, the kind of an import or an export (Limits, Element Section, Data Section).
-    UnknownFlag,
+    UnknownFlag = 48,
     /// A type begins with a byte with which none begins, or with its byte as an integer of two (Types).
-    UnknownType,
+    UnknownType = 49,
     /// An opcode is one that no instruction has (Instructions).
-    UnknownOpcode,
+    UnknownOpcode = 50,
     /// The `end` of an expression is missing (Expressions).
-    MissingEnd,
+    MissingEnd = 51,
     /// The `end` of an expression occurs twice (Expressions).
-    SecondEnd,
+    SecondEnd = 52,
     /// A byte of the magic number or of the version is another (Modules).
-    Preamble,
+    Preamble = 53,
     /// The file ends within a section, or within the magic number or the version (Modules).
-    CutFile,
+    CutFile = 54,
 }
 
 impl BytesFamily {

@@ -1,81 +1,82 @@
 use std::fmt;
 
 /// A family of changes of a module: the rule that a change is meant to break.
+/// Its discriminant is its number among all families, which later versions keep.
 #[derive(Clone, Copy, Debug, PartialEq, Eq)]
 pub enum ModuleFamily {
     /// A constant, a `local.get` or a numeric instruction of another value type (Instructions).
-    OperandType,
+    OperandType = 1,
     /// An instruction left out, so that a later one misses an operand, or has one too many (Instructions).
-    MissingOperand,
+    MissingOperand = 2,
     /// A constant that nothing takes (Instructions).
-    ExtraOperand,
+    ExtraOperand = 3,
     /// Another type of a block (Blocks).
-    BlockType,
+    BlockType = 4,
     /// A constant before the last `end` of a body (Functions).
-    FunctionResult,
+    FunctionResult = 5,
     /// An index past the end of its index space, in a body (Indices).
-    IndexPastEnd,
+    IndexPastEnd = 6,
     /// The index of another entity or type, in a body (Indices).
-    OtherEntity,
+    OtherEntity = 7,
     /// Another heap type of a null reference, a test or a cast, or another nullability (Reference
     /// Instructions).
-    ReferenceType,
+    ReferenceType = 8,
     /// Another label of a branch or a clause of `try_table` (Control Instructions).
-    Label,
+    Label = 9,
     /// A test or a cast to a type of another hierarchy (Heap Types).
-    CastHierarchy,
+    CastHierarchy = 10,
     /// A tail call in place of a call, of another type than the function, or of a function with other results
     /// (Control Instructions).
-    TailCall,
+    TailCall = 11,
     /// An instruction after one that leaves, where it is typed too (Control Instructions).
-    DeadCode,
+    DeadCode = 12,
     /// A local without a default value that isn't set before it is read (Variable Instructions).
-    UnsetLocal,
+    UnsetLocal = 13,
     /// A `global.set` of an immutable global (Variable Instructions).
-    ImmutableGlobal,
+    ImmutableGlobal = 14,
     /// A write to an immutable field or array (Aggregate Instructions).
-    ImmutableField,
+    ImmutableField = 15,
     /// An extension of a field that isn't packed, or none of one that is (Aggregate Instructions).
-    PackedField,
+    PackedField = 16,
     /// A `ref.func` of a function that nothing outside bodies refers to (Reference Instructions).
-    UndeclaredFunction,
+    UndeclaredFunction = 17,
     /// An alignment above the natural one, or other than it for an atomic access (Memory Instructions).
-    Alignment,
+    Alignment = 18,
     /// An offset past the addresses of a 32-bit memory (Memory Instructions).
-    Offset,
+    Offset = 19,
     /// A lane past the last one (Vector Instructions).
-    Lane,
+    Lane = 20,
     /// A supertype that a type doesn't match, or that is declared later (Types).
-    Supertype,
+    Supertype = 21,
     /// A type that is final and has subtypes (Types).
-    FinalType,
+    FinalType = 22,
     /// A reference to a type after the recursive group (Types).
-    ForwardReference,
+    ForwardReference = 23,
     /// A minimum of a table or a memory above its maximum (Limits).
-    Limits,
+    Limits = 24,
     /// A second export of a name (Modules).
-    DuplicateExport,
+    DuplicateExport = 25,
     /// An export of an entity past the end of its index space (Exports).
-    ExportIndex,
+    ExportIndex = 26,
     /// A start function with parameters or results, or that doesn't exist (Start Function).
-    StartFunction,
+    StartFunction = 27,
     /// A constant expression of another type (Constant Expressions).
-    ConstantType,
+    ConstantType = 28,
     /// An instruction in a constant expression that isn't constant (Constant Expressions).
-    NonConstant,
+    NonConstant = 29,
     /// A mutable or a later global in a constant expression (Constant Expressions).
-    LaterGlobal,
+    LaterGlobal = 30,
     /// Another type of a function, or a type that doesn't exist (Functions).
-    FunctionType,
+    FunctionType = 31,
     /// A type of a tag that has results, is none of functions, or doesn't exist (Tags).
-    TagType,
+    TagType = 32,
     /// A type of an imported entity, or of the entities of a group, that isn't valid (Imports).
-    ImportType,
+    ImportType = 33,
     /// An element segment of another type, for another table or of a function that doesn't exist (Element
     /// Segments).
-    ElementSegment,
+    ElementSegment = 34,
     /// A data segment for a memory that doesn't exist (Data Segments).
-    DataSegment,
+    DataSegment = 35,
 }
 
 impl ModuleFamily {

@@ -55,30 +55,15 @@ fn access_of(instruction: &Instr) -> Option<(MemArg, u32)> {
 }
 
 // Returns `instruction`, an access, at the place `at`.
+#[rattlefmt::skip]
 fn with_place(instruction: &Instr, at: MemArg) -> Option<Instr> {
     match instruction {
         Instr::Load(op, _) => Some(Instr::Load(*op, at)),
         Instr::Store(op, _) => Some(Instr::Store(*op, at)),
         Instr::VectorLoad(op, _) => Some(Instr::VectorLoad(*op, at)),
         Instr::VectorStore(_) => Some(Instr::VectorStore(at)),
-        Instr::VectorLoadLane {
-            log2_bytes,
-            lane,
-            ..
-        } => Some(Instr::VectorLoadLane {
-            log2_bytes: *log2_bytes,
-            at,
-            lane: *lane,
-        }),
-        Instr::VectorStoreLane {
-            log2_bytes,
-            lane,
-            ..
-        } => Some(Instr::VectorStoreLane {
-            log2_bytes: *log2_bytes,
-            at,
-            lane: *lane,
-        }),
+        Instr::VectorLoadLane { log2_bytes, lane, .. } => Some(Instr::VectorLoadLane { log2_bytes: *log2_bytes, at, lane: *lane }),
+        Instr::VectorStoreLane { log2_bytes, lane, .. } => Some(Instr::VectorStoreLane { log2_bytes: *log2_bytes, at, lane: *lane }),
         Instr::Atomic(access, _) => Some(Instr::Atomic(*access, at)),
         _ => None,
     }

@@ -32,50 +32,28 @@ fn pick_reference(instruction: ReferenceInstr, pick: Pick, count: u64) -> Option
 }
 
 // Picks another type for an instruction on a struct.
+#[rattlefmt::skip]
 fn pick_struct(instruction: AggregateInstr, pick: Pick, count: u64) -> Option<AggregateInstr> {
     Some(match instruction {
         AggregateInstr::StructNew(ty) => AggregateInstr::StructNew(pick.index(ty, count)?),
-        AggregateInstr::StructNewDefault(ty) => {
-            AggregateInstr::StructNewDefault(pick.index(ty, count)?)
-        }
-        AggregateInstr::StructGet {
-            ty,
-            field,
-            extension,
-        } => AggregateInstr::StructGet {
-            ty: pick.index(ty, count)?,
-            field,
-            extension,
-        },
-        AggregateInstr::StructSet { ty, field } => AggregateInstr::StructSet {
-            ty: pick.index(ty, count)?,
-            field,
-        },
+        AggregateInstr::StructNewDefault(ty) => AggregateInstr::StructNewDefault(pick.index(ty, count)?),
+        AggregateInstr::StructGet { ty, field, extension } => AggregateInstr::StructGet { ty: pick.index(ty, count)?, field, extension },
+        AggregateInstr::StructSet { ty, field } => AggregateInstr::StructSet { ty: pick.index(ty, count)?, field },
         _ => return None,
     })
 }
 
 // Picks another type for an instruction on an array.
+#[rattlefmt::skip]
 fn pick_array(instruction: AggregateInstr, pick: Pick, count: u64) -> Option<AggregateInstr> {
     Some(match instruction {
         AggregateInstr::ArrayNew(ty) => AggregateInstr::ArrayNew(pick.index(ty, count)?),
-        AggregateInstr::ArrayNewDefault(ty) => {
-            AggregateInstr::ArrayNewDefault(pick.index(ty, count)?)
-        }
-        AggregateInstr::ArrayNewFixed { ty, size } => AggregateInstr::ArrayNewFixed {
-            ty: pick.index(ty, count)?,
-            size,
-        },
-        AggregateInstr::ArrayGet { ty, extension } => AggregateInstr::ArrayGet {
-            ty: pick.index(ty, count)?,
-            extension,
-        },
+        AggregateInstr::ArrayNewDefault(ty) => AggregateInstr::ArrayNewDefault(pick.index(ty, count)?),
+        AggregateInstr::ArrayNewFixed { ty, size } => AggregateInstr::ArrayNewFixed { ty: pick.index(ty, count)?, size },
+        AggregateInstr::ArrayGet { ty, extension } => AggregateInstr::ArrayGet { ty: pick.index(ty, count)?, extension },
         AggregateInstr::ArraySet(ty) => AggregateInstr::ArraySet(pick.index(ty, count)?),
         AggregateInstr::ArrayFill(ty) => AggregateInstr::ArrayFill(pick.index(ty, count)?),
-        AggregateInstr::ArrayCopy { to, from } => AggregateInstr::ArrayCopy {
-            to: pick.index(to, count)?,
-            from,
-        },
+        AggregateInstr::ArrayCopy { to, from } => AggregateInstr::ArrayCopy { to: pick.index(to, count)?, from },
         _ => return None,
     })
 }
@@ -88,6 +66,7 @@ fn pick_block(ty: BlockType, pick: Pick, count: u64) -> Option<BlockType> {
 }
 
 /// Picks another type for `instruction`, of `count`.
+#[rattlefmt::skip]
 pub(crate) fn pick_type(instruction: &Instr, pick: Pick, count: u64) -> Option<Instr> {
     Some(match instruction {
         Instr::Block(ty) => Instr::Block(pick_block(*ty, pick, count)?),
@@ -95,14 +74,8 @@ pub(crate) fn pick_type(instruction: &Instr, pick: Pick, count: u64) -> Option<I
         Instr::If(ty) => Instr::If(pick_block(*ty, pick, count)?),
         Instr::CallRef(own) => Instr::CallRef(pick.index(*own, count)?),
         Instr::ReturnCallRef(own) => Instr::ReturnCallRef(pick.index(*own, count)?),
-        Instr::CallIndirect { table, ty } => Instr::CallIndirect {
-            table: *table,
-            ty: pick.index(*ty, count)?,
-        },
-        Instr::ReturnCallIndirect { table, ty } => Instr::ReturnCallIndirect {
-            table: *table,
-            ty: pick.index(*ty, count)?,
-        },
+        Instr::CallIndirect { table, ty } => Instr::CallIndirect { table: *table, ty: pick.index(*ty, count)? },
+        Instr::ReturnCallIndirect { table, ty } => Instr::ReturnCallIndirect { table: *table, ty: pick.index(*ty, count)? },
         Instr::Reference(op) => Instr::Reference(pick_reference(*op, pick, count)?),
         Instr::Aggregate(op) => match pick_struct(*op, pick, count) {
             Some(changed) => Instr::Aggregate(changed),
@@ -133,22 +106,13 @@ pub(crate) fn pick_label(instruction: &Instr, pick: Pick, count: u64) -> Option<
     })
 }
 
+#[rattlefmt::skip]
 fn pick_in_catch(catch: Catch, pick: Pick, count: u64) -> Option<Catch> {
     Some(match catch {
-        Catch::One { tag, label } => Catch::One {
-            tag,
-            label: pick.index(label, count)?,
-        },
-        Catch::OneRef { tag, label } => Catch::OneRef {
-            tag,
-            label: pick.index(label, count)?,
-        },
-        Catch::All { label } => Catch::All {
-            label: pick.index(label, count)?,
-        },
-        Catch::AllRef { label } => Catch::AllRef {
-            label: pick.index(label, count)?,
-        },
+        Catch::One { tag, label } => Catch::One { tag, label: pick.index(label, count)? },
+        Catch::OneRef { tag, label } => Catch::OneRef { tag, label: pick.index(label, count)? },
+        Catch::All { label } => Catch::All { label: pick.index(label, count)? },
+        Catch::AllRef { label } => Catch::AllRef { label: pick.index(label, count)? },
     })
 }
 

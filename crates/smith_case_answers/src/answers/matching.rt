@@ -48,6 +48,7 @@ pub(crate) fn answer_matching(
 }
 
 // Appends a subtype of the type that `text` denotes, or a supertype.
+#[rattlefmt::skip]
 fn answer_part(
     over: &Over<'_>,
     call: MatchingCall,
@@ -56,29 +57,14 @@ fn answer_part(
     answer: &mut String,
 ) -> Result<(), Fault> {
     match call {
-        MatchingCall::Field => {
-            write_wanted!(over, text, u, answer; field_type_of => arbitrary_matching_field_type)
-        }
-        MatchingCall::Storage => {
-            write_wanted!(over, text, u, answer; storage_type_of => arbitrary_matching_storage_type)
-        }
-        MatchingCall::Val => {
-            write_wanted!(over, text, u, answer; val_type_of => arbitrary_matching_val_type)
-        }
-        MatchingCall::Ref => {
-            write_wanted!(over, text, u, answer; ref_type_of => arbitrary_matching_ref_type)
-        }
-        MatchingCall::Heap => {
-            write_wanted!(over, text, u, answer; heap_type_of => arbitrary_matching_heap_type)
-        }
-        MatchingCall::AboveVal => {
-            write_wanted!(over, text, u, answer; val_type_of => arbitrary_super_type_of_val_type)
-        }
-        MatchingCall::AboveRef => {
-            write_wanted!(over, text, u, answer; ref_type_of => arbitrary_super_type_of_ref_type)
-        }
-        _ =>
-            write_wanted!(over, text, u, answer; heap_type_of => arbitrary_super_type_of_heap_type),
+        MatchingCall::Field => write_wanted!(over, text, u, answer; field_type_of => arbitrary_matching_field_type),
+        MatchingCall::Storage => write_wanted!(over, text, u, answer; storage_type_of => arbitrary_matching_storage_type),
+        MatchingCall::Val => write_wanted!(over, text, u, answer; val_type_of => arbitrary_matching_val_type),
+        MatchingCall::Ref => write_wanted!(over, text, u, answer; ref_type_of => arbitrary_matching_ref_type),
+        MatchingCall::Heap => write_wanted!(over, text, u, answer; heap_type_of => arbitrary_matching_heap_type),
+        MatchingCall::AboveVal => write_wanted!(over, text, u, answer; val_type_of => arbitrary_super_type_of_val_type),
+        MatchingCall::AboveRef => write_wanted!(over, text, u, answer; ref_type_of => arbitrary_super_type_of_ref_type),
+        _ => write_wanted!(over, text, u, answer; heap_type_of => arbitrary_super_type_of_heap_type),
     }
 }
 
