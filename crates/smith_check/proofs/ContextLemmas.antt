@@ -1,24 +1,18 @@
 -- The context in which a judge of functions has a body checked.
-use Rattle.std.proofs.Common.{◌≡◌, ◌∙◌, ℕ, List, [], ◌++◌, Result, Option, length, sym, ap, subst}
-use Rattle.std.specs.Prelude.{IfOk, MatchOption}
+use Rattle.smith_check.proofs.Common.{[], ap, canonical_index, features_in, FuncType, IfOk, Instr, length, List, MatchOption, Option, subst}
+use Rattle.smith_check.proofs.Common.{sym, syntax_of, types_in, ValType, ℕ, ◌++◌, ◌∙◌, ◌≡◌}
+use Rattle.std.proofs.Common.{Result}
 use Rattle.std.proofs.lemmas.List.{length-map}
 use Rattle.smith_bytes.specs.declared.error.Error.{Error}
-use Rattle.smith_syntax.specs.FeatureBits.{features_in}
-use Rattle.smith_syntax.specs.declared.composite_type.FuncType.{FuncType}
-use Rattle.smith_syntax.specs.declared.value_type.ValType.{ValType}
 use Rattle.smith_types.specs.Imports.{EntitySpaces}
 use Rattle.smith_instr.specs.Contexts.{BodyContext}
-use Rattle.smith_instr.specs.declared.instr.Instr.{Instr}
 use Rattle.smith_decode.specs.DataReadings.{segment_view}
-use Rattle.smith_decode.specs.Modules.{syntax_of}
 use Rattle.smith_decode.specs.declared.bodies.Body.{Body}
 use Rattle.smith_check_operands.specs.Scopes.{IsScope}
-use Rattle.smith_check_types.specs.TypeSections.{canonical_index}
 use Rattle.smith_check_body.specs.Verdicts.{IsVerdict}
 use Rattle.smith_check_body.specs.declared.verdict.Verdict.{Verdict}
-use Rattle.smith_explain.specs.Causes.{IsExplanation}
+use Rattle.smith_explain.specs.Causes.{IsExplanation, IsUnreached}
 use Rattle.smith_explain.specs.declared.explanation.Explanation.{Explanation}
-use Rattle.smith_check_module.specs.Contexts.{types_in}
 use Rattle.smith_check.specs.FunctionJudges.{AreLocalsRight, HasTypeAt, IsContextOf, IsFunctionJudge, body_in, context_in, locals_in}
 use Rattle.smith_check.specs.declared.functions.FunctionJudge.{FunctionJudge}
 use Rattle.smith_check.proofs.JudgeLemmas.{judge_types, same_types, type_in_module}
@@ -72,9 +66,11 @@ module _ (judge : FunctionJudge) (j : IsFunctionJudge judge) (function : FuncTyp
 
   pub same_explanation : (at : ℕ) (found : Result (Option Explanation) Error) (instructions : List Instr)
       → instructions ≡ body_in judge body
-      → IfOk found (λ said. MatchOption said (Unit {0}) (IsExplanation context instructions at))
-      → IfOk found (λ said. MatchOption said (Unit {0}) (IsExplanation (context_in judge function body) (body_in judge body) at))
+      → IfOk found (λ said. MatchOption said (IsUnreached context instructions at) (IsExplanation context instructions at))
+      → IfOk found (λ said. MatchOption said (IsUnreached (context_in judge function body) (body_in judge body) at)
+      (IsExplanation (context_in judge function body) (body_in judge body) at))
   same_explanation at found instructions is said =
       subst (λ (other : BodyContext).
-      IfOk found (λ one. MatchOption one (Unit {0}) (IsExplanation other (body_in judge body) at))) same_context
-      (subst (λ (code : List Instr). IfOk found (λ one. MatchOption one (Unit {0}) (IsExplanation context code at))) is said)
+      IfOk found (λ one. MatchOption one (IsUnreached other (body_in judge body) at) (IsExplanation other (body_in judge body) at)))
+      same_context (subst (λ (code : List Instr).
+      IfOk found (λ one. MatchOption one (IsUnreached context code at) (IsExplanation context code at))) is said)

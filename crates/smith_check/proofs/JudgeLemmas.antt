@@ -1,36 +1,26 @@
 -- What a judge of functions says.
-use Rattle.std.proofs.Common.{◌≡◌, ◌∙◌, ℕ, ◌+◌, ◌<◌, ◌≤◌, List, ◌++◌, Option, Some, None, Result, Ok, Err, Bor, length}
-use Rattle.std.proofs.Common.{map, get_or, sym, ap, subst, arith, below_more, inl, inr, refl}
-use Rattle.std.specs.Prelude.{All, IfOk, MatchOption, slice_get}
+use Rattle.smith_check.proofs.Common.{all_right, ap, AreTypesValid, arith, canonical_groups, canonical_index, features_in, FuncType, get_or}
+use Rattle.smith_check.proofs.Common.{IfOk, inl, inr, Instr, IsBodyTyped, IsFuncAt, length, List, LocalRun, map, MatchOption, Option, refl}
+use Rattle.smith_check.proofs.Common.{renamed_val, same_Some, slice_get, Some, space_of, subst, SubType, sym, syntax_of, total, types_in}
+use Rattle.smith_check.proofs.Common.{ValType, ℕ, ◌++◌, ◌+◌, ◌<◌, ◌∙◌, ◌≡◌, ◌≤◌}
+use Rattle.std.proofs.Common.{Bor, Err, None, Ok, Result}
+use Rattle.std.proofs.Common.{below_more}
+use Rattle.std.specs.Prelude.{All}
 use Rattle.std.proofs.Math.ListN.{get_or-map}
 use Rattle.std.proofs.lemmas.List.{length-append, length-map}
-use Rattle.std.proofs.lemmas.Option.{same_Some, slice_get-get_or, slice_get-map, slice_get_read, slice_get_within}
+use Rattle.std.proofs.lemmas.Option.{slice_get-get_or, slice_get-map, slice_get_read, slice_get_within}
 use Rattle.std.specs.Option.{option_map}
-use Rattle.smith_syntax.specs.FeatureBits.{features_in}
-use Rattle.smith_syntax.specs.declared.composite_type.FuncType.{FuncType}
-use Rattle.smith_syntax.specs.declared.composite_type.SubType.{SubType}
-use Rattle.smith_syntax.specs.declared.value_type.ValType.{ValType}
-use Rattle.smith_types.specs.Entities.{IsFuncAt, IsFuncTypeIndex}
+use Rattle.smith_types.specs.Entities.{IsFuncTypeIndex}
 use Rattle.smith_types.specs.Imports.{imported_spaces}
 use Rattle.smith_types.specs.GroupedTypes.{GroupedTypes}
-use Rattle.smith_types.specs.ValidTypes.{AreTypesValid}
-use Rattle.smith_instr.specs.declared.instr.Instr.{Instr}
-use Rattle.smith_decode.specs.BodyReadings.{body_view, total}
-use Rattle.smith_decode.specs.Modules.{syntax_of}
+use Rattle.smith_decode.specs.BodyReadings.{body_view}
 use Rattle.smith_decode.specs.declared.bodies.Body.{Body}
-use Rattle.smith_decode.specs.declared.bodies.LocalRun.{LocalRun}
-use Rattle.smith_check_operands.proofs.ListLemmas.{all_right}
 use Rattle.smith_check_operands.proofs.StepLemmas.{all_at}
 use Rattle.smith_check_operands.specs.Lookups.{HasNoFunc}
-use Rattle.smith_check_rules.specs.Sequences.{IsBodyTyped}
 use Rattle.smith_check_types.proofs.CheckLemmas.{section_valid}
-use Rattle.smith_check_types.specs.TypeSections.{canonical_index, canonical_groups}
-use Rattle.smith_types.specs.Groups.{space_of}
-use Rattle.smith_check_types.specs.Renamed.{renamed_val}
 use Rattle.smith_check_body.specs.Verdicts.{IsRefused}
-use Rattle.smith_check_module.specs.Contexts.{types_in}
 use Rattle.smith_bytes.specs.declared.error.Error.{Error}
-use Rattle.smith_explain.specs.Causes.{IsExplanation}
+use Rattle.smith_explain.specs.Causes.{IsExplanation, IsUnreached}
 use Rattle.smith_explain.specs.declared.explanation.Explanation.{Explanation}
 use Rattle.smith_check.specs.Explanations.{IsExplained}
 use Rattle.smith_check.specs.Faults.{AreTypesRight, IsBodyRefused, IsJudgement, IsRightBefore, most_locals}
@@ -147,7 +137,8 @@ function_at judge place function body j parts = record {
 -- what is said of a body is said of its module
 pub explained : (judge : FunctionJudge) (place at : ℕ) → IsFunctionJudge judge → (function : FuncType) (body : Body)
     → HasPartsAt judge place function body → (found : Result (Option Explanation) Error)
-    → IfOk found (λ said. MatchOption said (Unit {0}) (IsExplanation (context_in judge function body) (body_in judge body) at))
+    → IfOk found (λ said. MatchOption said (IsUnreached (context_in judge function body) (body_in judge body) at)
+    (IsExplanation (context_in judge function body) (body_in judge body) at))
     → IfOk found (λ said. MatchOption said (Unit {0})
     (IsExplained (features_in judge.features) (syntax_of judge.module.now) place at))
 explained judge place at j function body parts (Ok (Some one)) said = (

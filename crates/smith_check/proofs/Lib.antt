@@ -1,3 +1,4 @@
+pub mod Common
 pub mod ScopeLemmas
 pub mod LocalLemmas
 pub mod ReferenceLemmas

@@ -1,3 +1,4 @@
+pub mod Common
 pub mod References
 pub mod Locals
 pub mod ValidPrograms

@@ -1,11 +1,11 @@
 ghost use Rattle.std.specs.Prelude.{◌≡◌, ℕ, ◌<◌, ◌≤◌, length, IfOk, IfErr, MatchOption};
-ghost use Rattle.smith_syntax.specs.FeatureBits.{features_in};
+ghost use Rattle.smith_types.specs.Syntax.FeatureBits.{features_in};
 ghost use Rattle.smith_check_types.specs.TypeSections.{canonical_index};
 ghost use Rattle.smith_check_operands.specs.Scopes.{bare, IsScope};
 ghost use Rattle.smith_check_renamed.specs.RenamedInstructions.{renamed_body};
 ghost use Rattle.smith_check_body.specs.Verdicts.{IsVerdict};
 ghost use Rattle.smith_decode.specs.Modules.{syntax_of};
-ghost use Rattle.smith_explain.specs.Causes.{IsExplanation};
+ghost use Rattle.smith_explain.specs.Causes.{IsExplanation, IsUnreached};
 ghost use Rattle.smith_check.specs.Explanations.{IsExplained};
 ghost use Rattle.smith_check.specs.Faults.{IsJudgement};
 ghost use Rattle.smith_check.specs.FunctionJudges.{
@@ -174,7 +174,8 @@ impl<'a> FunctionJudge<'a> {
         requires judge { IsFunctionJudge self.now }
         requires typed { (place : ℕ) × HasTypeAt self.now place function.now }
         requires locals { AreLocalsRight self.now body.now }
-        ensures ok { IfOk result (λ found. MatchOption found (Unit {0})
+        ensures ok { IfOk result (λ found. MatchOption found
+            (IsUnreached (context_in self.now function.now body.now) (body_in self.now body.now) at)
             (IsExplanation (context_in self.now function.now body.now) (body_in self.now body.now) at)) }
         ensures memory { IfErr result (λ e. e ≡ Error.Memory) }
     {

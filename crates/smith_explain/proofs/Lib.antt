@@ -1,2 +1,3 @@
+pub mod ExampleLemmas
 pub mod ItemLemmas
 pub mod TakingLemmas

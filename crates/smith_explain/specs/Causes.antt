@@ -1,8 +1,9 @@
 -- Why an instruction is refused. Rules of this project, by the rules of the standard.
-use Rattle.std.specs.Prelude.{◌≡◌, ℕ, ◌+◌, ◌≤◌, Option, Some, None, List, ◌∷◌, length, take, slice_get, reverse}
+use Rattle.std.specs.Prelude.{◌≡◌, ◌⊎◌, ℕ, ◌+◌, ◌<◌, ◌≤◌, Option, Some, None, List, ◌∷◌, length, take, slice_get, reverse, All}
 use Rattle.std.specs.List.{Contains}
-use Rattle.smith_syntax.specs.declared.value_type.ValType.{ValType}
+use Rattle.smith_types.specs.Syntax.value_type.ValType.{ValType}
 use Rattle.smith_instr.specs.Contexts.{BodyContext, IsBlockType, IsLocalSet}
+use Rattle.smith_instr.specs.InstrTypes.{IsCatch}
 use Rattle.smith_instr.specs.declared.control.BlockType.{BlockType}
 use Rattle.smith_instr.specs.declared.instr.Instr.{Instr}
 use Rattle.smith_instr.specs.declared.instr.Instr.TheVariants as instr
@@ -10,17 +11,19 @@ use Rattle.smith_instr.specs.declared.reference.ReferenceInstr.TheVariants as re
 use Rattle.smith_check_rules.specs.Sequences.{IsStep, Stacked, stacked}
 use Rattle.smith_check_rules.specs.Slots.{values}
 use Rattle.smith_check_rules.specs.declared.slot.Slot.{Slot}
-use Rattle.smith_check_operands.specs.Closes.{label_of, labels_of, with_labels}
+use Rattle.smith_check_operands.specs.Closes.{IsFirst, IsPlain, label_of, labels_of, MayEnd, with_labels}
 use Rattle.smith_check_operands.specs.Covers.{held}
 use Rattle.smith_check_operands.specs.declared.frame.Kind.{Kind}
 use Rattle.smith_check_operands.specs.declared.frame.Kind.TheVariants as kind
-use Rattle.smith_check_body.specs.Checks.{IsReached}
+use Rattle.smith_check_body.specs.Checks.{HasNoType, IsReached}
 use Rattle.smith_check_body.specs.Opens.{taken_by}
+use Rattle.smith_check_body.specs.Verdicts.{IsRefused}
 use Rattle.smith_check_body.specs.declared.checker.Checker.{Checker}
 use Rattle.smith_explain.specs.Names.{IsNamed}
 use Rattle.smith_explain.specs.declared.explanation.Cause.{Cause}
 use Rattle.smith_explain.specs.declared.explanation.Cause.TheVariants as cause
 use Rattle.smith_explain.specs.declared.explanation.Explanation.{Explanation}
+use Rattle.smith_explain.specs.declared.explanation.Named.{Named}
 use Rattle.smith_explain.specs.declared.explanation.Space.{Space}
 use Rattle.smith_explain.specs.declared.explanation.Space.TheVariants as space
 use Rattle.smith_explain.specs.declared.explanation.Unknown.{Unknown}
@@ -43,6 +46,10 @@ pub record IsMissing (context : BodyContext) (labels : ℕ) (unknown : Unknown) 
   pub count : unknown.count ≡ count_in context labels unknown.named.space
   pub past : unknown.count ≤ unknown.named.index
 
+-- the items of which this is true are there: the index of each is in its index space
+abbrev pub AreThere : BodyContext → ℕ → (Named → Type 0) → Type 0
+AreThere context labels Is = (one : Named) → Is one → one.index < count_in context labels one.space
+
 -- a `ref.func` instruction names an undeclared function (Validation, Reference Instructions)
 pub record IsUndeclared (context : BodyContext) (instruction : Instr) (function : ℕ) : Type 0 where
   pub is : instruction ≡ instr.Reference (reference.Func function)
@@ -64,42 +71,70 @@ pub record IsBlockTaking (context : BodyContext) (opens : Kind) (ty : BlockType)
   pub typed : IsBlockType context ty params results
   pub is : wanted ≡ values (taken_by opens params)
 
+-- an `else` may stand here, and an `end` of a block (Validation, Control Instructions)
+abbrev pub MayStandElse : Checker → Type 0
+MayStandElse checker = (0 < length checker.outers.items) × IsFirst checker.shape.kind
+
+abbrev pub MayStandEnd : BodyContext → Checker → Type 0
+MayStandEnd context checker =
+    (0 < length checker.outers.items) × MayEnd context checker.shape.kind checker.shape.params checker.shape.results
+
 -- an instruction accepts a stack of these types, if the locals that the checker has noted are set
 -- (Validation, Instructions); the end of a block accepts the results of the block
 abbrev pub IsTaking : BodyContext → Checker → Instr → List Slot → Type 0
 IsTaking context checker (instr.Block ty) wanted = IsBlockTaking context kind.Block ty wanted
 IsTaking context checker (instr.Loop ty) wanted = IsBlockTaking context kind.Loop ty wanted
 IsTaking context checker (instr.If ty) wanted = IsBlockTaking context kind.If ty wanted
-IsTaking context checker (instr.TryTable ty clauses) wanted = IsBlockTaking context kind.Block ty wanted
-IsTaking context checker instr.Else wanted = wanted ≡ values checker.shape.results
-IsTaking context checker instr.End wanted = wanted ≡ values checker.shape.results
+IsTaking context checker (instr.TryTable ty clauses) wanted =
+    All (IsCatch (with_labels context (labels_in checker))) clauses × IsBlockTaking context kind.Block ty wanted
+IsTaking context checker instr.Else wanted = MayStandElse checker × (wanted ≡ values checker.shape.results)
+IsTaking context checker instr.End wanted = MayStandEnd context checker × (wanted ≡ values checker.shape.results)
 IsTaking context checker instruction wanted =
     (after : Stacked) × IsStep (with_labels context (labels_in checker)) instruction (stacked wanted checker.log.items) after
 
--- the stated reason is right for the start of a block, and for its end
+-- the stated reason is right for the start of a block, and for its end where this may end it
 abbrev pub IsBlockCause : BodyContext → Kind → BlockType → Cause → Type 0
 IsBlockCause context opens ty (cause.Operands wanted) = IsBlockTaking context opens ty wanted.items
-IsBlockCause context opens ty cause.Other = Unit {0}
+IsBlockCause context opens ty cause.Other = HasNoType context ty
 IsBlockCause context opens ty _ = ⊥
 
-abbrev pub IsEndCause : Checker → Cause → Type 0
-IsEndCause checker (cause.Operands wanted) = wanted.items ≡ values checker.shape.results
-IsEndCause checker cause.Other = Unit {0}
-IsEndCause checker _ = ⊥
+abbrev pub IsEndCause : Type 0 → Checker → Cause → Type 0
+IsEndCause May checker (cause.Operands wanted) = May × (wanted.items ≡ values checker.shape.results)
+IsEndCause May checker cause.Other = May → ⊥
+IsEndCause May checker _ = ⊥
 
--- the stated reason is right for an instruction
+-- what an instruction names is there, declared and set: no reason that concerns it applies
+pub record AreNamesRight (context : BodyContext) (checker : Checker) (instruction : Instr) : Type 0 where
+  pub there : AreThere context (length checker.outers.items + 1) (IsNamed instruction)
+  pub declared : (function : ℕ) → IsUndeclared context instruction function → ⊥
+  pub set : (local : ℕ) → IsUnset context checker.log.items instruction local → ⊥
+
+-- the stated reason is right for an instruction that names what is right: the types that it takes, or
+-- something else, which an instruction that opens or closes a block has only if it takes no types
+abbrev pub IsLastCause : BodyContext → Checker → Instr → Cause → Type 0
+IsLastCause context checker instruction (cause.Operands wanted) = IsTaking context checker instruction wanted.items
+IsLastCause context checker instruction cause.Other =
+    IsPlain instruction ⊎ ((wanted : List Slot) → IsTaking context checker instruction wanted → ⊥)
+IsLastCause context checker instruction _ = ⊥
+
+-- the stated reason is right for an instruction, and the first that applies
 abbrev pub IsCause : BodyContext → Checker → Instr → Cause → Type 0
 IsCause context checker instruction (cause.Unknown unknown) =
     IsNamed instruction unknown.named × IsMissing context (length checker.outers.items + 1) unknown
-IsCause context checker instruction (cause.Undeclared function) = IsUndeclared context instruction function
-IsCause context checker instruction (cause.Unset local) = IsUnset context checker.log.items instruction local
-IsCause context checker instruction (cause.Operands wanted) = IsTaking context checker instruction wanted.items
-IsCause context checker instruction cause.Other = Unit {0}
+IsCause context checker instruction (cause.Undeclared function) =
+    AreThere context (length checker.outers.items + 1) (IsNamed instruction) × IsUndeclared context instruction function
+IsCause context checker instruction (cause.Unset local) =
+    AreThere context (length checker.outers.items + 1) (IsNamed instruction) × IsUnset context checker.log.items instruction local
+IsCause context checker instruction said = AreNamesRight context checker instruction × IsLastCause context checker instruction said
 
 -- the stated reason is right for an instruction, or for the last `end` of a body
 abbrev pub IsCauseAt : BodyContext → Checker → Option Instr → Cause → Type 0
 IsCauseAt context checker (Some instruction) said = IsCause context checker instruction said
-IsCauseAt context checker None said = IsCause context checker instr.End said
+IsCauseAt context checker None said = IsEndCause (length checker.outers.items ≡ 0) checker said
+
+-- nothing is known of the instruction at an index: there is none, or one before it is refused
+abbrev pub IsUnreached : BodyContext → List Instr → ℕ → Type 0
+IsUnreached context body at = (length body < at) ⊎ ((early : ℕ) × (early < at) × IsRefused context body early)
 
 -- an explanation of the instruction at an index of a body: its stack has the types that the
 -- instructions before it leave in the innermost block, and its reason is right

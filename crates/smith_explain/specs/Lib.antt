@@ -1,2 +1,3 @@
 pub mod Names
 pub mod Causes
+pub mod ExampleCauses

@@ -64,18 +64,15 @@ fn push_memory(slots: &mut Vec<Slot>, scope: &Scope, op: MemoryInstr) -> Result<
 }
 
 // Appends the operands of a table instruction.
+#[rattlefmt::skip]
 fn push_table(slots: &mut Vec<Slot>, scope: &Scope, op: TableInstr) -> Result<(), Error>
     ensures memory { IfErr result (λ e. e ≡ Error.Memory) }
 {
     match op {
         TableInstr::Size(_) | TableInstr::ElemDrop(_) => Ok(()),
         TableInstr::Get(table) => push_values(slots, &[index_type(scope, table)]),
-        TableInstr::Set(table) => {
-            push_values(slots, &[index_type(scope, table), element_of(scope, table)])
-        }
-        TableInstr::Grow(table) => {
-            push_values(slots, &[element_of(scope, table), index_type(scope, table)])
-        }
+        TableInstr::Set(table) => push_values(slots, &[index_type(scope, table), element_of(scope, table)]),
+        TableInstr::Grow(table) => push_values(slots, &[element_of(scope, table), index_type(scope, table)]),
         TableInstr::Fill(table) => {
             let index = index_type(scope, table);
             push_values(slots, &[index, element_of(scope, table), index])
@@ -87,10 +84,7 @@ fn push_table(slots: &mut Vec<Slot>, scope: &Scope, op: TableInstr) -> Result<()
                 &[index_type(scope, to), index_type(scope, from), count],
             )
         }
-        TableInstr::Init { table, .. } => push_values(
-            slots,
-            &[index_type(scope, table), ValType::I32, ValType::I32],
-        ),
+        TableInstr::Init { table, .. } => push_values(slots, &[index_type(scope, table), ValType::I32, ValType::I32]),
     }
 }
 

@@ -63,60 +63,34 @@ fn push_copies(slots: &mut Vec<Slot>, value: ValType, count: u32) -> Result<(), 
 }
 
 // Appends the operands of an instruction that creates a struct or an array.
+#[rattlefmt::skip]
 fn push_created(slots: &mut Vec<Slot>, scope: &Scope, op: AggregateInstr) -> Result<(), Error>
     ensures memory { IfErr result (λ e. e ≡ Error.Memory) }
 {
     match op {
         AggregateInstr::StructNew(ty) => push_fields(slots, fields_at(scope.types.types(), ty)),
-        AggregateInstr::ArrayNew(ty) => {
-            push_values(slots, &[element_at(scope, ty), ValType::I32])
-        }
+        AggregateInstr::ArrayNew(ty) => push_values(slots, &[element_at(scope, ty), ValType::I32]),
         AggregateInstr::ArrayNewDefault(_) => push_values(slots, &[ValType::I32]),
-        AggregateInstr::ArrayNewFixed { ty, size } => {
-            push_copies(slots, element_at(scope, ty), size)
-        }
-        AggregateInstr::ArrayNewData { .. } | AggregateInstr::ArrayNewElem { .. } => {
-            push_values(slots, &[ValType::I32, ValType::I32])
-        }
+        AggregateInstr::ArrayNewFixed { ty, size } => push_copies(slots, element_at(scope, ty), size),
+        AggregateInstr::ArrayNewData { .. } | AggregateInstr::ArrayNewElem { .. } => push_values(slots, &[ValType::I32, ValType::I32]),
         _ => Ok(()),
     }
 }
 
 // Appends the operands of an instruction on an array that there is.
+#[rattlefmt::skip]
 fn push_array(slots: &mut Vec<Slot>, scope: &Scope, op: AggregateInstr) -> Result<(), Error>
     ensures memory { IfErr result (λ e. e ≡ Error.Memory) }
 {
     match op {
-        AggregateInstr::ArrayGet { ty, .. } => {
-            push_values(slots, &[nullable(HeapType::Concrete(ty)), ValType::I32])
-        }
-        AggregateInstr::ArraySet(ty) => push_values(
-            slots,
-            &[
-                nullable(HeapType::Concrete(ty)),
-                ValType::I32,
-                element_at(scope, ty),
-            ],
-        ),
+        AggregateInstr::ArrayGet { ty, .. } => push_values(slots, &[nullable(HeapType::Concrete(ty)), ValType::I32]),
+        AggregateInstr::ArraySet(ty) => push_values(slots, &[nullable(HeapType::Concrete(ty)), ValType::I32, element_at(scope, ty)]),
         AggregateInstr::ArrayLen => push_values(slots, &[nullable_to(AbstractHeapType::Array)]),
-        AggregateInstr::ArrayFill(ty) => push_values(
-            slots,
-            &[
-                nullable(HeapType::Concrete(ty)),
-                ValType::I32,
-                element_at(scope, ty),
-                ValType::I32,
-            ],
-        ),
+        AggregateInstr::ArrayFill(ty) =>
+            push_values(slots, &[nullable(HeapType::Concrete(ty)), ValType::I32, element_at(scope, ty), ValType::I32]),
         AggregateInstr::ArrayCopy { to, from } => push_values(
             slots,
-            &[
-                nullable(HeapType::Concrete(to)),
-                ValType::I32,
-                nullable(HeapType::Concrete(from)),
-                ValType::I32,
-                ValType::I32,
-            ],
+            &[nullable(HeapType::Concrete(to)), ValType::I32, nullable(HeapType::Concrete(from)), ValType::I32, ValType::I32],
         ),
         AggregateInstr::ArrayInitData { ty, .. } | AggregateInstr::ArrayInitElem { ty, .. } => {
             let array = nullable(HeapType::Concrete(ty));
@@ -127,29 +101,17 @@ fn push_array(slots: &mut Vec<Slot>, scope: &Scope, op: AggregateInstr) -> Resul
 }
 
 /// Appends the operands of an aggregate instruction.
+#[rattlefmt::skip]
 pub fn push_aggregate(slots: &mut Vec<Slot>, scope: &Scope, op: AggregateInstr) -> Result<(), Error>
     ensures memory { IfErr result (λ e. e ≡ Error.Memory) }
 {
     match op {
-        AggregateInstr::StructGet { ty, .. } => {
-            push_values(slots, &[nullable(HeapType::Concrete(ty))])
-        }
-        AggregateInstr::StructSet { ty, field } => push_values(
-            slots,
-            &[nullable(HeapType::Concrete(ty)), field_at(scope, ty, field)],
-        ),
-        AggregateInstr::RefI31 | AggregateInstr::RefI31Shared => {
-            push_values(slots, &[ValType::I32])
-        }
-        AggregateInstr::I31GetS | AggregateInstr::I31GetU => {
-            push_values(slots, &[nullable_to(AbstractHeapType::I31)])
-        }
-        AggregateInstr::AnyConvertExtern => {
-            push_values(slots, &[nullable_to(AbstractHeapType::Extern)])
-        }
-        AggregateInstr::ExternConvertAny => {
-            push_values(slots, &[nullable_to(AbstractHeapType::Any)])
-        }
+        AggregateInstr::StructGet { ty, .. } => push_values(slots, &[nullable(HeapType::Concrete(ty))]),
+        AggregateInstr::StructSet { ty, field } => push_values(slots, &[nullable(HeapType::Concrete(ty)), field_at(scope, ty, field)]),
+        AggregateInstr::RefI31 | AggregateInstr::RefI31Shared => push_values(slots, &[ValType::I32]),
+        AggregateInstr::I31GetS | AggregateInstr::I31GetU => push_values(slots, &[nullable_to(AbstractHeapType::I31)]),
+        AggregateInstr::AnyConvertExtern => push_values(slots, &[nullable_to(AbstractHeapType::Extern)]),
+        AggregateInstr::ExternConvertAny => push_values(slots, &[nullable_to(AbstractHeapType::Any)]),
         AggregateInstr::StructNew(_)
         | AggregateInstr::ArrayNew(_)
         | AggregateInstr::ArrayNewDefault(_)

@@ -1,9 +1,11 @@
-ghost use Rattle.std.specs.Prelude.{◌≡◌, ◌≤◌, MatchOption, IfOk, IfErr, length, take};
+ghost use Rattle.std.specs.Prelude.{◌≡◌, ◌↔◌, ℕ, ◌<◌, ◌≤◌, IsTrue, MatchOption, IfOk, IfErr, length, take};
 ghost use Rattle.std.specs.Option.{option_map};
 ghost use Rattle.smith_check_operands.specs.Closes.{IsPlain};
 ghost use Rattle.smith_check_operands.specs.Scopes.{bare, IsScope};
 ghost use Rattle.smith_check_body.specs.Checks.{IsReached, IsWell};
-ghost use Rattle.smith_explain.specs.Causes.{IsBlockCause, IsCause, IsCauseAt, IsEndCause, IsExplanation};
+ghost use Rattle.smith_check_body.specs.Verdicts.{IsRefused};
+ghost use Rattle.smith_explain.specs.Causes.{IsBlockCause, IsCause, IsCauseAt, IsEndCause, IsExplanation, IsLastCause};
+ghost use Rattle.smith_explain.specs.Causes.{IsUnreached, MayStandElse, MayStandEnd};
 
 use crate::explanation::{Cause, Explanation};
 use crate::needs::{undeclared, unset};
@@ -32,7 +34,8 @@ fn reach(
     requires scope { IsScope (bare scope.now) }
     requires results { results ≡ scope.now.results.now }
     requires inside { at ≤ length body.now }
-    ensures ok { IfOk result (λ found. MatchOption found (Unit {0})
+    ensures ok { IfOk result (λ found. MatchOption found
+        ((early : ℕ) × (early < at) × IsRefused (bare scope.now) body.now early)
         (λ checker. IsReached (bare scope.now) checker (take at body.now))) }
     ensures memory { IfErr result (λ e. e ≡ Error.Memory) }
 {
@@ -65,9 +68,9 @@ fn block_cause(alloc: Global, scope: &Scope, kind: Kind, ty: BlockType) -> Resul
     Ok(Cause::Operands(wanted))
 }
 
-// Returns the results of the innermost block, if it may end here.
+// Returns the results of the innermost block, if it may end here, as `ends` says.
 fn end_cause(alloc: Global, checker: &Checker, ends: bool) -> Result<Cause, Error>
-    ensures ok { IfOk result (IsEndCause checker.now) }
+    ensures ok { IfOk result (IsEndCause (IsTrue ends) checker.now) }
     ensures memory { IfErr result (λ e. e ≡ Error.Memory) }
 {
     if !ends {
@@ -76,6 +79,21 @@ fn end_cause(alloc: Global, checker: &Checker, ends: bool) -> Result<Cause, Erro
     let mut wanted = Vec::new(alloc);
     push_values(&mut wanted, &checker.shape.results)?;
     Ok(Cause::Operands(wanted))
+}
+
+// Returns whether an `else` may stand here.
+fn may_stand_else(checker: &Checker) -> bool
+    ensures { IsTrue result ↔ MayStandElse checker.now }
+{
+    checker.outers.len() > 0 && is_first(checker.shape.kind)
+}
+
+// Returns whether an `end` of a block may stand here.
+fn may_stand_end(scope: &Scope, checker: &Checker) -> bool
+    requires { IsWell (bare scope.now) checker.now }
+    ensures { IsTrue result ↔ MayStandEnd (bare scope.now) checker.now }
+{
+    checker.outers.len() > 0 && may_end(scope, &checker.shape)
 }
 
 // Returns the operands of an instruction that opens and closes no block, if it takes such ones.
@@ -88,7 +106,7 @@ fn plain_cause(
     requires scope { IsScope (bare scope.now) }
     requires well { IsWell (bare scope.now) checker.now }
     requires plain { IsPlain instr.now }
-    ensures ok { IfOk result (IsCause (bare scope.now) checker.now instr.now) }
+    ensures ok { IfOk result (IsLastCause (bare scope.now) checker.now instr.now) }
     ensures memory { IfErr result (λ e. e ≡ Error.Memory) }
 {
     let mut wanted = Vec::new(alloc);
@@ -109,23 +127,21 @@ fn operands_cause(
 ) -> Result<Cause, Error>
     requires scope { IsScope (bare scope.now) }
     requires well { IsWell (bare scope.now) checker.now }
-    ensures ok { IfOk result (IsCause (bare scope.now) checker.now instr.now) }
+    ensures ok { IfOk result (IsLastCause (bare scope.now) checker.now instr.now) }
     ensures memory { IfErr result (λ e. e ≡ Error.Memory) }
 {
-    let shape = &checker.shape;
-    let is_outermost = checker.outers.len() == 0;
     match instr {
         Instr::Block(ty) => block_cause(alloc, scope, Kind::Block, *ty),
         Instr::Loop(ty) => block_cause(alloc, scope, Kind::Loop, *ty),
         Instr::If(ty) => block_cause(alloc, scope, Kind::If, *ty),
         Instr::TryTable(ty, clauses) => {
-            if !are_catches(scope, shape, &checker.outers, clauses.as_slice()) {
+            if !are_catches(scope, &checker.shape, &checker.outers, clauses.as_slice()) {
                 return Ok(Cause::Other);
             }
             block_cause(alloc, scope, Kind::Block, *ty)
         }
-        Instr::Else => end_cause(alloc, checker, !is_outermost && is_first(shape.kind)),
-        Instr::End => end_cause(alloc, checker, !is_outermost && may_end(scope, shape)),
+        Instr::Else => end_cause(alloc, checker, may_stand_else(checker)),
+        Instr::End => end_cause(alloc, checker, may_stand_end(scope, checker)),
         _ => plain_cause(alloc, scope, checker, instr),
     }
 }
@@ -170,8 +186,8 @@ fn cause_at(
 }
 
 /// Returns what is known of the instruction at `at` of a body at which it is refused, or of its end, or
-/// nothing if an instruction before it is refused. `results` are the results of the function. Requires the
-/// parts of the context to be valid.
+/// nothing if an instruction before it is refused or `at` is past the end. The cause is the first that
+/// applies. `results` are the results of the function. Requires the parts of the context to be valid.
 ///
 /// The instructions before it are checked once more.
 ///
@@ -187,7 +203,7 @@ pub fn explain(
 ) -> Result<Option<Explanation>, Error>
     requires scope { IsScope (bare scope.now) }
     requires results { results ≡ scope.now.results.now }
-    ensures ok { IfOk result (λ found. MatchOption found (Unit {0})
+    ensures ok { IfOk result (λ found. MatchOption found (IsUnreached (bare scope.now) body.now at)
         (IsExplanation (bare scope.now) body.now at)) }
     ensures memory { IfErr result (λ e. e ≡ Error.Memory) }
 {

@@ -44,8 +44,8 @@ pub struct Unknown {
     pub count: usize,
 }
 
-/// Why an instruction is refused, as far as it is said. The first that applies is said, in the order of
-/// the variants.
+/// Why an instruction is refused: the first of these that applies. It is proved that none of the first
+/// three applies where a later one is said.
 #[derive(Drop)]
 pub enum Cause {
     /// The instruction names an item that is not there.
@@ -66,7 +66,9 @@ pub enum Cause {
     /// For `end`, `else` and the end of the body they are the results of the block, and there may be no
     /// others.
     Operands(Vec<Slot>),
-    /// Something else.
+    /// Something else. It is said of an instruction that opens or closes no block, or of one that takes no
+    /// operands at all: the type of its block is not valid, a clause of `try_table` is wrong, or no block
+    /// that it may end is open.
     Other,
 }
 

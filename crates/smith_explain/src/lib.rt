@@ -9,6 +9,7 @@
 mod accesses;
 mod aggregates;
 mod body;
+mod examples;
 mod explanation;
 mod names;
 mod needs;

@@ -151,59 +151,41 @@ fn memory_names(op: MemoryInstr) -> Names
     }
 }
 
+#[rattlefmt::skip]
 fn aggregate_names(op: AggregateInstr) -> Names
     ensures { result ≡ aggregate_names op }
 {
     match op {
-        AggregateInstr::StructNew(ty)
-        | AggregateInstr::StructNewDefault(ty)
-        | AggregateInstr::StructGet { ty, .. }
-        | AggregateInstr::StructSet { ty, .. }
-        | AggregateInstr::ArrayNew(ty)
-        | AggregateInstr::ArrayNewDefault(ty)
-        | AggregateInstr::ArrayNewFixed { ty, .. }
-        | AggregateInstr::ArrayGet { ty, .. }
-        | AggregateInstr::ArraySet(ty)
+        AggregateInstr::StructNew(ty) | AggregateInstr::StructNewDefault(ty) | AggregateInstr::StructGet { ty, .. }
+        | AggregateInstr::StructSet { ty, .. } | AggregateInstr::ArrayNew(ty) | AggregateInstr::ArrayNewDefault(ty)
+        | AggregateInstr::ArrayNewFixed { ty, .. } | AggregateInstr::ArrayGet { ty, .. } | AggregateInstr::ArraySet(ty)
         | AggregateInstr::ArrayFill(ty) => one(Space::Type, ty),
         AggregateInstr::ArrayNewData { ty, segment }
-        | AggregateInstr::ArrayInitData { ty, segment } => {
-            two(Space::Type, ty, Space::Data, segment)
-        }
+        | AggregateInstr::ArrayInitData { ty, segment } => two(Space::Type, ty, Space::Data, segment),
         AggregateInstr::ArrayNewElem { ty, segment }
-        | AggregateInstr::ArrayInitElem { ty, segment } => {
-            two(Space::Type, ty, Space::Element, segment)
-        }
+        | AggregateInstr::ArrayInitElem { ty, segment } => two(Space::Type, ty, Space::Element, segment),
         AggregateInstr::ArrayCopy { to, from } => two(Space::Type, to, Space::Type, from),
         _ => nothing(),
     }
 }
 
 /// Returns what an instruction names, the lists of `br_table` and `try_table` aside.
+#[rattlefmt::skip]
 pub fn names_of(instr: &Instr) -> Names
     ensures { result ≡ names instr.now }
 {
     match instr {
-        Instr::Block(ty) | Instr::Loop(ty) | Instr::If(ty) | Instr::TryTable(ty, _) => {
-            block_names(*ty)
-        }
+        Instr::Block(ty) | Instr::Loop(ty) | Instr::If(ty) | Instr::TryTable(ty, _) => block_names(*ty),
         Instr::Throw(tag) => one(Space::Tag, *tag),
-        Instr::Br(label)
-        | Instr::BrIf(label)
-        | Instr::BrTable(_, label)
-        | Instr::BrOnNull(label)
+        Instr::Br(label) | Instr::BrIf(label) | Instr::BrTable(_, label) | Instr::BrOnNull(label)
         | Instr::BrOnNonNull(label) => one(Space::Label, *label),
         Instr::BrOnCast(cast) | Instr::BrOnCastFail(cast) => Names {
-            first: Some(Named {
-                space: Space::Label,
-                index: cast.label,
-            }),
+            first: Some(Named { space: Space::Label, index: cast.label }),
             second: heap_name(cast.from.heap_type),
             third: heap_name(cast.to.heap_type),
         },
         Instr::Call(function) | Instr::ReturnCall(function) => one(Space::Function, *function),
-        Instr::CallIndirect { table, ty } | Instr::ReturnCallIndirect { table, ty } => {
-            two(Space::Table, *table, Space::Type, *ty)
-        }
+        Instr::CallIndirect { table, ty } | Instr::ReturnCallIndirect { table, ty } => two(Space::Table, *table, Space::Type, *ty),
         Instr::CallRef(ty) | Instr::ReturnCallRef(ty) => one(Space::Type, *ty),
         _ => data_names(instr),
     }

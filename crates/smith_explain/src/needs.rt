@@ -1,4 +1,4 @@
-ghost use Rattle.std.specs.Prelude.{◌≡◌, MatchOption};
+ghost use Rattle.std.specs.Prelude.{◌≡◌, ℕ, MatchOption};
 ghost use Rattle.smith_instr.specs.Contexts.{IsLocalSet};
 ghost use Rattle.smith_check_operands.specs.Scopes.{bare};
 ghost use Rattle.smith_explain.specs.Causes.{IsUndeclared, IsUnset};
@@ -10,7 +10,8 @@ use smith_instr::{Instr, ReferenceInstr, SetLocals};
 
 /// Returns the function that `ref.func` names, if it is not declared.
 pub fn undeclared(scope: &Scope, instr: &Instr) -> Option<u32>
-    ensures { MatchOption result (Unit {0}) (IsUndeclared (bare scope.now) instr.now) }
+    ensures { MatchOption result ((function : ℕ) → IsUndeclared (bare scope.now) instr.now function → ⊥)
+        (IsUndeclared (bare scope.now) instr.now) }
 {
     match instr {
         Instr::Reference(ReferenceInstr::Func(function)) => {
@@ -24,9 +25,10 @@ pub fn undeclared(scope: &Scope, instr: &Instr) -> Option<u32>
     }
 }
 
-/// Returns the local that `local.get` names, if it is not set.
+/// Returns the local that `local.get` names, if it is not set. A local that is not there is not set.
 pub fn unset(scope: &Scope, log: &SetLocals, instr: &Instr) -> Option<u32>
-    ensures { MatchOption result (Unit {0}) (IsUnset (bare scope.now) log.now.items instr.now) }
+    ensures { MatchOption result ((local : ℕ) → IsUnset (bare scope.now) log.now.items instr.now local → ⊥)
+        (IsUnset (bare scope.now) log.now.items instr.now) }
 {
     match instr {
         Instr::LocalGet(local) => match value_at(scope.locals, *local) {
@@ -37,7 +39,7 @@ pub fn unset(scope: &Scope, log: &SetLocals, instr: &Instr) -> Option<u32>
                     Some(*local)
                 }
             }
-            None => None,
+            None => Some(*local),
         },
         _ => None,
     }

@@ -182,6 +182,7 @@ fn push_simple(slots: &mut Vec<Slot>, scope: &Scope, instr: &Instr) -> Result<()
 
 /// Appends the types of the operands of an instruction that opens and closes no block, the last on top,
 /// as far as they are known. No clause states the types: a caller tries whether the instruction takes them.
+#[rattlefmt::skip]
 pub fn push_operands(
     slots: &mut Vec<Slot>,
     scope: &Scope,
@@ -192,29 +193,14 @@ pub fn push_operands(
     ensures memory { IfErr result (λ e. e ≡ Error.Memory) }
 {
     match instr {
-        Instr::Br(_)
-        | Instr::BrIf(_)
-        | Instr::BrTable(_, _)
-        | Instr::BrOnNull(_)
-        | Instr::BrOnNonNull(_)
-        | Instr::BrOnCast(_)
+        Instr::Br(_) | Instr::BrIf(_) | Instr::BrTable(_, _) | Instr::BrOnNull(_) | Instr::BrOnNonNull(_) | Instr::BrOnCast(_)
         | Instr::BrOnCastFail(_) => push_branch(slots, shape, outers, instr),
-        Instr::Throw(_)
-        | Instr::ThrowRef
-        | Instr::Return
-        | Instr::Call(_)
-        | Instr::CallIndirect { .. }
-        | Instr::CallRef(_)
-        | Instr::ReturnCall(_)
-        | Instr::ReturnCallIndirect { .. }
-        | Instr::ReturnCallRef(_) => push_call(slots, scope, instr),
+        Instr::Throw(_) | Instr::ThrowRef | Instr::Return | Instr::Call(_) | Instr::CallIndirect { .. } | Instr::CallRef(_)
+        | Instr::ReturnCall(_) | Instr::ReturnCallIndirect { .. } | Instr::ReturnCallRef(_) => push_call(slots, scope, instr),
         Instr::Numeric(op) => push_values(slots, op.operands()),
         Instr::Reference(op) => push_reference(slots, *op),
         Instr::Aggregate(op) => push_aggregate(slots, scope, *op),
-        Instr::Drop
-        | Instr::SelectTyped(_)
-        | Instr::LocalSet(_)
-        | Instr::LocalTee(_)
+        Instr::Drop | Instr::SelectTyped(_) | Instr::LocalSet(_) | Instr::LocalTee(_)
         | Instr::GlobalSet(_) => push_simple(slots, scope, instr),
         _ => push_access(slots, scope, instr),
     }

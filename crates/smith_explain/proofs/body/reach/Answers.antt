@@ -2,7 +2,7 @@ use Rattle.std.proofs.Common.{◌≡◌, ◌+◌, ◌<◌, ◌∙◌, ap, subst,
 use Rattle.smith_check_operands.specs.declared.frame.Kind.TheVariants as kind
 use Rattle.smith_check_operands.specs.Scopes.{bare}
 use Rattle.smith_check_body.specs.Checks.{Goes, IsReached, Stops}
-use Rattle.smith_check_body.proofs.BodyLemmas.{one_more, begun, reached_more}
+use Rattle.smith_check_body.proofs.BodyLemmas.{one_more, begun, reached_more, refused_at}
 use Rattle.smith_explain.proofs.body.reach.Goals as goal
 
 pub check-requires-clause-well : goal.check-requires-clause-well
@@ -28,6 +28,20 @@ loop-i-preserved c =
     (one_more c.args.body.now c.loop-i.i x within c.index-body-i.is) c.loop-i.invariant
     (subst (λ b. MatchBool b (Goes (bare c.args.scope.now) x c.loop-i.checker c.check.new.self)
     (Stops (bare c.args.scope.now) x c.loop-i.checker)) c.if-not-goes.false c.in_ok-goes.ensures.ok)
+
+pub returns-then-not-goes-clause-ok : goal.returns-then-not-goes-clause-ok
+returns-then-not-goes-clause-ok c =
+    let x = c.index-body-i.result in
+    let inside = c.requires.inside in
+    let before : c.loop-i.i < c.args.at = omega arith in
+    let within : c.loop-i.i < length c.args.body.now = omega (arith, inside) in (
+      c.loop-i.i,
+      before,
+      refused_at (bare c.args.scope.now) c.loop-i.checker c.args.body.now c.loop-i.i x within
+          (one_more c.args.body.now c.loop-i.i x within c.index-body-i.is) c.loop-i.invariant
+          (subst (λ b. MatchBool b (Goes (bare c.args.scope.now) x c.loop-i.checker c.check.new.self)
+          (Stops (bare c.args.scope.now) x c.loop-i.checker)) c.if-not-goes.true c.in_ok-goes.ensures.ok),
+    )
 
 pub returns-clause-ok : goal.returns-clause-ok
 returns-clause-ok c =
