@@ -4,10 +4,10 @@ use Rattle.std.specs.Prelude.{◌≡◌, ℕ, ◌+◌, suc, pos, negsuc, Bool, t
 use Rattle.std.specs.Prelude.{Result, Ok, Err, if◌then◌else◌}
 use Rattle.std.specs.List.{flat_map}
 use Rattle.smith_bytes.specs.declared.error.Error.{Error}
-use Rattle.smith_syntax.specs.declared.code.Code.{Code}
-use Rattle.smith_syntax.specs.declared.composite_type.FuncType.{FuncType}
-use Rattle.smith_syntax.specs.declared.value_type.ValType.{ValType}
-use Rattle.smith_syntax.specs.declared.value_type.ValType.TheVariants.{I32, I64, F32, F64, V128, Ref}
+use Rattle.smith_types.specs.Syntax.code.Code.{Code}
+use Rattle.smith_types.specs.Syntax.composite_type.FuncType.{FuncType}
+use Rattle.smith_types.specs.Syntax.value_type.ValType.{ValType}
+use Rattle.smith_types.specs.Syntax.value_type.ValType.TheVariants.{I32, I64, F32, F64, V128, Ref}
 use Rattle.smith_module_rules.specs.Module.{ModuleParts}
 use Rattle.smith_instr.specs.declared.instr.Instr.{Instr}
 use Rattle.smith_instr.specs.declared.instr.Instr.TheVariants as instr
@@ -73,19 +73,22 @@ mixes_from first index (value ∷ more) = mix first index value ++ mixes_from fi
 abbrev pub mixes : ℕ → List ValType → List Instr
 mixes first locals = mixes_from first 0 (take 1000 locals)
 
--- an instruction returns from its function; a branch to the label of the function does not count
+-- an instruction returns from its function, or branches without a condition: its label may be that of
+-- the function
 abbrev pub leaves : Instr → Bool
 leaves instr.Return = true
+leaves (instr.Br label) = true
+leaves (instr.BrTable labels other) = true
 leaves (instr.ReturnCall function) = true
 leaves (instr.ReturnCallIndirect table ty) = true
 leaves (instr.ReturnCallRef ty) = true
 leaves _ = false
 
--- an instruction, with `mixed` before it if it returns from its function
+-- an instruction, with `mixed` before it if it leaves
 abbrev pub after_mixes : List Instr → Instr → List Instr
 after_mixes mixed instruction = (if leaves instruction then mixed else []) ++ instruction ∷ []
 
--- instructions, with `mixed` before each that returns from its function, and at the end
+-- instructions, with `mixed` before each that leaves, and at the end
 abbrev pub observed : List Instr → List Instr → List Instr
 observed mixed instructions = flat_map (after_mixes mixed) instructions ++ mixed
 

@@ -1,7 +1,7 @@
 ghost use Rattle.std.specs.Prelude.{◌≡◌, ◌<◌, ◌-◌, ◌^◌, ◌+◌, ◌++◌, IfOk, IfErr, Some};
 ghost use Rattle.std.specs.Prelude.{[], length, slice_get, if◌then◌else◌};
-ghost use Rattle.smith_syntax.specs.declared.code.Code.{Code as Defined};
-ghost use Rattle.smith_syntax.specs.declared.composite_type.FuncType.{FuncType as Function};
+ghost use Rattle.smith_types.specs.Syntax.code.Code.{Code as Defined};
+ghost use Rattle.smith_types.specs.Syntax.composite_type.FuncType.{FuncType as Function};
 ghost use Rattle.smith_module_rules.specs.Module.{IsValid};
 ghost use Rattle.wasm_smith.specs.SinkExports.{AnswersSinkExports};
 ghost use Rattle.smith_program.specs.Bodies.{AreBodiesOf, HasDefinedType};
@@ -18,12 +18,14 @@ use smith_types::Items;
 use std::alloc::Global;
 use wasm_smith::Module;
 
-// Returns `mixed` if `instr` leaves its function, and otherwise nothing.
+// Returns `mixed` if `instr` returns or branches without a condition, and otherwise nothing.
 fn mixed_before<'a>(mixed: &'a [Instr], instr: &Instr) -> &'a [Instr]
     ensures { result.now ≡ (if leaves instr.now then mixed.now else []) }
 {
     match instr {
         Instr::Return => mixed,
+        Instr::Br(_) => mixed,
+        Instr::BrTable(_, _) => mixed,
         Instr::ReturnCall(_) => mixed,
         Instr::ReturnCallIndirect { .. } => mixed,
         Instr::ReturnCallRef(_) => mixed,
@@ -31,8 +33,8 @@ fn mixed_before<'a>(mixed: &'a [Instr], instr: &Instr) -> &'a [Instr]
     }
 }
 
-// Returns copies of `instructions`, with copies of `mixed` before each that leaves its function,
-// and at the end.
+// Returns copies of `instructions`, with copies of `mixed` before each that returns or branches
+// without a condition, and at the end.
 fn observed(alloc: Global, mixed: &[Instr], instructions: &[Instr]) -> Result<Items<Instr>, Error>
     ensures ok { IfOk result (λ made. made ≡ observed mixed.now instructions.now) }
     ensures memory { IfErr result (λ e. e ≡ Error.Memory) }
@@ -100,9 +102,9 @@ impl Program {
     /// it ends, so that two engines that compute other values differ in their sinks.
     ///
     /// Locals are mixed before each `return`, `return_call`, `return_call_indirect` and
-    /// `return_call_ref`, and at the end of the body. A branch to the label of the function passes
-    /// over the end, so nothing is mixed before it, nor if the function traps or throws.
-    /// Parameters come first, and of more than 1,000 locals only the first 1,000 are mixed.
+    /// `return_call_ref`, before each `br` and `br_table`, whose label may be that of the function,
+    /// and at the end of the body. Nothing is mixed if the function traps or throws, or ends by a
+    /// branch with a condition. Parameters come first, and of more than 1,000 locals only the first 1,000 are mixed.
     ///
     /// A mix rotates a sink by 5 bits, and then applies exclusive or. An `i32` and the bits of an
     /// `f32` go to the first sink, an `i64` and the bits of an `f64` to the second, and the halves

@@ -1,5 +1,5 @@
 ghost use Rattle.std.specs.Prelude.{◌≡◌, [], ◌∷◌, ◌++◌, pos, negsuc};
-ghost use Rattle.smith_syntax.specs.declared.value_type.ValType.TheVariants.{F32, F64, I32, I64, V128};
+ghost use Rattle.smith_types.specs.Syntax.value_type.ValType.TheVariants.{F32, F64, I32, I64, V128};
 ghost use Rattle.smith_instr.specs.declared.instr.Instr.TheVariants as instr;
 ghost use Rattle.smith_instr.specs.declared.numeric.Conversion.TheVariants as convert;
 ghost use Rattle.smith_instr.specs.declared.numeric.FloatCompare.TheVariants as float_compare;
@@ -32,7 +32,8 @@ fn places()
         ∷ [] }
     ensures before_a_tail_call { observed (instr.Nop ∷ []) (instr.ReturnCall 2 ∷ []) ≡ instr.Nop ∷ instr.ReturnCall 2 ∷ instr.Nop ∷ [] }
     ensures not_before_a_call { observed (instr.Nop ∷ []) (instr.Call 2 ∷ []) ≡ instr.Call 2 ∷ instr.Nop ∷ [] }
-    ensures not_before_a_branch { observed (instr.Nop ∷ []) (instr.Br 0 ∷ []) ≡ instr.Br 0 ∷ instr.Nop ∷ [] }
+    ensures before_a_branch { observed (instr.Nop ∷ []) (instr.Br 0 ∷ []) ≡ instr.Nop ∷ instr.Br 0 ∷ instr.Nop ∷ [] }
+    ensures not_before_a_branch_with_a_condition { observed (instr.Nop ∷ []) (instr.BrIf 0 ∷ []) ≡ instr.BrIf 0 ∷ instr.Nop ∷ [] }
 {}
 
 fn bodies()
