@@ -10,26 +10,42 @@ use Rattle.smith_wrong.specs.declared.families.Family.TheVariants as family
 
 -- the weight of a family: the fewer modules have a place for it, the greater
 abbrev pub module_weight_of : ModuleFamily → ℕ
+module_weight_of item.UndeclaredFunction = 44
 module_weight_of item.ImmutableGlobal = 32
 module_weight_of item.Offset = 24
-module_weight_of item.DeadCode = 16
-module_weight_of item.TailCall = 12
-module_weight_of item.UndeclaredFunction = 12
+module_weight_of item.DeadCode = 24
+module_weight_of item.TailCall = 20
+module_weight_of item.UnsetLocal = 16
 module_weight_of item.ElementSegment = 12
-module_weight_of item.ImmutableField = 8
+module_weight_of item.ImmutableField = 12
+module_weight_of item.Alignment = 12
+module_weight_of item.CastHierarchy = 12
+module_weight_of item.ReferenceType = 12
+module_weight_of item.Label = 10
 module_weight_of item.PackedField = 8
-module_weight_of item.Alignment = 8
-module_weight_of item.ImportType = 8
 module_weight_of item.TagType = 8
 module_weight_of item.DataSegment = 8
-module_weight_of item.UnsetLocal = 2
+module_weight_of item.OtherEntity = 8
+module_weight_of item.Lane = 8
+module_weight_of item.MissingOperand = 8
+module_weight_of item.OperandType = 6
+module_weight_of item.ExtraOperand = 6
+module_weight_of item.BlockType = 6
+module_weight_of item.FunctionResult = 6
+module_weight_of item.IndexPastEnd = 6
+module_weight_of item.FunctionType = 6
+module_weight_of item.ImportType = 6
+module_weight_of item.Limits = 3
+module_weight_of item.ConstantType = 3
+module_weight_of item.NonConstant = 3
+module_weight_of item.StartFunction = 2
 module_weight_of _ = 4
 
 abbrev pub bytes_weight_of : BytesFamily → ℕ
-bytes_weight_of bytes.DataCountMissing = 6
+bytes_weight_of bytes.DataCountMissing = 24
+bytes_weight_of bytes.BodySize = 6
+bytes_weight_of bytes.FunctionCount = 6
 bytes_weight_of bytes.DataCount = 4
-bytes_weight_of bytes.FunctionCount = 3
-bytes_weight_of bytes.BodySize = 3
 bytes_weight_of bytes.NotUtf8 = 3
 bytes_weight_of _ = 2
 

@@ -33,11 +33,11 @@ fn rules()
 {}
 
 fn weights()
-    ensures first { drawn_family (family.Module item.Lane ∷ family.Bytes bytes.CutFile ∷ []) (3 ∷ [])
+    ensures first { drawn_family (family.Module item.Lane ∷ family.Bytes bytes.CutFile ∷ []) (7 ∷ [])
         ≡ Some (family.Module item.Lane) }
-    ensures second { drawn_family (family.Module item.Lane ∷ family.Bytes bytes.CutFile ∷ []) (4 ∷ [])
+    ensures second { drawn_family (family.Module item.Lane ∷ family.Bytes bytes.CutFile ∷ []) (8 ∷ [])
         ≡ Some (family.Bytes bytes.CutFile) }
-    ensures round { drawn_family (family.Module item.Lane ∷ family.Bytes bytes.CutFile ∷ []) (6 ∷ [])
+    ensures round { drawn_family (family.Module item.Lane ∷ family.Bytes bytes.CutFile ∷ []) (10 ∷ [])
         ≡ Some (family.Module item.Lane) }
     ensures none { drawn_family [] (4 ∷ []) ≡ None }
 {}

@@ -146,19 +146,33 @@ fn module_weight(family: ModuleFamily) -> u32
     ensures { result ≡ module_weight_of family }
 {
     match family {
+        ModuleFamily::UndeclaredFunction => 44,
         ModuleFamily::ImmutableGlobal => 32,
-        ModuleFamily::Offset => 24,
-        ModuleFamily::DeadCode => 16,
-        ModuleFamily::TailCall | ModuleFamily::UndeclaredFunction | ModuleFamily::ElementSegment =>
-            12,
-        ModuleFamily::ImmutableField
-        | ModuleFamily::PackedField
-        | ModuleFamily::Alignment
-        | ModuleFamily::ImportType
-        | ModuleFamily::TagType
-        | ModuleFamily::DataSegment => 8,
+        ModuleFamily::Offset | ModuleFamily::DeadCode => 24,
+        ModuleFamily::TailCall => 20,
         // No drawn module has a local without a default value.
-        ModuleFamily::UnsetLocal => 2,
+        ModuleFamily::UnsetLocal => 16,
+        ModuleFamily::ElementSegment
+        | ModuleFamily::ImmutableField
+        | ModuleFamily::Alignment
+        | ModuleFamily::CastHierarchy
+        | ModuleFamily::ReferenceType => 12,
+        ModuleFamily::Label => 10,
+        ModuleFamily::PackedField
+        | ModuleFamily::TagType
+        | ModuleFamily::DataSegment
+        | ModuleFamily::OtherEntity
+        | ModuleFamily::Lane
+        | ModuleFamily::MissingOperand => 8,
+        ModuleFamily::OperandType
+        | ModuleFamily::ExtraOperand
+        | ModuleFamily::BlockType
+        | ModuleFamily::FunctionResult
+        | ModuleFamily::IndexPastEnd
+        | ModuleFamily::FunctionType
+        | ModuleFamily::ImportType => 6,
+        ModuleFamily::Limits | ModuleFamily::ConstantType | ModuleFamily::NonConstant => 3,
+        ModuleFamily::StartFunction => 2,
         _ => 4,
     }
 }
@@ -167,9 +181,10 @@ fn bytes_weight(family: BytesFamily) -> u32
     ensures { result ≡ bytes_weight_of family }
 {
     match family {
-        BytesFamily::DataCountMissing => 6,
+        BytesFamily::DataCountMissing => 24,
+        BytesFamily::BodySize | BytesFamily::FunctionCount => 6,
         BytesFamily::DataCount => 4,
-        BytesFamily::FunctionCount | BytesFamily::BodySize | BytesFamily::NotUtf8 => 3,
+        BytesFamily::NotUtf8 => 3,
         _ => 2,
     }
 }

@@ -5,7 +5,7 @@ ghost use Rattle.smith_config.specs.Features.{features_of};
 ghost use Rattle.smith_decode.specs.ModuleReadings.{module_at};
 ghost use Rattle.smith_decode.specs.declared.modules.Module.{Module};
 ghost use Rattle.smith_judge.specs.Files.{IsValidFile};
-ghost use Rattle.smith_syntax.specs.FeatureBits.{features_in};
+ghost use Rattle.smith_types.specs.Syntax.FeatureBits.{features_in};
 ghost use Rattle.smith_wrong_bytes.specs.Splices.{HasPreamble};
 ghost use Rattle.smith_wrong.specs.Changes.{IsChangeOf, family_of};
 ghost use Rattle.smith_wrong.specs.Wrong.{AreWithoutPreamble, IsBroken, IsRefused, IsTwin, IsWrong, NamesRule};
@@ -25,7 +25,7 @@ use smith_types::WasmFeatures;
 use std::alloc::Global;
 
 /// The greatest number of drawn changes that are tried for a file before one of its first eight bytes.
-pub const TRIES: u32 = 16;
+pub const TRIES: u32 = 64;
 
 /// An invalid file, with the valid one that it was.
 #[derive(Debug, Drop)]
