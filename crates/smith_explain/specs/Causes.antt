@@ -71,12 +71,12 @@ pub record IsBlockTaking (context : BodyContext) (opens : Kind) (ty : BlockType)
   pub typed : IsBlockType context ty params results
   pub is : wanted ≡ values (taken_by opens params)
 
--- an `else` may stand here, and an `end` of a block (Validation, Control Instructions)
-abbrev pub MayStandElse : Checker → Type 0
-MayStandElse checker = (0 < length checker.outers.items) × IsFirst checker.shape.kind
+-- an `else` is allowed here, and an `end` of a block (Validation, Control Instructions)
+abbrev pub IsElseAllowed : Checker → Type 0
+IsElseAllowed checker = (0 < length checker.outers.items) × IsFirst checker.shape.kind
 
-abbrev pub MayStandEnd : BodyContext → Checker → Type 0
-MayStandEnd context checker =
+abbrev pub IsEndAllowed : BodyContext → Checker → Type 0
+IsEndAllowed context checker =
     (0 < length checker.outers.items) × MayEnd context checker.shape.kind checker.shape.params checker.shape.results
 
 -- an instruction accepts a stack of these types, if the locals that the checker has noted are set
@@ -87,8 +87,8 @@ IsTaking context checker (instr.Loop ty) wanted = IsBlockTaking context kind.Loo
 IsTaking context checker (instr.If ty) wanted = IsBlockTaking context kind.If ty wanted
 IsTaking context checker (instr.TryTable ty clauses) wanted =
     All (IsCatch (with_labels context (labels_in checker))) clauses × IsBlockTaking context kind.Block ty wanted
-IsTaking context checker instr.Else wanted = MayStandElse checker × (wanted ≡ values checker.shape.results)
-IsTaking context checker instr.End wanted = MayStandEnd context checker × (wanted ≡ values checker.shape.results)
+IsTaking context checker instr.Else wanted = IsElseAllowed checker × (wanted ≡ values checker.shape.results)
+IsTaking context checker instr.End wanted = IsEndAllowed context checker × (wanted ≡ values checker.shape.results)
 IsTaking context checker instruction wanted =
     (after : Stacked) × IsStep (with_labels context (labels_in checker)) instruction (stacked wanted checker.log.items) after
 

@@ -5,7 +5,7 @@ ghost use Rattle.smith_check_operands.specs.Scopes.{bare, IsScope};
 ghost use Rattle.smith_check_body.specs.Checks.{IsReached, IsWell};
 ghost use Rattle.smith_check_body.specs.Verdicts.{IsRefused};
 ghost use Rattle.smith_explain.specs.Causes.{IsBlockCause, IsCause, IsCauseAt, IsEndCause, IsExplanation, IsLastCause};
-ghost use Rattle.smith_explain.specs.Causes.{IsUnreached, MayStandElse, MayStandEnd};
+ghost use Rattle.smith_explain.specs.Causes.{IsElseAllowed, IsEndAllowed, IsUnreached};
 
 use crate::explanation::{Cause, Explanation};
 use crate::needs::{undeclared, unset};
@@ -81,17 +81,17 @@ fn end_cause(alloc: Global, checker: &Checker, ends: bool) -> Result<Cause, Erro
     Ok(Cause::Operands(wanted))
 }
 
-// Returns whether an `else` may stand here.
+// Returns whether an `else` is allowed here.
 fn may_stand_else(checker: &Checker) -> bool
-    ensures { IsTrue result ↔ MayStandElse checker.now }
+    ensures { IsTrue result ↔ IsElseAllowed checker.now }
 {
     checker.outers.len() > 0 && is_first(checker.shape.kind)
 }
 
-// Returns whether an `end` of a block may stand here.
+// Returns whether an `end` of a block is allowed here.
 fn may_stand_end(scope: &Scope, checker: &Checker) -> bool
     requires { IsWell (bare scope.now) checker.now }
-    ensures { IsTrue result ↔ MayStandEnd (bare scope.now) checker.now }
+    ensures { IsTrue result ↔ IsEndAllowed (bare scope.now) checker.now }
 {
     checker.outers.len() > 0 && may_end(scope, &checker.shape)
 }

@@ -1,4 +1,4 @@
--- The names of other crates that three files or more of these cite.
+-- The names that these proofs cite, passed on from one place.
 pub use Rattle.smith_instr.proofs.SequenceLemmas.{below_themselves, count_as_themselves, finished, framed, one}
 pub use Rattle.smith_instr.specs.AggregateTypes.{IsElemOf}
 pub use Rattle.smith_instr.specs.Contexts.{AreValid, BodyContext, IsBlockType, IsRefValid, IsValid, labelled, nullable_to, To}
