@@ -15,13 +15,14 @@ use smith_check_branches::cast_branches::{br_on_cast, br_on_cast_fail};
 use smith_check_branches::null_branches::{br_on_non_null, br_on_null};
 use smith_check_branches::tail_calls::{return_call, return_call_indirect, return_call_ref};
 use smith_check_instr::atomics::atomic;
-use smith_check_instr::constants::{f32_const, f64_const, i32_const, i64_const, v128_const};
+use smith_check_instr::constants::{number_const, v128_const};
 use smith_check_instr::control::{atomic_fence, br, br_if, call, return_all};
 use smith_check_instr::memory::{load, memory, store};
 use smith_check_instr::variables::{global_get, global_set, local_get, local_set, local_tee};
 use smith_check_instr::vectors::{vector_load, vector_load_lane, vector_store, vector_store_lane};
 use smith_check_operands::{Frame, Operands, Scope, Shape};
 use smith_instr::{Instr, SetLocals};
+use smith_types::ValType;
 
 /// Tries a branch.
 pub fn step_branch(
@@ -118,10 +119,10 @@ pub fn step_constant(operands: &mut Operands, scope: &Scope, instr: &Instr) -> R
     ensures memory { IfErr result (λ e. e ≡ Error.Memory) }
 {
     match instr {
-        Instr::I32Const(_) => i32_const(operands, scope),
-        Instr::I64Const(_) => i64_const(operands, scope),
-        Instr::F32Const(_) => f32_const(operands, scope),
-        Instr::F64Const(_) => f64_const(operands, scope),
+        Instr::I32Const(_) => number_const(operands, scope, ValType::I32),
+        Instr::I64Const(_) => number_const(operands, scope, ValType::I64),
+        Instr::F32Const(_) => number_const(operands, scope, ValType::F32),
+        Instr::F64Const(_) => number_const(operands, scope, ValType::F64),
         Instr::V128Const(_) => v128_const(operands, scope),
         _ => Ok(false),
     }

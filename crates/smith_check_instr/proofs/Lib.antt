@@ -4,3 +4,4 @@ pub mod VectorLemmas
 pub mod AtomicLemmas
 pub mod SelectLemmas
 pub mod MemoryLemmas
+pub mod ConstantLemmas

@@ -1,3 +1,4 @@
 pub mod Selects
 pub mod VectorSignatures
 pub mod AtomicSignatures
+pub mod Constants

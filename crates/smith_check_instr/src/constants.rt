@@ -2,6 +2,8 @@ ghost use Rattle.std.specs.Prelude.{◌≡◌, ℕ, ℤ, List, ◌∷◌, IfOk, 
 ghost use Rattle.smith_types.specs.Syntax.value_type.ValType.{ValType};
 ghost use Rattle.smith_instr.specs.declared.instr.Instr.TheVariants as instr;
 ghost use Rattle.smith_check_rules.specs.Slots.{AreSlotsValid};
+ghost use Rattle.smith_instr.specs.declared.instr.Instr.{Instr};
+ghost use Rattle.smith_check_instr.specs.Constants.{IsConstantOf, IsNumber};
 ghost use Rattle.smith_check_operands.specs.Scopes.{bare, IsScope};
 ghost use Rattle.smith_check_operands.specs.Covers.{held};
 ghost use Rattle.smith_check_operands.specs.Applies.{IsTried};
@@ -23,48 +25,17 @@ pub fn numeric(operands: &mut Operands, scope: &Scope, op: NumericInstr) -> Resu
     operands.apply(scope, op.operands(), op.results())
 }
 
-/// Tries `i32.const`.
-pub fn i32_const(operands: &mut Operands, scope: &Scope) -> Result<bool, Error>
-    requires { AreSlotsValid (bare scope.now) operands.old.known.items }
-    ensures ok { (value : ℤ) (labels : List (List ValType)) (set : List ℕ) → IfOk result
-        (λ there. IsTried (bare scope.now) labels (instr.I32Const value) set there
+/// Tries a constant of the number type `ty`.
+pub fn number_const(operands: &mut Operands, scope: &Scope, ty: ValType) -> Result<bool, Error>
+    requires known { AreSlotsValid (bare scope.now) operands.old.known.items }
+    requires number { IsNumber ty }
+    ensures ok { (instruction : Instr) (labels : List (List ValType)) (set : List ℕ)
+        → IsConstantOf ty instruction → IfOk result
+        (λ there. IsTried (bare scope.now) labels instruction set there
         (held operands.old) (held operands.new)) }
     ensures memory { IfErr result (λ e. e ≡ Error.Memory) }
 {
-    operands.apply(scope, &[], &[ValType::I32])
-}
-
-/// Tries `i64.const`.
-pub fn i64_const(operands: &mut Operands, scope: &Scope) -> Result<bool, Error>
-    requires { AreSlotsValid (bare scope.now) operands.old.known.items }
-    ensures ok { (value : ℤ) (labels : List (List ValType)) (set : List ℕ) → IfOk result
-        (λ there. IsTried (bare scope.now) labels (instr.I64Const value) set there
-        (held operands.old) (held operands.new)) }
-    ensures memory { IfErr result (λ e. e ≡ Error.Memory) }
-{
-    operands.apply(scope, &[], &[ValType::I64])
-}
-
-/// Tries `f32.const`.
-pub fn f32_const(operands: &mut Operands, scope: &Scope) -> Result<bool, Error>
-    requires { AreSlotsValid (bare scope.now) operands.old.known.items }
-    ensures ok { (value : ℕ) (labels : List (List ValType)) (set : List ℕ) → IfOk result
-        (λ there. IsTried (bare scope.now) labels (instr.F32Const value) set there
-        (held operands.old) (held operands.new)) }
-    ensures memory { IfErr result (λ e. e ≡ Error.Memory) }
-{
-    operands.apply(scope, &[], &[ValType::F32])
-}
-
-/// Tries `f64.const`.
-pub fn f64_const(operands: &mut Operands, scope: &Scope) -> Result<bool, Error>
-    requires { AreSlotsValid (bare scope.now) operands.old.known.items }
-    ensures ok { (value : ℕ) (labels : List (List ValType)) (set : List ℕ) → IfOk result
-        (λ there. IsTried (bare scope.now) labels (instr.F64Const value) set there
-        (held operands.old) (held operands.new)) }
-    ensures memory { IfErr result (λ e. e ≡ Error.Memory) }
-{
-    operands.apply(scope, &[], &[ValType::F64])
+    operands.apply(scope, &[], &[ty])
 }
 
 /// Tries `v128.const`.

@@ -371,42 +371,6 @@ fn read_either(operands: &mut Operands, scope: &Scope, ty: AbstractHeapType) -> 
     Ok(true)
 }
 
-/// Tries `array.len`.
-fn array_len(operands: &mut Operands, scope: &Scope) -> Result<bool, Error>
-    requires { AreSlotsValid (bare scope.now) operands.old.known.items }
-    ensures ok { (labels : List (List ValType)) (set : List ℕ) → IfOk result
-        (λ there. IsTried (bare scope.now) labels
-        (instr.Aggregate aggregate.ArrayLen) set there
-        (held operands.old) (held operands.new)) }
-    ensures memory { IfErr result (λ e. e ≡ Error.Memory) }
-{
-    read_either(operands, scope, AbstractHeapType::Array)
-}
-
-/// Tries `i31.get_s`.
-fn i31_get_s(operands: &mut Operands, scope: &Scope) -> Result<bool, Error>
-    requires { AreSlotsValid (bare scope.now) operands.old.known.items }
-    ensures ok { (labels : List (List ValType)) (set : List ℕ) → IfOk result
-        (λ there. IsTried (bare scope.now) labels
-        (instr.Aggregate aggregate.I31GetS) set there
-        (held operands.old) (held operands.new)) }
-    ensures memory { IfErr result (λ e. e ≡ Error.Memory) }
-{
-    read_either(operands, scope, AbstractHeapType::I31)
-}
-
-/// Tries `i31.get_u`.
-fn i31_get_u(operands: &mut Operands, scope: &Scope) -> Result<bool, Error>
-    requires { AreSlotsValid (bare scope.now) operands.old.known.items }
-    ensures ok { (labels : List (List ValType)) (set : List ℕ) → IfOk result
-        (λ there. IsTried (bare scope.now) labels
-        (instr.Aggregate aggregate.I31GetU) set there
-        (held operands.old) (held operands.new)) }
-    ensures memory { IfErr result (λ e. e ≡ Error.Memory) }
-{
-    read_either(operands, scope, AbstractHeapType::I31)
-}
-
 /// Takes a number off the stack and puts a reference to an i31 on it, and returns whether the number
 /// is there and the reference counts as one of a valid type.
 fn make_i31(operands: &mut Operands, scope: &Scope, shared: bool) -> Result<bool, Error>
@@ -433,30 +397,6 @@ fn make_i31(operands: &mut Operands, scope: &Scope, shared: bool) -> Result<bool
     push_reference(operands, scope, heap_type)
 }
 
-/// Tries `ref.i31`.
-fn ref_i31(operands: &mut Operands, scope: &Scope) -> Result<bool, Error>
-    requires { AreSlotsValid (bare scope.now) operands.old.known.items }
-    ensures ok { (labels : List (List ValType)) (set : List ℕ) → IfOk result
-        (λ there. IsTried (bare scope.now) labels
-        (instr.Aggregate aggregate.RefI31) set there
-        (held operands.old) (held operands.new)) }
-    ensures memory { IfErr result (λ e. e ≡ Error.Memory) }
-{
-    make_i31(operands, scope, false)
-}
-
-/// Tries `ref.i31_shared`.
-fn ref_i31_shared(operands: &mut Operands, scope: &Scope) -> Result<bool, Error>
-    requires { AreSlotsValid (bare scope.now) operands.old.known.items }
-    ensures ok { (labels : List (List ValType)) (set : List ℕ) → IfOk result
-        (λ there. IsTried (bare scope.now) labels
-        (instr.Aggregate aggregate.RefI31Shared) set there
-        (held operands.old) (held operands.new)) }
-    ensures memory { IfErr result (λ e. e ≡ Error.Memory) }
-{
-    make_i31(operands, scope, true)
-}
-
 /// Tries an aggregate instruction.
 #[rattlefmt::skip]
 pub fn aggregate(operands: &mut Operands, scope: &Scope, op: AggregateInstr) -> Result<bool, Error>
@@ -479,15 +419,15 @@ pub fn aggregate(operands: &mut Operands, scope: &Scope, op: AggregateInstr) -> 
         AggregateInstr::ArrayNewElem { ty, segment } => array_new_elem(operands, scope, ty, segment),
         AggregateInstr::ArrayGet { ty, extension } => array_get(operands, scope, ty, extension),
         AggregateInstr::ArraySet(ty) => array_set(operands, scope, ty),
-        AggregateInstr::ArrayLen => array_len(operands, scope),
+        AggregateInstr::ArrayLen => read_either(operands, scope, AbstractHeapType::Array),
         AggregateInstr::ArrayFill(ty) => array_fill(operands, scope, ty),
         AggregateInstr::ArrayCopy { to, from } => array_copy(operands, scope, to, from),
         AggregateInstr::ArrayInitData { ty, segment } => array_init_data(operands, scope, ty, segment),
         AggregateInstr::ArrayInitElem { ty, segment } => array_init_elem(operands, scope, ty, segment),
-        AggregateInstr::RefI31 => ref_i31(operands, scope),
-        AggregateInstr::RefI31Shared => ref_i31_shared(operands, scope),
-        AggregateInstr::I31GetS => i31_get_s(operands, scope),
-        AggregateInstr::I31GetU => i31_get_u(operands, scope),
+        AggregateInstr::RefI31 => make_i31(operands, scope, false),
+        AggregateInstr::RefI31Shared => make_i31(operands, scope, true),
+        AggregateInstr::I31GetS => read_either(operands, scope, AbstractHeapType::I31),
+        AggregateInstr::I31GetU => read_either(operands, scope, AbstractHeapType::I31),
         AggregateInstr::AnyConvertExtern => any_convert_extern(operands, scope),
         AggregateInstr::ExternConvertAny => extern_convert_any(operands, scope),
     }
