@@ -1,5 +1,6 @@
 pub mod ReadLemmas
 pub mod IntegerLemmas
+pub mod ShortLemmas
 pub mod ContentLemmas
 pub mod LoopLemmas
 pub mod ChoiceLemmas

@@ -1,5 +1,5 @@
-ghost use Rattle.std.specs.Prelude.{◌≡◌, ◌≤◌, ◌<◌, ◌^◌, nat_lt, nat_le, ◌+◌, ◌-◌, IfOk, pos};
-ghost use Rattle.std.specs.Prelude.{◌+ℤ◌, ◌*ℤ◌};
+ghost use Rattle.std.specs.Prelude.{◌≡◌, ◌≤◌, ◌<◌, ◌^◌, nat_lt, nat_le, ◌+◌, ◌-◌, ◌*◌, ◌∷◌, IfOk, pos};
+ghost use Rattle.std.specs.Prelude.{◌+ℤ◌, ◌*ℤ◌, negsuc, if◌then◌else◌, MatchOption};
 ghost use Rattle.smith_binary.specs.Numbers.{FitsBits};
 ghost use Rattle.smith_binary_read.specs.Readings.{Gives};
 ghost use Rattle.smith_binary_read.specs.Numbers.{unsigned_at, signed_at, little_endian_at};
@@ -47,7 +47,41 @@ fn with_bits(bits: u128) -> i128
     }
 }
 
+// Returns the signed integer of seven bits whose bits are those of `byte`.
+fn short_signed(byte: u8) -> i32
+    requires { byte < 128 }
+    ensures { result ≡ (if nat_lt byte 64 then pos byte else negsuc (127 - byte)) }
+{
+    if byte < 64 {
+        i32::from(byte)
+    } else {
+        i32::from(byte) - 128
+    }
+}
+
+// Returns the number of four bytes, the least significant first.
+fn number_of(a: u8, b: u8, c: u8, d: u8) -> u32
+    ensures { result ≡ a + 256 * (b + 256 * (c + 256 * d)) }
+{
+    u32::from(a) + 256 * (u32::from(b) + 256 * (u32::from(c) + 256 * u32::from(d)))
+}
+
 impl<'a> Reader<'a> {
+    // Reads the byte of an integer that has one byte. If the next byte is none, it reads nothing.
+    #[inline(always)]
+    fn read_short(&mut self) -> Option<u8>
+        ensures { MatchOption result (self.new ≡ self.old)
+            (λ byte. (byte < 128) × (self.old ≡ byte ∷ self.new)) }
+    {
+        match self.rest {
+            [byte, rest @ ..] if *byte < 128 => {
+                self.rest = rest;
+                Some(*byte)
+            }
+            _ => None,
+        }
+    }
+
     /// Reads an unsigned integer of `bits` bits in LEB128, which may have more bytes than needed
     /// (Integers).
     #[tactic(auto, unfolding(crate::specs::Numbers::unsigned_at))]
@@ -133,6 +167,9 @@ impl<'a> Reader<'a> {
     pub fn read_u32(&mut self) -> Result<u32, ReadError>
         ensures { Gives result self.new (unsigned_at 32 self.old) }
     {
+        if let Some(byte) = self.read_short() {
+            return Ok(u32::from(byte));
+        }
         let number = self.read_unsigned(32)?;
         Ok(number as u32)
     }
@@ -141,6 +178,9 @@ impl<'a> Reader<'a> {
     pub fn read_u64(&mut self) -> Result<u64, ReadError>
         ensures { Gives result self.new (unsigned_at 64 self.old) }
     {
+        if let Some(byte) = self.read_short() {
+            return Ok(u64::from(byte));
+        }
         self.read_unsigned(64)
     }
 
@@ -148,6 +188,9 @@ impl<'a> Reader<'a> {
     pub fn read_s32(&mut self) -> Result<i32, ReadError>
         ensures { Gives result self.new (signed_at 32 self.old) }
     {
+        if let Some(byte) = self.read_short() {
+            return Ok(short_signed(byte));
+        }
         let number = self.read_signed(32)?;
         Ok(number as i32)
     }
@@ -156,6 +199,9 @@ impl<'a> Reader<'a> {
     pub fn read_s64(&mut self) -> Result<i64, ReadError>
         ensures { Gives result self.new (signed_at 64 self.old) }
     {
+        if let Some(byte) = self.read_short() {
+            return Ok(i64::from(short_signed(byte)));
+        }
         self.read_signed(64)
     }
 
@@ -163,16 +209,25 @@ impl<'a> Reader<'a> {
     pub fn read_f32(&mut self) -> Result<u32, ReadError>
         ensures { Gives result self.new (little_endian_at 4 self.old) }
     {
-        let bits = self.read_little_endian(4)?;
-        Ok(bits as u32)
+        match self.rest {
+            [a, b, c, d, rest @ ..] => {
+                self.rest = rest;
+                Ok(number_of(*a, *b, *c, *d))
+            }
+            _ => {
+                let bits = self.read_little_endian(4)?;
+                Ok(bits as u32)
+            }
+        }
     }
 
     /// Reads the bits of a 64-bit float (Floating-Point).
     pub fn read_f64(&mut self) -> Result<u64, ReadError>
         ensures { Gives result self.new (little_endian_at 8 self.old) }
     {
-        let bits = self.read_little_endian(8)?;
-        Ok(bits as u64)
+        let low = self.read_f32()?;
+        let high = self.read_f32()?;
+        Ok(u64::from(low) + (u64::from(high) << 32))
     }
 
     /// Reads the bits of a 128-bit vector (Vector Instructions).
@@ -180,8 +235,9 @@ impl<'a> Reader<'a> {
     pub fn read_vector(&mut self) -> Result<i128, ReadError>
         ensures { Gives result self.new (vector_at self.old) }
     {
-        let bits = self.read_little_endian(16)?;
-        Ok(with_bits(bits))
+        let low = self.read_f64()?;
+        let high = self.read_f64()?;
+        Ok(with_bits(u128::from(low) + (u128::from(high) << 64)))
     }
 
     /// Reads the index of a lane (Vector Instructions).

@@ -82,11 +82,12 @@ fn read_nested_instr(blocks: &mut Vec<bool>, reader: &mut Reader<'_>) -> Result<
     Ok(instruction)
 }
 
-// Reads fewer than `most` instructions, up to the end of an expression.
-fn read_nested(reader: &mut Reader<'_>, most: usize) -> Result<Items<Instr>, ReadError>
+// Reads fewer than `most` instructions, up to the end of an expression. There is room for `room` of
+// them at first.
+fn read_nested(reader: &mut Reader<'_>, most: usize, room: usize) -> Result<Items<Instr>, ReadError>
     ensures { Gives result reader.new (nested_at most [] reader.old) }
 {
-    let mut instructions = Vec::new(reader.alloc());
+    let mut instructions = Vec::with_capacity(reader.alloc(), room)?;
     let mut blocks = Vec::new(reader.alloc());
     for _ in 0..most {
         if is_over(blocks.as_slice(), reader) {
@@ -106,5 +107,15 @@ pub fn read_expr(reader: &mut Reader<'_>) -> Result<Items<Instr>, ReadError>
     ensures { Gives result reader.new (expr_at reader.old) }
 {
     let most = reader.left();
-    read_nested(reader, most)
+    read_nested(reader, most, 0)
+}
+
+/// Reads an expression as [`read_expr`] does, with room for an instruction in each three bytes that are
+/// left: for an expression that is most of them (Expressions).
+#[tactic(auto, unfolding(crate::specs::ExpressionReadings::expr_at))]
+pub fn read_long_expr(reader: &mut Reader<'_>) -> Result<Items<Instr>, ReadError>
+    ensures { Gives result reader.new (expr_at reader.old) }
+{
+    let most = reader.left();
+    read_nested(reader, most, most / 3)
 }

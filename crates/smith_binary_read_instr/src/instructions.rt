@@ -18,6 +18,7 @@ use smith_instr::Instr;
 
 // Reads an instruction whose first byte is `byte`, below 0x41.
 #[tactic(auto, unfolding(crate::specs::InstrReadings::low_instr_at))]
+#[inline(always)]
 fn read_low_instr(byte: u8, reader: &mut Reader<'_>) -> Result<Instr, ReadError>
     ensures { Gives result reader.new (low_instr_at byte reader.old) }
 {
@@ -41,6 +42,7 @@ fn read_low_instr(byte: u8, reader: &mut Reader<'_>) -> Result<Instr, ReadError>
 
 // Reads an instruction whose first byte is `byte`, from 0x41 on, and no prefix.
 #[tactic(auto, unfolding(crate::specs::InstrReadings::high_instr_at))]
+#[inline(always)]
 fn read_high_instr(byte: u8, reader: &mut Reader<'_>) -> Result<Instr, ReadError>
     ensures { Gives result reader.new (high_instr_at byte reader.old) }
 {
@@ -55,6 +57,7 @@ fn read_high_instr(byte: u8, reader: &mut Reader<'_>) -> Result<Instr, ReadError
 
 // Reads an instruction after its prefix, from 0xFB up to 0xFE.
 #[tactic(auto, unfolding(crate::specs::InstrReadings::prefixed_at))]
+#[inline(always)]
 fn read_prefixed(prefix: u8, reader: &mut Reader<'_>) -> Result<Instr, ReadError>
     ensures { Gives result reader.new (prefixed_at prefix reader.old) }
 {
@@ -68,6 +71,7 @@ fn read_prefixed(prefix: u8, reader: &mut Reader<'_>) -> Result<Instr, ReadError
 
 /// Reads an instruction. The starts of blocks, `else` and `end` are instructions of their own.
 #[tactic(auto, unfolding(crate::specs::InstrReadings::instr_at))]
+#[inline(always)]
 pub fn read_instr(reader: &mut Reader<'_>) -> Result<Instr, ReadError>
     ensures { Gives result reader.new (instr_at reader.old) }
 {

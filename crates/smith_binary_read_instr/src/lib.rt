@@ -20,5 +20,5 @@ mod references;
 mod vector;
 mod vector_rows;
 
-pub use expressions::read_expr;
+pub use expressions::{read_expr, read_long_expr};
 pub use instructions::read_instr;

@@ -1,6 +1,7 @@
 -- Values and the types that are expected of them.
-use Rattle.std.specs.Prelude.{List, [], ◌∷◌}
+use Rattle.std.specs.Prelude.{ℕ, List, [], ◌∷◌}
 use Rattle.smith_types.specs.Syntax.value_type.ValType.{ValType}
+use Rattle.smith_types.specs.Syntax.value_type.ValType.TheVariants.{I32, I64, F32, F64, V128, Ref}
 use Rattle.smith_types.specs.Syntax.composite_type.SubType.{SubType}
 use Rattle.smith_types.specs.Subtyping.{IsValBelow, IsValInRange}
 use Rattle.smith_check_rules.specs.Slots.{IsBelow}
@@ -11,6 +12,15 @@ use Rattle.smith_check_rules.specs.declared.slot.Slot.TheVariants.{Value}
 abbrev pub IsSlotInRange : List SubType → Slot → Type 0
 IsSlotInRange types (Value value) = IsValInRange types value
 IsSlotInRange types _ = Unit {0}
+
+-- the place of a type of numbers or vectors among these types, or 5 for references (own rule)
+abbrev pub number_of : ValType → ℕ
+number_of I32 = 0
+number_of I64 = 1
+number_of F32 = 2
+number_of F64 = 3
+number_of V128 = 4
+number_of (Ref reference) = 5
 
 -- the values have the expected types, one by one (Validation, Matching, Result Types)
 abbrev pub AreFit : List SubType → List Slot → List ValType → Type 0

@@ -1,10 +1,11 @@
-ghost use Rattle.std.specs.Prelude.{◌≡◌, ◌↔◌, IsTrue, All};
+ghost use Rattle.std.specs.Prelude.{◌≡◌, ◌↔◌, List, IsTrue, All};
+ghost use Rattle.smith_types.specs.Syntax.composite_type.SubType.{SubType};
 ghost use Rattle.smith_types.specs.Syntax.value_type.HeapType.TheVariants.{Abstract};
 ghost use Rattle.smith_types.specs.Expressions.{reference_to};
 ghost use Rattle.smith_types.specs.Subtyping.{IsValInRange};
 ghost use Rattle.smith_check_rules.specs.Slots.{IsBelow};
 ghost use Rattle.smith_check_rules.specs.declared.slot.Slot.TheVariants.{Value};
-ghost use Rattle.smith_check_operands.specs.Fits.{AreFit, AreMatched, IsSlotInRange};
+ghost use Rattle.smith_check_operands.specs.Fits.{AreFit, AreMatched, IsSlotInRange, number_of};
 
 use smith_check_rules::Slot;
 use smith_types::{AbstractHeapType, HeapType, RefType, TypeSpace, ValType};
@@ -19,9 +20,36 @@ fn reference_to(shared: bool, ty: AbstractHeapType) -> ValType
     })
 }
 
-/// Returns whether a value of the type `slot` may be used as one of the type `expected`
-/// (Validation, Matching, Value Types). Requires the types that both refer to to exist.
-pub fn slot_fits(types: &TypeSpace, slot: Slot, expected: ValType) -> bool
+// Returns the place of a type of numbers or vectors among these types, or 5 for references.
+#[inline(always)]
+fn number_of(ty: ValType) -> u32
+    ensures { result ≡ number_of ty }
+{
+    match ty {
+        ValType::I32 => 0,
+        ValType::I64 => 1,
+        ValType::F32 => 2,
+        ValType::F64 => 3,
+        ValType::V128 => 4,
+        ValType::Ref(_) => 5,
+    }
+}
+
+// Returns whether `slot` is `expected`, a type of numbers or vectors.
+#[inline(always)]
+fn is_same_number(slot: Slot, expected: ValType) -> bool
+    ensures { IsTrue result → (types : List SubType) → IsBelow types slot (Value expected) }
+{
+    match slot {
+        Slot::Value(value) => number_of(value) < 5 && number_of(value) == number_of(expected),
+        _ => false,
+    }
+}
+
+// Returns whether a value of the type `slot` may be used as one of the type `expected`. Slower than
+// `is_same_number`.
+#[inline(never)]
+fn slot_matches(types: &TypeSpace, slot: Slot, expected: ValType) -> bool
     requires lower { IsSlotInRange types.now.types slot }
     requires upper { IsValInRange types.now.types expected }
     ensures { IsTrue result ↔ IsBelow types.now.types slot (Value expected) }
@@ -35,6 +63,17 @@ pub fn slot_fits(types: &TypeSpace, slot: Slot, expected: ValType) -> bool
         }
         Slot::Value(value) => types.val_type_is_sub_type(value, expected),
     }
+}
+
+/// Returns whether a value of the type `slot` may be used as one of the type `expected`
+/// (Validation, Matching, Value Types). Requires the types that both refer to to exist.
+#[inline(always)]
+pub fn slot_fits(types: &TypeSpace, slot: Slot, expected: ValType) -> bool
+    requires lower { IsSlotInRange types.now.types slot }
+    requires upper { IsValInRange types.now.types expected }
+    ensures { IsTrue result ↔ IsBelow types.now.types slot (Value expected) }
+{
+    is_same_number(slot, expected) || slot_matches(types, slot, expected)
 }
 
 /// Returns whether there are as many slots as expected types, and each of `slots` may be used as a

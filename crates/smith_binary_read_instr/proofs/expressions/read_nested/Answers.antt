@@ -6,7 +6,7 @@ use Rattle.smith_binary_read_instr.proofs.expressions.read_nested.Goals as goal
 
 pub returns-in_err-instruction : goal.returns-in_err-instruction
 returns-in_err-instruction c =
-    let p = err_from_is_err_and c.from_residual.result c.from_residual.ensures.1 in
+    let p = err_from_is_err_and c.from_residual-in_err-instruction.result c.from_residual-in_err-instruction.ensures.1 in
     let over = over_listed c.loop.blocks.items c.as_slice.result.now c.loop.reader c.as_slice.ensures.value in
     rw (p.1, p.2) (nested_end c.in_err-instruction.field-0.0 c.loop.instructions.items c.args.most c.loop.counter
     (reverse c.loop.blocks.items) c.loop.reader (nested_at c.args.most [] c.args.reader.now) c.loop-test.true
