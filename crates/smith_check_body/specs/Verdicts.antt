@@ -6,9 +6,9 @@ use Rattle.smith_check_rules.specs.Sequences.{IsBodyTyped}
 use Rattle.smith_check_body.specs.declared.verdict.Verdict.{Verdict}
 use Rattle.smith_check_body.specs.declared.verdict.Verdict.TheVariants as verdict
 
--- A body is not typed (Validation, Functions), and its instruction at `at` is the first at which no
--- typed body can go on: some typed body begins with the instructions before it, and none with the
--- instructions up to it. If `at` is the number of instructions, more are missing.
+-- A body is not typed (Validation, Functions), and the first wrong instruction is at `at`: some typed
+-- body begins with the instructions before it, and none with the instructions up to it. If `at` is
+-- the number of instructions, more are missing.
 pub record IsRefused (context : BodyContext) (body : List Instr) (at : ℕ) : Type 0 where
   pub inside : at ≤ length body
   pub untyped : IsBodyTyped context body → ⊥
