@@ -1,12 +1,11 @@
 -- Instructions that open blocks.
-use Rattle.smith_check_body.proofs.Common.{[], ap, AreTyped, block, BlockType, BodyContext, ClosesWith, HasStackType, if_alone, if_else}
-use Rattle.smith_check_body.proofs.Common.{inl, inr, Instr, IsBlockType, IsFramed, IsStep, Kind, label_by, List, loop, nothing, refl}
-use Rattle.smith_check_body.proofs.Common.{Stacked, stacked, step, subst, sym, try_table, ValType, values, ◌++◌, ◌∙◌, ◌∷◌, ◌≡◌}
+use Rattle.smith_check_body.proofs.Common.{[], ap, AreTyped, block, BlockType, BodyContext, ClosesWith, Ends, HasStackType, if_alone}
+use Rattle.smith_check_body.proofs.Common.{if_else, inl, inr, Instr, IsBlockType, IsFramed, IsStep, Kind, label_by, List, loop, nothing}
+use Rattle.smith_check_body.proofs.Common.{refl, Stacked, stacked, step, subst, sym, try_table, ValType, values, ◌++◌, ◌∙◌, ◌∷◌, ◌≡◌}
 use Rattle.smith_check_operands.specs.declared.frame.Kind.TheVariants as kind
 use Rattle.smith_instr.specs.declared.control.Catch.{Catch}
 use Rattle.smith_instr.specs.declared.instr.Instr.TheVariants as instr
 use Rattle.smith_instr.specs.Contexts.{labelled}
-use Rattle.smith_check_operands.specs.Closes.{Ends}
 use Rattle.smith_check_body.specs.Opens.{opening, taken_by}
 use Rattle.smith_check_body.proofs.PlainLemmas.{same_first, same_others, not_empty}
 

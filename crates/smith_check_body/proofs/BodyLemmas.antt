@@ -1,18 +1,18 @@
 -- Bodies that are checked.
-use Rattle.smith_check_body.proofs.Common.{[], All-nil, ap, append-nil, AreSlotsValid, AreValid, arith, BodyContext, Bool, EndsHere, false}
-use Rattle.smith_check_body.proofs.Common.{Finishes, Frame, Held, held, holding, Instr, IsSlotValid, length, List, MatchBool, reverse}
-use Rattle.smith_check_body.proofs.Common.{Shape, subst, sym, take, true, ℕ, ◌++◌, ◌<◌, ◌∙◌, ◌∷◌, ◌≡◌}
-use Rattle.std.proofs.Common.{drop, get_or, ◌+◌}
-use Rattle.std.proofs.Common.{append_assoc}
+use Rattle.smith_check_body.proofs.Common.{[], All-nil, ap, append-nil, append_assoc, AreSlotsValid, AreValid, arith, BodyContext, Bool}
+use Rattle.smith_check_body.proofs.Common.{EndsHere, false, Finishes, Frame, Held, held, holding, Instr, IsBodyTyped, IsSlotValid, length}
+use Rattle.smith_check_body.proofs.Common.{List, MatchBool, reverse, Shape, subst, sym, take, true, ℕ, ◌++◌, ◌+◌, ◌<◌, ◌∙◌, ◌∷◌, ◌≡◌}
+use Rattle.std.proofs.Common.{drop, get_or}
+use Rattle.std.proofs.Math.Seq.{take-length}
 use Rattle.std.proofs.lemmas.List.{length-reverse, take-append-drop, take_more}
 use Rattle.smith_check_body.specs.declared.checker.Checker.{Checker}
 use Rattle.smith_check_operands.specs.declared.frame.Kind.TheVariants as kind
 use Rattle.smith_instr.specs.Contexts.{IsValid}
-use Rattle.smith_check_rules.specs.Sequences.{IsBodyTyped}
 use Rattle.smith_check_body.specs.Checks.{CanFinish, IsShapeValid, AreWell, Goes, Stops, IsReached}
 use Rattle.smith_check_body.specs.Verdicts.{IsRefused}
 use Rattle.smith_check_body.proofs.FrameLemmas.{body_finishes, finished_body, last_finish, last_begin, open_unfinished}
 use Rattle.smith_check_body.proofs.CheckLemmas.{none_left}
+use Rattle.smith_check_body.proofs.FinishLemmas.{begins_typed}
 
 -- a body may end where no block is open and the stack is as the results ask
 pub finished : (context : BodyContext) (checker : Checker) → length checker.outers.items ≡ 0 → EndsHere context checker.shape.results
@@ -102,17 +102,23 @@ refused_at context checker body at x within is r stops =
     stops rest (r.complete (x ∷ rest)
     (subst (λ xs. IsBodyTyped context xs) (ap (λ xs. xs ++ rest) is ∙ append_assoc (take at body) (x ∷ []) rest) t)) in
     record {
+      inside = omega (arith, within);
       untyped = λ t. earliest (drop (at + 1) body) (subst (λ xs. IsBodyTyped context xs) (sym (take-append-drop (at + 1) body)) t);
+      begun = begins_typed context checker (take at body) r;
       earliest = λ h. earliest;
     }
 
 pub refused_end : (context : BodyContext) (checker : Checker) (body done : List Instr) → done ≡ body → IsReached context checker done
     → (CanFinish context checker [] → ⊥)
     → IsRefused context body (length body)
-refused_end context checker body done is r never = record {
-  untyped = λ t. never (r.complete [] (subst (λ xs. IsBodyTyped context xs) (sym (append-nil done ∙ is)) t));
-  earliest = λ h. absurd (omega (arith, h));
-}
+refused_end context checker body done is r never =
+    let (rest, typed) = begins_typed context checker done r in
+    record {
+      inside = omega arith;
+      untyped = λ t. never (r.complete [] (subst (λ xs. IsBodyTyped context xs) (sym (append-nil done ∙ is)) t));
+      begun = (rest, subst (λ xs. IsBodyTyped context (xs ++ rest)) (is ∙ sym (take-length body)) typed);
+      earliest = λ h. absurd (omega (arith, h));
+    }
 
 pub accepted : (context : BodyContext) (checker : Checker) (body done : List Instr) → done ≡ body → IsReached context checker done
     → CanFinish context checker [] → IsBodyTyped context body

@@ -1,14 +1,13 @@
 -- A sequence that is typed from values is typed from values that match them.
-use Rattle.smith_check_body.proofs.Common.{[], AreSlotsValid, AreTyped, block, BodyContext, ClosesWith, if_alone, if_else, Instr, IsFramed}
-use Rattle.smith_check_body.proofs.Common.{IsSlotValid, List, loop, nothing, refl, Stacked, stacked, step, subst, sym, try_table, ValType}
-use Rattle.smith_check_body.proofs.Common.{ℕ, ◌++◌}
+use Rattle.smith_check_body.proofs.Common.{[], AreSlotsValid, AreTyped, below_themselves, block, BodyContext, ClosesWith, if_alone, if_else}
+use Rattle.smith_check_body.proofs.Common.{Instr, IsFramed, IsSlotValid, List, loop, nothing, refl, Slot, Stacked, stacked, step, subst}
+use Rattle.smith_check_body.proofs.Common.{sym, try_table, ValType, ℕ, ◌++◌}
 use Rattle.std.specs.List.{AllZip}
 use Rattle.std.proofs.lemmas.List.Elements.{All-append}
-use Rattle.smith_check_rules.specs.declared.slot.Slot.{Slot}
 use Rattle.smith_check_rules.specs.Slots.{IsBelow}
 use Rattle.smith_check_rules.specs.Sequences.{CountsAs}
 use Rattle.smith_check_operands.proofs.ListLemmas.{all_left, zip_parts, zip_join}
-use Rattle.smith_check_operands.proofs.BelowLemmas.{below_themselves, below_all}
+use Rattle.smith_check_operands.proofs.BelowLemmas.{below_all}
 
 -- the stack after an instruction that applies to values that match those before it
 pub record IsLower (context : BodyContext) (operands results : List Slot) (set : List ℕ) (before between : Stacked) : Type 0 where

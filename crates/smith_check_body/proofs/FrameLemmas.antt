@@ -1,23 +1,20 @@
 -- Blocks that are opened and closed.
-use Rattle.smith_check_body.proofs.Common.{[], All-nil, ap, append-nil, AreSlotsValid, AreTyped, block, BlockType, BodyContext, ClosesWith}
-use Rattle.smith_check_body.proofs.Common.{EndsHere, false, Finishes, Frame, HasStackType, Held, held, holding, if_alone, if_else, inl, inr}
-use Rattle.smith_check_body.proofs.Common.{Instr, IsBlockType, IsFramed, IsSlotValid, IsStep, IsTail, Kind, label_by, label_of, labels_of}
-use Rattle.smith_check_body.proofs.Common.{List, loop, nothing, Pushes, refl, Shape, Stacked, stacked, step, subst, sym, take, try_table}
-use Rattle.smith_check_body.proofs.Common.{ValType, values, with_labels, ℕ, ◌++◌, ◌∙◌, ◌∷◌, ◌≡◌}
-use Rattle.std.proofs.Common.{append_assoc}
+use Rattle.smith_check_body.proofs.Common.{[], All-nil, ap, append-nil, append_assoc, AreSlotsValid, AreTyped, below_themselves, block}
+use Rattle.smith_check_body.proofs.Common.{BlockType, BodyContext, ClosesWith, Ends, EndsHere, false, Finishes, Frame, HasStackType, Held}
+use Rattle.smith_check_body.proofs.Common.{held, holding, if_alone, if_else, inl, inr, Instr, IsBlockType, IsBodyTyped, IsFramed}
+use Rattle.smith_check_body.proofs.Common.{IsSlotValid, IsStep, IsTail, Kind, label_by, label_of, labels_of, List, loop, nothing, Pushes}
+use Rattle.smith_check_body.proofs.Common.{refl, Shape, Slot, Stacked, stacked, step, subst, sym, take, try_table, ValType, values}
+use Rattle.smith_check_body.proofs.Common.{with_labels, ℕ, ◌++◌, ◌∙◌, ◌∷◌, ◌≡◌}
 use Rattle.std.proofs.lemmas.Bool.{false≢true}
 use Rattle.smith_types.specs.Syntax.composite_type.FuncType.{FuncType}
-use Rattle.smith_check_rules.specs.declared.slot.Slot.{Slot}
 use Rattle.smith_check_operands.specs.declared.frame.Kind.TheVariants as kind
 use Rattle.smith_instr.specs.declared.control.BlockType.TheVariants as block_type
 use Rattle.smith_instr.specs.declared.instr.Instr.TheVariants as instr
 use Rattle.smith_check_rules.specs.Slots.{AreBelow}
 use Rattle.smith_check_rules.specs.Sequences.{CountsAs}
-use Rattle.smith_check_rules.specs.Sequences.{IsBodyTyped}
 use Rattle.smith_check_operands.specs.Covers.{Covers, CoversGiven, Pops, Takes}
-use Rattle.smith_check_operands.specs.Closes.{Ends, IsFirst, MayEnd, Resumes}
+use Rattle.smith_check_operands.specs.Closes.{IsFirst, MayEnd, Resumes}
 use Rattle.smith_check_body.specs.Opens.{opening, taken_by}
-use Rattle.smith_check_operands.proofs.BelowLemmas.{below_themselves}
 use Rattle.smith_check_body.proofs.PlainLemmas.{same_first, same_others, not_empty, head_of}
 use Rattle.smith_check_body.proofs.ComposeLemmas.{closes_below}
 use Rattle.smith_check_operands.proofs.LookupLemmas.{func_same}

@@ -5,4 +5,6 @@ pub mod BlockLemmas
 pub mod FrameLemmas
 pub mod TryLemmas
 pub mod CheckLemmas
+pub mod FinishLemmas
 pub mod BodyLemmas
+pub mod VerdictLemmas

@@ -1,15 +1,18 @@
 -- Verdicts on a body.
-use Rattle.std.specs.Prelude.{ℕ, ◌+◌, ◌<◌, List, ◌++◌, length, take}
+use Rattle.std.specs.Prelude.{ℕ, ◌+◌, ◌<◌, ◌≤◌, List, ◌++◌, length, take}
 use Rattle.smith_instr.specs.declared.instr.Instr.{Instr}
 use Rattle.smith_instr.specs.Contexts.{BodyContext}
 use Rattle.smith_check_rules.specs.Sequences.{IsBodyTyped}
 use Rattle.smith_check_body.specs.declared.verdict.Verdict.{Verdict}
 use Rattle.smith_check_body.specs.declared.verdict.Verdict.TheVariants as verdict
 
--- a body is not typed (Validation, Functions); if it has an instruction at `at`, no body that
--- begins with the instructions up to it is typed
+-- A body is not typed (Validation, Functions), and the first wrong instruction is at `at`: some typed
+-- body begins with the instructions before it, and none with the instructions up to it. If `at` is
+-- the number of instructions, more are missing.
 pub record IsRefused (context : BodyContext) (body : List Instr) (at : ℕ) : Type 0 where
+  pub inside : at ≤ length body
   pub untyped : IsBodyTyped context body → ⊥
+  pub begun : (rest : List Instr) × IsBodyTyped context (take at body ++ rest)
   pub earliest : at < length body → (rest : List Instr) → IsBodyTyped context (take (at + 1) body ++ rest) → ⊥
 
 -- a verdict is correct (Validation, Functions)

@@ -12,6 +12,8 @@ pub mod check;
 /// How far a check has come.
 pub mod checker;
 mod families;
+/// A law of verdicts.
+pub mod laws;
 /// A step of a check.
 pub mod step;
 mod verdict;

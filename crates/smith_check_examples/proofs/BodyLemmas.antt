@@ -1,5 +1,5 @@
 -- Bodies of the examples.
-use Rattle.std.proofs.Common.{◌≡◌, ◌∙◌, ◌++◌, ℕ, List, [], ◌∷◌, length, length-append, ap, arith, refl, sym, subst}
+use Rattle.std.proofs.Common.{◌≡◌, ◌∙◌, ◌++◌, ℕ, List, [], ◌∷◌, length, length-append, ap, arith, refl, sym, subst, take}
 use Rattle.std.specs.Prelude.{map}
 use Rattle.std.proofs.lemmas.List.Elements.{All-nil}
 use Rattle.std.proofs.lemmas.Option.{same_Some}
@@ -80,6 +80,9 @@ before_bodies bodies =
 abbrev pub own : IsFunctionValid usual_features does_nothing_valid.indices does_nothing 0
 own = does_nothing_valid.functions 0 (omega arith)
 
+own_function : record { params = []; results = [] } ≡ own.function
+own_function = plain_at does_nothing_valid.indices _ own.function own.there.typed
+
 abbrev pub renamed_locals : List ValType → List ValType
 renamed_locals locals = map (renamed_val (canonical_index does_nothing_valid.indices)) locals
 
@@ -105,10 +108,22 @@ drop_refused = record {
   there = function_at [] (instr.Drop ∷ []);
   locals_valid = All-nil _;
   refused = record {
+    inside = omega arith;
     untyped = drop_untyped _ _ [] refl;
+    begun = ([], nothing_typed _ [] refl (ap (λ (f : FuncType). f.results) own_function));
     earliest = λ low rest. drop_untyped _ _ rest refl;
   };
 }
+
+-- and not past it
+pub drop_not_refused_past : (indices : List ℕ)
+    → IsBodyRefused usual_features indices (record does_nothing { bodies = ([], instr.Drop ∷ []) ∷ [] }) 0 1 → ⊥
+drop_not_refused_past indices wrong =
+    let code : ([], instr.Drop ∷ []) ≡ wrong.there.code = same_Some ([], instr.Drop ∷ []) wrong.there.code wrong.there.held in
+    let renamed_code : List ValType × List Instr → List Instr = λ c. renamed_body (canonical_index indices) c.1 in
+    let body : wrong.body ≡ instr.Drop ∷ [] = wrong.there.body_is ∙ sym (ap renamed_code code) in
+    let (rest, typed) = wrong.refused.begun in
+    drop_untyped _ (take 1 wrong.body ++ rest) rest (ap (λ (xs : List Instr). take 1 xs ++ rest) body) typed
 
 pub drop_not_valid : IsValidProgram usual_features (record does_nothing { bodies = ([], instr.Drop ∷ []) ∷ [] }) → ⊥
 drop_not_valid program =

@@ -28,7 +28,8 @@ use Rattle.smith_check.proofs.ExampleLemmas.{does_nothing_valid}
 use Rattle.smith_check.proofs.GroupLemmas.{none_canonical, none_valid}
 use Rattle.smith_check_examples.specs.ExampleModules.{below_final, of_runs, starts_missing, three_runs, two_faults, with_body, without_body}
 use Rattle.smith_check_examples.specs.ExampleSyntax.{with_locals}
-use Rattle.smith_check_examples.proofs.BodyLemmas.{before_bodies, drop_refused, function_at, nothing_not_refused, own, renamed_locals}
+use Rattle.smith_check_examples.proofs.BodyLemmas.{before_bodies, drop_not_refused_past, drop_refused, function_at, nothing_not_refused}
+use Rattle.smith_check_examples.proofs.BodyLemmas.{own, renamed_locals}
 use Rattle.smith_check_examples.proofs.LocalLemmas.{past_one, second_wrong, third_not_first}
 use Rattle.smith_check_examples.proofs.TypeLemmas.{function_types, none_below_final, plain_at}
 
@@ -139,6 +140,10 @@ run_not_first (indices, right, wrong) =
 -- bodies
 pub drop_first : IsFirstFault usual_features (with_body (instr.Drop ∷ [])) (fault.Body 0 0)
 drop_first = (does_nothing_valid.indices, before_bodies _, inl drop_refused)
+
+pub past_drop_not_first : IsFirstFault usual_features (with_body (instr.Drop ∷ [])) (fault.Body 0 1) → ⊥
+past_drop_not_first (indices, right, inl refused) = drop_not_refused_past indices refused
+past_drop_not_first (indices, right, inr (first, missing)) = omega (arith, first)
 
 pub no_instruction_not_first : IsFirstFault usual_features (with_body []) (fault.Body 0 0) → ⊥
 no_instruction_not_first (indices, right, inl refused) = nothing_not_refused indices refused

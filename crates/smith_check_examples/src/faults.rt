@@ -29,6 +29,7 @@ fn bodies()
     ensures run { IsFirstFault usual_features (of_runs three_runs) (fault.Local 0 1) }
     ensures not_a_later_run { ¬ IsFirstFault usual_features (of_runs three_runs) (fault.Local 0 2) }
     ensures instruction { IsFirstFault usual_features (with_body (instr.Drop ∷ [])) (fault.Body 0 0) }
+    ensures not_a_later_instruction { ¬ IsFirstFault usual_features (with_body (instr.Drop ∷ [])) (fault.Body 0 1) }
     ensures not_a_right_body { ¬ IsFirstFault usual_features (with_body []) (fault.Body 0 0) }
     ensures without_a_body { IsFirstFault usual_features without_body (fault.Body 0 0) }
 {}

@@ -1,5 +1,4 @@
-use Rattle.smith_check_body.proofs.Common.{[], ap, arith, bare, length, MatchBool, subst, take, take_all, ◌<◌, ◌∙◌}
-use Rattle.std.proofs.Common.{◌+◌}
+use Rattle.smith_check_body.proofs.Common.{[], ap, arith, bare, length, MatchBool, subst, take, take_all, ◌+◌, ◌<◌, ◌∙◌}
 use Rattle.smith_check_operands.specs.declared.frame.Kind.TheVariants as kind
 use Rattle.smith_check_body.specs.Checks.{Goes, Stops}
 use Rattle.smith_check_body.proofs.BodyLemmas.{one_more, begun, reached_more, refused_at, refused_end, accepted}
