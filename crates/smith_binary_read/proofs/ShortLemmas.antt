@@ -93,7 +93,8 @@ digits_above few byte high (Err e) = refl
 digits_above few byte high (Ok (low, bytes)) = digit_above few byte low (high bytes)
 
 abbrev AreHalves : ℕ → ℕ → Type 0
-AreHalves few more = (bytes : List ℕ) → little_endian_at (few + more) bytes ≡ Halves few (little_endian_at few bytes) (little_endian_at more)
+AreHalves few more =
+    (bytes : List ℕ) → little_endian_at (few + more) bytes ≡ Halves few (little_endian_at few bytes) (little_endian_at more)
 
 after_byte : (few more : ℕ) → AreHalves few more → (r : Reading ℕ)
     → (r >>= (λ low. little_endian_at (few + more) low.1 >>= above 1 low.0))

@@ -64,14 +64,14 @@ returns-in-ArrayInitElem-clause-ok c = λ labels set. rw c.in-ArrayInitElem.is (
 pub returns-in-RefI31-clause-ok : goal.returns-in-RefI31-clause-ok
 returns-in-RefI31-clause-ok c = λ labels set.
     rw c.in-RefI31.is (tried_row (bare c.args.scope.now) labels (instr.Aggregate aggregate.RefI31) set (I32 ∷ [])
-    (reference_to (Abstract false abstract.I31) ∷ []) (I32 ∷ []) (held c.args.operands.now) _ c.make_i31.result (λ os rs t. t) (λ os rs t. t)
-    (refl, refl) (λ os rs t. t) refl c.make_i31.ensures.ok)
+    (reference_to (Abstract false abstract.I31) ∷ []) (I32 ∷ []) (held c.args.operands.now) _ c.make_i31.result
+    (λ os rs t. t) (λ os rs t. t) (refl, refl) (λ os rs t. t) refl c.make_i31.ensures.ok)
 
 pub returns-in-RefI31Shared-clause-ok : goal.returns-in-RefI31Shared-clause-ok
 returns-in-RefI31Shared-clause-ok c = λ labels set.
     rw c.in-RefI31Shared.is (tried_row (bare c.args.scope.now) labels (instr.Aggregate aggregate.RefI31Shared) set (I32 ∷ [])
-    (reference_to (Abstract true abstract.I31) ∷ []) (I32 ∷ []) (held c.args.operands.now) _ c.make_i31-in-RefI31Shared.result (λ os rs t. t) (λ os rs t. t)
-    (refl, refl) (λ os rs t. t) refl c.make_i31-in-RefI31Shared.ensures.ok)
+    (reference_to (Abstract true abstract.I31) ∷ []) (I32 ∷ []) (held c.args.operands.now) _ c.make_i31-in-RefI31Shared.result
+    (λ os rs t. t) (λ os rs t. t) (refl, refl) (λ os rs t. t) refl c.make_i31-in-RefI31Shared.ensures.ok)
 
 pub returns-in-I31GetS-clause-ok : goal.returns-in-I31GetS-clause-ok
 returns-in-I31GetS-clause-ok c = λ labels set.
