@@ -6,7 +6,7 @@ ghost use Rattle.smith_decode.specs.BodyReadings.{total, names_data_in, name_dat
 
 use crate::sections::{DecodeWhole, finish, read_sized};
 use smith_binary_read::{Decode, ReadError, Reader, Reason, read_list};
-use smith_binary_read_instr::read_expr;
+use smith_binary_read_instr::read_long_expr;
 use smith_instr::{AggregateInstr, Instr, MemoryInstr};
 use smith_types::{Items, ValType};
 
@@ -96,7 +96,7 @@ pub(crate) fn name_data(bodies: &[Body]) -> bool
 fn read_whole_expr(reader: &mut Reader<'_>) -> Result<Items<Instr>, ReadError>
     ensures { GivesWhole result (whole_at expr_at reader.old) }
 {
-    let instructions = read_expr(reader)?;
+    let instructions = read_long_expr(reader)?;
     finish(instructions, reader)
 }
 
