@@ -13,6 +13,7 @@ mod judge;
 mod judgement;
 mod locals;
 mod references;
+mod supertypes;
 
 pub use judge::{check, explain};
 pub use judgement::{Fault, Judgement, LOCALS, Unjudged};
