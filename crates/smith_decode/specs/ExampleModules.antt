@@ -12,6 +12,7 @@ use Rattle.smith_decode.specs.declared.modules.Module.{Module}
 abbrev pub no_item : Module
 no_item = record {
   types = [];
+  further_supertypes = [];
   imports = [];
   functions = [];
   tables = [];
