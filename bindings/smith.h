@@ -202,7 +202,8 @@ enum {
     SMITH_RULE_MEMORY_INSTRUCTION = 21, /* of memory instructions, atomic ones among them */
     SMITH_RULE_AGGREGATE = 22,          /* of aggregate instructions */
     SMITH_RULE_CONTROL = 23,            /* of control instructions, else and end aside */
-    SMITH_RULE_END = 24                 /* of else and end */
+    SMITH_RULE_END = 24,                /* of else and end */
+    SMITH_RULE_SUPERTYPES = 25          /* that a type has one supertype at most */
 };
 
 /* The rules of the standard's chapter Binary Format that a malformed file breaks first. */

@@ -205,6 +205,28 @@ fn explain_over(
     }
 }
 
+// Explains a fault of a module with few types, none of which has several supertypes.
+fn explain_single(
+    alloc: Global,
+    features: WasmFeatures,
+    module: &Module,
+    place: usize,
+    at: usize,
+) -> Result<Option<Explanation>, Error>
+    requires few { length (space_of «module».now.types).types + 1 < 2 ^ 32 }
+    requires supertypes { HaveOneSupertype «module».now.further_supertypes }
+    ensures ok { IfOk result (λ found. MatchOption found (Unit {0})
+        (IsExplained (features_in features) (syntax_of «module».now) place at)) }
+    ensures memory { IfErr result (λ e. e ≡ Error.Memory) }
+{
+    let groups = module.types.as_slice();
+    let found = check_types(alloc, features, groups)?;
+    match found {
+        Some(types) => explain_over(alloc, features, module, &types, place, at),
+        None => Ok(None),
+    }
+}
+
 /// Returns what is known of the instruction `at` of the body `place` of a module, where [`check`] finds
 /// the fault [`Fault::Body`], or nothing if there is a fault before it. The types are by canonical indices:
 /// of types that are equal, that of the first.
@@ -232,27 +254,5 @@ pub fn explain(
     match first_several(module.further_supertypes.as_slice()) {
         Some(_) => Ok(None),
         None => explain_single(alloc, features, module, place, at),
-    }
-}
-
-// Explains a fault of a module with few types, none of which has several supertypes.
-fn explain_single(
-    alloc: Global,
-    features: WasmFeatures,
-    module: &Module,
-    place: usize,
-    at: usize,
-) -> Result<Option<Explanation>, Error>
-    requires few { length (space_of «module».now.types).types + 1 < 2 ^ 32 }
-    requires supertypes { HaveOneSupertype «module».now.further_supertypes }
-    ensures ok { IfOk result (λ found. MatchOption found (Unit {0})
-        (IsExplained (features_in features) (syntax_of «module».now) place at)) }
-    ensures memory { IfErr result (λ e. e ≡ Error.Memory) }
-{
-    let groups = module.types.as_slice();
-    let found = check_types(alloc, features, groups)?;
-    match found {
-        Some(types) => explain_over(alloc, features, module, &types, place, at),
-        None => Ok(None),
     }
 }

@@ -18,3 +18,4 @@ mod supertypes;
 pub use judge::{check, explain};
 pub use judgement::{Fault, Judgement, LOCALS, Unjudged};
 pub use smith_explain::Explanation;
+pub use supertypes::is_single;

@@ -3,8 +3,9 @@ ghost use Rattle.smith_check.specs.Supertypes.{HaveOneSupertype, IsFirstSeveral,
 
 use smith_types::Items;
 
-// Returns whether no type of a group has several supertypes, by those after the first.
-fn is_single(group: &[Items<u32>]) -> bool
+/// Returns whether no type of a group has several supertypes, by those after the first (Validation,
+/// Recursive Types).
+pub fn is_single(group: &[Items<u32>]) -> bool
     ensures { result ≡ is_single group.now }
 {
     for further in group {

@@ -1,6 +1,8 @@
 pub mod Common
 pub mod NestingLemmas
 pub mod CheckedLemmas
+pub mod PairLemmas
+pub mod TypeLemmas
 pub mod PlaceLemmas
 pub mod OrderLemmas
 pub mod ItemLemmas
