@@ -21,7 +21,9 @@ use Rattle.smith_types.specs.Syntax.composite_type.SubType.{SubType}
 use Rattle.smith_binary_sections.specs.Types.{abstract_byte, null_byte, IsAbstractAlone, IsHeapType, IsRefType, IsValType, IsStorageType}
 use Rattle.smith_binary_sections.specs.Types.{mutability_byte, IsFieldType, IsFuncType, IsInnerType, IsCompositeType}
 use Rattle.smith_binary_sections.specs.Types.{final_byte, IsSubType, IsRecGroup}
-use Rattle.smith_binary_read.specs.Readings.{Reading, ◌>>=◌, byte_at, each_at}
+use Rattle.smith_binary_read.specs.declared.error.ReadError.{ReadError}
+use Rattle.smith_binary_read.specs.declared.error.ReadError.TheVariants as error
+use Rattle.smith_binary_read.specs.Readings.{Reading, ◌>>=◌, Fails, byte_at, each_at}
 use Rattle.smith_binary_read.specs.Numbers.{unsigned_at}
 use Rattle.smith_binary_read.specs.Contents.{list_at}
 use Rattle.smith_binary_read.specs.declared.types.DeclaredType.{DeclaredType}
@@ -394,6 +396,23 @@ unfolding supertypes_at list_at each_at
 first_split bytes count rest read some =
     let k : count ≡ suc (count - 1) = omega (arith, some) in
     rw (read ∙ ap (λ (n : ℕ). Ok (n, rest)) k) (regrouped (unsigned_at 32 rest) (count - 1))
+
+pub count_fails : (e : ReadError) (bytes : List ℕ) → Fails e (unsigned_at 32 bytes) → Fails e (supertypes_at bytes)
+unfolding supertypes_at list_at
+count_fails error.Memory bytes h = tt
+count_fails (error.Malformed fault) bytes h = rw h refl
+
+pub first_fails : (e : ReadError) (bytes : List ℕ) (count : ℕ) (rest : List ℕ) → unsigned_at 32 bytes ≡ Ok (count, rest)
+    → (count ≡ 0 → ⊥) → Fails e (unsigned_at 32 rest) → Fails e (supertypes_at bytes)
+first_fails error.Memory bytes count rest read some h = tt
+first_fails (error.Malformed fault) bytes count rest read some h = first_split bytes count rest read some ∙ rw h refl
+
+pub further_fails : (e : ReadError) (bytes : List ℕ) (count : ℕ) (rest : List ℕ) (first : ℕ) (more : List ℕ)
+    → unsigned_at 32 bytes ≡ Ok (count, rest) → (count ≡ 0 → ⊥) → unsigned_at 32 rest ≡ Ok (first, more)
+    → Fails e (each_at (unsigned_at 32) (count - 1) more) → Fails e (supertypes_at bytes)
+further_fails error.Memory bytes count rest first more read some next h = tt
+further_fails (error.Malformed fault) bytes count rest first more read some next h =
+    first_split bytes count rest read some ∙ rw (next, h) refl
 
 -- declared types
 abbrev IsParts : (Option ℕ × List ℕ) × CompositeType → List ℕ → Type 0

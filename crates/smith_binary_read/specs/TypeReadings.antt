@@ -1,6 +1,5 @@
 -- Readings of types.
 use Rattle.std.specs.Prelude.{ℕ, Bool, true, false, ◌==◌, ◌||◌, nat_lt, nat_le, if◌then◌else◌, List, [], ◌∷◌, Option, Some, None}
-use Rattle.std.specs.Prelude.{Ok}
 use Rattle.smith_types.specs.Syntax.value_type.AbstractHeapType.{AbstractHeapType}
 use Rattle.smith_types.specs.Syntax.value_type.AbstractHeapType.TheVariants as abstract
 use Rattle.smith_types.specs.Syntax.value_type.HeapType.{HeapType}

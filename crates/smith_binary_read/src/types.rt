@@ -298,7 +298,6 @@ pub struct DeclaredType {
 }
 
 // Reads a list of supertypes: the first, if there is one, and the further ones.
-#[tactic(auto, unfolding(crate::specs::TypeReadings::supertypes_at))]
 fn read_supertypes(reader: &mut Reader<'_>) -> Result<(Option<u32>, Items<u32>), ReadError>
     ensures { Gives result reader.new (supertypes_at reader.old) }
 {
