@@ -1,7 +1,6 @@
 pub mod Common
 pub mod NestingLemmas
 pub mod CheckedLemmas
-pub mod PairLemmas
 pub mod TypeLemmas
 pub mod PlaceLemmas
 pub mod OrderLemmas

@@ -1,7 +1,7 @@
 -- Types as they are written, and types that have a spelling.
 use Rattle.smith_encode.proofs.Common.{[], and_parts, arith, Bool, drop, Each, false, Is, IsList, joined_written, length, List, list_all, map}
 use Rattle.smith_encode.proofs.Common.{None, Option, Output, refl, Some, sym, true, Writes, written_plain, ℕ, ◌++◌, ◌<◌, ◌^◌, ◌||◌, ◌∙◌, ◌∷◌, ◌≡◌}
-use Rattle.std.proofs.Common.{add-one, ap, eqb, get_or, inl, inr, suc, zero, ◌+◌, ◌≤◌, ◌⊎◌}
+use Rattle.std.proofs.Common.{add-one, ap, drop-cons, eqb, get_or, inl, inr, suc, zero, ◌+◌, ◌≤◌, ◌⊎◌}
 use Rattle.std.specs.Prelude.{Any, is_some, option_to_list, slice_get, unwrap_or}
 use Rattle.std.proofs.Math.ListN.{drop_of_length-le}
 use Rattle.std.proofs.lemmas.Bool.{and_from, ne_eqb}
@@ -23,7 +23,6 @@ use Rattle.smith_encode.specs.Spelled.{are_groups_spelled, are_types_spelled, If
 use Rattle.smith_encode.specs.TooLong.{IsLongDeclared, IsLongDeclaredGroup}
 use Rattle.smith_encode.specs.WrittenTypes.{HasSupertypes, IsDeclaredGroupWritten, IsDeclaredWritten, IsWrittenWith}
 use Rattle.smith_encode.proofs.CheckedLemmas.{list_passes}
-use Rattle.smith_encode.proofs.PairLemmas.{next_item}
 
 -- a type in its full form
 pub full_written : (t : SubType) (supertypes : List ℕ) {a b c d : Output} → Writes (λ _. IsByte (final_byte t.is_final)) a b
@@ -39,13 +38,7 @@ pub supertypes_written : (first : ℕ) (further : List ℕ) {a b c d : Output}
 unfolding Each
 supertypes_written first further count one others = joined_written (rw add-one at count) (joined_written one others)
 
--- a type with one supertype at most, and one with several
-pub plain_written : (t : SubType) (further : List ℕ) {old new : Output} → further ≡ [] → Writes (λ s. IsSubTypeWrittenIn s t) old new
-    → Writes (λ _. IfPasses is_declared_spelled IsDeclaredWritten (with_further t further)) old new
-plain_written t further none one =
-    written_plain {Spells = λ s. IsSubTypeWrittenIn s t} {Other = IfPasses is_declared_spelled IsDeclaredWritten (with_further t further)}
-    (λ piece h passes. rw none h) one
-
+-- a type with several supertypes
 with_several : (t : SubType) (further : List ℕ) (first : ℕ) (piece : List ℕ) → (further ≡ [] → ⊥) → t.supertype ≡ Some first
     → HasSupertypes (first ∷ further) t piece → IsWrittenWith further t piece
 with_several t [] first piece some is h = absurd (some refl)
@@ -66,22 +59,15 @@ no_first t (next ∷ further) some none passes =
     let same : (false || eqb (suc (length further)) 0) ≡ true = rw none at passes in
     absurd cc
 
-pub unspelled_written : (t : SubType) (further : List ℕ) {old new : Output} → (further ≡ [] → ⊥) → t.supertype ≡ None
-    → Writes (λ s. IsSubTypeWrittenIn s t) old new
-    → Writes (λ _. IfPasses is_declared_spelled IsDeclaredWritten (with_further t further)) old new
-unspelled_written t further some none one =
-    written_plain {Spells = λ s. IsSubTypeWrittenIn s t} {Other = IfPasses is_declared_spelled IsDeclaredWritten (with_further t further)}
-    (λ piece h passes. absurd (no_first t further some none passes)) one
-
-pub long_several : (t : SubType) (further : List ℕ) (first : ℕ) → t.supertype ≡ Some first
-    → (2 ^ 32 ≤ length (first ∷ further)) ⊎ IsLongSubType t → IsLongDeclared (with_further t further)
-long_several t further first is h = rw is h
-
 -- no item is there past the end
 beyond : {A : Type 0} (xs : List A) (i : ℕ) → slice_get xs i ≡ None → length xs ≤ i
 beyond [] i none = omega arith
 beyond (x ∷ xs) zero none = absurd cc
 beyond (x ∷ xs) (suc i) none = let past = beyond xs i none in omega (arith, past)
+
+-- one more item
+next_item : {A : Type 0} (xs : List A) (i : ℕ) (x : A) → i < length xs → x ≡ get_or xs i x → drop i xs ≡ x ∷ drop (i + 1) xs
+next_item xs i x inside read = rw (read, add-one) (drop-cons xs i x inside)
 
 -- the types of a group from an index on
 declared_from : (types : List SubType) (further : List (List ℕ)) (i : ℕ) (t : SubType) → i < length types → t ≡ get_or types i t
@@ -162,13 +148,6 @@ alone types further t one is =
     next_declared types further 0 t (omega (arith, one)) is
     ∙ ap (λ (rest : List SubType). with_further t (unwrap_or (slice_get further 0) []) ∷ declared_group rest (drop (0 + 1) further))
     (drop_of_length-le types {i = 0 + 1} (omega (arith, one)))
-
-pub alone_written : (group : List DeclaredType) (declared : DeclaredType) {old new : Output} → group ≡ declared ∷ []
-    → Writes (λ _. IfPasses is_declared_spelled IsDeclaredWritten declared) old new
-    → Writes (λ _. IfPasses is_group_spelled IsDeclaredGroupWritten group) old new
-alone_written group declared is one =
-    written_plain {Other = IfPasses is_group_spelled IsDeclaredGroupWritten group}
-    (λ piece h. rw is (λ passes. let (here, none) = and_parts (is_declared_spelled declared) true passes in h here)) one
 
 -- other groups
 group_form : (group : List DeclaredType) (piece : List ℕ) → (length group ≡ 1 → ⊥) → Joined (IsByte 0x4E) (IsList IsDeclaredWritten group) piece

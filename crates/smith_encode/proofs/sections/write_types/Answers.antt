@@ -16,7 +16,7 @@ returns-clause-writes c =
     let groups = declared_groups m.types m.further_supertypes in
     section_written _ _ _ _ (λ next. (next.after, next.customs.now)) c.write_next.result (FromImports (syntax_of m))
     (λ none. ap (λ (types : List (List SubType)). declared_groups types m.further_supertypes)
-    (no_items m.types c.is_empty.result (rw c.as_slice-types.ensures at c.is_empty.ensures) none))
+    (no_items m.types c.is_empty.result (rw c.as_slice.ensures at c.is_empty.ensures) none))
     (λ piece h. groups_declared groups piece (groups_spelled m.types m.further_supertypes (passes_of m c.requires).types) h)
     (rw (c.as_slice.ensures, c.as_slice-2.ensures) at c.write_next.ensures.writes)
 
