@@ -1,18 +1,16 @@
 -- Types as they are written, and types that have a spelling.
-use Rattle.smith_encode.proofs.Common.{[], and_parts, arith, Bool, drop, Each, false, Is, IsList, joined_written, length, List, list_all, map}
-use Rattle.smith_encode.proofs.Common.{None, Option, Output, refl, Some, sym, true, Writes, written_plain, ℕ, ◌++◌, ◌<◌, ◌^◌, ◌||◌, ◌∙◌, ◌∷◌, ◌≡◌}
-use Rattle.std.proofs.Common.{add-one, ap, drop-cons, eqb, get_or, inl, inr, suc, zero, ◌+◌, ◌≤◌, ◌⊎◌}
-use Rattle.std.specs.Prelude.{Any, is_some, option_to_list, slice_get, unwrap_or}
+use Rattle.smith_encode.proofs.Common.{[], and_parts, arith, Bool, drop, Each, false, IsList, joined_written, length, List, list_all}
+use Rattle.smith_encode.proofs.Common.{None, Option, Output, refl, Some, sym, true, Writes, written_plain, ℕ, ◌<◌, ◌||◌, ◌∙◌, ◌∷◌, ◌≡◌}
+use Rattle.std.proofs.Common.{add-one, ap, drop-cons, eqb, get_or, suc, zero, ◌+◌, ◌≤◌}
+use Rattle.std.specs.Prelude.{Any, is_some, slice_get, unwrap_or}
 use Rattle.std.proofs.Math.ListN.{drop_of_length-le}
 use Rattle.std.proofs.lemmas.Bool.{and_from, ne_eqb}
 use Rattle.std.proofs.lemmas.Option.{get_or_from_slice_get, slice_get_within}
-use Rattle.smith_binary.specs.Numbers.{IsUnsigned}
 use Rattle.smith_binary.specs.Pieces.{IsByte, IsListIn, Joined}
 use Rattle.smith_binary.specs.Spelling.{IsUnsignedIn, Spelling}
 use Rattle.smith_binary.proofs.WrittenLemmas.{Leads, nothing_written, written_as}
 use Rattle.smith_types.specs.Syntax.composite_type.SubType.{SubType}
-use Rattle.smith_binary_sections.specs.Long.{IsLongSubType}
-use Rattle.smith_binary_sections.specs.Types.{final_byte, is_alone, IsCompositeTypeIn, IsSubType, IsSubTypeAs, IsSubTypeWrittenIn}
+use Rattle.smith_binary_sections.specs.Types.{final_byte, is_alone, IsCompositeTypeIn, IsSubType, IsSubTypeAs}
 use Rattle.smith_binary_sections.proofs.ListLemmas.{list_as}
 use Rattle.smith_binary_sections.proofs.SpelledFormLemmas.{alone_is}
 use Rattle.smith_binary_read.specs.declared.types.DeclaredType.{DeclaredType}
@@ -20,7 +18,6 @@ use Rattle.smith_binary_read.specs.DeclaredTypes.{IsDeclaredGroup, IsDeclaredTyp
 use Rattle.smith_binary_read.proofs.TypeLemmas.{plain_declared}
 use Rattle.smith_decode.specs.TypeGroups.{AreAligned, declared_group, declared_groups}
 use Rattle.smith_encode.specs.Spelled.{are_groups_spelled, are_types_spelled, IfPasses, is_declared_spelled, is_group_spelled, is_type_spelled}
-use Rattle.smith_encode.specs.TooLong.{IsLongDeclared, IsLongDeclaredGroup}
 use Rattle.smith_encode.specs.WrittenTypes.{HasSupertypes, IsDeclaredGroupWritten, IsDeclaredWritten, IsWrittenWith}
 use Rattle.smith_encode.proofs.CheckedLemmas.{list_passes}
 

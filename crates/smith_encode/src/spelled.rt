@@ -172,8 +172,10 @@ pub(crate) fn are_parts_spelled(alloc: Global, module: &Module) -> Result<bool, 
     ensures { IfOk result (λ spelled. spelled ≡ are_parts_spelled «module».now) }
 {
     Ok(
-        are_groups_spelled(module.types.as_slice(), module.further_supertypes.as_slice())
-            && module.functions.len() == module.bodies.len()
+        are_groups_spelled(
+            module.types.as_slice(),
+            module.further_supertypes.as_slice(),
+        ) && module.functions.len() == module.bodies.len()
             && are_spelled(alloc, module.tables.as_slice())?
             && are_spelled(alloc, module.globals.as_slice())?
             && are_spelled(alloc, module.elements.as_slice())?

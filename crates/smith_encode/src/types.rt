@@ -47,12 +47,7 @@ fn final_byte(is_final: bool) -> u8
 }
 
 // Writes a type whose supertypes are `first` and `further`.
-fn write_full(
-    ty: &SubType,
-    first: u32,
-    further: &[u32],
-    sink: &mut Sink,
-) -> Result<(), EncodeError>
+fn write_full(ty: &SubType, first: u32, further: &[u32], sink: &mut Sink) -> Result<(), EncodeError>
     ensures writes { OnOk result
         (Writes (λ _. HasSupertypes (first ∷ further.now) ty.now) sink.old sink.new) }
     ensures fault { IfErr result
