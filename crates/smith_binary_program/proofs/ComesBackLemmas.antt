@@ -1,5 +1,6 @@
 -- What is written for a valid program is decoded as its module, with the features of its configuration.
-use Rattle.smith_binary_program.proofs.Common.{All, ap, Body, Contains, IsGroupEnabled, IsValidProgram, List, module_features, ModuleParts, refl, subst, sym, ℕ}
+use Rattle.smith_binary_program.proofs.Common.{All, ap, Body, Contains, IsGroupEnabled, IsValidProgram, List, module_features, ModuleParts}
+use Rattle.smith_binary_program.proofs.Common.{refl, subst, sym, ℕ}
 use Rattle.smith_binary_program.proofs.Common.{◌++◌, ◌∙◌, ◌≡◌}
 use Rattle.std.proofs.Common.{Err, Ok}
 use Rattle.smith_binary_law.proofs.SectionLemmas.{read_whole}

@@ -66,7 +66,9 @@ abbrev FunctionsOn : Features → Functions → Type 0
 FunctionsOn features x = Unit {0} × (All (IsTableEnabled features) x.1.0 × MemoriesOn features x.1.1)
 
 abbrev pub PartsOn : Features → Parts → Type 0
-PartsOn features x = All (λ (group : List DeclaredType). IsGroupEnabled features (types_in group)) x.0 × (All (IsImportGroupEnabled features) x.1.0 × FunctionsOn features x.1.1)
+PartsOn features x =
+    All (λ (group : List DeclaredType). IsGroupEnabled features (types_in group)) x.0
+    × (All (IsImportGroupEnabled features) x.1.0 × FunctionsOn features x.1.1)
 
 pub parts_enabled : (features : Features) (x : Parts) → PartsOn features x → AreFormsEnabled features (module_of x)
 parts_enabled features x on =

@@ -74,7 +74,8 @@ passive_sections = record {
 }
 
 -- a module is valid if all its sections are, and it has neither types nor functions
-with_sections : (m : Syntax) → HaveOneSupertype m.further_supertypes → m.types ≡ [] → m.functions ≡ [] → m.bodies ≡ [] → AreSectionsValid usual_features indices m
+with_sections : (m : Syntax) → HaveOneSupertype m.further_supertypes → m.types ≡ [] → m.functions ≡ [] → m.bodies ≡ []
+    → AreSectionsValid usual_features indices m
     → IsValidProgram usual_features m
 with_sections m supertypes untyped empty bodiless sections = record {
   supertypes = supertypes;

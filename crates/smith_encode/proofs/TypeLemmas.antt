@@ -17,7 +17,8 @@ use Rattle.smith_binary_read.specs.declared.types.DeclaredType.{DeclaredType}
 use Rattle.smith_binary_read.specs.DeclaredTypes.{IsDeclaredGroup, IsDeclaredType, with_further}
 use Rattle.smith_binary_read.proofs.TypeLemmas.{plain_declared}
 use Rattle.smith_decode.specs.TypeGroups.{AreAligned, declared_group, declared_groups}
-use Rattle.smith_encode.specs.Spelled.{are_groups_spelled, are_types_spelled, IfPasses, is_declared_spelled, is_group_spelled, is_type_spelled}
+use Rattle.smith_encode.specs.Spelled.{are_groups_spelled, are_types_spelled, IfPasses, is_declared_spelled, is_group_spelled}
+use Rattle.smith_encode.specs.Spelled.{is_type_spelled}
 use Rattle.smith_encode.specs.WrittenTypes.{HasSupertypes, IsDeclaredGroupWritten, IsDeclaredWritten, IsWrittenWith}
 use Rattle.smith_encode.proofs.CheckedLemmas.{list_passes}
 
@@ -147,7 +148,8 @@ alone types further t one is =
     (drop_of_length-le types {i = 0 + 1} (omega (arith, one)))
 
 -- other groups
-group_form : (group : List DeclaredType) (piece : List ℕ) → (length group ≡ 1 → ⊥) → Joined (IsByte 0x4E) (IsList IsDeclaredWritten group) piece
+group_form : (group : List DeclaredType) (piece : List ℕ) → (length group ≡ 1 → ⊥)
+    → Joined (IsByte 0x4E) (IsList IsDeclaredWritten group) piece
     → IsDeclaredGroupWritten group piece
 group_form [] piece other h = h
 group_form (one ∷ []) piece other h = absurd (other refl)
@@ -245,7 +247,8 @@ declared_passes declared piece (IsDeclaredType.short final none nothing h) =
     type_passes declared.sub_type.supertype declared.further_supertypes (λ is. nothing)
 
 each_spelled : {A : Type 0} (P : A → List ℕ → Type 0) (passes : A → Bool)
-    → ((x : A) (piece : List ℕ) → P x piece → passes x ≡ true) → (xs : List A) (piece : List ℕ) → Each P xs piece → list_all passes xs ≡ true
+    → ((x : A) (piece : List ℕ) → P x piece → passes x ≡ true) → (xs : List A) (piece : List ℕ) → Each P xs piece
+    → list_all passes xs ≡ true
 unfolding Each
 each_spelled P passes item [] piece h = refl
 each_spelled P passes item (x ∷ xs) piece h =

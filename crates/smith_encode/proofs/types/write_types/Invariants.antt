@@ -11,5 +11,6 @@ abbrev pub invariant-loop-i : goal.invariant-loop-i
 invariant-loop-i l = record {
   leads : Leads (λ _. Each (IfPasses is_declared_spelled IsDeclaredWritten) (declared_group (drop l.i l.types) (drop l.i l.further)))
       (λ _. Each (IfPasses is_declared_spelled IsDeclaredWritten) (declared_group l.types l.further)) l.fn.sink l.sink;
-  long : Any IsLongDeclared (declared_group (drop l.i l.types) (drop l.i l.further)) → Any IsLongDeclared (declared_group l.types l.further);
+  long : Any IsLongDeclared (declared_group (drop l.i l.types) (drop l.i l.further))
+      → Any IsLongDeclared (declared_group l.types l.further);
 }
