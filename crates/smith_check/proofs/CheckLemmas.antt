@@ -1,5 +1,6 @@
 -- What the steps of the check say of a module.
-use Rattle.smith_check.proofs.Common.{[], AreSectionsValid, arith, Features, IsTypeSectionValid, subst, syntax_of, take, ℕ, ◌+◌, ◌<◌, ◌≡◌, ◌≤◌}
+use Rattle.smith_check.proofs.Common.{[], AreSectionsValid, arith, Features, IsTypeSectionValid, subst, syntax_of, take, ℕ, ◌+◌, ◌<◌, ◌≡◌}
+use Rattle.smith_check.proofs.Common.{◌≤◌}
 use Rattle.smith_decode.specs.declared.modules.Module.{Module}
 use Rattle.smith_check_types.specs.CheckedTypes.{AreChecked}
 use Rattle.smith_check_types.specs.declared.check.CheckedTypes.{CheckedTypes}

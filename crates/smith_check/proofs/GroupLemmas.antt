@@ -1,9 +1,9 @@
 -- The first groups of types.
-use Rattle.smith_check.proofs.Common.{[], All-nil, ap, AreTypesValid, arith, Features, flat_map, IfOk, IsTypeSectionValid, length, List}
-use Rattle.smith_check.proofs.Common.{MatchOption, Option, refl, Some, space_of, subst, SubType, suc, sym, take, zero, ℕ, ◌<◌, ◌∙◌, ◌∷◌, ◌≡◌, ◌≤◌}
-use Rattle.std.proofs.Common.{Err, min, None, Ok, Result, take-take, ◌+◌}
+use Rattle.smith_check.proofs.Common.{[], All-nil, ap, AreTypesValid, arith, Features, flat_map, IsTypeSectionValid, length, List}
+use Rattle.smith_check.proofs.Common.{MatchOption, Option, refl, Some, space_of, subst, SubType, suc, sym, take, zero, ℕ, ◌<◌, ◌∙◌, ◌∷◌}
+use Rattle.smith_check.proofs.Common.{◌≡◌, ◌≤◌}
+use Rattle.std.proofs.Common.{min, None, take-take, ◌+◌}
 use Rattle.std.proofs.Common.{length-append}
-use Rattle.smith_bytes.specs.declared.error.Error.{Error}
 use Rattle.smith_check_types.specs.Canonical.{AreCanonical}
 use Rattle.smith_check_types.specs.CheckedTypes.{AreChecked}
 use Rattle.smith_check_types.specs.declared.check.CheckedTypes.{CheckedTypes}
@@ -54,30 +54,20 @@ front_short [] (suc count) = omega arith
 front_short (group ∷ groups) (suc count) = let others = front_short groups count in omega (arith, others)
 
 -- what is found in the first groups
-pub before_in_front : (features : Features) (groups : List (List SubType)) (count : ℕ) (found : Result ℕ Error)
-    → IfOk found (λ (group : ℕ). IsTypeSectionValid features (take group (take count groups)))
-    → IfOk found (λ (group : ℕ). group < length (take count groups))
-    → IfOk found (λ (group : ℕ). IsTypeSectionValid features (take group groups))
-before_in_front features groups count (Ok group) before within =
+pub before_in_front : (features : Features) (groups : List (List SubType)) (count group : ℕ)
+    → IsTypeSectionValid features (take group (take count groups)) → group < length (take count groups)
+    → IsTypeSectionValid features (take group groups)
+before_in_front features groups count group before within =
     let short = front_short groups count in
     subst (IsTypeSectionValid features) (take-take group count groups (omega (arith, short, within))) before
-before_in_front features groups count (Err e) before within = tt
 
-pub wrong_in_front : (features : Features) (groups : List (List SubType)) (count several : ℕ) (found : Result ℕ Error)
-    → IfOk found (λ (group : ℕ). IsTypeSectionValid features (take (group + 1) (take count groups)) → ⊥)
-    → IfOk found (λ (group : ℕ). group < length (take count groups))
-    → IfOk found (λ (group : ℕ). group < several → IsTypeSectionValid features (take (group + 1) groups) → ⊥)
-wrong_in_front features groups count several (Ok group) wrong within =
+pub wrong_in_front : (features : Features) (groups : List (List SubType)) (count several group : ℕ)
+    → (IsTypeSectionValid features (take (group + 1) (take count groups)) → ⊥) → group < length (take count groups)
+    → group < several → IsTypeSectionValid features (take (group + 1) groups) → ⊥
+wrong_in_front features groups count several group wrong within low valid =
     let short = front_short groups count in
     let same = take-take (group + 1) count groups (omega (arith, short, within)) in
-    λ low valid. wrong (subst (IsTypeSectionValid features) (sym same) valid)
-wrong_in_front features groups count several (Err e) wrong within = tt
-
-pub within_front : (groups : List (List SubType)) (several : ℕ) (found : Result ℕ Error)
-    → IfOk found (λ (group : ℕ). group < length (take (min several (length groups)) groups)) → IfOk found (λ (group : ℕ). group ≤ several)
-within_front groups several (Ok group) within =
-    let short = front_short groups (min several (length groups)) in omega (arith, short, within)
-within_front groups several (Err e) within = tt
+    wrong (subst (IsTypeSectionValid features) (sym same) valid)
 
 -- groups that are checked are valid
 pub checked_valid : (features : Features) (groups : List (List SubType)) (found : Option CheckedTypes) (types : CheckedTypes)

@@ -73,7 +73,10 @@ pub(crate) fn first_wrong_up_to(
     let front = &groups[..several.min(groups.len())];
     let found = check_types(alloc, features, front)?;
     match found {
-        Some(_) => Ok(several),
-        None => first_wrong_group(alloc, features, front),
+        Some(_types) => Ok(several),
+        None => {
+            let group = first_wrong_group(alloc, features, front)?;
+            Ok(group)
+        }
     }
 }

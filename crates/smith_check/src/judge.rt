@@ -50,11 +50,7 @@ pub fn check(alloc: Global, features: WasmFeatures, module: &Module) -> Result<J
 }
 
 // Checks a module with few types, none of which has several supertypes.
-fn check_single(
-    alloc: Global,
-    features: WasmFeatures,
-    module: &Module,
-) -> Result<Judgement, Error>
+fn check_single(alloc: Global, features: WasmFeatures, module: &Module) -> Result<Judgement, Error>
     requires few { length (space_of «module».now.types).types + 1 < 2 ^ 32 }
     requires supertypes { HaveOneSupertype «module».now.further_supertypes }
     ensures decided { IfOk result (IsJudgement (features_in features) «module».now) }

@@ -1,5 +1,5 @@
 use Rattle.smith_check.proofs.Common.{arith, features_in, IsTypeSectionValid, subst, take}
-use Rattle.smith_check.proofs.GroupLemmas.{before_in_front, checked_valid, few_in_first, front_is, within_front, wrong_in_front}
+use Rattle.smith_check.proofs.GroupLemmas.{before_in_front, checked_valid, few_in_first, front_is, wrong_in_front}
 use Rattle.smith_check.proofs.groups.first_wrong_up_to.Goals as goal
 
 pub check_types-requires : goal.check_types-requires
@@ -21,17 +21,12 @@ first_wrong_group-requires-clause-few c =
 pub first_wrong_group-requires-clause-wrong : goal.first_wrong_group-requires-clause-wrong
 first_wrong_group-requires-clause-wrong c = rw c.in-None.is at c.in_ok-found.ensures.decided
 
-pub returns-in-None-clause-before : goal.returns-in-None-clause-before
-returns-in-None-clause-before c =
-    before_in_front (features_in c.args.features) c.args.groups.now c.min.result c.first_wrong_group.result
-    c.first_wrong_group.ensures.before c.first_wrong_group.ensures.within
+pub returns-in_ok-group-in-None-clause-before : goal.returns-in_ok-group-in-None-clause-before
+returns-in_ok-group-in-None-clause-before c =
+    before_in_front (features_in c.args.features) c.args.groups.now c.min.result c.in_ok-group-in-None.group
+    c.in_ok-group-in-None.ensures.before c.in_ok-group-in-None.ensures.within
 
-pub returns-in-None-clause-first : goal.returns-in-None-clause-first
-returns-in-None-clause-first c =
-    wrong_in_front (features_in c.args.features) c.args.groups.now c.min.result c.args.several c.first_wrong_group.result
-    c.first_wrong_group.ensures.first c.first_wrong_group.ensures.within
-
-pub returns-in-None-clause-within : goal.returns-in-None-clause-within
-returns-in-None-clause-within c =
-    within_front c.args.groups.now c.args.several c.first_wrong_group.result
-    (rw c.min.ensures at c.first_wrong_group.ensures.within)
+pub returns-in_ok-group-in-None-clause-first : goal.returns-in_ok-group-in-None-clause-first
+returns-in_ok-group-in-None-clause-first c =
+    wrong_in_front (features_in c.args.features) c.args.groups.now c.min.result c.args.several c.in_ok-group-in-None.group
+    c.in_ok-group-in-None.ensures.first c.in_ok-group-in-None.ensures.within
