@@ -1,7 +1,7 @@
 use Rattle.smith_decode.proofs.Common.{[], ap, append-nil, append_assoc, arith, length, nil_from_length, refl, sym, ◌∙◌, ◌∷◌, ◌≡◌}
 use Rattle.std.specs.Vec.Iter.{into_iter_items}
 use Rattle.smith_decode.specs.TypeGroups.{further_in, groups_further, groups_types, types_in}
-use Rattle.smith_decode.proofs.TypeGroupLemmas.{one_more}
+use Rattle.smith_decode.proofs.TypeGroupLemmas.{both_same, one_more}
 use Rattle.smith_decode.proofs.type_groups.split_groups.Goals as goal
 
 pub loop-group-preserved : goal.loop-group-preserved
@@ -9,14 +9,12 @@ loop-group-preserved c =
     let at = c.loop-group in
     let x = c.in-Some.group in
     let steps : into_iter_items at.group-iterator ≡ x ∷ into_iter_items c.next.new.self = c.in-Some.ensures.steps.0 in
-    let split = c.in_ok-members.ensures in
-    let members : c.in_ok-members.members ≡ types_in x = cc in
-    let supertypes : c.in_ok-members.supertypes ≡ further_in x = cc in
+    let split = both_same c.in_ok-members.members c.in_ok-members.supertypes (types_in x) (further_in x) c.in_ok-members.ensures in
     record {
       yields = append_assoc at.yielded (x ∷ []) _ ∙ rw (← steps) at.invariant.yields;
       left = omega (arith, at.invariant.left, c.in-Some.ensures.steps.1, ap length steps);
-      types = rw (c.in_ok-push.ensures.items, members) (one_more types_in at.types.items at.yielded x at.invariant.types);
-      further = rw (c.in_ok-push-2.ensures.items, supertypes) (one_more further_in at.further.items at.yielded x at.invariant.further);
+      types = rw (c.in_ok-push.ensures.items, split.0) (one_more types_in at.types.items at.yielded x at.invariant.types);
+      further = rw (c.in_ok-push-2.ensures.items, split.1) (one_more further_in at.further.items at.yielded x at.invariant.further);
     }
 
 pub returns : goal.returns
