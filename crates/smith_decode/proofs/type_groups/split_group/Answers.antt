@@ -14,7 +14,8 @@ loop-declared-preserved c =
       yields = append_assoc at.yielded (x ∷ []) _ ∙ rw (← steps) at.invariant.yields;
       left = omega (arith, at.invariant.left, c.in-Some.ensures.steps.1, ap length steps);
       types = rw c.in_ok-push.ensures.items (one_more (λ (t : DeclaredType). t.sub_type) at.types.items at.yielded x at.invariant.types);
-      further = rw c.in_ok-push-2.ensures.items (one_more (λ (t : DeclaredType). t.further_supertypes) at.further.items at.yielded x at.invariant.further);
+      further = rw c.in_ok-push-2.ensures.items (one_more (λ (t : DeclaredType). t.further_supertypes)
+          at.further.items at.yielded x at.invariant.further);
     }
 
 pub returns : goal.returns
