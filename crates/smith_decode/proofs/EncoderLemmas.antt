@@ -237,7 +237,8 @@ encoder_form m bodies bytes is_module same needed =
     then_counted 4 (first_as (λ first is. section_of 4 as_table IsTable IsConstTable table_as m.tables first is) tables)
     (then_counted 5 memories (then_counted 13 tags from_globals)) in
     let sections =
-    then_counted 1 (first_as (λ first is. types_form m.types first is) types) (then_counted 2 imports (then_counted 3 functions from_tables)) in
+    then_counted 1 (first_as (λ first is. types_form m.types first is) types)
+    (then_counted 2 imports (then_counted 3 functions from_tables)) in
     let code = count.is_second in
     let plain_start =
     plain_then 8 (λ e. omega arith) (omega arith) (first_as (λ first is. start_form m.start first is) start)
