@@ -1,6 +1,7 @@
 -- Decoded modules in the abstract syntax, as a whole.
 use Rattle.smith_decode.proofs.Common.{[], ap, Bool, eq-eqb, eqb, eqb-true, Err, false, Features, Instr, IsIndex, IsList, IsMemoryType}
-use Rattle.smith_decode.proofs.Common.{IsDeclaredGroup, length, List, list_any, map, None, Ok, Option, refl, Result, Some, subst, sym, TableType}
+use Rattle.smith_decode.proofs.Common.{IsDeclaredGroup, length, List, list_any, map, None, Ok, Option, refl, Result, Some, subst, sym}
+use Rattle.smith_decode.proofs.Common.{TableType}
 use Rattle.smith_decode.proofs.Common.{true, ValType, Viewed, ℕ, ◌||◌, ◌∙◌, ◌∷◌, ◌≡◌}
 use Rattle.std.specs.Prelude.{IfOk, IfSome}
 use Rattle.std.proofs.lemmas.Bool.{and_parts}

@@ -1,5 +1,6 @@
 -- Modules without custom sections, as an encoder writes them, and what the reading says of modules.
-use Rattle.smith_decode.proofs.Common.{[], ap, append-nil, arith, Bool, Each, Err, false, Fault, Instr, IsDeclaredGroup, IsList, IsNestedExpr}
+use Rattle.smith_decode.proofs.Common.{[], ap, append-nil, arith, Bool, Each, Err, false, Fault, Instr, IsDeclaredGroup, IsList}
+use Rattle.smith_decode.proofs.Common.{IsNestedExpr}
 use Rattle.smith_decode.proofs.Common.{IsOptionalSection, IsSection, IsUnsigned, Joined, length, List, list_any, map, nil_from_length, None}
 use Rattle.smith_decode.proofs.Common.{Option, refl, Some, subst, suc, sym, true, ValType, ℕ, ◌++◌, ◌∙◌, ◌∷◌, ◌≡◌}
 use Rattle.std.proofs.lemmas.List.{length-map}
@@ -235,7 +236,9 @@ encoder_form m bodies bytes is_module same needed =
     let from_tables =
     then_counted 4 (first_as (λ first is. section_of 4 as_table IsTable IsConstTable table_as m.tables first is) tables)
     (then_counted 5 memories (then_counted 13 tags from_globals)) in
-    let sections = then_counted 1 (first_as (λ first is. types_form m.types first is) types) (then_counted 2 imports (then_counted 3 functions from_tables)) in
+    let sections =
+    then_counted 1 (first_as (λ first is. types_form m.types first is) types)
+    (then_counted 2 imports (then_counted 3 functions from_tables)) in
     let code = count.is_second in
     let plain_start =
     plain_then 8 (λ e. omega arith) (omega arith) (first_as (λ first is. start_form m.start first is) start)

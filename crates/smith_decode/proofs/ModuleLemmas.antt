@@ -1,5 +1,6 @@
 -- Modules that are read: the reading is sound and complete for sections of the items that are decoded.
-use Rattle.smith_decode.proofs.Common.{[], ap, arith, Decodes, DecodesWhole, eq-eqb, eqb-true, expr_decodes, IsDeclaredGroup, IsExportItem, IsImportGroup}
+use Rattle.smith_decode.proofs.Common.{[], ap, arith, Decodes, DecodesWhole, eq-eqb, eqb-true, expr_decodes, IsDeclaredGroup}
+use Rattle.smith_decode.proofs.Common.{IsExportItem, IsImportGroup}
 use Rattle.smith_decode.proofs.Common.{IsIndex, IsList, IsMemoryType, IsTagDefinition, Joined, joined_decodes, List, list_at}
 use Rattle.smith_decode.proofs.Common.{None, Ok, Option, refl, Some, step, subst, sym, test_passed, true, unsigned_at, unsigned_decodes, ℕ}
 use Rattle.smith_decode.proofs.Common.{◌++◌, ◌<◌, ◌^◌, ◌∙◌, ◌∷◌, ◌≡◌}

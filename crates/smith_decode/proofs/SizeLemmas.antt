@@ -1,5 +1,6 @@
 -- The items of each production take a byte each in what spells it.
-use Rattle.smith_decode.proofs.Common.{[], ap, arith, Decodes, Each, Err, Fault, Instr, instr_at, IsByte, IsDeclaredGroup, IsExportItem, IsImportGroup}
+use Rattle.smith_decode.proofs.Common.{[], ap, arith, Decodes, Each, Err, Fault, Instr, instr_at, IsByte, IsDeclaredGroup, IsExportItem}
+use Rattle.smith_decode.proofs.Common.{IsImportGroup}
 use Rattle.smith_decode.proofs.Common.{IsIndex, IsList, IsNestedExpr, IsUnsigned, Joined, length, length-append, List, Reading}
 use Rattle.smith_decode.proofs.Common.{refl, sym, TableType, unsigned_at, unsigned_decodes, ValType, ℕ, ◌++◌, ◌+◌, ◌∙◌, ◌∷◌, ◌≡◌, ◌≤◌}
 use Rattle.std.specs.Prelude.{option_to_list}

@@ -101,3 +101,10 @@ groups_items (group ∷ groups) = omega (arith, group_items group, groups_items 
 pub one_more : {A B : Type 0} (part : A → B) (made : List B) (before : List A) (x : A) → made ≡ map part before
     → made ++ part x ∷ [] ≡ map part (before ++ x ∷ [])
 one_more {B = B} part made before x so_far = ap (λ (xs : List B). xs ++ part x ∷ []) so_far ∙ sym (map-append part before (x ∷ []))
+
+-- the parts of equal pairs
+abbrev pair : {A B : Type 0} → A → B → A × B
+pair x y = (x, y)
+
+pub both_same : {A B : Type 0} (x : A) (y : B) (v : A) (w : B) → pair x y ≡ pair v w → (x ≡ v) × (y ≡ w)
+both_same {A = A} {B = B} x y v w e = (ap (λ (p : A × B). p.0) e, ap (λ (p : A × B). p.1) e)

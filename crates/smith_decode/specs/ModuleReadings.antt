@@ -1,7 +1,8 @@
 -- Readings of modules: the section Binary Format, Modules, of the WebAssembly Core Specification 3.0.
 use Rattle.std.specs.Prelude.{◌==◌, ◌&&◌, ℕ, Bool, true, not, if◌then◌else◌, List, [], ◌∷◌, length, Option, Some, None}
 use Rattle.std.specs.Prelude.{Result, Ok, Err}
-use Rattle.smith_decode.specs.Common.{byte_at, DeclaredType, Export, Fault, fault_at, Imports, list_at, mapped_at, MemoryType, TagDefinition}
+use Rattle.smith_decode.specs.Common.{byte_at, DeclaredType, Export, Fault, fault_at, Imports, list_at, mapped_at, MemoryType}
+use Rattle.smith_decode.specs.Common.{TagDefinition}
 use Rattle.smith_decode.specs.Common.{UnknownByte, unsigned_at, ◌>>=◌}
 use Rattle.smith_binary_read.specs.declared.error.Reason.TheVariants.{CountMismatch, DataCountMissing}
 use Rattle.smith_binary_read.specs.Readings.{whole_at}

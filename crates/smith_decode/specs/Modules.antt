@@ -2,7 +2,8 @@
 -- Specification 3.0.
 use Rattle.std.specs.Prelude.{◌≡◌, ℕ, Bool, false, Option, Some, None, List, [], ◌∷◌, length, map, IfSome}
 use Rattle.std.specs.List.{list_any}
-use Rattle.smith_decode.specs.Common.{DeclaredType, Export, GlobalType, Instr, IsIndex, IsList, IsNestedExpr, IsUnsigned, Joined, MemoryType, SubType}
+use Rattle.smith_decode.specs.Common.{DeclaredType, Export, GlobalType, Instr, IsIndex, IsList, IsNestedExpr, IsUnsigned, Joined}
+use Rattle.smith_decode.specs.Common.{MemoryType, SubType}
 use Rattle.smith_decode.specs.Common.{TableType, TagDefinition, ValType}
 use Rattle.smith_binary.specs.Pieces.{IsSized}
 use Rattle.smith_types.specs.Syntax.entity_type.ExportKind.{ExportKind}

@@ -109,7 +109,7 @@ custom_items custom = length custom.name + length custom.bytes
 -- the items of a module (Modules)
 abbrev pub items_in : Module → ℕ
 items_in m =
-    all_items (all_items sub_type_items) m.types + further_items m.further_supertypes + all_items import_items m.imports + length m.functions
-    + all_items table_items m.tables + length m.memories + length m.tags + all_items global_items m.globals
+    all_items (all_items sub_type_items) m.types + further_items m.further_supertypes + all_items import_items m.imports
+    + length m.functions + all_items table_items m.tables + length m.memories + length m.tags + all_items global_items m.globals
     + all_items export_items m.exports + all_items segment_items m.elements + all_items body_items m.bodies
     + all_items data_items m.datas + all_items custom_items m.customs
