@@ -14,6 +14,7 @@ PRINTED_SHAPE = (
 # A module with a function without instructions as text, with and without names.
 TEXT = "(module\n  (type (;0;) (func))\n  (func (;0;) (type 0)\n  )\n)\n"
 NAMED_TEXT = '(module\n  ;; "m"\n  (type (;0;) (func))\n  ;; "a \\";)b"\n  (func (;0;) (type 0)\n    ;; 0 "x" 2 "y\\0a"\n  )\n)\n'
+TWO_SUPERTYPES = "(module\n  (type (;0;) (sub (func)))\n  (type (;1;) (sub (func)))\n  (type (;2;) (sub 0 1 (func)))\n)\n"
 # Seventy nested blocks in a function: no line is indented by more than 64 levels.
 BLOCKS = 70
 STEPS = ["  " * min(2 + step, 64) for step in range(BLOCKS)]
@@ -44,6 +45,7 @@ JUDGED = {
     "shape.wasm": "valid",
     "tag.wasm": "valid",
     "twice.wasm": "invalid: export 1 at 0x19: an earlier export has this name (Validation, Modules)",
+    "two_supertypes.wasm": "invalid: recursive type 2 at 0x15: type 2 has several supertypes (Validation, Recursive Types)",
     "undeclared.wasm": "invalid: function 0, instruction 0 (ref.func) at 0x17: "
     "function 0 is not declared (Validation, Reference Instructions)",
     "unknown.wasm": "malformed: unexpected section at 0x12",
@@ -51,8 +53,8 @@ JUDGED = {
 }
 IN_JSON = '{"file":"adds.wasm","answer":"invalid","rule":"numeric-instruction","number":15,"section":"Numeric Instructions"'
 IN_JSON += f',"item":"function","index":0,"inner":0,"offset":23,"keyword":"i32.add","cause":"{NOTHING}","words":"{JUDGED["adds.wasm"]}"}}\n'
-SUMS = "15 files: 5 valid, 6 invalid, 3 malformed, 1 not judged, 0 not read\n"
-SUMS_IN_JSON = '{"files":15,"valid":5,"invalid":6,"malformed":3,"not-judged":1,"not-read":0}\n'
+SUMS = "16 files: 5 valid, 7 invalid, 3 malformed, 1 not judged, 0 not read\n"
+SUMS_IN_JSON = '{"files":16,"valid":5,"invalid":7,"malformed":3,"not-judged":1,"not-read":0}\n'
 
 # An invalid file is written.
 WRONG_INDEX = b"file\tanswer\toffset\trule\tfamily\ttwin\n0.wasm\tmalformed\t1\tunknown byte\tpreamble\ttwins/0.wasm\n"

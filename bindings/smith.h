@@ -202,7 +202,8 @@ enum {
     SMITH_RULE_MEMORY_INSTRUCTION = 21, /* of memory instructions, atomic ones among them */
     SMITH_RULE_AGGREGATE = 22,          /* of aggregate instructions */
     SMITH_RULE_CONTROL = 23,            /* of control instructions, else and end aside */
-    SMITH_RULE_END = 24                 /* of else and end */
+    SMITH_RULE_END = 24,                /* of else and end */
+    SMITH_RULE_SUPERTYPES = 25          /* that a type has one supertype at most */
 };
 
 /* The rules of the standard's chapter Binary Format that a malformed file breaks first. */
@@ -213,7 +214,7 @@ enum {
     SMITH_REASON_UTF8 = 4,              /* a name isn't UTF-8 */
     SMITH_REASON_SIZE = 5,              /* a content has bytes after its item */
     SMITH_REASON_BYTE = 6,              /* a byte, or a number in its place, that begins nothing */
-    SMITH_REASON_LENGTH = 7,            /* a list of a length that no valid module has */
+    SMITH_REASON_LENGTH = 7,            /* given by earlier versions: a type has several supertypes */
     SMITH_REASON_LOCALS = 8,            /* a body has 2^32 locals or more */
     SMITH_REASON_SECTION = 9,           /* a section is out of order, or comes twice */
     SMITH_REASON_COUNTS = 10,           /* two numbers of items differ that must agree */

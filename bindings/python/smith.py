@@ -12,7 +12,7 @@ import os
 import pathlib
 import typing
 
-__version__ = "0.10.1"
+__version__ = "0.11.0"
 
 Bytes = typing.Union[bytes, bytearray, memoryview]
 Shape = typing.Union[str, bytes, bytearray, memoryview]

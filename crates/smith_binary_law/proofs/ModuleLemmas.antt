@@ -22,7 +22,9 @@ use Rattle.smith_binary_sections.specs.Types.{IsRecGroup}
 use Rattle.smith_binary_read.proofs.ReadLemmas.{whole_decodes}
 use Rattle.smith_binary_read.proofs.IntegerLemmas.{unsigned_decodes}
 use Rattle.smith_binary_read.proofs.ContentLemmas.{list_decodes, sized_decodes}
-use Rattle.smith_binary_read.proofs.TypeLemmas.{group_decodes}
+use Rattle.smith_binary_read.specs.DeclaredTypes.{IsDeclaredGroup}
+use Rattle.smith_binary_read.specs.declared.types.DeclaredType.{DeclaredType}
+use Rattle.smith_binary_read.proofs.TypeLemmas.{group_decodes, plain_group, without_further}
 use Rattle.smith_binary_read.proofs.EntityLemmas.{memory_decodes, export_decodes}
 use Rattle.smith_binary_read.proofs.ImportLemmas.{import_group_decodes}
 use Rattle.smith_binary_read.proofs.TagLemmas.{tag_def_decodes}
@@ -32,6 +34,7 @@ use Rattle.smith_decode.specs.Data.{Data, IsData}
 use Rattle.smith_decode.specs.Definitions.{IsTable, IsGlobal}
 use Rattle.smith_decode.specs.Elements.{Elem, IsElem}
 use Rattle.smith_decode.specs.Modules.{IsStated}
+use Rattle.smith_decode.specs.TypeGroups.{groups_types, types_in}
 use Rattle.smith_decode.proofs.ConstantLemmas.{table_as, global_as, elem_as, data_as}
 use Rattle.smith_decode.proofs.CustomLemmas.{IsMore, IsEnd, end_decodes}
 use Rattle.smith_decode.proofs.DataLemmas as data_segment
@@ -47,13 +50,13 @@ use Rattle.smith_binary_law.proofs.SectionLemmas.{stated_viewed, then_form}
 -- the parts of a module in the order of their sections, with the number of data segments if it is stated
 abbrev Parts : Type 0
 Parts =
-    List (List SubType) × (List Import × (List ℕ × (List (TableType × List Instr) × (List MemoryType × (List ℕ
+    List (List DeclaredType) × (List Import × (List ℕ × (List (TableType × List Instr) × (List MemoryType × (List ℕ
     × (List (GlobalType × List Instr) × (List (List ℕ × ExportKind × ℕ) × (Option ℕ × (List Elem × (Option ℕ
     × (List (List ValType × List ℕ) × (List Data × Unit {0}))))))))))))
 
 abbrev AreParts : Parts → List ℕ → Type 0
 AreParts =
-    IsMore 1 [] (IsList IsRecGroup)
+    IsMore 1 [] (IsList IsDeclaredGroup)
     (IsMore 2 [] IsImports
     (IsMore 3 [] (IsList IsIndex)
     (IsMore 4 [] (IsList IsTable)
@@ -88,7 +91,7 @@ parts_read =
 -- the parts of a module, and a module of parts
 abbrev parts_of : Contents → Option ℕ → Parts
 parts_of m count = (
-  m.types,
+  map (map without_further) m.types,
   (
     m.imports,
     (
@@ -112,7 +115,7 @@ parts_of m count = (
 
 abbrev made_of : Parts → Contents
 made_of x = record {
-  types = x.0;
+  types = groups_types x.0;
   imports = x.1.0;
   functions = x.1.1.0;
   tables = map from_table x.1.1.1.0;
@@ -126,9 +129,14 @@ made_of x = record {
   datas = map from_data x.1.1.1.1.1.1.1.1.1.1.1.1.0;
 }
 
+types_again : (groups : List (List SubType)) → groups_types (map (map without_further) groups) ≡ groups
+types_again groups =
+    map_again types_in (map without_further) (map_again (λ (t : DeclaredType). t.sub_type) without_further (λ t. refl)) groups
+
 made_again : (m : Contents) (count : Option ℕ) → made_of (parts_of m count) ≡ m
 made_again m count =
     rw (
+      types_again m.types,
       map_again from_table as_table table_again m.tables,
       map_again from_global as_global global_again m.globals,
       map_again from_elem as_elem elem_again m.elems,
@@ -159,7 +167,7 @@ parts_form m bytes is_module =
         second = h.second;
         is_first = h.is_first;
         is_second =
-            then_form 1 types types.is_first
+            then_form 1 types (section_of 1 (map without_further) IsDeclaredGroup IsRecGroup plain_group m.types types.is_first)
             (then_form 2 imports imports.is_first
             (then_form 3 functions functions.is_first
             (then_form 4 tables (section_of 4 as_table IsTable IsConstTable table_as m.tables tables.is_first)

@@ -1,5 +1,6 @@
 -- What is written for a valid program is decoded as its module, with the features of its configuration.
-use Rattle.smith_binary_program.proofs.Common.{ap, Body, Contains, IsValidProgram, List, module_features, ModuleParts, refl, subst, sym, ℕ}
+use Rattle.smith_binary_program.proofs.Common.{All, ap, Body, Contains, IsGroupEnabled, IsValidProgram, List, module_features, ModuleParts}
+use Rattle.smith_binary_program.proofs.Common.{refl, subst, sym, ℕ}
 use Rattle.smith_binary_program.proofs.Common.{◌++◌, ◌∙◌, ◌≡◌}
 use Rattle.std.proofs.Common.{Err, Ok}
 use Rattle.smith_binary_law.proofs.SectionLemmas.{read_whole}
@@ -10,6 +11,7 @@ use Rattle.smith_decode.specs.ModuleReadings.{Parts, module_at, module_of, parts
 use Rattle.smith_decode.specs.Modules.{syntax_of}
 use Rattle.smith_decode.proofs.ContentsLemmas.{module_back}
 use Rattle.smith_decode.proofs.FormLemmas.{off_disabled}
+use Rattle.smith_decode.proofs.TypeGroupLemmas.{groups_types_again}
 use Rattle.smith_decode.proofs.ModuleLemmas.{AreParts, module_decodes, parts_decode, parts_of}
 use Rattle.smith_program.specs.declared.program.Body.TheVariants as body
 use Rattle.smith_binary_program.specs.Decoded.{EncodedProgramsComeBack, decoded}
@@ -43,12 +45,17 @@ read_enabled m bodies bytes encoded valid drawn =
     let same : parts_of back ≡ found.item =
     (read_whole (record { read = parts_at; decodes = parts_decode })).one (parts_of back) found.item h.second h.is_second
     (subst (AreParts found.item) (sym rest) found.form) in
+    let on : AreFormsEnabled (module_features m) (module_of (parts_of back)) =
+    subst (λ (x : Parts). AreFormsEnabled (module_features m) (module_of x)) (sym same)
+    (parts_enabled (module_features m) found.item found.good) in
     record {
       back = back;
       read = module_decodes.complete back bytes one.form;
       is = one.is;
-      enabled = subst (λ (x : Parts). AreFormsEnabled (module_features m) (module_of x)) (sym same)
-          (parts_enabled (module_features m) found.item found.good);
+      enabled = (
+        subst (All (IsGroupEnabled (module_features m))) (groups_types_again back.types back.further_supertypes) on.0,
+        on.1,
+      );
     }
 
 pub come_back : EncodedProgramsComeBack

@@ -1,9 +1,9 @@
 -- What is written for a valid program is read as the parts of a module with the forms of enabled features alone.
-use Rattle.smith_binary_program.proofs.Common.{[], All, All-map, as_expr, Body, ConstInstr, Contains, contents_of, Features, GlobalType}
+use Rattle.smith_binary_program.proofs.Common.{[], All, All-map, ap, as_expr, Body, ConstInstr, Contains, contents_of, Features, GlobalType}
 use Rattle.smith_binary_program.proofs.Common.{inl, inr, is_filled, IsDataValid, IsElementSegmentValid, IsExprEnabled, IsGlobalTypeEnabled}
 use Rattle.smith_binary_program.proofs.Common.{IsGroupEnabled, IsImportGroupEnabled, IsMemoryTypeEnabled, IsTrue, IsUnsigned, IsValid}
-use Rattle.smith_binary_program.proofs.Common.{IsValidProgram, Joined, length, List, module_features, ModuleParts, None, Option, refl}
-use Rattle.smith_binary_program.proofs.Common.{segment_context, Some, TableType, zip, ℕ}
+use Rattle.smith_binary_program.proofs.Common.{IsValidProgram, Joined, length, List, map, module_features, ModuleParts, None, Option, refl}
+use Rattle.smith_binary_program.proofs.Common.{segment_context, Some, subst, sym, TableType, zip, ℕ, ◌∷◌, ◌≡◌}
 use Rattle.std.proofs.Common.{◌-◌}
 use Rattle.smith_binary.specs.Pieces.{IsList}
 use Rattle.smith_types.specs.Syntax.entity_type.ExportKind.{ExportKind}
@@ -14,13 +14,17 @@ use Rattle.smith_binary_sections.specs.Entities.{IsMemoryType, IsTagType}
 use Rattle.smith_binary_sections.specs.Exports.{IsExport}
 use Rattle.smith_binary_sections.specs.Imports.{IsImportGroup}
 use Rattle.smith_binary_sections.specs.Instructions.{IsIndex}
-use Rattle.smith_binary_sections.specs.Types.{IsRecGroup, IsRecGroupWritten}
+use Rattle.smith_binary_sections.specs.Types.{IsRecGroupWritten}
 use Rattle.smith_binary_sections.proofs.SpelledFormLemmas.{group_spelled, table_spelled}
 use Rattle.smith_binary_law.proofs.SectionLemmas.{start_form, stated_viewed}
 use Rattle.smith_binary_module.specs.Contents.{defined}
 use Rattle.smith_binary_module.specs.Layout.{writes_data_count, writes_imports, writes_types}
 use Rattle.smith_binary_module.specs.Written.{IsBack, IsFront, IsMiddle}
+use Rattle.smith_types.specs.Syntax.composite_type.SubType.{SubType}
+use Rattle.smith_binary_read.specs.declared.types.DeclaredType.{DeclaredType}
+use Rattle.smith_binary_read.specs.DeclaredTypes.{IsDeclaredGroup}
 use Rattle.smith_binary_read.specs.TagReadings.{IsTagDefinition}
+use Rattle.smith_binary_read.proofs.TypeLemmas.{plain_group, without_further}
 use Rattle.smith_binary_read.specs.EntityReadings.{IsExportItem}
 use Rattle.smith_decode.specs.BodyReadings.{IsRunBody}
 use Rattle.smith_decode.specs.DataReadings.{IsSegment}
@@ -30,6 +34,7 @@ use Rattle.smith_decode.specs.Forms.{AreFormsEnabled, IsBodyEnabled, IsCountEnab
 use Rattle.smith_decode.specs.Forms.{IsGlobalEnabled, IsKindEnabled, IsTableEnabled, IsTagEnabled}
 use Rattle.smith_decode.specs.ModuleReadings.{Bodies, Counts, Functions, Globals, Memories, Parts, Starts, module_of}
 use Rattle.smith_decode.specs.Modules.{IsStated}
+use Rattle.smith_decode.specs.TypeGroups.{types_in}
 use Rattle.smith_decode.proofs.ConstantLemmas.{global_as, table_as}
 use Rattle.smith_decode.proofs.ModuleLemmas.{AreMemories, AreParts, AreStarts}
 use Rattle.smith_program.specs.declared.program.Body.TheVariants as body
@@ -61,7 +66,9 @@ abbrev FunctionsOn : Features → Functions → Type 0
 FunctionsOn features x = Unit {0} × (All (IsTableEnabled features) x.1.0 × MemoriesOn features x.1.1)
 
 abbrev pub PartsOn : Features → Parts → Type 0
-PartsOn features x = All (IsGroupEnabled features) x.0 × (All (IsImportGroupEnabled features) x.1.0 × FunctionsOn features x.1.1)
+PartsOn features x =
+    All (λ (group : List DeclaredType). IsGroupEnabled features (types_in group)) x.0
+    × (All (IsImportGroupEnabled features) x.1.0 × FunctionsOn features x.1.1)
 
 pub parts_enabled : (features : Features) (x : Parts) → PartsOn features x → AreFormsEnabled features (module_of x)
 parts_enabled features x on =
@@ -71,7 +78,7 @@ parts_enabled features x on =
     let starts = globals.1.1 in
     let counts = starts.1.1 in
     let bodies = counts.1 in (
-      on.0,
+      All-map (IsGroupEnabled features) types_in x.0 on.0,
       (
         on.1.0,
         (
@@ -171,6 +178,11 @@ middle_found m valid more piece h =
     (exports_on m valid)) more r last)
     q (unjoined later)) p (unjoined rest)) piece (unjoined h)
 
+-- types without further supertypes
+plain_types : (group : List SubType) → types_in (map without_further group) ≡ group
+plain_types [] = refl
+plain_types (t ∷ group) = ap (λ (more : List SubType). t ∷ more) (plain_types group)
+
 -- all sections
 table_good : (features : Features) (ty : TableType) (initial : Option (List ConstInstr)) → IsTableOn features (ty, initial)
     → IsTableEnabled features (record { ty = ty; initial = as_expr (initialised_table (ty, initial)).1 })
@@ -182,8 +194,13 @@ front_found : (m : ModuleParts) → IsValid m → {More : List ℕ → Type 0}
     → Finds (PartsOn (module_features m)) AreParts piece
 front_found m valid more piece h =
     let features = module_features m in
-    then_found 1 [] (items_found (writes_types m) 1 (IsGroupEnabled features) IsRecGroupWritten (IsGroupEnabled features) IsRecGroup
-    (λ group p on one. record { item = group; good = on; form = group_spelled group p one }) (contents_of m).types (groups_on m valid))
+    then_found 1 [] (items_found (writes_types m) 1 (IsGroupEnabled features) IsRecGroupWritten
+    (λ (group : List DeclaredType). IsGroupEnabled features (types_in group)) IsDeclaredGroup
+    (λ group p on one. record {
+      item = map without_further group;
+      good = subst (IsGroupEnabled features) (sym (plain_types group)) on;
+      form = plain_group group p (group_spelled group p one);
+    }) (contents_of m).types (groups_on m valid))
     (λ p rest. then_found 2 [] (items_found (writes_imports m) 2 (IsImportGroupEnabled features) IsImportGroup
     (IsImportGroupEnabled features) IsImportGroup
     (as_itself (IsImportGroupEnabled features) IsImportGroup) m.imports (module_imports_on m valid))

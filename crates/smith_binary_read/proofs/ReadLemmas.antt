@@ -171,3 +171,10 @@ whole_decodes {P = P} {p = p} p_reads = record {
       subst (λ (z : _). P z bytes) same (subst (P y.0) (sym piece) one.spelled)));
   complete = λ x bytes h. rw (ap p (sym (append-nil bytes)) ∙ p_reads.complete x bytes [] h) refl;
 }
+
+-- bytes that are read to their end are spelled
+pub all_spelled : {A : Type 0} {P : A → List ℕ → Type 0} {p : List ℕ → Reading A} → Decodes P p → (bytes : List ℕ) (x : A)
+    → p bytes ≡ Ok (x, []) → P x bytes
+all_spelled {P = P} p_reads bytes x e =
+    let one = p_reads.sound bytes x [] e in
+    subst (P x) (sym (one.whole ∙ append-nil one.piece)) one.spelled

@@ -1,10 +1,10 @@
 -- Types that are read: the readings are sound and complete for the grammar.
-use Rattle.std.proofs.Common.{◌≡◌, ℕ, ◌<◌, ◌≤◌, Bool, true, false, List, [], ◌∷◌, ◌++◌, Option}
-use Rattle.std.proofs.Common.{Some, None, Ok, refl, sym, ap, subst, ◌∙◌, append-nil, arith}
+use Rattle.std.proofs.Common.{◌≡◌, ℕ, suc, ◌<◌, ◌≤◌, ◌-◌, Bool, true, false, List, [], ◌∷◌, ◌++◌, map, Option}
+use Rattle.std.proofs.Common.{Some, None, Ok, Err, refl, sym, ap, subst, ◌∙◌, append-nil, arith}
 use Rattle.std.specs.Prelude.{pos, option_to_list}
 use Rattle.std.proofs.lemmas.Bool.{lt-ltb, le-ltb, lt-leb, ne_eqb}
 use Rattle.smith_binary.specs.Numbers.{IsUnsigned, IsSigned}
-use Rattle.smith_binary.specs.Pieces.{IsByte, Joined, Each, IsList}
+use Rattle.smith_binary.specs.Pieces.{IsByte, Joined, IsList}
 use Rattle.smith_types.specs.Syntax.value_type.AbstractHeapType.{AbstractHeapType}
 use Rattle.smith_types.specs.Syntax.value_type.AbstractHeapType.TheVariants as abstract
 use Rattle.smith_types.specs.Syntax.value_type.HeapType.{HeapType}
@@ -21,20 +21,27 @@ use Rattle.smith_types.specs.Syntax.composite_type.SubType.{SubType}
 use Rattle.smith_binary_sections.specs.Types.{abstract_byte, null_byte, IsAbstractAlone, IsHeapType, IsRefType, IsValType, IsStorageType}
 use Rattle.smith_binary_sections.specs.Types.{mutability_byte, IsFieldType, IsFuncType, IsInnerType, IsCompositeType}
 use Rattle.smith_binary_sections.specs.Types.{final_byte, IsSubType, IsRecGroup}
-use Rattle.smith_binary_read.specs.Readings.{byte_at}
+use Rattle.smith_binary_read.specs.declared.error.ReadError.{ReadError}
+use Rattle.smith_binary_read.specs.declared.error.ReadError.TheVariants as error
+use Rattle.smith_binary_read.specs.Readings.{Reading, ◌>>=◌, Fails, byte_at, each_at}
+use Rattle.smith_binary_read.specs.Numbers.{unsigned_at}
+use Rattle.smith_binary_read.specs.Contents.{list_at}
+use Rattle.smith_binary_read.specs.declared.types.DeclaredType.{DeclaredType}
+use Rattle.smith_binary_read.specs.DeclaredTypes.{AreSupertypes, IsDeclaredType, IsDeclaredGroup, with_further}
 use Rattle.smith_binary_read.specs.Decodes.{Front, Decodes}
-use Rattle.smith_binary_read.proofs.ReadLemmas.{step, branch, test_passed, front_as, front_same, front_joined}
-use Rattle.smith_binary_read.proofs.ReadLemmas.{front_nothing, joined_decodes, byte_sound, first_read}
+use Rattle.smith_binary_read.proofs.ReadLemmas.{step, branch, test_passed, front_as, front_joined}
+use Rattle.smith_binary_read.proofs.ReadLemmas.{joined_decodes, byte_sound}
 use Rattle.smith_binary_read.proofs.IntegerLemmas.{unsigned_decodes}
 use Rattle.smith_binary_read.proofs.ContentLemmas.{list_decodes}
 use Rattle.smith_binary_read.specs.Choices.{item_of, coded_at}
 use Rattle.smith_binary_read.specs.TypeReadings.{abstract_rows, abstract_at, heap_type_at, ref_type_at, number_rows, val_type_at}
 use Rattle.smith_binary_read.specs.TypeReadings.{packed_rows, storage_type_at, flag_rows, mutability_at, field_type, field_type_at}
-use Rattle.smith_binary_read.specs.TypeReadings.{func_type, func_type_at, inner_type_at, composite_type, composite_type_at, supertype_at}
-use Rattle.smith_binary_read.specs.TypeReadings.{sub_type, declared_at, sub_type_at, group_at}
+use Rattle.smith_binary_read.specs.TypeReadings.{func_type, func_type_at, inner_type_at, composite_type, composite_type_at, split_first}
+use Rattle.smith_binary_read.specs.TypeReadings.{supertypes_at, declared_type, declared_at, declared_type_at, declared_group_at}
 use Rattle.smith_binary_read.proofs.ChoiceLemmas.{Begins, byte_begins, tag_begins, begins_as, tagged_read, mapped_sound}
 use Rattle.smith_binary_read.proofs.ChoiceLemmas.{tag_front, tagged_sound, or_branch, item_holds, item_none, coded_decodes}
-use Rattle.smith_binary_read.proofs.ChoiceLemmas.{type_index_decodes, positive_begins, count_front}
+use Rattle.smith_binary_read.proofs.ChoiceLemmas.{type_index_decodes, positive_begins}
+use Rattle.smith_binary_read.proofs.ViewLemmas.{list_forth}
 
 -- abstract heap types
 abstract_again : (ty : AbstractHeapType) (rest : List ℕ) → coded_at abstract_rows (abstract_byte ty ∷ rest) ≡ Ok (ty, rest)
@@ -341,65 +348,105 @@ composite_begins : (shared : Bool) (x : CompositeInnerType) (piece : List ℕ) �
 composite_begins true x piece h = tag_begins _ 0x65 _ piece (omega arith, omega arith) h
 composite_begins false x piece h = begins_as _ _ piece (λ b t. (t.0, omega (arith, t.1))) (inner_begins x piece (unshared_whole x piece h))
 
--- a list of at most one supertype
-abbrev pub IsSupertype : Option ℕ → List ℕ → Type 0
-IsSupertype supertype = IsList (IsUnsigned 32) (option_to_list supertype)
+-- supertypes
+abbrev pub IsSplit : Option ℕ × List ℕ → List ℕ → Type 0
+IsSplit supertypes = AreSupertypes supertypes.0 supertypes.1
 
-one_listed : (index : ℕ) (piece : List ℕ) → IsUnsigned 32 index piece → Each (IsUnsigned 32) (index ∷ []) piece
-unfolding Each
-one_listed index piece h = record { first = piece; second = []; is_first = h; is_second = refl; whole = sym (append-nil piece) }
+split_form : (supertypes piece : List ℕ) → IsList (IsUnsigned 32) supertypes piece → IsSplit (split_first supertypes) piece
+split_form [] piece h = record { none = λ e. refl; form = h }
+split_form (first ∷ further) piece h = record { none = λ e. absurd cc; form = h }
 
-none_listed : Each (IsUnsigned 32) [] []
-unfolding Each
-none_listed = refl
+split_again : (first : Option ℕ) (further : List ℕ) → (first ≡ None → further ≡ [])
+    → split_first (option_to_list first ++ further) ≡ (first, further)
+split_again None further none = rw (none refl) refl
+split_again (Some first) further none = refl
 
-supertype_sound : (bytes : List ℕ) (x : Option ℕ) (rest : List ℕ) → supertype_at bytes ≡ Ok (x, rest) → Front (IsSupertype x) bytes rest
-unfolding supertype_at
-supertype_sound bytes x rest e = step _ _ _ e (λ count first e.
-    branch _ _ _ _ e (λ is e. front_same IsSupertype None x count.1 rest e
-    (front_joined (count_front 0 bytes count first is) (front_nothing count.1 none_listed))) (λ is_not e.
-    test_passed _ _ _ _ e (λ is e. step _ _ _ e (λ index second e.
-    front_same IsSupertype (Some index.0) x index.1 rest e
-    (front_joined (count_front 1 bytes count first is)
-    (front_as (one_listed index.0) ((unsigned_decodes 32).sound count.1 index.0 index.1 second)))))))
+pub supertypes_decode : Decodes IsSplit supertypes_at
+unfolding supertypes_at
+supertypes_decode = record {
+  sound = λ bytes x rest e. mapped_sound IsSplit split_first (list_decodes (unsigned_decodes 32)) split_form bytes x rest e;
+  complete = λ x piece rest h.
+      rw ((list_decodes (unsigned_decodes 32)).complete (option_to_list x.0 ++ x.1) piece rest h.form)
+      (ap (λ (parts : Option ℕ × List ℕ). Ok (parts, rest)) (split_again x.0 x.1 h.none));
+}
 
-supertype_complete : (x : Option ℕ) (piece rest : List ℕ) → IsSupertype x piece → supertype_at (piece ++ rest) ≡ Ok (x, rest)
-unfolding supertype_at Each
-supertype_complete None piece rest h = rw (first_read 0 rest (unsigned_decodes 32) h, h.is_second) refl
-supertype_complete (Some index) piece rest h =
-    rw (first_read 1 rest (unsigned_decodes 32) h, first_read index rest (unsigned_decodes 32) h.is_second, h.is_second.is_second) refl
+-- the first supertype is read, then the further ones
+abbrev mapped : Reading (List ℕ) → Reading (Option ℕ × List ℕ)
+mapped read = read >>= (λ supertypes. Ok (split_first supertypes.0, supertypes.1))
 
-pub supertype_decodes : Decodes IsSupertype supertype_at
-supertype_decodes = record { sound = supertype_sound; complete = supertype_complete }
+split_after : (first : ℕ) (read : Reading (List ℕ)) → mapped (read >>= (λ further. Ok (first ∷ further.0, further.1)))
+    ≡ (read >>= (λ further. Ok ((Some first, further.0), further.1)))
+split_after first (Ok further) = refl
+split_after first (Err fault) = refl
 
--- sub types
-declared_decodes : Decodes (λ (parts : Option ℕ × CompositeType). Joined (IsSupertype parts.0) (IsCompositeType parts.1)) declared_at
-declared_decodes = joined_decodes (λ supertype composite. (supertype, composite)) (λ parts. parts.0) (λ parts. parts.1) (λ x y. refl)
-    (λ x y. refl) (λ z. refl) supertype_decodes composite_decodes
+regrouped : (read : Reading ℕ) (count : ℕ) → mapped (read >>= (λ first. each_at (unsigned_at 32) count first.1
+    >>= (λ further. Ok (first.0 ∷ further.0, further.1))))
+    ≡ (read >>= (λ first. each_at (unsigned_at 32) count first.1 >>= (λ further. Ok ((Some first.0, further.0), further.1))))
+regrouped (Ok first) count = split_after first.0 (each_at (unsigned_at 32) count first.1)
+regrouped (Err fault) count = refl
 
-sub_sound : (bytes : List ℕ) (x : SubType) (rest : List ℕ) → sub_type_at bytes ≡ Ok (x, rest) → Front (IsSubType x) bytes rest
-unfolding sub_type_at
-sub_sound bytes x rest e = step _ _ _ e (λ byte first e.
-    branch _ _ _ _ e (λ is e. tagged_sound IsSubType (sub_type true) 0x4F declared_decodes
-    (λ y piece h. IsSubType.full h) bytes byte x rest first is e) (λ is_not e.
-    branch _ _ _ _ e (λ is e. tagged_sound IsSubType (sub_type false) 0x50 declared_decodes
-    (λ y piece h. IsSubType.full h) bytes byte x rest first is e) (λ is_not e.
-    mapped_sound IsSubType (λ composite. sub_type true (None, composite)) composite_decodes
-    (λ y piece h. IsSubType.short refl refl h) bytes x rest e)))
+pub none_split : (bytes rest : List ℕ) → unsigned_at 32 bytes ≡ Ok (0, rest) → supertypes_at bytes ≡ Ok ((None, []), rest)
+unfolding supertypes_at list_at each_at
+none_split bytes rest count = rw count refl
 
-sub_full : (is_final : Bool) (parts : Option ℕ × CompositeType) (piece rest : List ℕ)
-    → Joined (IsByte (final_byte is_final)) (Joined (IsSupertype parts.0) (IsCompositeType parts.1)) piece
-    → sub_type_at (piece ++ rest) ≡ Ok (sub_type is_final parts, rest)
-unfolding sub_type_at
-sub_full true parts piece rest h =
-    ap sub_type_at (tagged_read 0x4F rest h) ∙ rw (declared_decodes.complete parts h.second rest h.is_second) refl
-sub_full false parts piece rest h =
-    ap sub_type_at (tagged_read 0x50 rest h) ∙ rw (declared_decodes.complete parts h.second rest h.is_second) refl
+pub first_split : (bytes : List ℕ) (count : ℕ) (rest : List ℕ) → unsigned_at 32 bytes ≡ Ok (count, rest) → (count ≡ 0 → ⊥)
+    → supertypes_at bytes ≡ (unsigned_at 32 rest >>= (λ first. each_at (unsigned_at 32) (count - 1) first.1
+    >>= (λ further. Ok ((Some first.0, further.0), further.1))))
+unfolding supertypes_at list_at each_at
+first_split bytes count rest read some =
+    let k : count ≡ suc (count - 1) = omega (arith, some) in
+    rw (read ∙ ap (λ (n : ℕ). Ok (n, rest)) k) (regrouped (unsigned_at 32 rest) (count - 1))
 
-sub_short : (is_final : Bool) (supertype : Option ℕ) (composite : CompositeType) (piece rest : List ℕ) → is_final ≡ true → supertype ≡ None
-    → IsCompositeType composite piece → sub_type_at (piece ++ rest) ≡ Ok (sub_type is_final (supertype, composite), rest)
-unfolding sub_type_at
-sub_short true None composite piece rest m n h =
+pub count_fails : (e : ReadError) (bytes : List ℕ) → Fails e (unsigned_at 32 bytes) → Fails e (supertypes_at bytes)
+unfolding supertypes_at list_at
+count_fails error.Memory bytes h = tt
+count_fails (error.Malformed fault) bytes h = rw h refl
+
+pub first_fails : (e : ReadError) (bytes : List ℕ) (count : ℕ) (rest : List ℕ) → unsigned_at 32 bytes ≡ Ok (count, rest)
+    → (count ≡ 0 → ⊥) → Fails e (unsigned_at 32 rest) → Fails e (supertypes_at bytes)
+first_fails error.Memory bytes count rest read some h = tt
+first_fails (error.Malformed fault) bytes count rest read some h = first_split bytes count rest read some ∙ rw h refl
+
+pub further_fails : (e : ReadError) (bytes : List ℕ) (count : ℕ) (rest : List ℕ) (first : ℕ) (more : List ℕ)
+    → unsigned_at 32 bytes ≡ Ok (count, rest) → (count ≡ 0 → ⊥) → unsigned_at 32 rest ≡ Ok (first, more)
+    → Fails e (each_at (unsigned_at 32) (count - 1) more) → Fails e (supertypes_at bytes)
+further_fails error.Memory bytes count rest first more read some next h = tt
+further_fails (error.Malformed fault) bytes count rest first more read some next h =
+    first_split bytes count rest read some ∙ rw (next, h) refl
+
+-- declared types
+abbrev IsParts : (Option ℕ × List ℕ) × CompositeType → List ℕ → Type 0
+IsParts parts = Joined (IsSplit parts.0) (IsCompositeType parts.1)
+
+declared_decodes : Decodes IsParts declared_at
+declared_decodes = joined_decodes (λ supertypes composite. (supertypes, composite)) (λ parts. parts.0) (λ parts. parts.1) (λ x y. refl)
+    (λ x y. refl) (λ z. refl) supertypes_decode composite_decodes
+
+declared_sound : (bytes : List ℕ) (x : DeclaredType) (rest : List ℕ) → declared_type_at bytes ≡ Ok (x, rest)
+    → Front (IsDeclaredType x) bytes rest
+unfolding declared_type_at
+declared_sound bytes x rest e = step _ _ _ e (λ byte first e.
+    branch _ _ _ _ e (λ is e. tagged_sound IsDeclaredType (declared_type true) 0x4F declared_decodes
+    (λ y piece h. IsDeclaredType.full h) bytes byte x rest first is e) (λ is_not e.
+    branch _ _ _ _ e (λ is e. tagged_sound IsDeclaredType (declared_type false) 0x50 declared_decodes
+    (λ y piece h. IsDeclaredType.full h) bytes byte x rest first is e) (λ is_not e.
+    mapped_sound IsDeclaredType (λ composite. declared_type true ((None, []), composite)) composite_decodes
+    (λ y piece h. IsDeclaredType.short refl refl refl h) bytes x rest e)))
+
+declared_full : (is_final : Bool) (parts : (Option ℕ × List ℕ) × CompositeType) (piece rest : List ℕ)
+    → Joined (IsByte (final_byte is_final)) (IsParts parts) piece
+    → declared_type_at (piece ++ rest) ≡ Ok (declared_type is_final parts, rest)
+unfolding declared_type_at
+declared_full true parts piece rest h =
+    ap declared_type_at (tagged_read 0x4F rest h) ∙ rw (declared_decodes.complete parts h.second rest h.is_second) refl
+declared_full false parts piece rest h =
+    ap declared_type_at (tagged_read 0x50 rest h) ∙ rw (declared_decodes.complete parts h.second rest h.is_second) refl
+
+declared_short : (is_final : Bool) (supertype : Option ℕ) (further : List ℕ) (composite : CompositeType) (piece rest : List ℕ)
+    → is_final ≡ true → supertype ≡ None → further ≡ [] → IsCompositeType composite piece
+    → declared_type_at (piece ++ rest) ≡ Ok (declared_type is_final ((supertype, further), composite), rest)
+unfolding declared_type_at
+declared_short true None [] composite piece rest m n o h =
     let begins = composite_begins composite.shared composite.inner piece h in
     let low : 0x5E ≤ begins.head = begins.test.0 in
     let high : begins.head ≤ 0x65 = begins.test.1 in
@@ -410,44 +457,96 @@ sub_short true None composite piece rest m n h =
           (λ e. omega arith),
       composite_decodes.complete composite piece rest h,
     ) refl
-sub_short true (Some index) composite piece rest m n h = absurd cc
-sub_short false supertype composite piece rest m n h = absurd cc
+declared_short true None (next ∷ further) composite piece rest m n o h = absurd cc
+declared_short true (Some index) further composite piece rest m n o h = absurd cc
+declared_short false supertype further composite piece rest m n o h = absurd cc
 
-sub_complete : (x : SubType) (piece rest : List ℕ) → IsSubType x piece → sub_type_at (piece ++ rest) ≡ Ok (x, rest)
-sub_complete x piece rest (IsSubType.full h) = sub_full x.is_final (x.supertype, x.composite_type) piece rest h
-sub_complete x piece rest (IsSubType.short m n h) = sub_short x.is_final x.supertype x.composite_type piece rest m n h
+declared_complete : (x : DeclaredType) (piece rest : List ℕ) → IsDeclaredType x piece → declared_type_at (piece ++ rest) ≡ Ok (x, rest)
+declared_complete x piece rest (IsDeclaredType.full h) =
+    declared_full x.sub_type.is_final ((x.sub_type.supertype, x.further_supertypes), x.sub_type.composite_type) piece rest h
+declared_complete x piece rest (IsDeclaredType.short m n o h) =
+    declared_short x.sub_type.is_final x.sub_type.supertype x.further_supertypes x.sub_type.composite_type piece rest m n o h
 
-pub sub_decodes : Decodes IsSubType sub_type_at
-sub_decodes = record { sound = sub_sound; complete = sub_complete }
+pub declared_type_decodes : Decodes IsDeclaredType declared_type_at
+declared_type_decodes = record { sound = declared_sound; complete = declared_complete }
 
 final_within : (b : Bool) → (0x4F ≤ final_byte b) × (final_byte b ≤ 0x50)
 final_within true = (omega arith, omega arith)
 final_within false = (omega arith, omega arith)
 
-sub_begins : (x : SubType) (piece : List ℕ) → IsSubType x piece → Begins (λ (b : ℕ). (0x4F ≤ b) × (b ≤ 0x65)) piece
-sub_begins x piece (IsSubType.full h) =
-    let within = final_within x.is_final in tag_begins _ (final_byte x.is_final) _ piece (within.0, omega (arith, within.1)) h
-sub_begins x piece (IsSubType.short m n h) =
-    begins_as _ _ piece (λ b t. (omega (arith, t.0), t.1)) (composite_begins x.composite_type.shared x.composite_type.inner piece h)
+declared_begins : (x : DeclaredType) (piece : List ℕ) → IsDeclaredType x piece → Begins (λ (b : ℕ). (0x4F ≤ b) × (b ≤ 0x65)) piece
+declared_begins x piece (IsDeclaredType.full h) =
+    let t = x.sub_type in
+    let within = final_within t.is_final in tag_begins _ (final_byte t.is_final) _ piece (within.0, omega (arith, within.1)) h
+declared_begins x piece (IsDeclaredType.short m n o h) =
+    let composite = x.sub_type.composite_type in
+    begins_as _ _ piece (λ b t. (omega (arith, t.0), t.1)) (composite_begins composite.shared composite.inner piece h)
 
 -- recursive groups
-group_sound : (bytes : List ℕ) (x : List SubType) (rest : List ℕ) → group_at bytes ≡ Ok (x, rest) → Front (IsRecGroup x) bytes rest
-unfolding group_at
+group_sound : (bytes : List ℕ) (x : List DeclaredType) (rest : List ℕ) → declared_group_at bytes ≡ Ok (x, rest)
+    → Front (IsDeclaredGroup x) bytes rest
+unfolding declared_group_at
 group_sound bytes x rest e = step _ _ _ e (λ byte first e.
-    branch _ _ _ _ e (λ is e. front_as (λ piece h. IsRecGroup.full h)
-    (front_joined (tag_front 0x4E bytes byte first is) ((list_decodes sub_decodes).sound byte.1 x rest e))) (λ is_not e.
-    mapped_sound IsRecGroup (λ t. t ∷ []) sub_decodes (λ y piece h. IsRecGroup.short y refl h) bytes x rest e))
+    branch _ _ _ _ e (λ is e. front_as (λ piece h. IsDeclaredGroup.full h)
+    (front_joined (tag_front 0x4E bytes byte first is) ((list_decodes declared_type_decodes).sound byte.1 x rest e))) (λ is_not e.
+    mapped_sound IsDeclaredGroup (λ t. t ∷ []) declared_type_decodes (λ y piece h. IsDeclaredGroup.short y refl h) bytes x rest e))
 
-group_complete : (x : List SubType) (piece rest : List ℕ) → IsRecGroup x piece → group_at (piece ++ rest) ≡ Ok (x, rest)
-unfolding group_at
-group_complete x piece rest (IsRecGroup.full h) =
-    ap group_at (tagged_read 0x4E rest h) ∙ rw ((list_decodes sub_decodes).complete x h.second rest h.is_second) refl
-group_complete x piece rest (IsRecGroup.short t e h) =
-    let begins = sub_begins t piece h in
+group_complete : (x : List DeclaredType) (piece rest : List ℕ) → IsDeclaredGroup x piece
+    → declared_group_at (piece ++ rest) ≡ Ok (x, rest)
+unfolding declared_group_at
+group_complete x piece rest (IsDeclaredGroup.full h) =
+    ap declared_group_at (tagged_read 0x4E rest h) ∙ rw ((list_decodes declared_type_decodes).complete x h.second rest h.is_second) refl
+group_complete x piece rest (IsDeclaredGroup.short t e h) =
+    let begins = declared_begins t piece h in
     let low : 0x4F ≤ begins.head = begins.test.0 in
     let high : begins.head ≤ 0x65 = begins.test.1 in
-    rw (head_is _ piece rest begins (omega arith), ne_eqb begins.head 0x4E (λ e. omega arith), sub_decodes.complete t piece rest h)
-    (ap (λ (group : List SubType). Ok (group, rest)) (sym e))
+    rw (
+      head_is _ piece rest begins (omega arith),
+      ne_eqb begins.head 0x4E (λ e. omega arith),
+      declared_type_decodes.complete t piece rest h,
+    )
+    (ap (λ (group : List DeclaredType). Ok (group, rest)) (sym e))
 
-pub group_decodes : Decodes IsRecGroup group_at
+pub group_decodes : Decodes IsDeclaredGroup declared_group_at
 group_decodes = record { sound = group_sound; complete = group_complete }
+
+-- a type with at most one supertype, and a group of such types
+abbrev pub without_further : SubType → DeclaredType
+without_further t = with_further t []
+
+pub plain_declared : (t : SubType) (piece : List ℕ) → IsSubType t piece → IsDeclaredType (without_further t) piece
+plain_declared t piece (IsSubType.full h) = IsDeclaredType.full (record {
+  first = h.first;
+  second = h.second;
+  is_first = h.is_first;
+  is_second = record {
+    first = h.is_second.first;
+    second = h.is_second.second;
+    is_first = record {
+      none = λ e. refl;
+      form = subst (λ (supertypes : List ℕ). IsList (IsUnsigned 32) supertypes h.is_second.first)
+          (sym (append-nil (option_to_list t.supertype))) h.is_second.is_first;
+    };
+    is_second = h.is_second.is_second;
+    whole = h.is_second.whole;
+  };
+  whole = h.whole;
+})
+plain_declared t piece (IsSubType.short m n h) = IsDeclaredType.short m n refl h
+
+pub plain_group : (group : List SubType) (piece : List ℕ) → IsRecGroup group piece → IsDeclaredGroup (map without_further group) piece
+plain_group group piece (IsRecGroup.full h) = IsDeclaredGroup.full (record {
+  first = h.first;
+  second = h.second;
+  is_first = h.is_first;
+  is_second = list_forth without_further IsDeclaredType IsSubType plain_declared group h.second h.is_second;
+  whole = h.whole;
+})
+plain_group group piece (IsRecGroup.short t alone h) =
+    IsDeclaredGroup.short (without_further t) (ap (map without_further) alone) (plain_declared t piece h)
+
+-- further supertypes without a first are never spelled
+pub never_further : (t : SubType) (further piece : List ℕ) → t.supertype ≡ None → (further ≡ [] → ⊥)
+    → IsDeclaredType (with_further t further) piece → ⊥
+never_further t further piece none some (IsDeclaredType.full h) = some (h.is_second.is_first.none none)
+never_further t further piece none some (IsDeclaredType.short m n o h) = some o

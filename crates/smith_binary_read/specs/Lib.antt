@@ -5,6 +5,8 @@ pub mod Numbers
 pub mod Contents
 pub mod Choices
 pub mod TypeReadings
+pub mod DeclaredTypes
 pub mod EntityReadings
 pub mod ImportReadings
 pub mod TagReadings
+pub mod ExampleTypes

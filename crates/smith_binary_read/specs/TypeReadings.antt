@@ -1,6 +1,5 @@
 -- Readings of types.
 use Rattle.std.specs.Prelude.{ℕ, Bool, true, false, ◌==◌, ◌||◌, nat_lt, nat_le, if◌then◌else◌, List, [], ◌∷◌, Option, Some, None}
-use Rattle.std.specs.Prelude.{Ok}
 use Rattle.smith_types.specs.Syntax.value_type.AbstractHeapType.{AbstractHeapType}
 use Rattle.smith_types.specs.Syntax.value_type.AbstractHeapType.TheVariants as abstract
 use Rattle.smith_types.specs.Syntax.value_type.HeapType.{HeapType}
@@ -15,8 +14,8 @@ use Rattle.smith_types.specs.Syntax.composite_type.FuncType.{FuncType}
 use Rattle.smith_types.specs.Syntax.composite_type.CompositeInnerType.{CompositeInnerType}
 use Rattle.smith_types.specs.Syntax.composite_type.CompositeInnerType.TheVariants as inner
 use Rattle.smith_types.specs.Syntax.composite_type.CompositeType.{CompositeType}
-use Rattle.smith_types.specs.Syntax.composite_type.SubType.{SubType}
-use Rattle.smith_binary_read.specs.declared.error.Reason.TheVariants.{UnknownByte, ListLength}
+use Rattle.smith_binary_read.specs.declared.error.Reason.TheVariants.{UnknownByte}
+use Rattle.smith_binary_read.specs.declared.types.DeclaredType.{DeclaredType}
 use Rattle.smith_binary_read.specs.Readings.{Reading, ◌>>=◌, fault_at, byte_at, joined_at, mapped_at}
 use Rattle.smith_binary_read.specs.Numbers.{unsigned_at}
 use Rattle.smith_binary_read.specs.Contents.{list_at}
@@ -107,30 +106,35 @@ composite_type_at bytes = byte_at bytes >>= (λ byte.
     if byte.0 == 0x65 then mapped_at (composite_type true) inner_type_at byte.1
     else mapped_at (composite_type false) inner_type_at bytes)
 
--- reads a list of at most one supertype
-unfoldable pub supertype_at : List ℕ → Reading (Option ℕ)
-supertype_at bytes = unsigned_at 32 bytes >>= (λ count.
-    if count.0 == 0 then Ok (None, count.1)
-    else (if count.0 == 1 then mapped_at (λ index. Some index) (unsigned_at 32) count.1
-    else fault_at ListLength bytes))
+-- the first item of a list, if there is one, and the others
+abbrev pub split_first : List ℕ → Option ℕ × List ℕ
+split_first [] = (None, [])
+split_first (first ∷ others) = (Some first, others)
 
--- a subtype with this finality, this supertype and this composite type
-abbrev pub sub_type : Bool → Option ℕ × CompositeType → SubType
-sub_type is_final parts = record { is_final = is_final; supertype = parts.0; composite_type = parts.1 }
+-- reads a list of supertypes as the first and the further ones (Recursive Types)
+unfoldable pub supertypes_at : List ℕ → Reading (Option ℕ × List ℕ)
+supertypes_at bytes = mapped_at split_first (list_at (unsigned_at 32)) bytes
 
--- reads the supertype of a subtype, then its composite type
-abbrev pub declared_at : List ℕ → Reading (Option ℕ × CompositeType)
-declared_at bytes = joined_at (λ supertype composite. (supertype, composite)) supertype_at composite_type_at bytes
+-- a declared type with this finality, these supertypes and this composite type
+abbrev pub declared_type : Bool → (Option ℕ × List ℕ) × CompositeType → DeclaredType
+declared_type is_final parts = record {
+  sub_type = record { is_final = is_final; supertype = parts.0.0; composite_type = parts.1 };
+  further_supertypes = parts.0.1;
+}
 
--- reads a subtype
-unfoldable pub sub_type_at : List ℕ → Reading SubType
-sub_type_at bytes = byte_at bytes >>= (λ byte.
-    if byte.0 == 0x4F then mapped_at (sub_type true) declared_at byte.1
-    else (if byte.0 == 0x50 then mapped_at (sub_type false) declared_at byte.1
-    else mapped_at (λ composite. sub_type true (None, composite)) composite_type_at bytes))
+-- reads the supertypes of a declared type, then its composite type
+abbrev pub declared_at : List ℕ → Reading ((Option ℕ × List ℕ) × CompositeType)
+declared_at bytes = joined_at (λ supertypes composite. (supertypes, composite)) supertypes_at composite_type_at bytes
+
+-- reads a declared type
+unfoldable pub declared_type_at : List ℕ → Reading DeclaredType
+declared_type_at bytes = byte_at bytes >>= (λ byte.
+    if byte.0 == 0x4F then mapped_at (declared_type true) declared_at byte.1
+    else (if byte.0 == 0x50 then mapped_at (declared_type false) declared_at byte.1
+    else mapped_at (λ composite. declared_type true ((None, []), composite)) composite_type_at bytes))
 
 -- reads a recursive group
-unfoldable pub group_at : List ℕ → Reading (List SubType)
-group_at bytes = byte_at bytes >>= (λ byte.
-    if byte.0 == 0x4E then list_at sub_type_at byte.1
-    else mapped_at (λ t. t ∷ []) sub_type_at bytes)
+unfoldable pub declared_group_at : List ℕ → Reading (List DeclaredType)
+declared_group_at bytes = byte_at bytes >>= (λ byte.
+    if byte.0 == 0x4E then list_at declared_type_at byte.1
+    else mapped_at (λ t. t ∷ []) declared_type_at bytes)

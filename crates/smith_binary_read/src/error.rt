@@ -25,8 +25,8 @@ pub enum Reason {
     /// No alternative of the grammar begins with a byte, or with a number in its place.
     #[error("unknown byte")]
     UnknownByte,
-    /// A list has a length that no valid module has: a sub type has several supertypes (Recursive
-    /// Types).
+    /// No reading gives this reason. Earlier versions gave it for a type with several supertypes; it
+    /// remains so that the others keep their numbers.
     #[error("invalid length of a list")]
     ListLength,
     /// A body has 2^32 locals or more (Code Section).

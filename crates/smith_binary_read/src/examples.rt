@@ -1,9 +1,12 @@
-ghost use Rattle.std.specs.Prelude.{◌≡◌, true, false, None, Ok, Err, [], ◌∷◌, negsuc};
+ghost use Rattle.std.specs.Prelude.{◌≡◌, ℕ, List, true, false, Some, None, Ok, Err, [], ◌∷◌, negsuc};
 ghost use Rattle.smith_types.specs.Syntax.value_type.ValType.TheVariants.{I32, I64};
 ghost use Rattle.smith_binary_read.specs.declared.error.Reason.TheVariants as reason;
 ghost use Rattle.smith_binary_read.specs.Numbers.{unsigned_at, signed_at, little_endian_at};
 ghost use Rattle.smith_binary_read.specs.Contents.{content_at, list_at};
-ghost use Rattle.smith_binary_read.specs.TypeReadings.{val_type_at, mutability_at, supertype_at};
+ghost use Rattle.smith_binary_read.specs.TypeReadings.{val_type_at, mutability_at};
+ghost use Rattle.smith_binary_read.specs.TypeReadings.{declared_type_at, supertypes_at};
+ghost use Rattle.smith_binary_read.specs.DeclaredTypes.{IsDeclaredType, with_further};
+ghost use Rattle.smith_binary_read.specs.ExampleTypes.{sub_type};
 ghost use Rattle.smith_binary_read.specs.EntityReadings.{memory_type_at, tag_type_at};
 
 fn numbers()
@@ -31,13 +34,24 @@ fn lists()
         ≡ Err (record { left = 0; reason = reason.UnexpectedEnd }) }
 {}
 
+fn supertypes()
+    ensures none { supertypes_at (0x00 ∷ []) ≡ Ok ((None, []), []) }
+    ensures one { supertypes_at (0x01 ∷ 0x07 ∷ []) ≡ Ok ((Some 7, []), []) }
+    ensures two { supertypes_at (0x02 ∷ 0x07 ∷ 0x01 ∷ []) ≡ Ok ((Some 7, 1 ∷ []), []) }
+    ensures without_the_second { supertypes_at (0x02 ∷ 0x07 ∷ [])
+        ≡ Err (record { left = 0; reason = reason.UnexpectedEnd }) }
+    ensures of_a_struct { declared_type_at (0x50 ∷ 0x02 ∷ 0x07 ∷ 0x01 ∷ 0x5F ∷ 0x00 ∷ [])
+        ≡ Ok (with_further (sub_type (Some 7)) (1 ∷ []), []) }
+    ensures form { IsDeclaredType (with_further (sub_type (Some 7)) (1 ∷ []))
+        (0x50 ∷ 0x02 ∷ 0x07 ∷ 0x01 ∷ 0x5F ∷ 0x00 ∷ []) }
+    ensures further_without_a_first { (piece : List ℕ)
+        → ¬ IsDeclaredType (with_further (sub_type None) (1 ∷ [])) piece }
+{}
+
 fn types()
     ensures immutable { mutability_at (0x00 ∷ []) ≡ Ok (false, []) }
     ensures no_mutability { mutability_at (0x02 ∷ [])
         ≡ Err (record { left = 1; reason = reason.UnknownByte }) }
-    ensures no_supertype { supertype_at (0x00 ∷ []) ≡ Ok (None, []) }
-    ensures two_supertypes { supertype_at (0x02 ∷ 0x00 ∷ 0x01 ∷ [])
-        ≡ Err (record { left = 3; reason = reason.ListLength }) }
     ensures memory { memory_type_at (0x00 ∷ 0x01 ∷ []) ≡ Ok (
       record {
         minimum = 1;

@@ -24,3 +24,4 @@ pub use exports::Export;
 pub use lists::{Decode, read_list};
 pub use reader::Reader;
 pub use tags::TagDefinition;
+pub use types::DeclaredType;

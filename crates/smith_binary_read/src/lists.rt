@@ -18,9 +18,12 @@ pub trait Decode: Drop {
         ensures { Gives result reader.new (Self.reading reader.old) };
 }
 
-// Reads `count` items. Nothing is reserved for them: each has a byte, so lists are no longer than the
-// bytes.
-fn read_each<T: Decode>(reader: &mut Reader<'_>, count: u32) -> Result<Items<T>, ReadError>
+/// Reads `count` items. Nothing is reserved for them: each has a byte, so lists are no longer than the
+/// bytes.
+pub(crate) fn read_each<T: Decode>(
+    reader: &mut Reader<'_>,
+    count: u32,
+) -> Result<Items<T>, ReadError>
     ensures { Gives result reader.new (each_at T.reading count reader.old) }
 {
     let mut items = Vec::new(reader.alloc());

@@ -1,5 +1,5 @@
 ghost use Rattle.std.specs.Prelude.{◌≡◌};
-ghost use Rattle.smith_binary_read.specs.Readings.{Gives};
+ghost use Rattle.smith_binary_read.specs.Readings.{Gives, mapped_at};
 ghost use Rattle.smith_binary_read.specs.Choices.{item_of, type_index_at};
 ghost use Rattle.smith_binary_read.specs.TypeReadings.{
   abstract_rows,
@@ -7,11 +7,13 @@ ghost use Rattle.smith_binary_read.specs.TypeReadings.{
   packed_rows,
   abstract_at,
   mutability_at,
-  supertype_at,
+  declared_at,
+  declared_type,
+  supertypes_at,
 };
 
 use crate::error::{ReadError, Reason};
-use crate::lists::{Decode, read_list};
+use crate::lists::{Decode, read_each, read_list};
 use crate::reader::Reader;
 use smith_types::{
     AbstractHeapType, ArrayType, CompositeInnerType, CompositeType, FieldType, FuncType, HeapType,
@@ -285,76 +287,89 @@ impl Decode for CompositeType {
     }
 }
 
-// Reads a list of at most one supertype.
-#[tactic(auto, unfolding(crate::specs::TypeReadings::supertype_at))]
-fn read_supertype(reader: &mut Reader<'_>) -> Result<Option<u32>, ReadError>
-    ensures { Gives result reader.new (supertype_at reader.old) }
-{
-    let many = reader.fault(Reason::ListLength);
-    let count = reader.read_u32()?;
-    match count {
-        0 => Ok(None),
-        1 => {
-            let index = reader.read_u32()?;
-            Ok(Some(index))
-        }
-        _ => Err(many),
-    }
+/// A type as bytes declare it, with any number of supertypes (Recursive Types). In a valid module it has
+/// at most one.
+#[derive(Debug, Drop)]
+pub struct DeclaredType {
+    /// The type with its first supertype, if there is one.
+    pub sub_type: SubType,
+    /// The supertypes after the first.
+    pub further_supertypes: Items<u32>,
 }
 
-impl Decode for SubType {
-    ghost use Rattle.smith_binary_read.specs.TypeReadings.{sub_type_at};
+// Reads a list of supertypes: the first, if there is one, and the further ones.
+fn read_supertypes(reader: &mut Reader<'_>) -> Result<(Option<u32>, Items<u32>), ReadError>
+    ensures { Gives result reader.new (supertypes_at reader.old) }
+{
+    let count = reader.read_u32()?;
+    if count == 0 {
+        return Ok((None, Items::new(reader.alloc())));
+    }
+    let first = reader.read_u32()?;
+    let further = read_each(reader, count - 1)?;
+    Ok((Some(first), further))
+}
 
-    ghost reading = { sub_type_at };
+// Reads the supertypes and the composite type of a type.
+fn read_declared(reader: &mut Reader<'_>, is_final: bool) -> Result<DeclaredType, ReadError>
+    ensures { Gives result reader.new (mapped_at (declared_type is_final) declared_at reader.old) }
+{
+    let (supertype, further_supertypes) = read_supertypes(reader)?;
+    let composite_type = CompositeType::decode(reader)?;
+    Ok(DeclaredType {
+        sub_type: SubType {
+            is_final,
+            supertype,
+            composite_type,
+        },
+        further_supertypes,
+    })
+}
 
-    #[tactic(auto, unfolding(crate::specs::TypeReadings::sub_type_at))]
-    fn decode(reader: &mut Reader<'_>) -> Result<SubType, ReadError> {
+impl Decode for DeclaredType {
+    ghost use Rattle.smith_binary_read.specs.TypeReadings.{declared_type_at};
+
+    ghost reading = { declared_type_at };
+
+    #[tactic(auto, unfolding(crate::specs::TypeReadings::declared_type_at))]
+    fn decode(reader: &mut Reader<'_>) -> Result<DeclaredType, ReadError> {
         let byte = reader.peek()?;
         if byte == 0x4F {
             reader.skip();
-            let supertype = read_supertype(reader)?;
-            let composite_type = CompositeType::decode(reader)?;
-            return Ok(SubType {
-                is_final: true,
-                supertype,
-                composite_type,
-            });
+            return read_declared(reader, true);
         }
         if byte == 0x50 {
             reader.skip();
-            let supertype = read_supertype(reader)?;
-            let composite_type = CompositeType::decode(reader)?;
-            return Ok(SubType {
-                is_final: false,
-                supertype,
-                composite_type,
-            });
+            return read_declared(reader, false);
         }
         let composite_type = CompositeType::decode(reader)?;
-        Ok(SubType {
-            is_final: true,
-            supertype: None,
-            composite_type,
+        Ok(DeclaredType {
+            sub_type: SubType {
+                is_final: true,
+                supertype: None,
+                composite_type,
+            },
+            further_supertypes: Items::new(reader.alloc()),
         })
     }
 }
 
 /// A recursive group.
-impl Decode for Items<SubType> {
-    ghost use Rattle.smith_binary_read.specs.TypeReadings.{group_at};
+impl Decode for Items<DeclaredType> {
+    ghost use Rattle.smith_binary_read.specs.TypeReadings.{declared_group_at};
 
-    ghost reading = { group_at };
+    ghost reading = { declared_group_at };
 
-    #[tactic(auto, unfolding(crate::specs::TypeReadings::group_at))]
-    fn decode(reader: &mut Reader<'_>) -> Result<Items<SubType>, ReadError> {
+    #[tactic(auto, unfolding(crate::specs::TypeReadings::declared_group_at))]
+    fn decode(reader: &mut Reader<'_>) -> Result<Items<DeclaredType>, ReadError> {
         let byte = reader.peek()?;
         if byte == 0x4E {
             reader.skip();
             return read_list(reader);
         }
         let mut group = Vec::new(reader.alloc());
-        let t = SubType::decode(reader)?;
-        group.push(t)?;
+        let declared = DeclaredType::decode(reader)?;
+        group.push(declared)?;
         Ok(Items::from_vec(group))
     }
 }

@@ -36,6 +36,7 @@ no_sections = record {
 
 pub nothing_valid : IsValidProgram usual_features no_items
 nothing_valid = record {
+  supertypes = refl;
   scope = tt;
   indices = [];
   canonical = none_canonical;
@@ -137,6 +138,7 @@ each_function (suc place) inside = absurd (omega (arith, inside))
 
 pub does_nothing_valid : IsValidProgram usual_features does_nothing
 does_nothing_valid = record {
+  supertypes = refl;
   scope = ((in_scope, tt), tt);
   indices = indices;
   canonical = one_canonical;

@@ -88,6 +88,7 @@ module _ (features : Features) (indices : List ℕ) (m : Syntax) where
     pub program_valid : AreSectionsValid features indices m → length m.functions ≡ length m.bodies
         → ((place : ℕ) → place < length m.functions → IsFunctionValid features indices m place) → IsValidProgram features m
     program_valid sections bodies functions = record {
+      supertypes = right.supertypes;
       scope = right.valid.scope;
       indices = indices;
       canonical = right.canonical;

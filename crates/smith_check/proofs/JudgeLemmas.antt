@@ -47,7 +47,7 @@ same_types judge j = ap (λ (space : GroupedTypes). space.types) j.types.space
 
 right_types : (judge : FunctionJudge) → IsFunctionJudge judge
     → AreTypesRight (features_in judge.features) judge.types.now.indices (syntax_of judge.module.now)
-right_types judge j = record { canonical = j.types.canonical; valid = j.types.valid }
+right_types judge j = record { supertypes = j.supertypes; canonical = j.types.canonical; valid = j.types.valid }
 
 right_before : (judge : FunctionJudge) (place : ℕ) → IsFunctionJudge judge → AreRightBefore judge place
     → IsRightBefore (features_in judge.features) judge.types.now.indices (syntax_of judge.module.now) place

@@ -3,6 +3,7 @@ pub mod ScopeLemmas
 pub mod LocalLemmas
 pub mod ReferenceLemmas
 pub mod GroupLemmas
+pub mod SupertypeLemmas
 pub mod FunctionLemmas
 pub mod JudgeLemmas
 pub mod ContextLemmas

@@ -18,6 +18,7 @@ function_type results = record {
 abbrev pub with_function : List ValType → Syntax
 with_function results = record nothing {
   types = (function_type results ∷ []) ∷ [];
+  further_supertypes = ([] ∷ []) ∷ [];
   functions = 0 ∷ [];
   bodies = ([], []) ∷ [];
 }

@@ -12,6 +12,7 @@ use Rattle.smith_check_body.specs.Verdicts.{IsRefused}
 use Rattle.smith_check_module.specs.Contexts.{types_in}
 use Rattle.smith_check_module.specs.SectionFaults.{IsFirstFault as IsFirstSectionFault}
 use Rattle.smith_check.specs.Locals.{IsFirstWrongRun}
+use Rattle.smith_check.specs.Supertypes.{HaveOneSupertype}
 use Rattle.smith_check.specs.ValidPrograms.{AreValuesValid, IsFunctionAt, IsFunctionValid, IsValidProgram, context_of_function}
 use Rattle.smith_check.specs.declared.judgement.Fault.{Fault}
 use Rattle.smith_check.specs.declared.judgement.Fault.TheVariants as fault
@@ -20,13 +21,19 @@ use Rattle.smith_check.specs.declared.judgement.Judgement.TheVariants as judgeme
 use Rattle.smith_check.specs.declared.judgement.Unjudged.{Unjudged}
 use Rattle.smith_check.specs.declared.judgement.Unjudged.TheVariants as unjudged
 
+-- the first `count` groups of types are valid (Validation, Types)
+pub record AreGroupsRight (features : Features) (m : Syntax) (count : ℕ) : Type 0 where
+  pub supertypes : HaveOneSupertype (take count m.further_supertypes)
+  pub valid : IsTypeSectionValid features (take count m.types)
+
 -- the first `group` groups of types are valid, and one more is not (Validation, Types)
 pub record AreTypesWrong (features : Features) (m : Syntax) (group : ℕ) : Type 0 where
-  pub before : IsTypeSectionValid features (take group m.types)
-  pub wrong : IsTypeSectionValid features (take (group + 1) m.types) → ⊥
+  pub before : AreGroupsRight features m group
+  pub wrong : AreGroupsRight features m (group + 1) → ⊥
 
 -- the types of a module are valid, and have these canonical indices (Validation, Types)
 pub record AreTypesRight (features : Features) (indices : List ℕ) (m : Syntax) : Type 0 where
+  pub supertypes : HaveOneSupertype m.further_supertypes
   pub canonical : AreCanonical m.types indices
   pub valid : IsTypeSectionValid features m.types
 

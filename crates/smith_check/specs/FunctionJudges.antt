@@ -11,11 +11,13 @@ use Rattle.smith_check_types.specs.CheckedTypes.{AreChecked}
 use Rattle.smith_check_renamed.specs.RenamedInstructions.{renamed_body}
 use Rattle.smith_check_module.specs.Contexts.{spaces_in as spaces_of_module}
 use Rattle.smith_check.specs.References.{references_of}
+use Rattle.smith_check.specs.Supertypes.{HaveOneSupertype}
 use Rattle.smith_check.specs.ValidPrograms.{AreValuesValid, IsFunctionValid, context_of_function, element_types}
 use Rattle.smith_check.specs.declared.functions.FunctionJudge.{FunctionJudge}
 
 -- the parts of the judge belong to one module, whose types and other sections are valid
 pub record IsFunctionJudge (judge : FunctionJudge) : Type 0 where
+  pub supertypes : HaveOneSupertype judge.module.now.further_supertypes
   pub types : AreChecked (features_in judge.features) judge.module.now.types judge.types.now
   pub sections : AreSectionsValid (features_in judge.features) judge.types.now.indices (syntax_of judge.module.now)
   pub spaces : spaces_in judge.spaces.now ≡ spaces_of_module judge.types.now.indices (syntax_of judge.module.now)

@@ -1,4 +1,5 @@
 pub mod Common
+pub mod Supertypes
 pub mod References
 pub mod Locals
 pub mod ValidPrograms

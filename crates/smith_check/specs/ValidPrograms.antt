@@ -18,6 +18,7 @@ use Rattle.smith_check_types.specs.TypeSections.{AreGroupsInScope, canonical_gro
 use Rattle.smith_check_renamed.specs.RenamedInstructions.{renamed_body}
 use Rattle.smith_check_module.specs.Contexts.{spaces_in, types_in}
 use Rattle.smith_check.specs.References.{references_of}
+use Rattle.smith_check.specs.Supertypes.{HaveOneSupertype}
 
 -- the types of the element segments, by canonical indices (Validation, Modules)
 abbrev pub element_types : List ℕ → List Elem → List RefType
@@ -72,6 +73,7 @@ pub record IsFunctionValid (features : Features) (indices : List ℕ) (m : Synta
 
 -- a module is valid, with the bodies of its functions (Validation, Modules)
 pub record IsValidProgram (features : Features) (m : Syntax) : Type 0 where
+  pub supertypes : HaveOneSupertype m.further_supertypes
   pub scope : AreGroupsInScope 0 m.types
   pub indices : List ℕ
   pub canonical : AreCanonical m.types indices

@@ -1,4 +1,4 @@
-ghost use Rattle.std.specs.Prelude.{◌≡◌, ◌↔◌, ◌+◌, ◌<◌, ◌^◌, length, take, IsTrue, IfOk, IfErr};
+ghost use Rattle.std.specs.Prelude.{◌≡◌, ◌↔◌, ◌+◌, ◌<◌, ◌≤◌, ◌^◌, length, take, IsTrue, IfOk, IfErr};
 ghost use Rattle.smith_types.specs.Syntax.FeatureBits.{features_in};
 ghost use Rattle.smith_types.specs.Groups.{space_of};
 ghost use Rattle.smith_check_types.specs.TypeSections.{IsTypeSectionValid};
@@ -38,6 +38,7 @@ pub(crate) fn first_wrong_group(
         IsTypeSectionValid (features_in features) (take group groups.now)) }
     ensures first { IfOk result (λ group.
         ¬ IsTypeSectionValid (features_in features) (take (group + 1) groups.now)) }
+    ensures within { IfOk result (λ group. group < length groups.now) }
     ensures memory { IfErr result (λ e. e ≡ Error.Memory) }
 {
     let mut valid = 0;
@@ -51,4 +52,31 @@ pub(crate) fn first_wrong_group(
         }
     }
     Ok(valid)
+}
+
+/// Returns the index of the first wrong group of `groups`, where the one at `several` is wrong because of the
+/// number of its supertypes.
+pub(crate) fn first_wrong_up_to(
+    alloc: Global,
+    features: WasmFeatures,
+    groups: &[Items<SubType>],
+    several: usize,
+) -> Result<usize, Error>
+    requires { length (space_of groups.now).types + 1 < 2 ^ 32 }
+    ensures before { IfOk result (λ group.
+        IsTypeSectionValid (features_in features) (take group groups.now)) }
+    ensures first { IfOk result (λ group. group < several
+        → ¬ IsTypeSectionValid (features_in features) (take (group + 1) groups.now)) }
+    ensures within { IfOk result (λ group. group ≤ several) }
+    ensures memory { IfErr result (λ e. e ≡ Error.Memory) }
+{
+    let front = &groups[..several.min(groups.len())];
+    let found = check_types(alloc, features, front)?;
+    match found {
+        Some(_types) => Ok(several),
+        None => {
+            let group = first_wrong_group(alloc, features, front)?;
+            Ok(group)
+        }
+    }
 }

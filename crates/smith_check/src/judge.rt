@@ -1,17 +1,20 @@
-ghost use Rattle.std.specs.Prelude.{◌≡◌, IfOk, IfErr, MatchOption};
+ghost use Rattle.std.specs.Prelude.{◌≡◌, ◌+◌, ◌<◌, ◌^◌, length, IfOk, IfErr, MatchOption};
 ghost use Rattle.smith_types.specs.Syntax.FeatureBits.{features_in};
+ghost use Rattle.smith_types.specs.Groups.{space_of};
 ghost use Rattle.smith_decode.specs.Modules.{syntax_of};
 ghost use Rattle.smith_check_types.specs.CheckedTypes.{AreChecked};
 ghost use Rattle.smith_check_module.specs.ValidModules.{AreSectionsValid};
 ghost use Rattle.smith_check.specs.Explanations.{ArePartsOf, IsExplained};
 ghost use Rattle.smith_check.specs.Faults.{IsJudgement};
 ghost use Rattle.smith_check.specs.FunctionJudges.{IsFunctionJudge};
+ghost use Rattle.smith_check.specs.Supertypes.{HaveOneSupertype};
 
 use crate::elements::element_types;
 use crate::functions::FunctionJudge;
-use crate::groups::{are_few, first_wrong_group};
+use crate::groups::{are_few, first_wrong_group, first_wrong_up_to};
 use crate::judgement::{Fault, Judgement, Unjudged};
 use crate::references::references_of;
+use crate::supertypes::first_several;
 use smith_bytes::Error;
 use smith_check_module::{canonical_spaces, check_sections};
 use smith_check_types::{CheckedTypes, check_types};
@@ -37,6 +40,23 @@ pub fn check(alloc: Global, features: WasmFeatures, module: &Module) -> Result<J
     if !are_few(groups) {
         return Ok(Judgement::NotJudged(Unjudged::Types));
     }
+    match first_several(module.further_supertypes.as_slice()) {
+        Some(several) => {
+            let group = first_wrong_up_to(alloc, features, groups, several)?;
+            Ok(Judgement::Invalid(Fault::Types(group)))
+        }
+        None => check_single(alloc, features, module),
+    }
+}
+
+// Checks a module with few types, none of which has several supertypes.
+fn check_single(alloc: Global, features: WasmFeatures, module: &Module) -> Result<Judgement, Error>
+    requires few { length (space_of «module».now.types).types + 1 < 2 ^ 32 }
+    requires supertypes { HaveOneSupertype «module».now.further_supertypes }
+    ensures decided { IfOk result (IsJudgement (features_in features) «module».now) }
+    ensures memory { IfErr result (λ e. e ≡ Error.Memory) }
+{
+    let groups = module.types.as_slice();
     let found = check_types(alloc, features, groups)?;
     match found {
         Some(types) => check_over(alloc, features, module, &types),
@@ -54,7 +74,8 @@ fn check_over(
     module: &Module,
     types: &CheckedTypes,
 ) -> Result<Judgement, Error>
-    requires { AreChecked (features_in features) «module».now.types types.now }
+    requires supertypes { HaveOneSupertype «module».now.further_supertypes }
+    requires checked { AreChecked (features_in features) «module».now.types types.now }
     ensures decided { IfOk result (IsJudgement (features_in features) «module».now) }
     ensures memory { IfErr result (λ e. e ≡ Error.Memory) }
 {
@@ -100,6 +121,7 @@ fn judge_of<'a>(
     types: &'a CheckedTypes,
     parts: &'a Parts,
 ) -> FunctionJudge<'a>
+    requires supertypes { HaveOneSupertype «module».now.further_supertypes }
     requires checked { AreChecked (features_in features) «module».now.types types.now }
     requires sections { AreSectionsValid (features_in features) types.now.indices (syntax_of «module».now) }
     requires parts { ArePartsOf types.now «module».now parts.now }
@@ -125,6 +147,7 @@ fn check_functions(
     module: &Module,
     types: &CheckedTypes,
 ) -> Result<Judgement, Error>
+    requires supertypes { HaveOneSupertype «module».now.further_supertypes }
     requires checked { AreChecked (features_in features) «module».now.types types.now }
     requires sections { AreSectionsValid (features_in features) types.now.indices (syntax_of «module».now) }
     ensures decided { IfOk result (IsJudgement (features_in features) «module».now) }
@@ -144,6 +167,7 @@ fn explain_function(
     place: usize,
     at: usize,
 ) -> Result<Option<Explanation>, Error>
+    requires supertypes { HaveOneSupertype «module».now.further_supertypes }
     requires checked { AreChecked (features_in features) «module».now.types types.now }
     requires sections { AreSectionsValid (features_in features) types.now.indices (syntax_of «module».now) }
     ensures ok { IfOk result (λ found. MatchOption found (Unit {0})
@@ -164,7 +188,8 @@ fn explain_over(
     place: usize,
     at: usize,
 ) -> Result<Option<Explanation>, Error>
-    requires { AreChecked (features_in features) «module».now.types types.now }
+    requires supertypes { HaveOneSupertype «module».now.further_supertypes }
+    requires checked { AreChecked (features_in features) «module».now.types types.now }
     ensures ok { IfOk result (λ found. MatchOption found (Unit {0})
         (IsExplained (features_in features) (syntax_of «module».now) place at)) }
     ensures memory { IfErr result (λ e. e ≡ Error.Memory) }
@@ -173,6 +198,28 @@ fn explain_over(
     match found {
         Some(_) => Ok(None),
         None => explain_function(alloc, features, module, types, place, at),
+    }
+}
+
+// Explains a fault of a module with few types, none of which has several supertypes.
+fn explain_single(
+    alloc: Global,
+    features: WasmFeatures,
+    module: &Module,
+    place: usize,
+    at: usize,
+) -> Result<Option<Explanation>, Error>
+    requires few { length (space_of «module».now.types).types + 1 < 2 ^ 32 }
+    requires supertypes { HaveOneSupertype «module».now.further_supertypes }
+    ensures ok { IfOk result (λ found. MatchOption found (Unit {0})
+        (IsExplained (features_in features) (syntax_of «module».now) place at)) }
+    ensures memory { IfErr result (λ e. e ≡ Error.Memory) }
+{
+    let groups = module.types.as_slice();
+    let found = check_types(alloc, features, groups)?;
+    match found {
+        Some(types) => explain_over(alloc, features, module, &types, place, at),
+        None => Ok(None),
     }
 }
 
@@ -200,9 +247,8 @@ pub fn explain(
     if !are_few(groups) {
         return Ok(None);
     }
-    let found = check_types(alloc, features, groups)?;
-    match found {
-        Some(types) => explain_over(alloc, features, module, &types, place, at),
-        None => Ok(None),
+    match first_several(module.further_supertypes.as_slice()) {
+        Some(_) => Ok(None),
+        None => explain_single(alloc, features, module, place, at),
     }
 }

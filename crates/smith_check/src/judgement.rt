@@ -19,7 +19,7 @@ pub enum Judgement {
 #[derive(Clone, Copy, Debug)]
 pub enum Fault {
     /// The types up to this group of the type section, the first that is wrong, are not valid
-    /// (Validation, Types).
+    /// (Validation, Types): one of its types has several supertypes, or breaks another rule.
     Types(usize),
     /// An item of another section is not valid (Validation, Modules).
     Section(SectionFault),

@@ -13,7 +13,9 @@ mod judge;
 mod judgement;
 mod locals;
 mod references;
+mod supertypes;
 
 pub use judge::{check, explain};
 pub use judgement::{Fault, Judgement, LOCALS, Unjudged};
 pub use smith_explain::Explanation;
+pub use supertypes::is_single;

@@ -64,7 +64,7 @@ pub before_bodies : (bodies : List (List ValType × List Instr))
 before_bodies bodies =
     let sections = does_nothing_valid.sections in
     record {
-      types = record { canonical = does_nothing_valid.canonical; valid = function_types };
+      types = record { supertypes = refl; canonical = does_nothing_valid.canonical; valid = function_types };
       sections = record {
         entities = sections.entities;
         counts = sections.counts;

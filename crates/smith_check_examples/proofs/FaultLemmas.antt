@@ -26,7 +26,8 @@ use Rattle.smith_check.specs.Faults.{HasManyLocals, IsFirstFault}
 use Rattle.smith_check.specs.declared.judgement.Fault.TheVariants as fault
 use Rattle.smith_check.proofs.ExampleLemmas.{does_nothing_valid}
 use Rattle.smith_check.proofs.GroupLemmas.{none_canonical, none_valid}
-use Rattle.smith_check_examples.specs.ExampleModules.{below_final, of_runs, starts_missing, three_runs, two_faults, with_body, without_body}
+use Rattle.smith_check_examples.specs.ExampleModules.{below_final, of_runs, of_several_supertypes, starts_missing, three_runs, two_faults}
+use Rattle.smith_check_examples.specs.ExampleModules.{with_body, without_body}
 use Rattle.smith_check_examples.specs.ExampleSyntax.{with_locals}
 use Rattle.smith_check_examples.proofs.BodyLemmas.{before_bodies, drop_not_refused_past, drop_refused, function_at, nothing_not_refused}
 use Rattle.smith_check_examples.proofs.BodyLemmas.{own, renamed_locals}
@@ -58,7 +59,7 @@ earlier_right =
 pub start_first : IsFirstFault usual_features starts_missing (fault.Section (record { part = part.Start; index = 0 }))
 start_first = (
   [],
-  record { canonical = none_canonical; valid = none_valid usual_features },
+  record { supertypes = refl; canonical = none_canonical; valid = none_valid usual_features },
   record {
     before = earlier_parts;
     after = part.Elements ∷ part.Datas ∷ [];
@@ -82,7 +83,7 @@ tag_wrong indices right =
 pub tag_first : IsFirstFault usual_features two_faults (fault.Section (record { part = part.Tags; index = 0 }))
 tag_first = (
   [],
-  record { canonical = none_canonical; valid = none_valid usual_features },
+  record { supertypes = refl; canonical = none_canonical; valid = none_valid usual_features },
   record {
     before = [];
     after = _;
@@ -110,10 +111,19 @@ second_tag_not_first (indices, types, first) = first.first.wrong (λ item at. ab
 
 -- types below final ones
 pub types_first : IsFirstFault usual_features below_final (fault.Types 1)
-types_first = record { before = function_types; wrong = λ valid. none_below_final valid.indices valid.valid }
+types_first = record {
+  before = record { supertypes = refl; valid = function_types };
+  wrong = λ right. none_below_final right.valid.indices right.valid.valid;
+}
 
 pub first_type_not_first : IsFirstFault usual_features below_final (fault.Types 0) → ⊥
-first_type_not_first wrong = wrong.wrong function_types
+first_type_not_first wrong = wrong.wrong (record { supertypes = refl; valid = function_types })
+
+pub several_first : IsFirstFault usual_features of_several_supertypes (fault.Types 0)
+several_first = record {
+  before = record { supertypes = refl; valid = none_valid usual_features };
+  wrong = λ right. let several = right.supertypes in cc several;
+}
 
 pub section_not_first : IsFirstFault usual_features below_final (fault.Section (record { part = part.Start; index = 0 })) → ⊥
 section_not_first (indices, types, first) = none_below_final types.valid.indices types.valid.valid

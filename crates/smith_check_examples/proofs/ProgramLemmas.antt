@@ -22,6 +22,7 @@ use Rattle.smith_check_types.specs.TypeSections.{AreGroupsInScope, IsInScope, ca
 use Rattle.smith_check_module.specs.Contexts.{context_in, spaces_in, types_in}
 use Rattle.smith_check_module.specs.ExampleSyntax.{nothing}
 use Rattle.smith_check_module.specs.ValidModules.{AreSectionsValid, IsDataModeValid, IsElementValid}
+use Rattle.smith_check.specs.Supertypes.{HaveOneSupertype}
 use Rattle.smith_check.specs.ValidPrograms.{IsValidProgram}
 use Rattle.smith_check.proofs.ExampleLemmas.{nothing_valid}
 use Rattle.smith_check_examples.specs.ExampleSyntax.{copied_bytes, copied_functions, crossed_limits, exports, imported_memory}
@@ -73,9 +74,11 @@ passive_sections = record {
 }
 
 -- a module is valid if all its sections are, and it has neither types nor functions
-with_sections : (m : Syntax) → m.types ≡ [] → m.functions ≡ [] → m.bodies ≡ [] → AreSectionsValid usual_features indices m
+with_sections : (m : Syntax) → HaveOneSupertype m.further_supertypes → m.types ≡ [] → m.functions ≡ [] → m.bodies ≡ []
+    → AreSectionsValid usual_features indices m
     → IsValidProgram usual_features m
-with_sections m untyped empty bodiless sections = record {
+with_sections m supertypes untyped empty bodiless sections = record {
+  supertypes = supertypes;
   scope = subst (AreGroupsInScope 0) (sym untyped) nothing_valid.scope;
   indices = indices;
   canonical = subst (λ (groups : List (List SubType)). AreCanonical groups indices) (sym untyped) nothing_valid.canonical;
@@ -87,10 +90,10 @@ with_sections m untyped empty bodiless sections = record {
 }
 
 pub imported_memory_valid : IsValidProgram usual_features imported_memory
-imported_memory_valid = with_sections imported_memory refl refl refl memory_sections
+imported_memory_valid = with_sections imported_memory refl refl refl refl memory_sections
 
 pub passive_valid : IsValidProgram usual_features passive_bytes
-passive_valid = with_sections passive_bytes refl refl refl passive_sections
+passive_valid = with_sections passive_bytes refl refl refl refl passive_sections
 
 -- imports
 pub no_function_type : IsValidProgram usual_features (imports (entity.Func 0)) → ⊥

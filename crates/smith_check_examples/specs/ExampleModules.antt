@@ -22,7 +22,14 @@ three_runs = local_run 2 I32 ∷ local_run 1 fourth_type ∷ local_run 1 fourth_
 
 -- a type below a final type, and a start function that does not exist
 abbrev pub below_final : Module
-below_final = record no_item { types = final_and_below; start = Some 0 }
+below_final = record no_item { types = final_and_below; further_supertypes = ([] ∷ []) ∷ ([] ∷ []) ∷ []; start = Some 0 }
+
+-- a type that is its own supertype twice
+abbrev pub of_several_supertypes : Module
+of_several_supertypes = record no_item {
+  types = (record (function_type []) { supertype = Some 0 } ∷ []) ∷ [];
+  further_supertypes = ((0 ∷ []) ∷ []) ∷ [];
+}
 
 abbrev pub starts_missing : Module
 starts_missing = record no_item { start = Some 0 }
@@ -33,7 +40,11 @@ two_faults = record no_item { tags = record { 0 = 0 } ∷ []; functions = 0 ∷ 
 
 -- a function without parameters and results, which has no body, these locals, or this body
 abbrev pub without_body : Module
-without_body = record no_item { types = (function_type [] ∷ []) ∷ []; functions = 0 ∷ [] }
+without_body = record no_item {
+  types = (function_type [] ∷ []) ∷ [];
+  further_supertypes = ([] ∷ []) ∷ [];
+  functions = 0 ∷ [];
+}
 
 abbrev pub of_runs : List LocalRun → Module
 of_runs runs = record without_body { bodies = body_of runs [] ∷ [] }

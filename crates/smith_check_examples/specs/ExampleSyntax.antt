@@ -86,6 +86,16 @@ final_and_below = (final_type plain_func ∷ []) ∷ (below_first ∷ []) ∷ []
 abbrev pub below_a_final_type : Syntax
 below_a_final_type = record nothing { types = final_and_below }
 
+-- a type below two others
+abbrev pub not_final : SubType
+not_final = record (final_type plain_func) { is_final = false }
+
+abbrev pub below_two_types : Syntax
+below_two_types = record nothing {
+  types = (not_final ∷ []) ∷ (not_final ∷ []) ∷ (below_first ∷ []) ∷ [];
+  further_supertypes = ([] ∷ []) ∷ ([] ∷ []) ∷ ((1 ∷ []) ∷ []) ∷ [];
+}
+
 -- a type that refers to a type of a later group
 abbrev pub refers_to_a_later_group : Syntax
 refers_to_a_later_group = record nothing { types = (struct_of 1 ∷ []) ∷ (struct_of 0 ∷ []) ∷ [] }

@@ -6,13 +6,14 @@ ghost use Rattle.smith_instr.specs.declared.instr.Instr.TheVariants as instr;
 ghost use Rattle.smith_check.specs.Faults.{IsFirstFault};
 ghost use Rattle.smith_check.specs.declared.judgement.Fault.TheVariants as fault;
 ghost use Rattle.smith_check_module.specs.declared.faults.Part.TheVariants as part;
-ghost use Rattle.smith_check_examples.specs.ExampleModules.{below_final, of_runs, starts_missing, three_runs, two_faults, with_body};
-ghost use Rattle.smith_check_examples.specs.ExampleModules.{without_body};
+ghost use Rattle.smith_check_examples.specs.ExampleModules.{below_final, of_runs, of_several_supertypes, starts_missing, three_runs};
+ghost use Rattle.smith_check_examples.specs.ExampleModules.{two_faults, with_body, without_body};
 
 // Types come before the other sections.
 fn types()
     ensures second { IsFirstFault usual_features below_final (fault.Types 1) }
     ensures not_the_first { ¬ IsFirstFault usual_features below_final (fault.Types 0) }
+    ensures several_supertypes { IsFirstFault usual_features of_several_supertypes (fault.Types 0) }
     ensures not_a_later_section { ¬ IsFirstFault usual_features below_final (fault.Section (record { part = part.Start; index = 0 })) }
 {}
 

@@ -5,12 +5,14 @@ ghost use Rattle.smith_types.specs.Syntax.entity_type.EntityType.TheVariants as 
 ghost use Rattle.smith_types.specs.Syntax.entity_type.ExportKind.TheVariants as kind;
 ghost use Rattle.smith_types.specs.ExampleFeatures.{usual_features};
 ghost use Rattle.smith_check.specs.ValidPrograms.{IsValidProgram};
-ghost use Rattle.smith_check_examples.specs.ExampleSyntax.{below_a_final_type, bodiless, copied_bytes, copied_functions, crossed_limits};
+ghost use Rattle.smith_check_examples.specs.ExampleSyntax.{below_a_final_type, below_two_types, bodiless, copied_bytes};
+ghost use Rattle.smith_check_examples.specs.ExampleSyntax.{copied_functions, crossed_limits};
 ghost use Rattle.smith_check_examples.specs.ExampleSyntax.{exports, exports_twice, imported_memory, imports, passive_bytes};
 ghost use Rattle.smith_check_examples.specs.ExampleSyntax.{refers_to_a_later_group};
 
 fn types()
     ensures below_a_final_type { ¬ IsValidProgram usual_features below_a_final_type }
+    ensures below_two_types { ¬ IsValidProgram usual_features below_two_types }
     ensures to_a_later_group { ¬ IsValidProgram usual_features refers_to_a_later_group }
 {}
 

@@ -8,6 +8,7 @@ use Rattle.smith_instr.specs.declared.instr.Instr.TheVariants as instr
 abbrev pub nothing : Syntax
 nothing = record {
   types = [];
+  further_supertypes = [];
   imports = [];
   functions = [];
   tables = [];

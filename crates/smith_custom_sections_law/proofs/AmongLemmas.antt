@@ -138,5 +138,6 @@ kept_module m customs file bytes h k =
         datas = h.datas;
         named = h.named;
         customs = (kept.sections, kept.each, kept.among);
+        aligned = h.aligned;
       };
     }

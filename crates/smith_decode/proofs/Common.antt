@@ -7,6 +7,7 @@ pub use Rattle.smith_binary_read.proofs.IntegerLemmas.{unsigned_decodes}
 pub use Rattle.smith_binary_read.proofs.ReadLemmas.{branch, front_joined, joined_decodes, step, test_passed}
 unfoldable pub use Rattle.smith_binary_read.specs.Contents.{content_at, list_at, name_at, sized_at}
 pub use Rattle.smith_binary_read.specs.Decodes.{Decodes, DecodesWhole, Front}
+pub use Rattle.smith_binary_read.specs.DeclaredTypes.{IsDeclaredGroup}
 pub use Rattle.smith_binary_read.specs.EntityReadings.{IsExportItem}
 unfoldable pub use Rattle.smith_binary_read.specs.Numbers.{unsigned_at}
 pub use Rattle.smith_binary_read.specs.Readings.{Fails, Reading}
@@ -26,7 +27,6 @@ pub use Rattle.smith_binary_sections.specs.Entities.{IsMemoryType}
 pub use Rattle.smith_binary_sections.specs.Imports.{IsImportGroup}
 pub use Rattle.smith_binary_sections.specs.Instructions.{IsIndex}
 pub use Rattle.smith_binary_sections.specs.Sections.{IsOptionalSection}
-pub use Rattle.smith_binary_sections.specs.Types.{IsRecGroup}
 pub use Rattle.smith_instr.specs.declared.instr.Instr.{Instr}
 pub use Rattle.smith_types.specs.Syntax.FeatureBits.{features_in}
 pub use Rattle.smith_types.specs.Syntax.Features.{Features}

@@ -1,6 +1,7 @@
 -- Decoded modules in the abstract syntax, as a whole.
 use Rattle.smith_decode.proofs.Common.{[], ap, Bool, eq-eqb, eqb, eqb-true, Err, false, Features, Instr, IsIndex, IsList, IsMemoryType}
-use Rattle.smith_decode.proofs.Common.{IsRecGroup, length, List, list_any, map, None, Ok, Option, refl, Result, Some, subst, sym, TableType}
+use Rattle.smith_decode.proofs.Common.{IsDeclaredGroup, length, List, list_any, map, None, Ok, Option, refl, Result, Some, subst, sym}
+use Rattle.smith_decode.proofs.Common.{TableType}
 use Rattle.smith_decode.proofs.Common.{true, ValType, Viewed, ℕ, ◌||◌, ◌∙◌, ◌∷◌, ◌≡◌}
 use Rattle.std.specs.Prelude.{IfOk, IfSome}
 use Rattle.std.proofs.lemmas.Bool.{and_parts}
@@ -14,6 +15,7 @@ use Rattle.smith_types.specs.Imports.{flattened}
 use Rattle.smith_binary_sections.specs.Entities.{IsTagType}
 use Rattle.smith_binary_sections.specs.Imports.{IsImports}
 use Rattle.smith_binary_sections.specs.Exports.{IsExport}
+use Rattle.smith_binary_read.specs.declared.types.DeclaredType.{DeclaredType}
 use Rattle.smith_binary_read.proofs.ViewLemmas.{list_viewed}
 use Rattle.smith_decode.specs.declared.error.DecodeError.{DecodeError}
 use Rattle.smith_decode.specs.declared.error.DecodeError.TheVariants.{Memory, Malformed, FeatureOff}
@@ -27,27 +29,29 @@ use Rattle.smith_decode.specs.Definitions.{IsTable, IsGlobal}
 use Rattle.smith_decode.specs.ElementReadings.{element_view}
 use Rattle.smith_decode.specs.Elements.{Elem, IsElem}
 use Rattle.smith_decode.specs.ModuleReadings.{Parts, module_of, with_customs, is_number, is_stated_if, module_at}
-use Rattle.smith_decode.specs.Modules.{Syntax, IsFunctionBody, IsStated, IsModuleBinary, syntax_of}
+use Rattle.smith_decode.specs.Modules.{Syntax, declared_types, IsFunctionBody, IsStated, IsModuleBinary, syntax_of}
+use Rattle.smith_decode.specs.TypeGroups.{AreAligned, groups_further, groups_types}
 use Rattle.smith_decode.specs.Forms.{AreFormsEnabled}
 use Rattle.smith_decode.specs.Results.{Locates, Returns}
 use Rattle.smith_decode.specs.Modules.{table_pair, tag_index, global_pair, export_triple, body_names_data}
 use Rattle.smith_decode.proofs.ElementLemmas.{segment_viewed}
 use Rattle.smith_decode.proofs.FormLemmas.{off_disabled}
 use Rattle.smith_decode.proofs.CustomLemmas.{IsMore, IsEnd}
-use Rattle.smith_decode.proofs.ModuleLemmas.{AreParts, parts_of, IsDecodedBinary, module_decodes}
+use Rattle.smith_decode.proofs.ModuleLemmas.{AreParts, parts_of, parts_again, IsDecodedBinary, module_decodes}
+use Rattle.smith_decode.proofs.TypeGroupLemmas.{groups_aligned, groups_types_again, groups_further_again}
 use Rattle.smith_decode.proofs.ViewLemmas.{same_viewed, table_viewed, tag_viewed, global_viewed, export_viewed, imports_viewed, data_viewed}
 use Rattle.smith_decode.proofs.ViewLemmas.{body_viewed, both_views, more_viewed}
 
 -- the parts of a module in the abstract syntax, and the stated number of data segments
 abbrev Abstract : Type 0
 Abstract =
-    List (List SubType) × (List Import × (List ℕ × (List (TableType × List Instr) × (List MemoryType × (List ℕ
+    List (List DeclaredType) × (List Import × (List ℕ × (List (TableType × List Instr) × (List MemoryType × (List ℕ
     × (List (GlobalType × List Instr) × (List (List ℕ × ExportKind × ℕ) × (Option ℕ × (List Elem × (Option ℕ
     × (List (List ValType × List Instr) × (List Data × Unit {0}))))))))))))
 
 abbrev abstract_of : Syntax → Option ℕ → Abstract
 abstract_of m count = (
-  m.types,
+  declared_types m,
   (
     m.imports,
     (
@@ -62,7 +66,8 @@ abstract_of m count = (
 
 abbrev syntax_from : List Custom → Abstract → Syntax
 syntax_from customs a = record {
-  types = a.0;
+  types = groups_types a.0;
+  further_supertypes = groups_further a.0;
   imports = a.1.0;
   functions = a.1.1.0;
   tables = a.1.1.1.0;
@@ -77,10 +82,20 @@ syntax_from customs a = record {
   customs = customs;
 }
 
+abbrev with_groups : Syntax → List (List SubType) → List (List (List ℕ)) → Syntax
+with_groups m types further = record m { types = types; further_supertypes = further }
+
+syntax_again : (m : Syntax) (count : Option ℕ) → AreAligned m.types m.further_supertypes
+    → syntax_from m.customs (abstract_of m count) ≡ m
+syntax_again m count aligned =
+    ap (λ (types : List (List SubType)). with_groups m types (groups_further (declared_types m)))
+    (groups_types_again m.types m.further_supertypes)
+    ∙ ap (with_groups m m.types) (groups_further_again m.types m.further_supertypes aligned)
+
 -- the sections of these parts
 abbrev IsAbstract : Abstract → List ℕ → Type 0
 IsAbstract =
-    IsMore 1 [] (IsList IsRecGroup)
+    IsMore 1 [] (IsList IsDeclaredGroup)
     (IsMore 2 [] IsImports
     (IsMore 3 [] (IsList IsIndex)
     (IsMore 4 [] (IsList IsTable)
@@ -169,6 +184,7 @@ module_forth m bytes h =
           (stated_is m.data_count (length m.datas) agrees.1);
       named = λ none. any_viewed m.bodies ∙ none_named (name_data m.bodies) m.data_count h.suffices none;
       customs = h.customs;
+      aligned = h.aligned;
     }
 
 -- a decoded module that is seen as one of the abstract syntax
@@ -181,7 +197,9 @@ pub module_back : (m : Syntax) (bytes : List ℕ) → IsModuleBinary m bytes →
 module_back m bytes h =
     let one = parts_viewed.back (abstract_of m h.count) h.form.second h.form.is_second in
     let decoded = with_customs (module_of one.item) m.customs in
-    let same : syntax_of decoded ≡ m = ap (syntax_from m.customs) one.is in
+    let same : syntax_of decoded ≡ m = ap (syntax_from m.customs) one.is ∙ syntax_again m h.count h.aligned in
+    let parts : AreParts (parts_of decoded) h.form.second = subst (λ (p : Parts). AreParts p h.form.second) (sym (parts_again one.item))
+    one.form in
     let count : decoded.data_count ≡ h.count = ap (λ (a : Abstract). a.1.1.1.1.1.1.1.1.1.1.0) one.is in
     let functions : decoded.functions ≡ m.functions = ap (λ (c : Syntax). c.functions) same in
     let bodies : map body_view decoded.bodies ≡ m.bodies = ap (λ (c : Syntax). c.bodies) same in
@@ -199,7 +217,7 @@ module_back m bytes h =
           first = h.form.first;
           second = h.form.second;
           is_first = h.form.is_first;
-          is_second = one.form;
+          is_second = parts;
           whole = h.form.whole;
         };
         agrees = rw (
@@ -210,6 +228,7 @@ module_back m bytes h =
         suffices = suffices_again (name_data decoded.bodies) decoded.data_count
             (λ none. sym (any_viewed decoded.bodies) ∙ ap (list_any body_names_data) bodies ∙ h.named (sym count ∙ none));
         customs = h.customs;
+        aligned = groups_aligned one.item.0;
       };
     }
 

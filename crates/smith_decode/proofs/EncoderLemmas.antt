@@ -1,15 +1,20 @@
 -- Modules without custom sections, as an encoder writes them, and what the reading says of modules.
-use Rattle.smith_decode.proofs.Common.{[], ap, append-nil, arith, Bool, Each, Err, false, Fault, Instr, IsList, IsNestedExpr}
+use Rattle.smith_decode.proofs.Common.{[], ap, append-nil, arith, Bool, Each, Err, false, Fault, Instr, IsDeclaredGroup, IsList}
+use Rattle.smith_decode.proofs.Common.{IsNestedExpr}
 use Rattle.smith_decode.proofs.Common.{IsOptionalSection, IsSection, IsUnsigned, Joined, length, List, list_any, map, nil_from_length, None}
 use Rattle.smith_decode.proofs.Common.{Option, refl, Some, subst, suc, sym, true, ValType, ℕ, ◌++◌, ◌∙◌, ◌∷◌, ◌≡◌}
 use Rattle.std.proofs.lemmas.List.{length-map}
 use Rattle.std.specs.Prelude.{IfSome}
+use Rattle.smith_types.specs.Syntax.composite_type.SubType.{SubType}
 use Rattle.smith_binary_sections.specs.Codes.{IsBody, IsLocals}
 use Rattle.smith_binary_sections.specs.Data.{IsData as IsConstData}
 use Rattle.smith_binary_sections.specs.Definitions.{IsTable as IsConstTable, IsGlobal as IsConstGlobal}
 use Rattle.smith_binary_sections.specs.Elements.{IsElem as IsConstElem}
 use Rattle.smith_binary_sections.specs.Modules.{Contents, IsModule, IsStartSection}
 use Rattle.smith_binary_sections.specs.Sections.{IsListSection}
+use Rattle.smith_binary_sections.specs.Types.{IsRecGroup}
+use Rattle.smith_binary_read.specs.declared.types.DeclaredType.{DeclaredType}
+use Rattle.smith_binary_read.proofs.TypeLemmas.{plain_group, without_further}
 use Rattle.smith_binary_read.proofs.ViewLemmas.{list_forth}
 use Rattle.smith_decode.specs.Constants.{as_table, as_global, as_elem, as_data, with_bodies, IsPresent, StatesCount}
 use Rattle.smith_decode.specs.Customs.{AreCustoms, IsThen}
@@ -18,6 +23,8 @@ use Rattle.smith_decode.specs.Definitions.{IsTable, IsGlobal}
 use Rattle.smith_decode.specs.Elements.{IsElem}
 use Rattle.smith_decode.specs.ModuleReadings.{module_at}
 use Rattle.smith_decode.specs.Modules.{AreBodiesOf, IsFunctionBody, IsStated, IsModuleBinary, Syntax, syntax_of, body_names_data}
+use Rattle.smith_decode.specs.TypeGroups.{declared_groups}
+use Rattle.smith_decode.proofs.TypeGroupLemmas.{groups_plain, none_further, plain_aligned}
 use Rattle.smith_decode.proofs.ConstantLemmas.{first_as, table_as, global_as, elem_as, data_as}
 use Rattle.smith_decode.proofs.ContentsLemmas.{module_back}
 use Rattle.smith_decode.proofs.CustomLemmas.{no_customs}
@@ -62,6 +69,12 @@ start_form : (start : Option ℕ) (piece : List ℕ) → IsStartSection start pi
 start_form (Some index) piece h =
     IsOptionalSection.present (section_as 8 (λ content is. record { number = index; is = refl; form = is }) h)
 start_form None piece h = IsOptionalSection.absent refl h
+
+types_form : (types : List (List SubType)) (piece : List ℕ) → IsListSection 1 IsRecGroup types piece
+    → IsListSection 1 IsDeclaredGroup (declared_groups types (none_further types)) piece
+types_form types piece h =
+    subst (λ (groups : List (List DeclaredType)). IsListSection 1 IsDeclaredGroup groups piece) (sym (groups_plain types))
+    (section_of 1 (map without_further) IsDeclaredGroup IsRecGroup plain_group types piece h)
 
 -- the last section, and no byte after it
 last_form : {N : Type 0} {P : List ℕ → Type 0} {piece : List ℕ} (id : ℕ) → IsOptionalSection id N P piece → IsThen id N P AreCustoms piece
@@ -223,7 +236,9 @@ encoder_form m bodies bytes is_module same needed =
     let from_tables =
     then_counted 4 (first_as (λ first is. section_of 4 as_table IsTable IsConstTable table_as m.tables first is) tables)
     (then_counted 5 memories (then_counted 13 tags from_globals)) in
-    let sections = then_counted 1 types (then_counted 2 imports (then_counted 3 functions from_tables)) in
+    let sections =
+    then_counted 1 (first_as (λ first is. types_form m.types first is) types)
+    (then_counted 2 imports (then_counted 3 functions from_tables)) in
     let code = count.is_second in
     let plain_start =
     plain_then 8 (λ e. omega arith) (omega arith) (first_as (λ first is. start_form m.start first is) start)
@@ -242,6 +257,7 @@ encoder_form m bodies bytes is_module same needed =
       datas = sections.stated;
       named = sections.needed;
       customs = (plain.sections, plain.each, plain.none None);
+      aligned = plain_aligned m.types;
     }
 
 -- bytes are at most one module

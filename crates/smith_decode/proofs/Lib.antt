@@ -8,6 +8,7 @@ pub mod CustomLemmas
 pub mod SkipLemmas
 pub mod GatherLemmas
 pub mod KeptLemmas
+pub mod TypeGroupLemmas
 pub mod ModuleLemmas
 pub mod ViewLemmas
 pub mod ContentsLemmas

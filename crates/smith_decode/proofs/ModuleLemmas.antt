@@ -1,11 +1,14 @@
 -- Modules that are read: the reading is sound and complete for sections of the items that are decoded.
-use Rattle.smith_decode.proofs.Common.{[], ap, arith, Decodes, DecodesWhole, eq-eqb, eqb-true, expr_decodes, IsExportItem, IsImportGroup}
-use Rattle.smith_decode.proofs.Common.{IsIndex, IsList, IsMemoryType, IsRecGroup, IsTagDefinition, Joined, joined_decodes, List, list_at}
+use Rattle.smith_decode.proofs.Common.{[], ap, arith, Decodes, DecodesWhole, eq-eqb, eqb-true, expr_decodes, IsDeclaredGroup}
+use Rattle.smith_decode.proofs.Common.{IsExportItem, IsImportGroup}
+use Rattle.smith_decode.proofs.Common.{IsIndex, IsList, IsMemoryType, IsTagDefinition, Joined, joined_decodes, List, list_at}
 use Rattle.smith_decode.proofs.Common.{None, Ok, Option, refl, Some, step, subst, sym, test_passed, true, unsigned_at, unsigned_decodes, ℕ}
 use Rattle.smith_decode.proofs.Common.{◌++◌, ◌<◌, ◌^◌, ◌∙◌, ◌∷◌, ◌≡◌}
 use Rattle.std.specs.List.{AllByRecursion}
 use Rattle.std.proofs.lemmas.Bool.{lt-ltb, ltb-true}
+use Rattle.smith_types.specs.Syntax.composite_type.SubType.{SubType}
 use Rattle.smith_binary_sections.specs.Modules.{IsPreamble}
+use Rattle.smith_binary_read.specs.declared.types.DeclaredType.{DeclaredType}
 use Rattle.smith_binary_read.specs.Readings.{◌>>=◌, mapped_at}
 use Rattle.smith_binary_read.proofs.ReadLemmas.{byte_sound, whole_decodes}
 use Rattle.smith_binary_read.proofs.ContentLemmas.{list_decodes, sized_decodes}
@@ -27,6 +30,8 @@ use Rattle.smith_decode.specs.ModuleReadings.{Functions, Parts, module_of, bodie
 use Rattle.smith_decode.specs.ModuleReadings.{functions_at, parts_at, sections_at, counts_agree, count_suffices, if_counts_agree}
 use Rattle.smith_decode.specs.ModuleReadings.{with_customs, checked_at, module_at}
 use Rattle.smith_decode.specs.Modules.{IsStated}
+use Rattle.smith_decode.specs.TypeGroups.{AreAligned, declared_groups, groups_further}
+use Rattle.smith_decode.proofs.TypeGroupLemmas.{groups_again, groups_aligned, groups_types_again, groups_further_again}
 use Rattle.smith_decode.proofs.DataLemmas as data_segment
 use Rattle.smith_decode.proofs.KeptLemmas.{kept_decodes}
 use Rattle.smith_decode.proofs.DefinitionLemmas.{global_def_decodes, table_def_decodes}
@@ -53,12 +58,12 @@ abbrev pub AreFunctions : Functions → List ℕ → Type 0
 AreFunctions = IsMore 3 [] (IsList IsIndex) (IsMore 4 [] (IsList IsTableDefinition) AreMemories)
 
 abbrev pub AreParts : Parts → List ℕ → Type 0
-AreParts = IsMore 1 [] (IsList IsRecGroup) (IsMore 2 [] (IsList IsImportGroup) AreFunctions)
+AreParts = IsMore 1 [] (IsList IsDeclaredGroup) (IsMore 2 [] (IsList IsImportGroup) AreFunctions)
 
 -- a decoded module as its parts
 abbrev pub parts_of : Module → Parts
 parts_of m = (
-  m.types,
+  declared_groups m.types m.further_supertypes,
   (
     m.imports,
     (
@@ -98,6 +103,7 @@ pub record IsDecodedBinary (m : Module) (bytes : List ℕ) : Type 0 where
   pub agrees : counts_agree m ≡ true
   pub suffices : count_suffices m ≡ true
   pub customs : HasCustoms m.customs form.second
+  pub aligned : AreAligned m.types m.further_supertypes
 
 -- these bytes
 literal_sound : (literal bytes rest : List ℕ) → literal_at literal bytes ≡ Ok rest → bytes ≡ literal ++ rest
@@ -200,18 +206,40 @@ parts_decode =
     (more_decodes 2 (3 ∷ 4 ∷ 5 ∷ 13 ∷ 6 ∷ 7 ∷ 8 ∷ 9 ∷ 12 ∷ 10 ∷ 11 ∷ []) [] (λ e. omega arith) refl
     (whole_decodes (list_decodes import_group_decodes)) functions_decode)
 
+-- parts as a module, and a module as its parts
+abbrev with_types : Parts → List (List DeclaredType) → Parts
+with_types parts groups = (groups, parts.1)
+
+pub parts_again : (parts : Parts) → parts_of (module_of parts) ≡ parts
+parts_again parts = ap (with_types parts) (groups_again parts.0)
+
+abbrev with_groups : Module → List (List SubType) → List (List (List ℕ)) → Module
+with_groups m types further = record m { types = types; further_supertypes = further; customs = [] }
+
+module_again : (m : Module) → AreAligned m.types m.further_supertypes → module_of (parts_of m) ≡ with_customs m []
+module_again m aligned =
+    let groups = declared_groups m.types m.further_supertypes in
+    ap (λ (types : List (List SubType)). with_groups m types (groups_further groups)) (groups_types_again m.types m.further_supertypes)
+    ∙ ap (with_groups m m.types) (groups_further_again m.types m.further_supertypes aligned)
+
 -- the sections up to the end as a module
-sections_read : (bytes : List ℕ) (m : Module) → sections_at bytes ≡ Ok m → AreParts (parts_of m) bytes
+abbrev AreAll : Module → List ℕ → Type 0
+AreAll m bytes = AreParts (parts_of m) bytes × AreAligned m.types m.further_supertypes
+
+sections_read : (bytes : List ℕ) (m : Module) → sections_at bytes ≡ Ok m → AreAll m bytes
 unfolding sections_at
 sections_read bytes m e = step _ _ _ e (λ parts first e.
     let same : module_of parts ≡ m = cc in
-    subst (λ (x : Module). AreParts (parts_of x) bytes) same (parts_decode.sound bytes parts first))
+    let form : AreParts (parts_of (module_of parts)) bytes = subst (λ (p : Parts). AreParts p bytes) (sym (parts_again parts))
+    (parts_decode.sound bytes parts first) in
+    subst (λ (x : Module). AreAll x bytes) same (form, groups_aligned parts.0))
 
 -- a module after its preamble
 record IsChecked (m : Module) (bytes : List ℕ) : Type 0 where
   pub form : AreParts (parts_of m) bytes
   pub agrees : counts_agree m ≡ true
   pub suffices : count_suffices m ≡ true
+  pub aligned : AreAligned m.types m.further_supertypes
 
 agreed_is : (m agreed : Module) → if_counts_agree m ≡ Ok agreed
     → (m ≡ agreed) × (counts_agree m ≡ true) × (count_suffices m ≡ true)
@@ -223,18 +251,20 @@ unfolding checked_at
 checked_sound bytes x e = step _ _ _ e (λ settled first e. step _ _ _ e (λ m second e.
     let customs = customs_sound bytes settled first in
     let agreed = agreed_is m x e in
+    let all = sections_read settled m second in
     subst (λ (y : Module). IsChecked y bytes) agreed.0 (record {
       form = subst (AreParts (parts_of m)) (sym customs.whole)
-          (parts_decode.prepend (parts_of m) customs.piece settled customs.spelled (sections_read settled m second));
+          (parts_decode.prepend (parts_of m) customs.piece settled customs.spelled all.0);
       agrees = agreed.1;
       suffices = agreed.2;
+      aligned = all.1;
     })))
 
 checked_complete : (x : Module) (bytes : List ℕ) → IsChecked x bytes → checked_at bytes ≡ Ok (with_customs x [])
 unfolding checked_at sections_at
 checked_complete x bytes h =
     let one = parts_decode.complete (parts_of x) bytes h.form in
-    rw (one.skipped, one.is_read, h.agrees, h.suffices) refl
+    rw (one.skipped, one.is_read, h.agrees, h.suffices) (ap Ok (module_again x h.aligned))
 
 -- a module
 pub module_decodes : DecodesWhole IsDecodedBinary module_at
@@ -254,10 +284,16 @@ module_decodes = record {
         agrees = checked.agrees;
         suffices = checked.suffices;
         customs = kept_decodes.sound rest customs third;
+        aligned = checked.aligned;
       }))));
   complete = λ x bytes h.
       let rest = h.form.second in
-      let checked = checked_complete x rest (record { form = h.form.is_second; agrees = h.agrees; suffices = h.suffices }) in
+      let checked = checked_complete x rest (record {
+        form = h.form.is_second;
+        agrees = h.agrees;
+        suffices = h.suffices;
+        aligned = h.aligned;
+      }) in
       let whole : bytes ≡ preamble ++ rest = h.form.whole ∙ ap (λ (first : List ℕ). first ++ rest) h.form.is_first in
       ap (λ (b : List ℕ). preamble_at b >>= (λ after. checked_at after >>= (λ m. kept_at after
       >>= (λ customs. Ok (with_customs m customs))))) whole

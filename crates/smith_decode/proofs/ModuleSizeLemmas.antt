@@ -1,6 +1,7 @@
 -- The items of a module take a byte each in it.
 use Rattle.smith_decode.proofs.Common.{[], ap, append_assoc, arith, Bool, content_at, drop, Each, eq-eqb, eqb, Err, false, Features, Is}
-use Rattle.smith_decode.proofs.Common.{IsExportItem, IsImportGroup, IsIndex, IsList, IsMemoryType, IsOptionalSection, IsRecGroup, IsSection}
+use Rattle.smith_decode.proofs.Common.{IsDeclaredGroup}
+use Rattle.smith_decode.proofs.Common.{IsExportItem, IsImportGroup, IsIndex, IsList, IsMemoryType, IsOptionalSection, IsSection}
 use Rattle.smith_decode.proofs.Common.{IsTagDefinition, length, length-append, List, ne_eqb, None, Ok, Option, refl, Result, subst, sym}
 use Rattle.smith_decode.proofs.Common.{tagged_read, true, ℕ, ◌++◌, ◌+◌, ◌∙◌, ◌∷◌, ◌≡◌, ◌≤◌}
 use Rattle.std.proofs.Common.{cond}
@@ -19,7 +20,9 @@ use Rattle.smith_decode.specs.ElementReadings.{IsElementSegment}
 use Rattle.smith_decode.specs.Modules.{IsStated}
 use Rattle.smith_decode.specs.Results.{Locates}
 use Rattle.smith_decode.specs.Sizes.{all_items, sub_type_items, import_items, table_items, global_items, export_items, segment_items}
-use Rattle.smith_decode.specs.Sizes.{body_items, data_items, custom_items, items_in}
+use Rattle.smith_decode.specs.Sizes.{body_items, data_items, custom_items, further_items, items_in}
+use Rattle.smith_decode.specs.TypeGroups.{declared_groups}
+use Rattle.smith_decode.proofs.TypeGroupLemmas.{declared_items, groups_items, groups_types_again, groups_further_again}
 use Rattle.smith_decode.proofs.CustomLemmas.{IsMore, IsEnd}
 use Rattle.smith_decode.proofs.KeptLemmas.{content_is}
 use Rattle.smith_decode.proofs.ModuleLemmas.{IsDecodedBinary, AreBodies, AreGlobals, AreParts, parts_of, module_decodes}
@@ -189,10 +192,10 @@ globals_fit =
     (stated_fits 12 (λ e. omega arith) bodies_fit))))
 
 parts_fit : Fits AreParts (λ x.
-    all_items (all_items sub_type_items) x.0 + (all_items import_items x.1.0 + (length x.1.1.0 + (all_items table_items x.1.1.1.0 +
+    all_items (all_items declared_items) x.0 + (all_items import_items x.1.0 + (length x.1.1.0 + (all_items table_items x.1.1.1.0 +
     (length x.1.1.1.1.0 + (length x.1.1.1.1.1.0 + globals_size x.1.1.1.1.1.1))))))
 parts_fit =
-    list_fits 1 IsRecGroup (all_items sub_type_items) (λ e. omega arith) group_takes
+    list_fits 1 IsDeclaredGroup (all_items declared_items) (λ e. omega arith) group_takes
     (list_fits 2 IsImportGroup import_items (λ e. omega arith) import_takes
     (plain_fits 3 IsIndex (λ e. omega arith) index_some
     (list_fits 4 IsTableDefinition table_items (λ e. omega arith) table_takes
@@ -203,8 +206,12 @@ parts_fit =
 module_fits : (m : Module) (bytes : List ℕ) → IsDecodedBinary m bytes → items_in m ≤ length bytes
 module_fits m bytes h =
     let sections = h.form.second in
+    let groups = declared_groups m.types m.further_supertypes in
     omega (
       arith,
+      groups_items groups,
+      ap (all_items (all_items sub_type_items)) (groups_types_again m.types m.further_supertypes),
+      ap further_items (groups_further_again m.types m.further_supertypes h.aligned),
       joined_long h.form,
       parts_fit (parts_of m) sections h.customs.0 h.form.is_second h.customs.1,
       customs_fit h.customs.0 None m.customs h.customs.2,

@@ -1,21 +1,24 @@
 -- The items of each production take a byte each in what spells it.
-use Rattle.smith_decode.proofs.Common.{[], ap, arith, Decodes, Each, Err, Fault, Instr, instr_at, IsByte, IsExportItem, IsImportGroup}
-use Rattle.smith_decode.proofs.Common.{IsIndex, IsList, IsNestedExpr, IsRecGroup, IsUnsigned, Joined, length, length-append, List, Reading}
-use Rattle.smith_decode.proofs.Common.{refl, sym, TableType, unsigned_at, unsigned_decodes, ValType, ℕ, ◌+◌, ◌∙◌, ◌∷◌, ◌≡◌, ◌≤◌}
+use Rattle.smith_decode.proofs.Common.{[], ap, arith, Decodes, Each, Err, Fault, Instr, instr_at, IsByte, IsDeclaredGroup, IsExportItem}
+use Rattle.smith_decode.proofs.Common.{IsImportGroup}
+use Rattle.smith_decode.proofs.Common.{IsIndex, IsList, IsNestedExpr, IsUnsigned, Joined, length, length-append, List, Reading}
+use Rattle.smith_decode.proofs.Common.{refl, sym, TableType, unsigned_at, unsigned_decodes, ValType, ℕ, ◌++◌, ◌+◌, ◌∙◌, ◌∷◌, ◌≡◌, ◌≤◌}
+use Rattle.std.specs.Prelude.{option_to_list}
 use Rattle.smith_binary.specs.Pieces.{IsName}
 use Rattle.smith_types.specs.Syntax.composite_type.CompositeInnerType.{CompositeInnerType}
 use Rattle.smith_types.specs.Syntax.composite_type.CompositeInnerType.TheVariants as inner
 use Rattle.smith_types.specs.Syntax.composite_type.FieldType.{FieldType}
-use Rattle.smith_types.specs.Syntax.composite_type.SubType.{SubType}
 use Rattle.smith_types.specs.Syntax.imports.ImportItem.{ImportItem}
 use Rattle.smith_types.specs.Syntax.imports.Imports.{Imports}
 use Rattle.smith_types.specs.Syntax.imports.Imports.TheVariants.{Single, Compact1, Compact2}
-use Rattle.smith_binary_sections.specs.Types.{IsFieldType, IsInnerType, IsSubType, IsValType}
+use Rattle.smith_binary_sections.specs.Types.{IsFieldType, IsInnerType, IsValType}
 use Rattle.smith_binary_sections.specs.Entities.{IsTableType}
 use Rattle.smith_binary_sections.specs.Imports.{IsImportItem}
 use Rattle.smith_binary_read.specs.declared.error.Reason.TheVariants.{UnexpectedEnd}
 use Rattle.smith_binary_read.specs.TypeReadings.{val_type_at}
 use Rattle.smith_binary_read.specs.declared.exports.Export.{Export}
+use Rattle.smith_binary_read.specs.declared.types.DeclaredType.{DeclaredType}
+use Rattle.smith_binary_read.specs.DeclaredTypes.{IsDeclaredType}
 use Rattle.smith_binary_read.proofs.TypeLemmas.{val_decodes}
 use Rattle.smith_instr.specs.declared.control.Catch.{Catch}
 use Rattle.smith_instr.specs.declared.control.Catch.TheVariants as catch
@@ -23,7 +26,8 @@ use Rattle.smith_instr.specs.declared.instr.Instr.TheVariants.{BrTable, SelectTy
 use Rattle.smith_binary_instr.specs.Control.{IsCatch}
 use Rattle.smith_binary_instr.specs.Instructions.{IsInstr}
 use Rattle.smith_binary_read_instr.proofs.InstrLemmas.{instr_decodes}
-use Rattle.smith_decode.specs.Sizes.{all_items, inner_items, sub_type_items, import_items, instr_items, expr_items, export_items}
+use Rattle.smith_decode.proofs.TypeGroupLemmas.{declared_items}
+use Rattle.smith_decode.specs.Sizes.{all_items, inner_items, import_items, instr_items, expr_items, export_items}
 
 -- two pieces are as long as both
 pub joined_long : {First Second : List ℕ → Type 0} {piece : List ℕ} → (h : Joined First Second piece)
@@ -109,26 +113,31 @@ inner_takes (inner.Func function) piece h =
       list_some val_some function.results lists.second lists.is_second,
     )
 
-sub_type_takes : (t : SubType) (piece : List ℕ) → IsSubType t piece → 2 + sub_type_items t ≤ length piece
-sub_type_takes t piece (IsSubType.full h) =
+declared_takes : (t : DeclaredType) (piece : List ℕ) → IsDeclaredType t piece → 2 + declared_items t ≤ length piece
+declared_takes t piece (IsDeclaredType.full h) =
+    let supertypes = h.is_second.is_first in
     let composite = h.is_second.is_second in
+    let first = option_to_list t.sub_type.supertype in
     omega (
       arith,
       joined_long h,
       joined_long h.is_second,
       joined_long composite,
-      inner_takes t.composite_type.inner composite.second composite.is_second,
+      length-append first t.further_supertypes,
+      list_some index_some (first ++ t.further_supertypes) h.is_second.first supertypes.form,
+      inner_takes t.sub_type.composite_type.inner composite.second composite.is_second,
     )
-sub_type_takes t piece (IsSubType.short is_final alone h) =
-    omega (arith, joined_long h, inner_takes t.composite_type.inner h.second h.is_second)
+declared_takes t piece (IsDeclaredType.short is_final alone none h) =
+    omega (arith, joined_long h, ap length none, inner_takes t.sub_type.composite_type.inner h.second h.is_second)
 
-pub group_takes : (group : List SubType) (piece : List ℕ) → IsRecGroup group piece → 1 + all_items sub_type_items group ≤ length piece
-group_takes group piece (IsRecGroup.full h) =
-    let types = list_takes sub_type_items (λ t piece h. omega (arith, sub_type_takes t piece h)) group h.second h.is_second in
+pub group_takes : (group : List DeclaredType) (piece : List ℕ) → IsDeclaredGroup group piece
+    → 1 + all_items declared_items group ≤ length piece
+group_takes group piece (IsDeclaredGroup.full h) =
+    let types = list_takes declared_items (λ t piece h. omega (arith, declared_takes t piece h)) group h.second h.is_second in
     omega (arith, tagged_long h, types)
-group_takes group piece (IsRecGroup.short t alone h) =
-    let one : all_items sub_type_items group ≡ all_items sub_type_items (t ∷ []) = ap (all_items sub_type_items) alone in
-    omega (arith, one, sub_type_takes t piece h)
+group_takes group piece (IsDeclaredGroup.short t alone h) =
+    let one : all_items declared_items group ≡ all_items declared_items (t ∷ []) = ap (all_items declared_items) alone in
+    omega (arith, one, declared_takes t piece h)
 
 -- imports and exports
 import_item_takes : (item : ImportItem) (piece : List ℕ) → IsImportItem item piece → 1 + length item.name ≤ length piece

@@ -7,6 +7,7 @@ pub use Rattle.smith_binary_read.specs.Readings.{byte_at, fault_at, joined_at, m
 pub use Rattle.smith_binary_read.specs.declared.error.Fault.{Fault}
 pub use Rattle.smith_binary_read.specs.declared.error.Reason.TheVariants.{UnknownByte}
 pub use Rattle.smith_binary_read.specs.declared.exports.Export.{Export}
+pub use Rattle.smith_binary_read.specs.declared.types.DeclaredType.{DeclaredType}
 pub use Rattle.smith_binary_read.specs.declared.tags.TagDefinition.{TagDefinition}
 pub use Rattle.smith_binary_read_instr.specs.ExpressionReadings.{expr_at}
 pub use Rattle.smith_binary_read_instr.specs.Expressions.{IsNestedExpr}

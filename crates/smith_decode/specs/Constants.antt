@@ -74,6 +74,7 @@ as_data d = record { bytes = d.bytes; mode = as_data_mode d.mode }
 abbrev pub with_bodies : Contents → List (List ValType × List Instr) → Syntax
 with_bodies m bodies = record {
   types = m.types;
+  further_supertypes = map (map (λ t. [])) m.types;
   imports = m.imports;
   functions = m.functions;
   tables = map as_table m.tables;

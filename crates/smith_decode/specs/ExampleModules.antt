@@ -5,6 +5,7 @@ use Rattle.smith_instr.specs.declared.instr.Instr.TheVariants as instr
 use Rattle.smith_instr.specs.declared.memory.MemoryInstr.TheVariants.{DataDrop}
 use Rattle.smith_instr.specs.declared.numeric.IntUnary.TheVariants.{Ctz}
 use Rattle.smith_instr.specs.declared.numeric.NumericInstr.TheVariants.{I32Unary}
+use Rattle.smith_binary_read.specs.ExampleTypes.{sub_type}
 use Rattle.smith_decode.specs.BodyReadings.{body_of}
 use Rattle.smith_decode.specs.declared.modules.Module.{Module}
 
@@ -12,6 +13,7 @@ use Rattle.smith_decode.specs.declared.modules.Module.{Module}
 abbrev pub no_item : Module
 no_item = record {
   types = [];
+  further_supertypes = [];
   imports = [];
   functions = [];
   tables = [];
@@ -57,3 +59,11 @@ wide_memory = record { minimum = 0; maximum = None; memory64 = true; shared = fa
 
 abbrev pub of_wide_memory : Module
 of_wide_memory = record no_item { memories = wide_memory ∷ [] }
+
+-- a type section with one type, which has the supertypes 0 and 1
+abbrev pub two_supertypes : List ℕ
+two_supertypes = 0x01 ∷ 0x07 ∷ 0x01 ∷ 0x50 ∷ 0x02 ∷ 0x00 ∷ 0x01 ∷ 0x5F ∷ 0x00 ∷ []
+
+-- a module with that type
+abbrev pub of_two_supertypes : Module
+of_two_supertypes = record no_item { types = (sub_type (Some 0) ∷ []) ∷ []; further_supertypes = ((1 ∷ []) ∷ []) ∷ [] }

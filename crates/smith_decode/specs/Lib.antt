@@ -1,4 +1,5 @@
 pub mod Common
+pub mod TypeGroups
 pub mod Definitions
 pub mod Elements
 pub mod Data

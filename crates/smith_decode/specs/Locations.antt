@@ -3,7 +3,7 @@
 use Rattle.std.specs.Prelude.{ℕ, zero, suc, ◌-◌, ◌==◌, nat_lt, if◌then◌else◌, List, length, Option, Some, None, Result, Ok, Err}
 use Rattle.smith_decode.specs.Common.{byte_at, content_at, Fault, fault_at, list_at, Reading, unsigned_at, ◌>>=◌}
 use Rattle.smith_binary_read.specs.declared.error.Reason.TheVariants.{UnexpectedEnd}
-use Rattle.smith_binary_read.specs.TypeReadings.{group_at}
+use Rattle.smith_binary_read.specs.TypeReadings.{declared_group_at}
 use Rattle.smith_binary_read.specs.EntityReadings.{memory_type_at, global_type_at, export_at}
 use Rattle.smith_binary_read.specs.ImportReadings.{import_group_at}
 use Rattle.smith_binary_read.specs.TagReadings.{tag_at}
@@ -66,7 +66,7 @@ begins_in id search bytes = found_section_at id bytes >>= (λ content. search co
 
 -- the offset of a place in a module (Modules)
 abbrev pub begins_at : Place → List ℕ → Result ℕ Fault
-begins_at (place.Types index) = begins_in 1 (item_begins group_at index)
+begins_at (place.Types index) = begins_in 1 (item_begins declared_group_at index)
 begins_at (place.Imports index) = begins_in 2 (item_begins import_group_at index)
 begins_at (place.Function index) = begins_in 3 (item_begins (unsigned_at 32) index)
 begins_at (place.Table index) = begins_in 4 (item_begins table_at index)

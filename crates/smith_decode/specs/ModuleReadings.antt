@@ -1,11 +1,12 @@
 -- Readings of modules: the section Binary Format, Modules, of the WebAssembly Core Specification 3.0.
 use Rattle.std.specs.Prelude.{◌==◌, ◌&&◌, ℕ, Bool, true, not, if◌then◌else◌, List, [], ◌∷◌, length, Option, Some, None}
 use Rattle.std.specs.Prelude.{Result, Ok, Err}
-use Rattle.smith_decode.specs.Common.{byte_at, Export, Fault, fault_at, Imports, list_at, mapped_at, MemoryType, SubType, TagDefinition}
+use Rattle.smith_decode.specs.Common.{byte_at, DeclaredType, Export, Fault, fault_at, Imports, list_at, mapped_at, MemoryType}
+use Rattle.smith_decode.specs.Common.{TagDefinition}
 use Rattle.smith_decode.specs.Common.{UnknownByte, unsigned_at, ◌>>=◌}
 use Rattle.smith_binary_read.specs.declared.error.Reason.TheVariants.{CountMismatch, DataCountMissing}
 use Rattle.smith_binary_read.specs.Readings.{whole_at}
-use Rattle.smith_binary_read.specs.TypeReadings.{group_at}
+use Rattle.smith_binary_read.specs.TypeReadings.{declared_group_at}
 use Rattle.smith_binary_read.specs.EntityReadings.{memory_type_at, export_at}
 use Rattle.smith_binary_read.specs.ImportReadings.{import_group_at}
 use Rattle.smith_binary_read.specs.TagReadings.{tag_at}
@@ -21,6 +22,7 @@ use Rattle.smith_decode.specs.CustomReadings.{customs_at, end_at, more_at, kept_
 use Rattle.smith_decode.specs.DataReadings as data_segment
 use Rattle.smith_decode.specs.DefinitionReadings.{global_at, table_at}
 use Rattle.smith_decode.specs.ElementReadings as element
+use Rattle.smith_decode.specs.TypeGroups.{groups_further, groups_types}
 
 -- reads exactly the bytes `literal`
 abbrev pub literal_at : List ℕ → List ℕ → Result (List ℕ) Fault
@@ -67,7 +69,7 @@ Functions = List ℕ × (List TableDefinition × Memories)
 -- the parts of a module in the order of its sections: the types, the imports and the parts after
 -- them
 abbrev pub Parts : Type 0
-Parts = List (List SubType) × (List Imports × Functions)
+Parts = List (List DeclaredType) × (List Imports × Functions)
 
 -- reads the code section and the data section
 unfoldable pub bodies_at : List ℕ → Result Bodies Fault
@@ -95,12 +97,13 @@ functions_at bytes = more_at 3 [] (whole_at (list_at (unsigned_at 32))) (more_at
 
 -- reads all sections of a module
 unfoldable pub parts_at : List ℕ → Result Parts Fault
-parts_at bytes = more_at 1 [] (whole_at (list_at group_at)) (more_at 2 [] (whole_at (list_at import_group_at)) functions_at) bytes
+parts_at bytes = more_at 1 [] (whole_at (list_at declared_group_at)) (more_at 2 [] (whole_at (list_at import_group_at)) functions_at) bytes
 
 -- a module with these parts and without custom sections
 abbrev pub module_of : Parts → Module
 module_of p = record {
-  types = p.0;
+  types = groups_types p.0;
+  further_supertypes = groups_further p.0;
   imports = p.1.0;
   functions = p.1.1.0;
   tables = p.1.1.1.0;

@@ -2,19 +2,21 @@
 -- Specification 3.0.
 use Rattle.std.specs.Prelude.{◌≡◌, ℕ, Bool, false, Option, Some, None, List, [], ◌∷◌, length, map, IfSome}
 use Rattle.std.specs.List.{list_any}
-use Rattle.smith_decode.specs.Common.{Export, GlobalType, Instr, IsIndex, IsList, IsNestedExpr, IsUnsigned, Joined, MemoryType, SubType}
+use Rattle.smith_decode.specs.Common.{DeclaredType, Export, GlobalType, Instr, IsIndex, IsList, IsNestedExpr, IsUnsigned, Joined}
+use Rattle.smith_decode.specs.Common.{MemoryType, SubType}
 use Rattle.smith_decode.specs.Common.{TableType, TagDefinition, ValType}
 use Rattle.smith_binary.specs.Pieces.{IsSized}
 use Rattle.smith_types.specs.Syntax.entity_type.ExportKind.{ExportKind}
 use Rattle.smith_types.specs.Syntax.imports.Import.{Import}
 use Rattle.smith_instr.specs.Enabled.{names_data}
 use Rattle.smith_types.specs.Imports.{flattened}
-use Rattle.smith_binary_sections.specs.Types.{IsRecGroup}
 use Rattle.smith_binary_sections.specs.Entities.{IsMemoryType, IsTagType}
 use Rattle.smith_binary_sections.specs.Imports.{IsImports}
 use Rattle.smith_binary_sections.specs.Exports.{IsExport}
 use Rattle.smith_binary_sections.specs.Codes.{IsLocals}
 use Rattle.smith_binary_sections.specs.Modules.{IsPreamble}
+use Rattle.smith_binary_read.specs.DeclaredTypes.{IsDeclaredGroup}
+use Rattle.smith_decode.specs.TypeGroups.{AreAligned, declared_groups}
 use Rattle.smith_decode.specs.declared.customs.Custom.{Custom}
 use Rattle.smith_decode.specs.declared.definitions.GlobalDefinition.{GlobalDefinition}
 use Rattle.smith_decode.specs.declared.definitions.TableDefinition.{TableDefinition}
@@ -35,9 +37,10 @@ pub record IsStated (stated : Option ℕ) (piece : List ℕ) : Type 0 where
 
 -- A module in the abstract syntax, with its custom sections (Structure, Modules). Functions are two
 -- lists, as in the binary format: `functions` has their type indices, `bodies` their locals and
--- instructions.
+-- instructions. `further_supertypes` has the supertypes of each type past its first.
 pub record Syntax : Type 0 where
   pub types : List (List SubType)
+  pub further_supertypes : List (List (List ℕ))
   pub imports : List Import
   pub functions : List ℕ
   pub tables : List (TableType × List Instr)
@@ -51,6 +54,10 @@ pub record Syntax : Type 0 where
   pub datas : List Data
   pub customs : List Custom
 
+-- the types of a module with all of their supertypes (Type Section)
+abbrev pub declared_types : Syntax → List (List DeclaredType)
+declared_types m = declared_groups m.types m.further_supertypes
+
 -- the size of a body, its locals, then its expression (Code Section)
 abbrev pub IsFunctionBody : List ValType × List Instr → List ℕ → Type 0
 IsFunctionBody body = IsSized (Joined (IsLocals body.0) (IsNestedExpr body.1))
@@ -59,7 +66,7 @@ IsFunctionBody body = IsSized (Joined (IsLocals body.0) (IsNestedExpr body.1))
 -- in the data count section, if there is one (Modules)
 abbrev pub AreSections : Syntax → Option ℕ → List ℕ → Type 0
 AreSections m count =
-    IsThen 1 (m.types ≡ []) (IsList IsRecGroup m.types)
+    IsThen 1 (declared_types m ≡ []) (IsList IsDeclaredGroup (declared_types m))
     (IsThen 2 (m.imports ≡ []) (IsImports m.imports)
     (IsThen 3 (m.functions ≡ []) (IsList IsIndex m.functions)
     (IsThen 4 (m.tables ≡ []) (IsList IsTable m.tables)
@@ -79,7 +86,8 @@ body_names_data body = list_any names_data body.1
 
 -- The bytes are a module: the preamble, then its sections (Modules). It has a body for each
 -- function, and as many data segments as its data count section states. Without a data count
--- section, no body names a data segment. `customs` are its custom sections.
+-- section, no body names a data segment. `customs` are its custom sections. Each of its types has a
+-- list of further supertypes.
 pub record IsModuleBinary (m : Syntax) (bytes : List ℕ) : Type 0 where
   pub count : Option ℕ
   pub form : Joined IsPreamble (AreSections m count) bytes
@@ -87,6 +95,7 @@ pub record IsModuleBinary (m : Syntax) (bytes : List ℕ) : Type 0 where
   pub datas : IfSome count (λ stated. stated ≡ length m.datas)
   pub named : count ≡ None → list_any body_names_data m.bodies ≡ false
   pub customs : HasCustoms m.customs form.second
+  pub aligned : AreAligned m.types m.further_supertypes
 
 -- a table in the abstract syntax: its type and its initialiser (Structure, Tables)
 abbrev pub table_pair : TableDefinition → TableType × List Instr
@@ -110,6 +119,7 @@ export_triple item = (item.name, item.kind, item.index)
 abbrev pub syntax_of : Module → Syntax
 syntax_of m = record {
   types = m.types;
+  further_supertypes = m.further_supertypes;
   imports = flattened m.imports;
   functions = m.functions;
   tables = map table_pair m.tables;

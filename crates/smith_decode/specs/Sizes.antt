@@ -27,6 +27,11 @@ abbrev pub all_items : {A : Type 0} → (A → ℕ) → List A → ℕ
 all_items within [] = 0
 all_items within (x ∷ xs) = 1 + within x + all_items within xs
 
+-- the items within each item of a list
+abbrev pub inner_sum : {A : Type 0} → (A → ℕ) → List A → ℕ
+inner_sum within [] = 0
+inner_sum within (x ∷ xs) = within x + inner_sum within xs
+
 -- the fields of a struct type, or the parameters and results of a function type (Composite Types)
 abbrev pub inner_items : CompositeInnerType → ℕ
 inner_items (Array array) = 0
@@ -36,6 +41,10 @@ inner_items (Func function) = length function.params + length function.results
 -- the fields, or the parameters and results, of a subtype (Recursive Types)
 abbrev pub sub_type_items : SubType → ℕ
 sub_type_items t = inner_items t.composite_type.inner
+
+-- the supertypes of types past their first (Recursive Types)
+abbrev pub further_items : List (List (List ℕ)) → ℕ
+further_items groups = inner_sum (inner_sum length) groups
 
 -- the bytes of names, and the imports of a group (Import Section)
 abbrev pub import_items : Imports → ℕ
@@ -100,7 +109,7 @@ custom_items custom = length custom.name + length custom.bytes
 -- the items of a module (Modules)
 abbrev pub items_in : Module → ℕ
 items_in m =
-    all_items (all_items sub_type_items) m.types + all_items import_items m.imports + length m.functions
-    + all_items table_items m.tables + length m.memories + length m.tags + all_items global_items m.globals
+    all_items (all_items sub_type_items) m.types + further_items m.further_supertypes + all_items import_items m.imports
+    + length m.functions + all_items table_items m.tables + length m.memories + length m.tags + all_items global_items m.globals
     + all_items export_items m.exports + all_items segment_items m.elements + all_items body_items m.bodies
     + all_items data_items m.datas + all_items custom_items m.customs

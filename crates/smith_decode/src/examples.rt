@@ -11,6 +11,7 @@ ghost use Rattle.smith_decode.specs.DataReadings as data_segment;
 ghost use Rattle.smith_decode.specs.DefinitionReadings.{global_at, global_of};
 ghost use Rattle.smith_decode.specs.ExampleModules.{no_item, after_preamble, ctz, one_drop, dropping};
 ghost use Rattle.smith_decode.specs.ExampleModules.{of_wide_memory, dropping_bytes};
+ghost use Rattle.smith_decode.specs.ExampleModules.{two_supertypes, of_two_supertypes};
 ghost use Rattle.smith_decode.specs.declared.locations.Place.TheVariants as place;
 ghost use Rattle.smith_decode.specs.Forms.{AreFormsEnabled, IsOffAt, IsInstrEnabled};
 ghost use Rattle.smith_decode.specs.Forms.{IsConstantEnabled, IsDataEnabled};
@@ -27,6 +28,7 @@ fn modules()
         ≡ Ok (with_customs no_item (custom None [] [] ∷ custom (Some 10) [] [] ∷ [])) }
     ensures empty_sections { module_at (after_preamble (0x01 ∷ 0x01 ∷ 0x00 ∷ 0x0A ∷ 0x01 ∷ 0x00 ∷ []))
         ≡ Ok no_item }
+    ensures two_supertypes { module_at (after_preamble two_supertypes) ≡ Ok of_two_supertypes }
     ensures long_size { module_at (after_preamble (0x01 ∷ 0x81 ∷ 0x00 ∷ 0x00 ∷ [])) ≡ Ok no_item }
 {}
 
@@ -74,6 +76,11 @@ fn modules_in_the_abstract_syntax()
         (after_preamble (0x00 ∷ 0x02 ∷ 0x00 ∷ 0x2A ∷ [])) }
     ensures stated { IsModuleBinary (syntax_of dropping)
         (after_preamble (0x03 ∷ 0x02 ∷ 0x01 ∷ 0x00 ∷ 0x0C ∷ 0x01 ∷ 0x00 ∷ one_drop)) }
+    ensures two_supertypes { IsModuleBinary (syntax_of of_two_supertypes)
+        (after_preamble two_supertypes) }
+    ensures without_the_second { ¬ IsModuleBinary
+        (record (syntax_of of_two_supertypes) { further_supertypes = ([] ∷ []) ∷ [] })
+        (after_preamble two_supertypes) }
     ensures not_stated { (m : Syntax)
         → ¬ IsModuleBinary m (after_preamble (0x03 ∷ 0x02 ∷ 0x01 ∷ 0x00 ∷ one_drop)) }
     ensures without_a_body { (m : Syntax)

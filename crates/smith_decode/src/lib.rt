@@ -16,6 +16,7 @@ mod locations;
 mod modules;
 mod sections;
 mod type_forms;
+mod type_groups;
 
 pub use bodies::{Body, LocalRun};
 pub use customs::Custom;

@@ -26,9 +26,11 @@ use crate::data::DataSegment;
 use crate::definitions::{GlobalDefinition, TableDefinition};
 use crate::elements::ElementSegment;
 use crate::modules::read_preamble;
-use smith_binary_read::{Decode, Export, ReadError, Reader, Reason, TagDefinition, read_list};
+use smith_binary_read::{
+    DeclaredType, Decode, Export, ReadError, Reader, Reason, TagDefinition, read_list,
+};
 use smith_binary_read_instr::read_instr;
-use smith_types::{GlobalType, Imports, Items, MemoryType, SubType};
+use smith_types::{GlobalType, Imports, Items, MemoryType};
 use std::alloc::{AllocError, Global};
 
 /// A place in the bytes of a module: where one of its items begins. Indices are positions in the lists
@@ -194,7 +196,7 @@ fn read_place(alloc: Global, bytes: &[u8], place: Place) -> Result<usize, ReadEr
     ensures { GivesWhole result (begins_at place bytes.now) }
 {
     match place {
-        Place::Types(index) => locate_item::<Items<SubType>>(alloc, bytes, 1, index),
+        Place::Types(index) => locate_item::<Items<DeclaredType>>(alloc, bytes, 1, index),
         Place::Imports(index) => locate_item::<Imports>(alloc, bytes, 2, index),
         Place::Function(index) => locate_item::<u32>(alloc, bytes, 3, index),
         Place::Table(index) => locate_item::<TableDefinition>(alloc, bytes, 4, index),

@@ -22,6 +22,7 @@ use crate::error::DecodeError;
 use crate::forms::find_off;
 use crate::locations::{Place, locate};
 use crate::sections::{read_section, skip_customs};
+use crate::type_groups::split_groups;
 use smith_binary_read::{Export, Fault, ReadError, Reader, Reason, TagDefinition};
 use smith_types::{Imports, Items, MemoryType, SubType, WasmFeatures};
 use std::alloc::{AllocError, Global};
@@ -32,6 +33,9 @@ use std::alloc::{AllocError, Global};
 pub struct Module {
     /// The recursive groups of types (Type Section).
     pub types: Items<Items<SubType>>,
+    /// The supertypes of each type past its first, by groups as in `types`. Those of a valid module are
+    /// empty.
+    pub further_supertypes: Items<Items<Items<u32>>>,
     /// The imports, in the groups of the bytes (Import Section).
     pub imports: Items<Imports>,
     /// The type of each function (Function Section).
@@ -186,13 +190,15 @@ fn read_functions(reader: &mut Reader<'_>) -> Result<Functions, ReadError>
 fn read_sections(reader: &mut Reader<'_>) -> Result<Module, ReadError>
     ensures { GivesWhole result (sections_at reader.old) }
 {
-    let types = read_section(reader, 1, Items::new(reader.alloc()))?;
+    let declared = read_section(reader, 1, Items::new(reader.alloc()))?;
     let imports = read_section(reader, 2, Items::new(reader.alloc()))?;
     let (functions, (tables, rest)) = read_functions(reader)?;
     let (memories, (tags, (globals, (exports, (start, (elements, rest)))))) = rest;
     let (data_count, (bodies, (datas, ()))) = rest;
+    let (types, further_supertypes) = split_groups(reader.alloc(), declared)?;
     Ok(Module {
         types,
+        further_supertypes,
         imports,
         functions,
         tables,

@@ -1,6 +1,7 @@
 pub mod Common
 pub mod NestingLemmas
 pub mod CheckedLemmas
+pub mod TypeLemmas
 pub mod PlaceLemmas
 pub mod OrderLemmas
 pub mod ItemLemmas

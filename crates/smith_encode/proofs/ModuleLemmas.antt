@@ -22,6 +22,7 @@ use Rattle.smith_encode.proofs.OrderLemmas.{module_ordered}
 use Rattle.smith_encode.proofs.PartLemmas.{parts_pass}
 use Rattle.smith_encode.proofs.PlaceLemmas.{before_on}
 use Rattle.smith_encode.proofs.SectionLemmas.{passes_of}
+use Rattle.smith_encode.proofs.TypeLemmas.{groups_aligned}
 
 -- sections that were written, then more, whatever number of data segments is stated
 pub sections_on : {A E : Type 0} {ids : List ℕ} {Whole Tail : Option ℕ → List ℕ → Type 0} {a b : Option ℕ × List Custom}
@@ -116,6 +117,7 @@ module_spelled {mid = mid} {last = last} m count passes counts empty preamble se
       datas = counts_agree m count counts.0;
       named = λ unstated. named_same m.bodies ∙ counts.1 unstated;
       customs = sections.leads.placed customs.piece after;
+      aligned = groups_aligned m.types m.further_supertypes (passes_of m passes).types;
     }
 
 -- no bytes are a module if a custom section is left

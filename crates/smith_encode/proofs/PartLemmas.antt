@@ -24,7 +24,10 @@ use Rattle.smith_decode.specs.declared.elements.ElementItems.TheVariants.{Functi
 use Rattle.smith_decode.specs.declared.elements.ElementMode.{ElementMode}
 use Rattle.smith_decode.specs.declared.elements.ElementMode.TheVariants as element_mode
 use Rattle.smith_decode.specs.declared.elements.ElementSegment.{ElementSegment}
+use Rattle.smith_binary_read.specs.declared.types.DeclaredType.{DeclaredType}
+use Rattle.smith_binary_read.specs.DeclaredTypes.{IsDeclaredGroup}
 use Rattle.smith_decode.specs.BodyReadings.{run_pair}
+use Rattle.smith_decode.specs.TypeGroups.{declared_groups}
 use Rattle.smith_decode.specs.Data.{IsData, IsInDataForm}
 use Rattle.smith_decode.specs.Data as abstract_data
 use Rattle.smith_decode.specs.DataReadings as data_segment
@@ -36,7 +39,9 @@ use Rattle.smith_decode.specs.Modules.{global_pair, IsFunctionBody, table_pair}
 use Rattle.smith_encode.specs.Nesting.{is_nested}
 use Rattle.smith_encode.specs.Spelled.{is_table_nested, is_global_nested, are_items_nested, is_element_mode_nested, is_element_nested}
 use Rattle.smith_encode.specs.Spelled.{is_body_spelled, is_data_mode_nested, is_data_nested, are_parts_spelled}
+use Rattle.smith_encode.specs.Spelled.{are_groups_spelled, is_group_spelled}
 use Rattle.smith_encode.proofs.NestingLemmas.{nested_complete}
+use Rattle.smith_encode.proofs.TypeLemmas.{groups_paired, groups_pass}
 
 both : (x y : Bool) → x ≡ true → y ≡ true → (x && y) ≡ true
 both x y one other = rw one other
@@ -159,16 +164,26 @@ data_passes : (segment : DataSegment) (piece : List ℕ) → IsData (segment_vie
 data_passes segment piece h =
     sym (data_mode_same segment.mode) ∙ form_passes h.form segment h.spelled.second h.spelled.is_second
 
+-- types
+types_pass : (groups : List (List DeclaredType)) (piece : List ℕ) → IsOptionalSection 1 (groups ≡ []) (IsList IsDeclaredGroup groups) piece
+    → list_all is_group_spelled groups ≡ true
+types_pass groups piece (IsOptionalSection.present h) = groups_pass groups h.is_second.content h.is_second.is_content
+types_pass groups piece (IsOptionalSection.absent none empty) = rw none refl
+
 -- a module
 pub parts_pass : (m : Module) (bytes : List ℕ) → IsModuleBinary (syntax_of m) bytes → are_parts_spelled m ≡ true
 parts_pass m bytes h =
+    let types = h.form.is_second.is_second in
     let tables = h.form.is_second.is_second.is_second.is_second.is_second.is_second.is_second in
     let globals = tables.is_second.is_second.is_second.is_second.is_second.is_second in
     let elements = globals.is_second.is_second.is_second.is_second.is_second.is_second in
     let bodies = elements.is_second.is_second.is_second.is_second in
     let datas = bodies.is_second.is_second in
     let counts : length m.functions ≡ length m.bodies = h.bodies ∙ length-map m.bodies body_view in
-    both (eqb (length m.functions) (length m.bodies)) _ (eq-eqb (length m.functions) (length m.bodies) counts)
+    both (are_groups_spelled m.types m.further_supertypes) _
+    (groups_paired m.types m.further_supertypes h.aligned
+    (types_pass (declared_groups m.types m.further_supertypes) types.first types.is_first))
+    (both (eqb (length m.functions) (length m.bodies)) _ (eq-eqb (length m.functions) (length m.bodies) counts)
     (both (list_all is_table_nested m.tables) _
     (section_all 4 table_pair IsTable is_table_nested table_passes m.tables tables.is_second.first tables.is_second.is_first)
     (both (list_all is_global_nested m.globals) _
@@ -177,4 +192,4 @@ parts_pass m bytes h =
     (section_all 9 element_view IsElem is_element_nested element_passes m.elements elements.is_second.first elements.is_second.is_first)
     (both (list_all is_body_spelled m.bodies) (list_all is_data_nested m.datas)
     (section_all 10 body_view IsFunctionBody is_body_spelled body_passes m.bodies bodies.is_second.first bodies.is_second.is_first)
-    (section_all 11 segment_view IsData is_data_nested data_passes m.datas datas.is_second.first datas.is_second.is_first)))))
+    (section_all 11 segment_view IsData is_data_nested data_passes m.datas datas.is_second.first datas.is_second.is_first))))))

@@ -9,7 +9,7 @@ use Rattle.smith_binary_sections.proofs.SizeLemmas.{not_long, number_within}
 use Rattle.smith_decode.specs.Modules.{IsStated}
 use Rattle.smith_encode.specs.Places.{WritesCustoms, WritesNext, WritesBefore}
 use Rattle.smith_encode.specs.Spelled.{IfPasses, is_table_nested, is_global_nested, is_element_nested, is_body_spelled, is_data_nested}
-use Rattle.smith_encode.specs.Spelled.{are_parts_spelled}
+use Rattle.smith_encode.specs.Spelled.{are_groups_spelled, are_parts_spelled}
 use Rattle.smith_encode.specs.Tails.{FromBodies, FromCount, IsCount, start_ids}
 use Rattle.smith_encode.specs.TooLong.{IsTooLong}
 use Rattle.smith_encode.proofs.CheckedLemmas.{list_passes}
@@ -127,6 +127,7 @@ long_passes passes P xs all (inr content) =
 
 -- the items of a module that passes
 pub record Passes (m : Module) : Type 0 where
+  pub types : are_groups_spelled m.types m.further_supertypes ≡ true
   pub counts : eqb (length m.functions) (length m.bodies) ≡ true
   pub tables : list_all is_table_nested m.tables ≡ true
   pub globals : list_all is_global_nested m.globals ≡ true
@@ -136,9 +137,10 @@ pub record Passes (m : Module) : Type 0 where
 
 pub passes_of : (m : Module) → are_parts_spelled m ≡ true → Passes m
 passes_of m passes =
-    let (counts, items) = and_parts (eqb (length m.functions) (length m.bodies)) _ passes in
+    let (types, after_types) = and_parts (are_groups_spelled m.types m.further_supertypes) _ passes in
+    let (counts, items) = and_parts (eqb (length m.functions) (length m.bodies)) _ after_types in
     let (tables, after_tables) = and_parts (list_all is_table_nested m.tables) _ items in
     let (globals, after_globals) = and_parts (list_all is_global_nested m.globals) _ after_tables in
     let (elements, after_elements) = and_parts (list_all is_element_nested m.elements) _ after_globals in
     let (bodies, datas) = and_parts (list_all is_body_spelled m.bodies) (list_all is_data_nested m.datas) after_elements in
-    record { counts = counts; tables = tables; globals = globals; elements = elements; bodies = bodies; datas = datas }
+    record { types = types; counts = counts; tables = tables; globals = globals; elements = elements; bodies = bodies; datas = datas }

@@ -1,3 +1,4 @@
+pub mod WrittenTypes
 pub mod TooLong
 pub mod Faults
 pub mod Nesting

@@ -2,7 +2,7 @@
 -- Core Specification 3.0.
 use Rattle.std.specs.Prelude.{◌≡◌, ℕ, ◌⊎◌, false, Option, Some, None, List, [], ◌∷◌, length, IfSome, Any}
 use Rattle.smith_binary.specs.Pieces.{IsList}
-use Rattle.smith_binary_sections.specs.Types.{IsRecGroup}
+use Rattle.smith_binary_read.specs.DeclaredTypes.{IsDeclaredGroup}
 use Rattle.smith_binary_sections.specs.Instructions.{IsIndex}
 use Rattle.smith_binary_sections.specs.Entities.{IsMemoryType, IsTagType}
 use Rattle.smith_binary_sections.specs.Imports.{IsImports}
@@ -14,7 +14,7 @@ use Rattle.smith_decode.specs.Customs.{AreCustoms, IsThen}
 use Rattle.smith_decode.specs.Data.{IsData}
 use Rattle.smith_decode.specs.Definitions.{IsTable, IsGlobal}
 use Rattle.smith_decode.specs.Elements.{IsElem}
-use Rattle.smith_decode.specs.Modules.{Syntax, IsFunctionBody, IsStated}
+use Rattle.smith_decode.specs.Modules.{Syntax, IsFunctionBody, IsStated, declared_types}
 use Rattle.smith_encode.specs.TooLong.{IsTooLong, IsLongCustom}
 
 abbrev pub FromDatas : Syntax → List ℕ → Type 0
@@ -54,7 +54,7 @@ abbrev pub FromImports : Syntax → Option ℕ → List ℕ → Type 0
 FromImports m count = IsThen 2 (m.imports ≡ []) (IsImports m.imports) (FromFunctions m count)
 
 abbrev pub FromTypes : Syntax → Option ℕ → List ℕ → Type 0
-FromTypes m count = IsThen 1 (m.types ≡ []) (IsList IsRecGroup m.types) (FromImports m count)
+FromTypes m count = IsThen 1 (declared_types m ≡ []) (IsList IsDeclaredGroup (declared_types m)) (FromImports m count)
 
 -- the start section, if there is a start function
 abbrev pub start_ids : Option ℕ → List ℕ

@@ -1,16 +1,16 @@
 -- Decoded modules that are too long for the binary format.
-use Rattle.std.specs.Prelude.{◌⊎◌, List, Any}
+use Rattle.std.specs.Prelude.{◌⊎◌, ◌^◌, ◌≤◌, List, ◌++◌, length, option_to_list, Any}
 use Rattle.smith_binary.specs.Pieces.{Is, IsList, IsName, Joined}
-use Rattle.smith_binary_sections.specs.Types.{IsRecGroupWritten}
 use Rattle.smith_binary_sections.specs.Instructions.{IsIndex}
 use Rattle.smith_binary_sections.specs.Entities.{IsMemoryType}
 use Rattle.smith_binary_sections.specs.Imports.{IsImportGroup}
-use Rattle.smith_binary_sections.specs.Long.{IsLongSection, IsLongList, IsLongContent, IsLongText, IsNeverLong, IsLongGroup}
-use Rattle.smith_binary_sections.specs.Long.{IsLongImportGroup}
+use Rattle.smith_binary_sections.specs.Long.{IsLongSection, IsLongList, IsLongContent, IsLongText, IsNeverLong}
+use Rattle.smith_binary_sections.specs.Long.{IsLongImportGroup, IsLongSubType}
 use Rattle.smith_instr.specs.declared.instr.Instr.{Instr}
 use Rattle.smith_binary_instr.specs.Instructions.{IsExpr}
 use Rattle.smith_binary_instr.specs.Long.{IsLongInstr}
 use Rattle.smith_binary_read.specs.declared.exports.Export.{Export}
+use Rattle.smith_binary_read.specs.declared.types.DeclaredType.{DeclaredType}
 use Rattle.smith_binary_read.specs.EntityReadings.{IsExportItem}
 use Rattle.smith_binary_read.specs.TagReadings.{IsTagDefinition}
 use Rattle.smith_decode.specs.declared.bodies.Body.{Body}
@@ -27,7 +27,18 @@ use Rattle.smith_decode.specs.DefinitionReadings.{IsGlobalDefinition, IsTableDef
 use Rattle.smith_decode.specs.ElementReadings.{element_view}
 use Rattle.smith_decode.specs.Elements as element_segments
 use Rattle.smith_decode.specs.Elements.{Elem}
+use Rattle.smith_decode.specs.TypeGroups.{declared_groups}
 use Rattle.smith_encode.specs.Segments.{IsSeenElem}
+use Rattle.smith_encode.specs.WrittenTypes.{IsDeclaredGroupWritten}
+
+-- a type with 2^32 supertypes or more, or whose composite type is too long
+abbrev pub IsLongDeclared : DeclaredType → Type 0
+IsLongDeclared declared =
+    (2 ^ 32 ≤ length (option_to_list declared.sub_type.supertype ++ declared.further_supertypes)) ⊎ IsLongSubType declared.sub_type
+
+-- a group of 2^32 types or more, or with a type that is too long
+abbrev pub IsLongDeclaredGroup : List DeclaredType → Type 0
+IsLongDeclaredGroup = IsLongList IsLongDeclared
 
 -- an expression has an instruction that the format cannot express
 abbrev pub IsLongExpr : List Instr → Type 0
@@ -82,7 +93,7 @@ IsLongCustom custom = IsLongText custom.name ⊎ IsLongContent (Joined (IsName c
 -- a section is too long: a list in it has 2^32 items or more, it or a body in it has a spelling of
 -- 2^32 bytes or more, or the format cannot express one of its instructions
 pub data IsTooLong (m : Module) : Type 0 where
-  types : IsLongSection IsRecGroupWritten IsLongGroup m.types → IsTooLong m
+  types : IsLongSection IsDeclaredGroupWritten IsLongDeclaredGroup (declared_groups m.types m.further_supertypes) → IsTooLong m
   imports : IsLongSection IsImportGroup IsLongImportGroup m.imports → IsTooLong m
   functions : IsLongSection IsIndex IsNeverLong m.functions → IsTooLong m
   tables : IsLongSection IsTableDefinition IsLongTable m.tables → IsTooLong m

@@ -16,8 +16,9 @@ pub enum EncodeFault {
     /// doesn't fit the format.
     #[error("a list, a section or a number is too long")]
     TooLong,
-    /// No bytes spell the module: a block doesn't end, a body has 2^32 locals or more, the numbers of
-    /// functions and bodies differ, or no order of sections gives the custom ones their places.
+    /// No bytes spell the module: a type has further supertypes and no first one, or no list of them, a
+    /// block doesn't end, a body has 2^32 locals or more, the numbers of functions and bodies differ, or no
+    /// order of sections gives the custom ones their places.
     #[error("no bytes spell the module")]
     NoSpelling,
 }

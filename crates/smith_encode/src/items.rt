@@ -1,7 +1,6 @@
 ghost use Rattle.std.specs.Prelude.{◌≡◌, IsTrue, ◌↔◌};
 ghost use Rattle.smith_binary_sections.specs.Exports.{kind_byte};
-ghost use Rattle.smith_binary_sections.specs.Types.{IsRecGroupWritten};
-ghost use Rattle.smith_binary_sections.specs.Long.{IsLongGroup, IsNeverLong};
+ghost use Rattle.smith_binary_sections.specs.Long.{IsNeverLong};
 ghost use Rattle.smith_binary_read.specs.EntityReadings.{IsExportItem};
 ghost use Rattle.smith_binary_read.specs.TagReadings.{IsTagDefinition};
 ghost use Rattle.smith_binary_read_instr.specs.Expressions.{IsNestedExpr};
@@ -17,10 +16,10 @@ ghost use Rattle.smith_encode.specs.TooLong.{IsLongTable};
 use smith_binary::{EncodeError, Sink};
 use smith_binary_instr::encode_expr;
 use smith_binary_read::{Export, TagDefinition};
-use smith_binary_sections::{Encode, EncodeItem, Groups, Listed, Tags};
+use smith_binary_sections::{Encode, EncodeItem, Listed, Tags};
 use smith_decode::{Body, GlobalDefinition, LocalRun, TableDefinition};
 use smith_instr::{Instr, ReferenceInstr};
-use smith_types::{ExportKind, Items, SubType, is_same};
+use smith_types::{ExportKind, Items, is_same};
 
 /// A writer of the items of a decoded module. Callers check that an item has a spelling: an
 /// expression in which a block doesn't end has none, and the bytes written for it mean nothing.
@@ -34,19 +33,6 @@ impl EncodeItem<Items<Instr>> for Decoded {
 
     fn encode_item(&self, item: &Items<Instr>, sink: &mut Sink) -> Result<(), EncodeError> {
         encode_expr(sink, item.as_slice())
-    }
-}
-
-impl EncodeItem<Items<SubType>> for Decoded {
-    ghost spells = { λ _ _ group. IsRecGroupWritten group };
-
-    ghost is_long = { λ _. IsLongGroup };
-
-    fn encode_item(&self, item: &Items<SubType>, sink: &mut Sink) -> Result<(), EncodeError> {
-        let groups = Groups {
-            types: item.as_slice(),
-        };
-        groups.encode_item(&(0..item.len()), sink)
     }
 }
 

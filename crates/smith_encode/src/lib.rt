@@ -14,6 +14,7 @@ mod nesting;
 mod places;
 mod sections;
 mod spelled;
+mod types;
 
 pub use error::EncodeFault;
 pub use modules::encode;

@@ -13,6 +13,7 @@ ghost use Rattle.smith_decode.specs.Customs.{AreCustoms};
 
 use crate::items::Decoded;
 use crate::places::{Place, write_customs, write_list, write_next};
+use crate::types::TypeGroups;
 use smith_binary::{EncodeError, Sink};
 use smith_binary_sections::{Count, Plain};
 use smith_decode::{Body, Module};
@@ -24,12 +25,17 @@ pub(crate) fn write_types<'a>(
     place: Place<'a>,
     sink: &mut Sink,
 ) -> Result<Place<'a>, EncodeError>
+    requires { are_parts_spelled «module».now ≡ true }
     ensures writes { IfOk result (λ next. (count : Option ℕ)
         → WritesBefore (1 ∷ []) (FromImports (syntax_of «module».now) count) (FromTypes (syntax_of «module».now) count)
         (place.entry.after, place.entry.customs.now) (next.after, next.customs.now) sink.old sink.new) }
     ensures fault { IfErr result (IsFault (IsLongFrom «module».now place.entry.customs.now)) }
 {
-    write_list(place, 1, Decoded, module.types.as_slice(), sink)
+    let groups = TypeGroups {
+        types: module.types.as_slice(),
+        further_supertypes: module.further_supertypes.as_slice(),
+    };
+    write_next(place, 1, !groups.types.is_empty(), &groups, sink)
 }
 
 /// Writes the import section. Returns the place after it.

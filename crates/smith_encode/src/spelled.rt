@@ -5,6 +5,7 @@ ghost use Rattle.smith_encode.specs.Nesting.{is_nested};
 ghost use Rattle.smith_encode.specs.Spelled.{is_table_nested, is_global_nested, are_items_nested};
 ghost use Rattle.smith_encode.specs.Spelled.{is_element_nested, is_element_mode_nested};
 ghost use Rattle.smith_encode.specs.Spelled.{is_body_spelled, is_data_nested, are_parts_spelled};
+ghost use Rattle.smith_encode.specs.Spelled.{is_type_spelled, are_types_spelled, are_groups_spelled};
 
 use crate::nesting::is_nested;
 use smith_decode::{
@@ -12,7 +13,7 @@ use smith_decode::{
     LocalRun, Module, TableDefinition,
 };
 use smith_instr::Instr;
-use smith_types::Items;
+use smith_types::{Items, SubType};
 use std::alloc::{AllocError, Global};
 
 // An item that may have no spelling.
@@ -129,12 +130,52 @@ impl Spell for DataSegment {
     }
 }
 
+// Returns whether a type has a first supertype if `further` are some.
+fn is_type_spelled(ty: &SubType, further: &[u32]) -> bool
+    ensures { result ≡ is_type_spelled ty.now further.now }
+{
+    ty.supertype.is_some() || further.is_empty()
+}
+
+// Returns whether the types of a group have as many lists of further supertypes, and spellings.
+fn are_types_spelled(types: &[SubType], further: &[Items<u32>]) -> bool
+    ensures { result ≡ are_types_spelled types.now further.now }
+{
+    if types.len() != further.len() {
+        return false;
+    }
+    for i in 0..types.len() {
+        if !is_type_spelled(&types[i], further[i].as_slice()) {
+            return false;
+        }
+    }
+    true
+}
+
+// Returns whether the types of all groups have.
+fn are_groups_spelled(types: &[Items<SubType>], further: &[Items<Items<u32>>]) -> bool
+    ensures { result ≡ are_groups_spelled types.now further.now }
+{
+    if types.len() != further.len() {
+        return false;
+    }
+    for i in 0..types.len() {
+        if !are_types_spelled(types[i].as_slice(), further[i].as_slice()) {
+            return false;
+        }
+    }
+    true
+}
+
 /// Returns whether the items of `module` have spellings, and it has a body for each function.
 pub(crate) fn are_parts_spelled(alloc: Global, module: &Module) -> Result<bool, AllocError>
     ensures { IfOk result (λ spelled. spelled ≡ are_parts_spelled «module».now) }
 {
     Ok(
-        module.functions.len() == module.bodies.len()
+        are_groups_spelled(
+            module.types.as_slice(),
+            module.further_supertypes.as_slice(),
+        ) && module.functions.len() == module.bodies.len()
             && are_spelled(alloc, module.tables.as_slice())?
             && are_spelled(alloc, module.globals.as_slice())?
             && are_spelled(alloc, module.elements.as_slice())?

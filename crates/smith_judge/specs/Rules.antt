@@ -1,6 +1,6 @@
 -- The rule that a fault breaks, as far as the fault determines it, and the number of each rule (own
 -- rules).
-use Rattle.std.specs.Prelude.{ℕ, nat_lt, if◌then◌else◌, Option, Some, None, length, slice_get}
+use Rattle.std.specs.Prelude.{ℕ, List, nat_lt, if◌then◌else◌, Option, Some, None, length, slice_get}
 use Rattle.smith_types.specs.Syntax.entity_type.ExportKind.{ExportKind}
 use Rattle.smith_types.specs.Syntax.entity_type.ExportKind.TheVariants as export
 use Rattle.smith_types.specs.Syntax.instruction_kind.InstructionKind.{InstructionKind}
@@ -16,6 +16,7 @@ use Rattle.smith_decode.specs.declared.modules.Module.{Module}
 use Rattle.smith_check_module.specs.Contexts.{spaces_of}
 use Rattle.smith_check_module.specs.declared.faults.Part.{Part}
 use Rattle.smith_check_module.specs.declared.faults.Part.TheVariants as part
+use Rattle.smith_check.specs.Supertypes.{is_single}
 use Rattle.smith_check.specs.declared.judgement.Fault.{Fault}
 use Rattle.smith_check.specs.declared.judgement.Fault.TheVariants as fault
 use Rattle.smith_judge.specs.declared.rules.Rule.{Rule}
@@ -78,9 +79,14 @@ part_rule m part.Start index = rule.Start
 part_rule m part.Elements index = rule.Element
 part_rule m part.Datas index = rule.Data
 
+-- the rule that a wrong group of types breaks: that of the number of supertypes, if a type has several
+abbrev pub types_rule : Option (List (List ℕ)) → Rule
+types_rule (Some group) = if is_single group then rule.Types else rule.Supertypes
+types_rule None = rule.Types
+
 -- the rule that a fault breaks
 abbrev pub fault_rule : Module → Fault → Rule
-fault_rule m (fault.Types group) = rule.Types
+fault_rule m (fault.Types group) = types_rule (slice_get m.further_supertypes group)
 fault_rule m (fault.Section item) = part_rule m item.part item.index
 fault_rule m (fault.Local body run) = rule.Local
 fault_rule m (fault.Body body instruction) = body_rule (slice_get m.bodies body) instruction
@@ -111,3 +117,4 @@ rule_number rule.MemoryInstruction = 21
 rule_number rule.AggregateInstruction = 22
 rule_number rule.ControlInstruction = 23
 rule_number rule.End = 24
+rule_number rule.Supertypes = 25

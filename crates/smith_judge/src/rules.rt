@@ -11,17 +11,18 @@ ghost use Rattle.smith_judge.specs.Rules.{
   kind_rule,
   part_rule,
   rule_number,
+  types_rule,
 };
 
 use crate::origins::imported_count;
 use crate::wording::wording_of;
 use smith_binary_read::Export;
 use smith_bytes::Error;
-use smith_check::Fault;
+use smith_check::{Fault, is_single};
 use smith_check_module::Part;
 use smith_decode::{Body, Module};
 use smith_instr::Instr;
-use smith_types::{ExportKind, InstructionKind};
+use smith_types::{ExportKind, InstructionKind, Items};
 use std::alloc::Global;
 
 /// A rule of the chapter Validation of the standard, as far as a fault says which one it breaks: that of
@@ -76,6 +77,8 @@ pub enum Rule {
     ControlInstruction = 23,
     /// Of the end of a block or a body: `else` and `end`.
     End = 24,
+    /// That a type has one supertype at most.
+    Supertypes = 25,
 }
 
 impl Rule {
@@ -205,13 +208,28 @@ fn part_rule(alloc: Global, module: &Module, part: Part, index: usize) -> Result
     }
 }
 
+// Returns the rule that the wrong group at `index` breaks: that of the number of supertypes if a type has
+// several. The groups are given by the supertypes of each type after its first.
+fn types_rule(groups: &[Items<Items<u32>>], index: usize) -> Rule
+    ensures { result ≡ types_rule (slice_get groups.now index) }
+{
+    let Some(group) = groups.get(index) else {
+        return Rule::Types;
+    };
+    if is_single(group.as_slice()) {
+        Rule::Types
+    } else {
+        Rule::Supertypes
+    }
+}
+
 /// Returns the rule that `fault` of `module` breaks.
 pub fn rule_of(alloc: Global, module: &Module, fault: Fault) -> Result<Rule, Error>
     ensures ok { IfOk result (λ rule. rule ≡ fault_rule «module».now fault) }
     ensures memory { IfErr result (λ e. e ≡ Error.Memory) }
 {
     match fault {
-        Fault::Types(_) => Ok(Rule::Types),
+        Fault::Types(group) => Ok(types_rule(module.further_supertypes.as_slice(), group)),
         Fault::Section(item) => part_rule(alloc, module, item.part, item.index),
         Fault::Local { .. } => Ok(Rule::Local),
         Fault::Body { body, instruction } => {

@@ -51,6 +51,11 @@ fn row(name: &'static str, section: &'static str, sentence: &'static str) -> Wor
 pub fn wording_of(rule: Rule) -> Wording {
     match rule {
         Rule::Types => row("types", "Recursive Types", "a type of it is not valid"),
+        Rule::Supertypes => row(
+            "supertypes",
+            "Recursive Types",
+            "a type of it has several supertypes",
+        ),
         Rule::Tag => row("tag", "Tag Types", "its type is not valid"),
         Rule::Function => row("function", "Functions", "its type is no function type"),
         Rule::Table => row("table", "Table Types", "its type is not valid"),

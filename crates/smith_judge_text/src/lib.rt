@@ -3,6 +3,7 @@
 #![tactic(auto)]
 
 mod causes;
+mod supertypes;
 mod texts;
 
 pub use texts::{cause, keyword, words};

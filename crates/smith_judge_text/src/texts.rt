@@ -1,11 +1,12 @@
 ghost use Rattle.std.specs.Prelude.{◌≡◌, IfErr};
 
 use crate::causes::cause_text;
+use crate::supertypes::supertypes_text;
 use smith_binary_read::{ReadError, Reader};
 use smith_binary_read_instr::read_instr;
 use smith_bytes::Error;
 use smith_instr::Instr;
-use smith_judge::{Answer, Fault, WasmFeatures, Words, explain};
+use smith_judge::{Answer, Fault, Rule, WasmFeatures, Words, explain};
 use smith_text_program::{FromFmt, write_instr};
 use std::alloc::Global;
 
@@ -64,9 +65,9 @@ pub fn keyword(alloc: Global, bytes: &[u8], answer: &Answer) -> Result<String, E
 }
 
 /// Returns why the instruction that `answer`, to the file whose bytes are `bytes`, is about is wrong, in
-/// words: the types that it takes and those that are on the stack, or what it names and is not there. The
-/// text is empty if the answer is about no instruction. `explain` of `smith_judge` has the same, with
-/// clauses; no clause states the words.
+/// words: the types that it takes and those that are on the stack, or what it names and is not there; or
+/// which type has several supertypes. The text is empty for other answers. `explain` of `smith_judge` has
+/// the same of instructions, with clauses; no clause states the words.
 pub fn cause(
     alloc: Global,
     features: WasmFeatures,
@@ -78,6 +79,9 @@ pub fn cause(
     let Answer::Invalid(finding) = answer else {
         return Ok(String::new(alloc));
     };
+    if finding.rule == Rule::Supertypes {
+        return supertypes_text(alloc, features, bytes, finding.index);
+    }
     match explain(alloc, features, bytes, answer)? {
         Some(explanation) => cause_text(alloc, &explanation, finding.rule),
         None => Ok(String::new(alloc)),

@@ -1,5 +1,6 @@
 -- The shape of a decoded module is that of its syntax.
-use Rattle.std.proofs.Common.{◌≡◌, ℕ, List, sym, subst, refl}
+use Rattle.std.proofs.Common.{◌≡◌, ℕ, List, sym, subst, refl, true, false}
+use Rattle.std.specs.List.{list_all}
 use Rattle.std.proofs.lemmas.Simd.{map-map}
 use Rattle.smith_types.specs.Syntax.entity_type.GlobalType.{GlobalType}
 use Rattle.smith_types.specs.Syntax.entity_type.TableType.{TableType}
@@ -7,10 +8,11 @@ use Rattle.smith_instr.specs.declared.instr.Instr.{Instr}
 use Rattle.smith_config.specs.declared.shape.Shape.{Shape}
 use Rattle.smith_decode.specs.Modules.{IsModuleBinary, global_pair, syntax_of, table_pair}
 use Rattle.smith_decode.specs.declared.modules.Module.{Module}
-use Rattle.smith_shape.specs.ModuleShapes.{IsShapeBinary, IsShapeOf, shape_of}
+use Rattle.smith_shape.specs.ModuleShapes.{HaveSeveralSupertypes, IsShapeBinary, IsShapeOf, is_single, shape_of}
 
-shape_is : (m : Module) → IsShapeOf (syntax_of m) (shape_of m)
-shape_is m = record {
+shape_is : (m : Module) → list_all is_single m.further_supertypes ≡ true → IsShapeOf (syntax_of m) (shape_of m)
+shape_is m single = record {
+  supertypes = single;
   types = refl;
   imports = refl;
   funcs = refl;
@@ -21,10 +23,14 @@ shape_is m = record {
   exports = refl;
 }
 
-pub shape_binary : (bytes : List ℕ) (m : Module) (shape : Shape) → IsModuleBinary (syntax_of m) bytes → shape ≡ shape_of m
-    → IsShapeBinary bytes shape
-shape_binary bytes m shape binary is = record {
+pub shape_binary : (bytes : List ℕ) (m : Module) (shape : Shape) → IsModuleBinary (syntax_of m) bytes
+    → list_all is_single m.further_supertypes ≡ true → shape ≡ shape_of m → IsShapeBinary bytes shape
+shape_binary bytes m shape binary single is = record {
   m = syntax_of m;
   binary = binary;
-  of_module = subst (IsShapeOf (syntax_of m)) (sym is) (shape_is m);
+  of_module = subst (IsShapeOf (syntax_of m)) (sym is) (shape_is m single);
 }
+
+pub several_supertypes : (bytes : List ℕ) (m : Module) → IsModuleBinary (syntax_of m) bytes
+    → list_all is_single m.further_supertypes ≡ false → HaveSeveralSupertypes bytes
+several_supertypes bytes m binary several = record { m = syntax_of m; binary = binary; several = several }

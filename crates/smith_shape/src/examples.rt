@@ -1,6 +1,7 @@
 // Shapes of modules.
 
 ghost use Rattle.std.specs.Prelude.{◌≡◌, [], ◌∷◌};
+ghost use Rattle.smith_config.specs.declared.shape.Shape.{Shape};
 ghost use Rattle.smith_decode.specs.ExampleModules.{dropping, no_item, of_wide_memory, wide_memory};
 ghost use Rattle.smith_decode.specs.Modules.{syntax_of};
 ghost use Rattle.smith_shape.specs.ExampleShapes.{constant, no_shape, of_a_global};
@@ -17,4 +18,6 @@ fn shapes()
 fn parts()
     ensures other_type { ¬ IsShapeOf (syntax_of dropping) (record no_shape { funcs = 1 ∷ [] }) }
     ensures no_global { ¬ IsShapeOf (syntax_of of_a_global) no_shape }
+    ensures several_supertypes { (shape : Shape)
+        → ¬ IsShapeOf (syntax_of (record no_item { further_supertypes = ((0 ∷ []) ∷ []) ∷ [] })) shape }
 {}

@@ -4,6 +4,8 @@
 
 mod definitions;
 mod examples;
+mod fault;
 mod shapes;
 
+pub use fault::ShapeFault;
 pub use shapes::{read_shape, shape_of};

@@ -3,7 +3,7 @@ ghost use Rattle.smith_shape_file.specs.ShapeFiles.{IsShapeFile, IsShapeFileFaul
 
 use crate::fault::ShapeFileFault;
 use smith_config::Shape;
-use smith_shape::read_shape;
+use smith_shape::{ShapeFault, read_shape};
 use smith_shape_text::shape_of_text;
 use std::alloc::Global;
 
@@ -30,7 +30,8 @@ pub fn read_shape_file(alloc: Global, bytes: &[u8]) -> Result<Shape, ShapeFileFa
     if is_binary(bytes) {
         match read_shape(alloc, bytes) {
             Ok(shape) => Ok(shape),
-            Err(error) => Err(ShapeFileFault::Binary(error)),
+            Err(ShapeFault::Binary(error)) => Err(ShapeFileFault::Binary(error)),
+            Err(ShapeFault::Supertypes) => Err(ShapeFileFault::Supertypes),
         }
     } else {
         match shape_of_text(alloc, bytes) {

@@ -8,13 +8,13 @@ use crate::functions::write_functions;
 use crate::imported::Imported;
 use crate::names::Names;
 use crate::segments::{write_datas, write_elements};
+use crate::types::{Types, write_types};
 use smith_binary_read::{Export, TagDefinition};
 use smith_bytes::Error;
 use smith_decode::{GlobalDefinition, Module, TableDefinition};
 use smith_instr::{Instr, ReferenceInstr};
 use smith_text::{
     FromFmt, Sink, TextForm, TypeUse, write_export, write_field, write_imports, write_start,
-    write_types,
 };
 use smith_types::{Items, MemoryType, SubType};
 use std::alloc::Global;
@@ -25,6 +25,8 @@ use std::{fmt, mem};
 #[derive(Drop)]
 pub struct File {
     types: Vec<SubType>,
+    // The supertypes of each type after its first.
+    further: Vec<Items<u32>>,
     groups: Vec<Range<usize>>,
     names: Names,
     // The module without its types.
@@ -43,8 +45,11 @@ impl File {
         let names = Names::of(alloc, module.customs.as_slice())?;
         let nested = mem::replace(&mut module.types, Items::new(alloc));
         let (types, groups) = flatten(alloc, nested)?;
+        let nested = mem::replace(&mut module.further_supertypes, Items::new(alloc));
+        let (further, _) = flatten(alloc, nested)?;
         Ok(File {
             types,
+            further,
             groups,
             names,
             module,
@@ -52,23 +57,23 @@ impl File {
     }
 }
 
-// Returns the types of groups in one list, and the places of each group in it.
-fn flatten(
+// Returns the items of groups in one list, and the places of each group in it.
+fn flatten<T: Drop>(
     alloc: Global,
-    nested: Items<Items<SubType>>,
-) -> Result<(Vec<SubType>, Vec<Range<usize>>), Error>
+    nested: Items<Items<T>>,
+) -> Result<(Vec<T>, Vec<Range<usize>>), Error>
     ensures memory { IfErr result (λ e. e ≡ Error.Memory) }
 {
-    let mut types = Vec::new(alloc);
+    let mut items = Vec::new(alloc);
     let mut groups = Vec::new(alloc);
     for group in nested.into_vec() {
-        let start = types.len();
-        for ty in group.into_vec() {
-            types.push(ty)?;
+        let start = items.len();
+        for item in group.into_vec() {
+            items.push(item)?;
         }
-        groups.push(start..types.len())?;
+        groups.push(start..items.len())?;
     }
-    Ok((types, groups))
+    Ok((items, groups))
 }
 
 // Returns the initialiser of `table`, unless the text leaves it out.
@@ -237,12 +242,17 @@ pub fn write_file<S: Sink>(file: &File, sink: &mut S) -> fmt::Result
     ensures fault { S.failed sink.new ≡ is_err result }
     ensures writes { OnOk result (Writes S.has sink.old 1 sink.new) }
 {
-    let (types, groups) = (file.types.as_slice(), file.groups.as_slice());
+    let types = file.types.as_slice();
+    let declared = Types {
+        types,
+        further: file.further.as_slice(),
+        groups: file.groups.as_slice(),
+    };
     let imports = file.module.imports.as_slice();
     let imported = Imported::of(imports);
     sink.write_str("(module\n")?;
     write_module_name(&file.names, sink)?;
-    write_types(types, groups, sink)?;
+    write_types(declared, sink)?;
     write_imports(imports, types, sink)?;
     write_definitions(&file.module, types, imported, sink)?;
     write_contents(file, types, imported, sink)?;

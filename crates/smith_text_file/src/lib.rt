@@ -10,5 +10,6 @@ mod functions;
 mod imported;
 mod names;
 mod segments;
+mod types;
 
 pub use fields::{File, text, write_file};

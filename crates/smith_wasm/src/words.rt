@@ -7,7 +7,7 @@ use std::alloc::Global;
 
 /// The version of the program, the library for C and its callers. Versions with the same second
 /// number produce the same file of the same configuration and bytes.
-const VERSION: &str = "0.10.1";
+const VERSION: &str = "0.11.0";
 
 /// The command that prints a file.
 pub(crate) const PRINT: &str = "print";

@@ -3,6 +3,7 @@ use Rattle.smith_check.proofs.judge.judge_of.Goals as goal
 
 pub returns-clause-judge : goal.returns-clause-judge
 returns-clause-judge c = record {
+  supertypes = c.requires.supertypes;
   types = c.requires.checked;
   sections = c.requires.sections;
   spaces = c.requires.parts.spaces;

@@ -1,6 +1,6 @@
 use Rattle.smith_encode.proofs.Common.{[], Module, None, refl, Some, syntax_of, ◌++◌, ◌∷◌, ◌≡◌}
 use Rattle.smith_decode.specs.ExampleModules.{no_item}
-use Rattle.smith_encode.specs.ExampleModules.{in_open_block, with_customs_after}
+use Rattle.smith_encode.specs.ExampleModules.{in_open_block, with_customs_after, with_supertypes}
 use Rattle.smith_encode.specs.Faults.{HasNoSpelling}
 use Rattle.smith_encode.specs.Places.{left_after, skipped}
 use Rattle.smith_encode.specs.Tails.{front_ids, middle_ids, back_ids}
@@ -15,6 +15,12 @@ unordered m none some = λ bytes h. some (rw none at (module_ordered (syntax_of 
 
 pub returns-clause-no_body : goal.returns-clause-no_body
 returns-clause-no_body c = parts_refused (record no_item { functions = 0 ∷ [] }) refl
+
+pub returns-clause-no_first_supertype : goal.returns-clause-no_first_supertype
+returns-clause-no_first_supertype c = parts_refused (with_supertypes None ((0 ∷ []) ∷ [])) refl
+
+pub returns-clause-no_list_of_supertypes : goal.returns-clause-no_list_of_supertypes
+returns-clause-no_list_of_supertypes c = parts_refused (with_supertypes (Some 0) []) refl
 
 pub returns-clause-open_block : goal.returns-clause-open_block
 returns-clause-open_block c = parts_refused in_open_block refl
