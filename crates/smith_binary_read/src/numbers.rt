@@ -82,32 +82,56 @@ impl<'a> Reader<'a> {
         }
     }
 
+    // Returns the fault of an integer at the next byte.
+    fn integer_fault(&self) -> ReadError
+        ensures { result ≡ ReadError.Malformed (integer_fault self.now) }
+    {
+        match self.rest {
+            [] => self.fault(Reason::UnexpectedEnd),
+            [byte, ..] if *byte < 128 => self.fault(Reason::IntegerTooLarge),
+            _ => self.fault(Reason::IntegerTooLong),
+        }
+    }
+
+    // Reads an unsigned integer of `bits` bits. At a fault, it has read the bytes before it.
+    #[tactic(auto, unfolding(crate::specs::Numbers::unsigned_at))]
+    fn try_unsigned(&mut self, bits: u32) -> Option<u64>
+        requires { bits ≤ 64 }
+        ensures reads { MatchOption result (unsigned_at bits self.old ≡ Err (integer_fault self.new))
+            (λ n. unsigned_at bits self.old ≡ Ok (n, self.new)) }
+        ensures fits { IfSome result (λ n. n < 2 ^ bits) }
+    {
+        match self.rest {
+            [] => None,
+            [byte, rest @ ..] => {
+                let byte = u64::from(*byte);
+                if byte < 128 {
+                    if !fits(byte, bits) {
+                        return None;
+                    }
+                    self.rest = rest;
+                    return Some(byte);
+                }
+                if bits <= 7 {
+                    return None;
+                }
+                self.rest = rest;
+                let high = self.try_unsigned(bits - 7)?;
+                Some(128 * high + (byte - 128))
+            }
+        }
+    }
+
     /// Reads an unsigned integer of `bits` bits in LEB128, which may have more bytes than needed
     /// (Integers).
-    #[tactic(auto, unfolding(crate::specs::Numbers::unsigned_at))]
     pub fn read_unsigned(&mut self, bits: u32) -> Result<u64, ReadError>
         requires { bits ≤ 64 }
         ensures reads { Gives result self.new (unsigned_at bits self.old) }
         ensures fits { IfOk result (λ n. n < 2 ^ bits) }
     {
-        match self.rest {
-            [] => Err(self.fault(Reason::UnexpectedEnd)),
-            [byte, rest @ ..] => {
-                let byte = u64::from(*byte);
-                if byte < 128 {
-                    if !fits(byte, bits) {
-                        return Err(self.fault(Reason::IntegerTooLarge));
-                    }
-                    self.rest = rest;
-                    return Ok(byte);
-                }
-                if bits <= 7 {
-                    return Err(self.fault(Reason::IntegerTooLong));
-                }
-                self.rest = rest;
-                let high = self.read_unsigned(bits - 7)?;
-                Ok(128 * high + (byte - 128))
-            }
+        match self.try_unsigned(bits) {
+            Some(number) => Ok(number),
+            None => Err(self.integer_fault()),
         }
     }
 
@@ -145,17 +169,6 @@ impl<'a> Reader<'a> {
                 let high = self.try_signed(bits - 7)?;
                 Some(above(high, byte, bits))
             }
-        }
-    }
-
-    // Returns the fault of an integer at the next byte.
-    fn integer_fault(&self) -> ReadError
-        ensures { result ≡ ReadError.Malformed (integer_fault self.now) }
-    {
-        match self.rest {
-            [] => self.fault(Reason::UnexpectedEnd),
-            [byte, ..] if *byte < 128 => self.fault(Reason::IntegerTooLarge),
-            _ => self.fault(Reason::IntegerTooLong),
         }
     }
 
