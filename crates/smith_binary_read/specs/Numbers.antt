@@ -1,6 +1,7 @@
 -- Readings of numbers.
-use Rattle.std.specs.Prelude.{ℕ, zero, suc, ◌+◌, ◌-◌, ◌*◌, ◌^◌, List, [], ◌∷◌, Ok, nat_lt, nat_le, ◌&&◌}
+use Rattle.std.specs.Prelude.{ℕ, zero, suc, ◌+◌, ◌-◌, ◌*◌, ◌^◌, List, [], ◌∷◌, length, Ok, nat_lt, nat_le, ◌&&◌}
 use Rattle.std.specs.Prelude.{if◌then◌else◌, ℤ, pos, negsuc, ◌+ℤ◌, ◌*ℤ◌}
+use Rattle.smith_binary_read.specs.declared.error.Fault.{Fault}
 use Rattle.smith_binary_read.specs.declared.error.Reason.TheVariants.{UnexpectedEnd, IntegerTooLarge, IntegerTooLong}
 use Rattle.smith_binary_read.specs.Readings.{Reading, ◌>>=◌, fault_at, byte_at, joined_at, mapped_at}
 
@@ -22,6 +23,15 @@ signed_at bits (byte ∷ bytes) =
     else (if nat_lt 7 bits && nat_lt byte 256 then
     (signed_at (bits - 7) bytes >>= λ high. Ok (pos 128 *ℤ high.0 +ℤ pos (byte - 128), high.1))
     else fault_at IntegerTooLong (byte ∷ bytes)))
+
+-- the fault of an integer, at its first byte that is one: it is lacking, too large as the last byte,
+-- or one too many
+abbrev pub integer_fault : List ℕ → Fault
+integer_fault [] = record { left = 0; reason = UnexpectedEnd }
+integer_fault (byte ∷ bytes) = record {
+  left = length (byte ∷ bytes);
+  reason = if nat_lt byte 128 then IntegerTooLarge else IntegerTooLong;
+}
 
 -- reads a number of `count` bytes, the least significant first
 unfoldable pub little_endian_at : ℕ → List ℕ → Reading ℕ

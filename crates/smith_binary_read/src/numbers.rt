@@ -1,9 +1,9 @@
 ghost use Rattle.std.specs.Prelude.{◌≡◌, ◌≤◌, ◌<◌, ◌^◌, nat_lt, nat_le, ◌+◌, ◌-◌, ◌*◌, ◌∷◌, IfOk, pos};
-ghost use Rattle.std.specs.Prelude.{◌+ℤ◌, ◌*ℤ◌, negsuc, if◌then◌else◌, MatchOption};
+ghost use Rattle.std.specs.Prelude.{◌+ℤ◌, ◌*ℤ◌, negsuc, if◌then◌else◌, MatchOption, IfSome, Ok, Err};
 ghost use Rattle.smith_binary.specs.Numbers.{FitsBits};
 ghost use Rattle.smith_binary_read.specs.Readings.{Gives};
 ghost use Rattle.smith_binary_read.specs.Numbers.{unsigned_at, signed_at, little_endian_at};
-ghost use Rattle.smith_binary_read.specs.Numbers.{vector_at, lane_at, as_signed};
+ghost use Rattle.smith_binary_read.specs.Numbers.{vector_at, lane_at, as_signed, integer_fault};
 
 use crate::error::{ReadError, Reason};
 use crate::reader::Reader;
@@ -82,69 +82,107 @@ impl<'a> Reader<'a> {
         }
     }
 
+    // Returns the fault of an integer at the next byte.
+    fn integer_fault(&self) -> ReadError
+        ensures { result ≡ ReadError.Malformed (integer_fault self.now) }
+    {
+        match self.rest {
+            [] => self.fault(Reason::UnexpectedEnd),
+            [byte, ..] if *byte < 128 => self.fault(Reason::IntegerTooLarge),
+            _ => self.fault(Reason::IntegerTooLong),
+        }
+    }
+
+    // Reads an unsigned integer of `bits` bits. At a fault, it has read the bytes before it.
+    #[tactic(auto, unfolding(crate::specs::Numbers::unsigned_at))]
+    fn try_unsigned(&mut self, bits: u32) -> Option<u64>
+        requires { bits ≤ 64 }
+        ensures reads { MatchOption result (unsigned_at bits self.old ≡ Err (integer_fault self.new))
+            (λ n. unsigned_at bits self.old ≡ Ok (n, self.new)) }
+        ensures fits { IfSome result (λ n. n < 2 ^ bits) }
+    {
+        match self.rest {
+            [] => None,
+            [byte, rest @ ..] => {
+                let byte = u64::from(*byte);
+                if byte < 128 {
+                    if !fits(byte, bits) {
+                        return None;
+                    }
+                    self.rest = rest;
+                    return Some(byte);
+                }
+                if bits <= 7 {
+                    return None;
+                }
+                self.rest = rest;
+                let high = self.try_unsigned(bits - 7)?;
+                Some(128 * high + (byte - 128))
+            }
+        }
+    }
+
     /// Reads an unsigned integer of `bits` bits in LEB128, which may have more bytes than needed
     /// (Integers).
-    #[tactic(auto, unfolding(crate::specs::Numbers::unsigned_at))]
     pub fn read_unsigned(&mut self, bits: u32) -> Result<u64, ReadError>
         requires { bits ≤ 64 }
         ensures reads { Gives result self.new (unsigned_at bits self.old) }
         ensures fits { IfOk result (λ n. n < 2 ^ bits) }
     {
+        match self.try_unsigned(bits) {
+            Some(number) => Ok(number),
+            None => Err(self.integer_fault()),
+        }
+    }
+
+    // Reads a signed integer of `bits` bits. At a fault, it has read the bytes before it.
+    #[tactic(auto, unfolding(crate::specs::Numbers::signed_at))]
+    fn try_signed(&mut self, bits: u32) -> Option<i64>
+        requires some { 1 ≤ bits }
+        requires most { bits ≤ 64 }
+        ensures reads { MatchOption result (signed_at bits self.old ≡ Err (integer_fault self.new))
+            (λ n. signed_at bits self.old ≡ Ok (n, self.new)) }
+        ensures fits { IfSome result (FitsBits bits) }
+    {
         match self.rest {
-            [] => Err(self.fault(Reason::UnexpectedEnd)),
+            [] => None,
             [byte, rest @ ..] => {
-                let byte = u64::from(*byte);
-                if byte < 128 {
-                    if !fits(byte, bits) {
-                        return Err(self.fault(Reason::IntegerTooLarge));
+                let byte = *byte;
+                if byte < 64 {
+                    if !fits(u64::from(byte), bits - 1) {
+                        return None;
                     }
                     self.rest = rest;
-                    return Ok(byte);
+                    return Some(i64::from(byte));
+                }
+                if byte < 128 {
+                    if !fits_negative(u64::from(byte), bits - 1) {
+                        return None;
+                    }
+                    self.rest = rest;
+                    return Some(i64::from(byte) - 128);
                 }
                 if bits <= 7 {
-                    return Err(self.fault(Reason::IntegerTooLong));
+                    return None;
                 }
                 self.rest = rest;
-                let high = self.read_unsigned(bits - 7)?;
-                Ok(128 * high + (byte - 128))
+                let high = self.try_signed(bits - 7)?;
+                Some(above(high, byte, bits))
             }
         }
     }
 
     /// Reads a signed integer of `bits` bits in LEB128, which may have more bytes than needed
     /// (Integers).
-    #[tactic(auto, unfolding(crate::specs::Numbers::signed_at))]
     pub fn read_signed(&mut self, bits: u32) -> Result<i64, ReadError>
         requires some { 1 ≤ bits }
         requires most { bits ≤ 64 }
         ensures reads { Gives result self.new (signed_at bits self.old) }
         ensures fits { IfOk result (FitsBits bits) }
     {
-        match self.rest {
-            [] => Err(self.fault(Reason::UnexpectedEnd)),
-            [byte, rest @ ..] => {
-                let byte = *byte;
-                if byte < 64 {
-                    if !fits(u64::from(byte), bits - 1) {
-                        return Err(self.fault(Reason::IntegerTooLarge));
-                    }
-                    self.rest = rest;
-                    return Ok(i64::from(byte));
-                }
-                if byte < 128 {
-                    if !fits_negative(u64::from(byte), bits - 1) {
-                        return Err(self.fault(Reason::IntegerTooLarge));
-                    }
-                    self.rest = rest;
-                    return Ok(i64::from(byte) - 128);
-                }
-                if bits <= 7 {
-                    return Err(self.fault(Reason::IntegerTooLong));
-                }
-                self.rest = rest;
-                let high = self.read_signed(bits - 7)?;
-                Ok(above(high, byte, bits))
-            }
+        match self.try_signed(bits) {
+            Some(number) => Ok(number),
+            None => Err(self.integer_fault()),
         }
     }
 

@@ -1,5 +1,6 @@
 pub mod Common
 pub mod FormLemmas
+pub mod EveryLemmas
 pub mod LocationLemmas
 pub mod DefinitionLemmas
 pub mod ElementLemmas

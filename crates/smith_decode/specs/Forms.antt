@@ -188,6 +188,34 @@ IsDataModeEnabled features (data_mode.Active memory offset) =
 abbrev pub IsDataEnabled : Features → DataSegment → Type 0
 IsDataEnabled features segment = IsDataModeEnabled features segment.mode
 
+-- all features that a value type may require, or an instruction on references or aggregates (own
+-- rule)
+pub record HasTypeFeatures (features : Features) : Type 0 where
+  pub reference_types : IsTrue features.reference_types
+  pub function_references : IsTrue features.function_references
+  pub gc : IsTrue features.gc
+  pub exceptions : IsTrue features.exceptions
+  pub simd : IsTrue features.simd
+  pub shared : IsTrue features.shared_everything_threads
+  pub custom_descriptors : IsTrue features.custom_descriptors
+
+-- all other features that an instruction may require (own rule)
+pub record HasInstrFeatures (features : Features) : Type 0 where
+  pub saturating_float_to_int : IsTrue features.saturating_float_to_int
+  pub sign_extension : IsTrue features.sign_extension
+  pub wide_arithmetic : IsTrue features.wide_arithmetic
+  pub relaxed_simd : IsTrue features.relaxed_simd
+  pub bulk_memory : IsTrue features.bulk_memory
+  pub multi_value : IsTrue features.multi_value
+  pub tail_call : IsTrue features.tail_call
+  pub threads : IsTrue features.threads
+  pub multi_memory : IsTrue features.multi_memory
+  pub memory64 : IsTrue features.memory64
+
+-- all features that a body may require (own rule)
+abbrev pub HasBodyFeatures : Features → Type 0
+HasBodyFeatures features = HasTypeFeatures features × HasInstrFeatures features
+
 -- a body is enabled (Code Section)
 pub record IsBodyEnabled (features : Features) (body : Body) : Type 0 where
   pub locals : All (λ (run : LocalRun). IsValTypeEnabled features run.ty) body.locals

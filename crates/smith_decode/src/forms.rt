@@ -11,7 +11,11 @@ ghost use Rattle.smith_decode.specs.Forms.{
   AreStatedEnabled,
   AreTablesEnabled,
   Each,
+  HasBodyFeatures,
+  HasInstrFeatures,
+  HasTypeFeatures,
   IsBlockTypeEnabled,
+  IsBodyEnabled,
   IsCastEnabled,
   IsCountEnabled,
   IsDataModeEnabled,
@@ -412,6 +416,55 @@ fn first_item_off<T, P: Predicate<T>>(predicate: &P, list: &Items<T>) -> Option<
     first_off(predicate, list.as_slice())
 }
 
+// Returns whether `features` have those that some value type requires, or some instruction on
+// references or aggregates.
+fn have_types(features: WasmFeatures) -> bool
+    ensures { IsTrue result → HasTypeFeatures (features_in features) }
+{
+    features.contains(WasmFeatures::REFERENCE_TYPES)
+        && features.contains(WasmFeatures::FUNCTION_REFERENCES)
+        && features.contains(WasmFeatures::GC)
+        && features.contains(WasmFeatures::EXCEPTIONS)
+        && features.contains(WasmFeatures::SIMD)
+        && features.contains(WasmFeatures::SHARED_EVERYTHING_THREADS)
+        && features.contains(WasmFeatures::CUSTOM_DESCRIPTORS)
+}
+
+// Returns whether `features` have all that some other instruction requires.
+fn have_instructions(features: WasmFeatures) -> bool
+    ensures { IsTrue result → HasInstrFeatures (features_in features) }
+{
+    features.contains(WasmFeatures::SATURATING_FLOAT_TO_INT)
+        && features.contains(WasmFeatures::SIGN_EXTENSION)
+        && features.contains(WasmFeatures::WIDE_ARITHMETIC)
+        && features.contains(WasmFeatures::RELAXED_SIMD)
+        && features.contains(WasmFeatures::BULK_MEMORY)
+        && features.contains(WasmFeatures::MULTI_VALUE)
+        && features.contains(WasmFeatures::TAIL_CALL)
+        && features.contains(WasmFeatures::THREADS)
+        && features.contains(WasmFeatures::MULTI_MEMORY)
+        && features.contains(WasmFeatures::MEMORY64)
+}
+
+// Returns whether `features` have all that a body may require.
+fn have_all(features: WasmFeatures) -> bool
+    ensures { IsTrue result → HasBodyFeatures (features_in features) }
+{
+    have_types(features) && have_instructions(features)
+}
+
+// Returns the index of the first of `bodies` that isn't enabled. If all features that a body may
+// require are on, it doesn't look at them.
+fn first_body_off(form: EnabledForm, bodies: &Items<Body>) -> Option<usize>
+    ensures { MatchOption result (All (IsBodyEnabled (features_in form.features)) bodies.now)
+        (λ index. IsFirstOff (IsBodyEnabled (features_in form.features)) bodies.now index) }
+{
+    if have_all(form.features) {
+        return None;
+    }
+    first_item_off(&form, bodies)
+}
+
 // Returns the first place up to the memories of `m` whose form is off.
 fn early_off(form: EnabledForm, m: &Module) -> Option<Place>
     ensures { MatchOption result (Each (take 4 (forms_of (features_in form.features) m.now)))
@@ -462,7 +515,7 @@ fn late_off(form: EnabledForm, m: &Module) -> Option<Place>
     if !is_count_enabled(form.features, m.data_count) {
         return Some(Place::DataCount);
     }
-    if let Some(index) = first_item_off(&form, &m.bodies) {
+    if let Some(index) = first_body_off(form, &m.bodies) {
         return Some(Place::Body(index));
     }
     if let Some(index) = first_item_off(&form, &m.datas) {

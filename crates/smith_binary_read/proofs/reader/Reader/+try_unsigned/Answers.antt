@@ -1,6 +1,6 @@
 use Rattle.std.proofs.Common.{arith}
 use Rattle.smith_binary_read.proofs.IntegerLemmas.{high_fits}
-use Rattle.smith_binary_read.proofs.reader.Reader.+read_unsigned.Goals as goal
+use Rattle.smith_binary_read.proofs.reader.Reader.+try_unsigned.Goals as goal
 
 pub overflow_mul-result : goal.overflow_mul-result
 overflow_mul-result t c = let h = high_fits c.args.bits c.in_ok-high-in-len1-up.high c.from-byte.result (omega arith)
