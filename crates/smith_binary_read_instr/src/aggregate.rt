@@ -192,6 +192,7 @@ fn read_indexed(number: u32, reader: &mut Reader<'_>) -> Result<AggregateInstr, 
 
 // Reads an instruction after the byte 0xFB (Aggregate, Reference and Control Instructions).
 #[tactic(auto, unfolding(crate::specs::AggregateReadings::aggregate_at))]
+#[inline(always)]
 pub(crate) fn read_aggregate(reader: &mut Reader<'_>) -> Result<Instr, ReadError>
     ensures { Gives result reader.new (aggregate_at reader.old) }
 {

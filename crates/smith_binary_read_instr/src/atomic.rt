@@ -103,6 +103,7 @@ fn read_fence(reader: &mut Reader<'_>) -> Result<Instr, ReadError>
 
 // Reads an instruction after the byte 0xFE: the threads proposal, and the shared i31.
 #[tactic(auto, unfolding(crate::specs::AtomicReadings::atomic_at))]
+#[inline(always)]
 pub(crate) fn read_atomic(reader: &mut Reader<'_>) -> Result<Instr, ReadError>
     ensures { Gives result reader.new (atomic_at reader.old) }
 {

@@ -182,6 +182,7 @@ fn plain_control_of(byte: u8) -> Option<Instr>
 
 // Reads a block or a part of one, up to 0x0B (Control Instructions).
 #[tactic(auto, unfolding(crate::specs::ControlReadings::block_at))]
+#[inline(always)]
 pub(crate) fn read_block(reader: &mut Reader<'_>) -> Result<Instr, ReadError>
     ensures { Gives result reader.new (block_at reader.old) }
 {
@@ -210,6 +211,7 @@ pub(crate) fn read_block(reader: &mut Reader<'_>) -> Result<Instr, ReadError>
 
 // Reads a branch, from 0x0C up to 0x0F (Control Instructions).
 #[tactic(auto, unfolding(crate::specs::ControlReadings::branch_at))]
+#[inline(always)]
 pub(crate) fn read_branch(reader: &mut Reader<'_>) -> Result<Instr, ReadError>
     ensures { Gives result reader.new (branch_at reader.old) }
 {
@@ -228,6 +230,7 @@ pub(crate) fn read_branch(reader: &mut Reader<'_>) -> Result<Instr, ReadError>
 
 // Reads a call, from 0x10 up to 0x15 (Control Instructions).
 #[tactic(auto, unfolding(crate::specs::ControlReadings::call_at))]
+#[inline(always)]
 pub(crate) fn read_call(reader: &mut Reader<'_>) -> Result<Instr, ReadError>
     ensures { Gives result reader.new (call_at reader.old) }
 {
@@ -251,6 +254,7 @@ pub(crate) fn read_call(reader: &mut Reader<'_>) -> Result<Instr, ReadError>
 // Reads a parametric instruction or `try_table`, from 0x16 up to 0x1F (Parametric Instructions,
 // Control Instructions).
 #[tactic(auto, unfolding(crate::specs::ControlReadings::parametric_at))]
+#[inline(always)]
 pub(crate) fn read_parametric(reader: &mut Reader<'_>) -> Result<Instr, ReadError>
     ensures { Gives result reader.new (parametric_at reader.old) }
 {
@@ -275,6 +279,7 @@ pub(crate) fn read_parametric(reader: &mut Reader<'_>) -> Result<Instr, ReadErro
 // Reads an instruction on a local, a global or an element of a table, from 0x20 up to 0x27 (Variable
 // Instructions, Table Instructions).
 #[tactic(auto, unfolding(crate::specs::ControlReadings::variable_at))]
+#[inline(always)]
 pub(crate) fn read_variable(reader: &mut Reader<'_>) -> Result<Instr, ReadError>
     ensures { Gives result reader.new (variable_at reader.old) }
 {

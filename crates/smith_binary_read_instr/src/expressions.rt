@@ -16,6 +16,7 @@ use smith_instr::Instr;
 use smith_types::Items;
 
 // Opens a block within the open blocks, the innermost last, which may have an `else` or not.
+#[inline(always)]
 fn open(has_else: bool, blocks: &mut Vec<bool>) -> Result<(), ReadError>
     ensures opened { OnOk result
         (reverse blocks.new.items ≡ has_else ∷ reverse blocks.old.items) }

@@ -16,6 +16,8 @@ use crate::vector::read_vector;
 use smith_binary_read::{ReadError, Reader, Reason};
 use smith_instr::Instr;
 
+// The readers of instructions are inlined here: a call copies what it returns, 64 bytes.
+
 // Reads an instruction whose first byte is `byte`, below 0x41.
 #[tactic(auto, unfolding(crate::specs::InstrReadings::low_instr_at))]
 #[inline(always)]

@@ -84,6 +84,7 @@ fn store_of(byte: u8) -> Store
 // Reads an access to a memory, or an instruction on its size, from 0x28 up to 0x40 (Memory
 // Instructions).
 #[tactic(auto, unfolding(crate::specs::MemoryReadings::access_at))]
+#[inline(always)]
 pub(crate) fn read_access(reader: &mut Reader<'_>) -> Result<Instr, ReadError>
     ensures { Gives result reader.new (access_at reader.old) }
 {
@@ -144,6 +145,7 @@ fn read_elements_instr(number: u32, reader: &mut Reader<'_>) -> Result<Instr, Re
 
 // Reads an instruction after the byte 0xFC (Numeric, Memory and Table Instructions).
 #[tactic(auto, unfolding(crate::specs::MemoryReadings::bulk_at))]
+#[inline(always)]
 pub(crate) fn read_bulk(reader: &mut Reader<'_>) -> Result<Instr, ReadError>
     ensures { Gives result reader.new (bulk_at reader.old) }
 {

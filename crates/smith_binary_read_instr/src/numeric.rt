@@ -259,6 +259,7 @@ fn numeric_of(byte: u8) -> NumericInstr
 
 // Reads a numeric instruction of one byte, from 0x45 up to 0xC4 (Numeric Instructions).
 #[tactic(auto, unfolding(crate::specs::NumericReadings::numeric_at))]
+#[inline(always)]
 pub(crate) fn read_numeric(reader: &mut Reader<'_>) -> Result<Instr, ReadError>
     ensures { Gives result reader.new (numeric_at reader.old) }
 {
@@ -290,6 +291,7 @@ pub(crate) fn saturating_of(number: u32) -> Option<NumericInstr>
 
 // Reads a constant, from 0x41 up to 0x44 (Numeric Instructions).
 #[tactic(auto, unfolding(crate::specs::NumericReadings::const_at))]
+#[inline(always)]
 pub(crate) fn read_const(reader: &mut Reader<'_>) -> Result<Instr, ReadError>
     ensures { Gives result reader.new (const_at reader.old) }
 {

@@ -22,6 +22,7 @@ fn plain_reference_of(byte: u8) -> Option<Instr>
 // Reads an instruction on references, from 0xC5 up to 0xFA (Reference Instructions, Control
 // Instructions).
 #[tactic(auto, unfolding(crate::specs::ReferenceReadings::reference_at))]
+#[inline(always)]
 pub(crate) fn read_reference(reader: &mut Reader<'_>) -> Result<Instr, ReadError>
     ensures { Gives result reader.new (reference_at reader.old) }
 {

@@ -135,6 +135,7 @@ fn read_low_vector(number: u32, reader: &mut Reader<'_>) -> Result<Instr, ReadEr
 
 // Reads an instruction after the byte 0xFD (Vector Instructions).
 #[tactic(auto, unfolding(crate::specs::VectorReadings::vector_instr_at))]
+#[inline(always)]
 pub(crate) fn read_vector(reader: &mut Reader<'_>) -> Result<Instr, ReadError>
     ensures { Gives result reader.new (vector_instr_at reader.old) }
 {
