@@ -32,6 +32,7 @@ pub fn begin(alloc: Global, results: Items<ValType>) -> Checker
         log: SetLocals::new(alloc),
         height: 0,
         outers: Vec::new(alloc),
+        room: Vec::new(alloc),
     }
 }
 

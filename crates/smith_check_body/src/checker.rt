@@ -10,9 +10,10 @@ use crate::step::{set_by, step};
 use smith_bytes::Error;
 use smith_check_branches::catches::are_catches;
 use smith_check_operands::{Frame, Kind, Operands, Scope, Shape};
+use smith_check_rules::Slot;
 use smith_instr::{BlockType, Catch, Instr, SetLocals};
 use std::alloc::Global;
-use std::mem::replace;
+use std::mem::{replace, swap};
 
 /// How far the check of a body has come.
 #[derive(Drop)]
@@ -27,6 +28,8 @@ pub struct Checker {
     pub height: usize,
     /// The blocks around it, the innermost last.
     pub outers: Vec<Frame>,
+    /// Room for the types that are on the stack in a block to come.
+    pub room: Vec<Slot>,
 }
 
 impl Checker {
@@ -88,16 +91,16 @@ impl Checker {
         alloc: Global,
         scope: &Scope,
         kind: Kind,
-        ty: BlockType,
+        ty: &BlockType,
     ) -> Result<bool, Error>
         requires well { IsWell (bare scope.now) self.old }
         requires scope { IsScope (bare scope.now) }
         ensures ok { IfOk result (λ goes. MatchBool goes
-            (Goes (bare scope.now) (opening kind ty) self.old self.new)
-            (Stops (bare scope.now) (opening kind ty) self.old)) }
+            (Goes (bare scope.now) (opening kind ty.now) self.old self.new)
+            (Stops (bare scope.now) (opening kind ty.now) self.old)) }
         ensures memory { IfErr result (λ e. e ≡ Error.Memory) }
     {
-        let found = shape_of(alloc, scope, kind, ty)?;
+        let found = shape_of(alloc, scope, kind, *ty)?;
         let shape = match found {
             Some(shape) => shape,
             None => return Ok(false),
@@ -105,7 +108,8 @@ impl Checker {
         if !pop_for(&mut self.operands, scope, kind, &shape.params) {
             return Ok(false);
         }
-        let operands = starting(alloc, scope, &shape.params)?;
+        let room = replace(&mut self.room, Vec::new(alloc));
+        let operands = starting(room, scope, &shape.params)?;
         self.enter(shape, operands)?;
         Ok(true)
     }
@@ -116,14 +120,14 @@ impl Checker {
         &mut self,
         alloc: Global,
         scope: &Scope,
-        ty: BlockType,
+        ty: &BlockType,
         clauses: &[Catch],
     ) -> Result<bool, Error>
         requires well { IsWell (bare scope.now) self.old }
         requires scope { IsScope (bare scope.now) }
         ensures ok { IfOk result (λ goes. MatchBool goes
-            (Goes (bare scope.now) (instr.TryTable ty clauses.now) self.old self.new)
-            (Stops (bare scope.now) (instr.TryTable ty clauses.now) self.old)) }
+            (Goes (bare scope.now) (instr.TryTable ty.now clauses.now) self.old self.new)
+            (Stops (bare scope.now) (instr.TryTable ty.now clauses.now) self.old)) }
         ensures memory { IfErr result (λ e. e ≡ Error.Memory) }
     {
         if !are_catches(scope, &self.shape, &self.outers, clauses) {
@@ -159,6 +163,7 @@ impl Checker {
             height,
         } = outer;
         self.shape = shape;
+        swap(&mut self.room, &mut self.operands.known);
         self.operands = operands;
         self.log.truncate(self.height);
         self.height = height;
@@ -182,7 +187,8 @@ impl Checker {
         if !self.operands.ends(scope, &self.shape.results) {
             return Ok(false);
         }
-        self.operands = starting(alloc, scope, &self.shape.params)?;
+        let room = replace(&mut self.operands.known, Vec::new(alloc));
+        self.operands = starting(room, scope, &self.shape.params)?;
         self.shape.kind = Kind::Block;
         self.log.truncate(self.height);
         Ok(true)
@@ -198,12 +204,12 @@ impl Checker {
         ensures memory { IfErr result (λ e. e ≡ Error.Memory) }
     {
         match instr {
-            Instr::Block(ty) => self.open(alloc, scope, Kind::Block, *ty),
-            Instr::Loop(ty) => self.open(alloc, scope, Kind::Loop, *ty),
-            Instr::If(ty) => self.open(alloc, scope, Kind::If, *ty),
+            Instr::Block(ty) => self.open(alloc, scope, Kind::Block, ty),
+            Instr::Loop(ty) => self.open(alloc, scope, Kind::Loop, ty),
+            Instr::If(ty) => self.open(alloc, scope, Kind::If, ty),
             Instr::Else => self.second(alloc, scope),
             Instr::End => self.close(scope),
-            Instr::TryTable(ty, clauses) => self.open_try(alloc, scope, *ty, clauses.as_slice()),
+            Instr::TryTable(ty, clauses) => self.open_try(alloc, scope, ty, clauses.as_slice()),
             _ => self.plain(scope, instr),
         }
     }
