@@ -2,7 +2,7 @@
 use Rattle.smith_check_operands.proofs.Common.{[], All-nil, ap, append-nil, AreSlotsValid, arith, BodyContext, Bool, drop, false, IsBelow}
 use Rattle.smith_check_operands.proofs.Common.{IsSlotValid, length, List, MatchBool, refl, Slot, Some, subst, suc, sym, take, true, ValType}
 use Rattle.smith_check_operands.proofs.Common.{Value, values, ℕ, ◌++◌, ◌-◌, ◌<◌, ◌∙◌, ◌∷◌, ◌≡◌, ◌≤◌}
-use Rattle.std.proofs.Common.{get_or}
+use Rattle.std.proofs.Common.{get_or, ◌+◌}
 use Rattle.std.proofs.Math.Seq.{drop-cons}
 use Rattle.std.proofs.lemmas.List.{drop_all, take-append-drop, take_all, take_more}
 use Rattle.std.proofs.lemmas.Option.{get_or_from_slice_get, slice_get-get_or, slice_get_within}
