@@ -13,7 +13,7 @@ use smith_check_operands::{Frame, Kind, Operands, Scope, Shape};
 use smith_check_rules::Slot;
 use smith_instr::{BlockType, Catch, Instr, SetLocals};
 use std::alloc::Global;
-use std::mem::{replace, swap};
+use std::mem::replace;
 
 /// How far the check of a body has come.
 #[derive(Drop)]
@@ -28,8 +28,16 @@ pub struct Checker {
     pub height: usize,
     /// The blocks around it, the innermost last.
     pub outers: Vec<Frame>,
-    /// Room for the types that are on the stack in a block to come.
-    pub room: Vec<Slot>,
+    /// Room for the types on the stack in blocks to come.
+    pub rooms: Vec<Vec<Slot>>,
+}
+
+// Takes room for the types on the stack in a block, if there is any.
+fn take_room(alloc: Global, rooms: &mut Vec<Vec<Slot>>) -> Vec<Slot> {
+    match rooms.pop() {
+        Some(room) => room,
+        None => Vec::new(alloc),
+    }
 }
 
 impl Checker {
@@ -108,7 +116,7 @@ impl Checker {
         if !pop_for(&mut self.operands, scope, kind, &shape.params) {
             return Ok(false);
         }
-        let room = replace(&mut self.room, Vec::new(alloc));
+        let room = take_room(alloc, &mut self.rooms);
         let operands = starting(room, scope, &shape.params)?;
         self.enter(shape, operands)?;
         Ok(true)
@@ -139,7 +147,7 @@ impl Checker {
 
 impl Checker {
     /// Checks the end of a block, and returns whether it applies.
-    pub fn close(&mut self, scope: &Scope) -> Result<bool, Error>
+    pub fn close(&mut self, alloc: Global, scope: &Scope) -> Result<bool, Error>
         requires well { IsWell (bare scope.now) self.old }
         ensures ok { IfOk result (λ goes. MatchBool goes
             (Goes (bare scope.now) instr.End self.old self.new)
@@ -163,8 +171,9 @@ impl Checker {
             height,
         } = outer;
         self.shape = shape;
-        swap(&mut self.room, &mut self.operands.known);
+        let room = replace(&mut self.operands.known, Vec::new(alloc));
         self.operands = operands;
+        self.rooms.push(room)?;
         self.log.truncate(self.height);
         self.height = height;
         Ok(true)
@@ -208,7 +217,7 @@ impl Checker {
             Instr::Loop(ty) => self.open(alloc, scope, Kind::Loop, ty),
             Instr::If(ty) => self.open(alloc, scope, Kind::If, ty),
             Instr::Else => self.second(alloc, scope),
-            Instr::End => self.close(scope),
+            Instr::End => self.close(alloc, scope),
             Instr::TryTable(ty, clauses) => self.open_try(alloc, scope, ty, clauses.as_slice()),
             _ => self.plain(scope, instr),
         }
@@ -224,5 +233,11 @@ impl Checker {
             return self.operands.ends(scope, &self.shape.results);
         }
         false
+    }
+
+    /// Returns the room for the types on the stack in blocks to come.
+    pub fn into_rooms(self) -> Vec<Vec<Slot>> {
+        let Checker { rooms, .. } = self;
+        rooms
     }
 }
