@@ -34,11 +34,7 @@ pub fn pop_for(operands: &mut Operands, scope: &Scope, kind: Kind, params: &[Val
 }
 
 /// Returns the operands at the start of a block, in the room that `room` has for their types.
-pub fn starting(
-    mut room: Vec<Slot>,
-    scope: &Scope,
-    params: &[ValType],
-) -> Result<Operands, Error>
+pub fn starting(mut room: Vec<Slot>, scope: &Scope, params: &[ValType]) -> Result<Operands, Error>
     requires { AreValid (bare scope.now) params.now }
     ensures ok { IfOk result (λ operands. held operands ≡ holding (values params.now) false) }
     ensures memory { IfErr result (λ e. e ≡ Error.Memory) }
