@@ -32,7 +32,7 @@ pub struct Checker {
     pub rooms: Vec<Vec<Slot>>,
 }
 
-// Takes room for the types on the stack in a block, if there is any.
+// Returns room for the types on the stack in a block, taken from `rooms` if there is any.
 fn take_room(alloc: Global, rooms: &mut Vec<Vec<Slot>>) -> Vec<Slot> {
     match rooms.pop() {
         Some(room) => room,
