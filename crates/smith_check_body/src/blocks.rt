@@ -18,6 +18,7 @@ use std::alloc::Global;
 
 /// Takes the operands of an instruction that opens a block off the stack, and returns whether they
 /// are there.
+#[inline(always)]
 pub fn pop_for(operands: &mut Operands, scope: &Scope, kind: Kind, params: &[ValType]) -> bool
     requires known { AreSlotsValid (bare scope.now) operands.old.known.items }
     requires params { AreValid (bare scope.now) params.now }

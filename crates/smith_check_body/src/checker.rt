@@ -180,6 +180,7 @@ impl Checker {
     }
 
     /// Checks the start of the second part of an if, and returns whether it applies.
+    #[inline(never)]
     pub fn second(&mut self, alloc: Global, scope: &Scope) -> Result<bool, Error>
         requires well { IsWell (bare scope.now) self.old }
         ensures ok { IfOk result (λ goes. MatchBool goes

@@ -155,6 +155,7 @@ impl Operands {
     }
 
     /// Returns whether the stack may be of the types `results`.
+    #[inline(always)]
     pub fn ends(&self, scope: &Scope, results: &[ValType]) -> bool
         requires known { AreSlotsValid (bare scope.now) self.now.known.items }
         requires valid { AreValid (bare scope.now) results.now }
