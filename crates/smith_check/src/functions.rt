@@ -27,6 +27,7 @@ use smith_check_body::{Verdict, check_body};
 use smith_check_operands::Scope;
 use smith_check_operands::lookups::func_at;
 use smith_check_renamed::{canonical_body, is_canonical_body};
+use smith_check_rules::Slot;
 use smith_check_types::{CheckedTypes, canonical_index};
 use smith_decode::{Body, Module};
 use smith_explain::Explanation;
@@ -41,6 +42,7 @@ fn check_canonical(
     scope: &Scope,
     results: Items<ValType>,
     body: &[Instr],
+    rooms: &mut Vec<Vec<Slot>>,
 ) -> Result<Verdict, Error>
     requires scope { IsScope (bare scope.now) }
     requires results { results ≡ scope.now.results.now }
@@ -49,10 +51,10 @@ fn check_canonical(
     ensures memory { IfErr result (λ e. e ≡ Error.Memory) }
 {
     if is_canonical_body(indices, body) {
-        return check_body(alloc, scope, results, body);
+        return check_body(alloc, scope, results, body, rooms);
     }
     let instructions = canonical_body(alloc, indices, body)?;
-    check_body(alloc, scope, results, instructions.as_slice())
+    check_body(alloc, scope, results, instructions.as_slice(), rooms)
 }
 
 /// What the functions of a module are judged by.
@@ -113,7 +115,13 @@ impl<'a> FunctionJudge<'a> {
     }
 
     // Checks a body of a function of this type, whose locals are valid.
-    fn verdict(&self, alloc: Global, function: &FuncType, body: &Body) -> Result<Verdict, Error>
+    fn verdict(
+        &self,
+        alloc: Global,
+        function: &FuncType,
+        body: &Body,
+        rooms: &mut Vec<Vec<Slot>>,
+    ) -> Result<Verdict, Error>
         requires judge { IsFunctionJudge self.now }
         requires typed { (place : ℕ) × HasTypeAt self.now place function.now }
         requires locals { AreLocalsRight self.now body.now }
@@ -132,6 +140,7 @@ impl<'a> FunctionJudge<'a> {
             &scope,
             results,
             body.instructions.as_slice(),
+            rooms,
         )
     }
 
@@ -143,6 +152,7 @@ impl<'a> FunctionJudge<'a> {
         place: usize,
         function: &FuncType,
         body: &Body,
+        rooms: &mut Vec<Vec<Slot>>,
     ) -> Result<Option<Judgement>, Error>
         requires judge { IsFunctionJudge self.now }
         requires before { AreRightBefore self.now place }
@@ -152,7 +162,7 @@ impl<'a> FunctionJudge<'a> {
             (IsJudgement (features_in self.now.features) self.now.«module».now)) }
         ensures memory { IfErr result (λ e. e ≡ Error.Memory) }
     {
-        let verdict = self.verdict(alloc, function, body)?;
+        let verdict = self.verdict(alloc, function, body, rooms)?;
         Ok(match verdict {
             Verdict::Typed => None,
             Verdict::Refused { at } => Some(Judgement::Invalid(Fault::Body {
@@ -222,7 +232,12 @@ impl<'a> FunctionJudge<'a> {
     }
 
     // Returns what there is to say of the function at a place, unless it is valid.
-    fn check_function(&self, alloc: Global, place: usize) -> Result<Option<Judgement>, Error>
+    fn check_function(
+        &self,
+        alloc: Global,
+        place: usize,
+        rooms: &mut Vec<Vec<Slot>>,
+    ) -> Result<Option<Judgement>, Error>
         requires judge { IsFunctionJudge self.now }
         requires inside { place < length self.now.«module».now.bodies }
         requires before { AreRightBefore self.now place }
@@ -247,7 +262,7 @@ impl<'a> FunctionJudge<'a> {
         let end = self.types.space.types().len();
         match first_wrong_run(self.features, end, self.types.indices.as_slice(), runs) {
             Some(run) => Ok(Some(Judgement::Invalid(Fault::Local { body: place, run }))),
-            None => self.check_body_at(alloc, place, function, body),
+            None => self.check_body_at(alloc, place, function, body, rooms),
         }
     }
 
@@ -274,8 +289,9 @@ impl<'a> FunctionJudge<'a> {
             (IsJudgement (features_in self.now.features) self.now.«module».now) }
         ensures memory { IfErr result (λ e. e ≡ Error.Memory) }
     {
+        let mut rooms = Vec::new(alloc);
         for place in 0..self.module.bodies.len() {
-            let found = self.check_function(alloc, place)?;
+            let found = self.check_function(alloc, place, &mut rooms)?;
             match found {
                 Some(judgement) => return Ok(judgement),
                 None => {}

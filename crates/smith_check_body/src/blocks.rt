@@ -18,6 +18,7 @@ use std::alloc::Global;
 
 /// Takes the operands of an instruction that opens a block off the stack, and returns whether they
 /// are there.
+#[inline(always)]
 pub fn pop_for(operands: &mut Operands, scope: &Scope, kind: Kind, params: &[ValType]) -> bool
     requires known { AreSlotsValid (bare scope.now) operands.old.known.items }
     requires params { AreValid (bare scope.now) params.now }
@@ -33,17 +34,20 @@ pub fn pop_for(operands: &mut Operands, scope: &Scope, kind: Kind, params: &[Val
     }
 }
 
-/// Returns the operands at the start of a block.
-pub fn starting(alloc: Global, scope: &Scope, params: &[ValType]) -> Result<Operands, Error>
+/// Returns the operands at the start of a block, in the room that `room` has for their types.
+pub fn starting(mut room: Vec<Slot>, scope: &Scope, params: &[ValType]) -> Result<Operands, Error>
     requires { AreValid (bare scope.now) params.now }
     ensures ok { IfOk result (λ operands. held operands ≡ holding (values params.now) false) }
     ensures memory { IfErr result (λ e. e ≡ Error.Memory) }
 {
-    let mut known = Vec::new(alloc);
+    room.clear();
     for value in params {
-        known.push(Slot::Value(*value))?;
+        room.push(Slot::Value(*value))?;
     }
-    Ok(Operands { known, dead: false })
+    Ok(Operands {
+        known: room,
+        dead: false,
+    })
 }
 
 /// Returns the block of a kind and a type, if there is one.

@@ -10,6 +10,7 @@ use crate::step::{set_by, step};
 use smith_bytes::Error;
 use smith_check_branches::catches::are_catches;
 use smith_check_operands::{Frame, Kind, Operands, Scope, Shape};
+use smith_check_rules::Slot;
 use smith_instr::{BlockType, Catch, Instr, SetLocals};
 use std::alloc::Global;
 use std::mem::replace;
@@ -27,6 +28,16 @@ pub struct Checker {
     pub height: usize,
     /// The blocks around it, the innermost last.
     pub outers: Vec<Frame>,
+    /// Room for the types on the stack in blocks to come.
+    pub rooms: Vec<Vec<Slot>>,
+}
+
+// Returns room for the types on the stack in a block, taken from `rooms` if there is any.
+fn take_room(alloc: Global, rooms: &mut Vec<Vec<Slot>>) -> Vec<Slot> {
+    match rooms.pop() {
+        Some(room) => room,
+        None => Vec::new(alloc),
+    }
 }
 
 impl Checker {
@@ -88,16 +99,16 @@ impl Checker {
         alloc: Global,
         scope: &Scope,
         kind: Kind,
-        ty: BlockType,
+        ty: &BlockType,
     ) -> Result<bool, Error>
         requires well { IsWell (bare scope.now) self.old }
         requires scope { IsScope (bare scope.now) }
         ensures ok { IfOk result (λ goes. MatchBool goes
-            (Goes (bare scope.now) (opening kind ty) self.old self.new)
-            (Stops (bare scope.now) (opening kind ty) self.old)) }
+            (Goes (bare scope.now) (opening kind ty.now) self.old self.new)
+            (Stops (bare scope.now) (opening kind ty.now) self.old)) }
         ensures memory { IfErr result (λ e. e ≡ Error.Memory) }
     {
-        let found = shape_of(alloc, scope, kind, ty)?;
+        let found = shape_of(alloc, scope, kind, *ty)?;
         let shape = match found {
             Some(shape) => shape,
             None => return Ok(false),
@@ -105,7 +116,8 @@ impl Checker {
         if !pop_for(&mut self.operands, scope, kind, &shape.params) {
             return Ok(false);
         }
-        let operands = starting(alloc, scope, &shape.params)?;
+        let room = take_room(alloc, &mut self.rooms);
+        let operands = starting(room, scope, &shape.params)?;
         self.enter(shape, operands)?;
         Ok(true)
     }
@@ -116,14 +128,14 @@ impl Checker {
         &mut self,
         alloc: Global,
         scope: &Scope,
-        ty: BlockType,
+        ty: &BlockType,
         clauses: &[Catch],
     ) -> Result<bool, Error>
         requires well { IsWell (bare scope.now) self.old }
         requires scope { IsScope (bare scope.now) }
         ensures ok { IfOk result (λ goes. MatchBool goes
-            (Goes (bare scope.now) (instr.TryTable ty clauses.now) self.old self.new)
-            (Stops (bare scope.now) (instr.TryTable ty clauses.now) self.old)) }
+            (Goes (bare scope.now) (instr.TryTable ty.now clauses.now) self.old self.new)
+            (Stops (bare scope.now) (instr.TryTable ty.now clauses.now) self.old)) }
         ensures memory { IfErr result (λ e. e ≡ Error.Memory) }
     {
         if !are_catches(scope, &self.shape, &self.outers, clauses) {
@@ -135,7 +147,7 @@ impl Checker {
 
 impl Checker {
     /// Checks the end of a block, and returns whether it applies.
-    pub fn close(&mut self, scope: &Scope) -> Result<bool, Error>
+    pub fn close(&mut self, alloc: Global, scope: &Scope) -> Result<bool, Error>
         requires well { IsWell (bare scope.now) self.old }
         ensures ok { IfOk result (λ goes. MatchBool goes
             (Goes (bare scope.now) instr.End self.old self.new)
@@ -159,13 +171,16 @@ impl Checker {
             height,
         } = outer;
         self.shape = shape;
+        let room = replace(&mut self.operands.known, Vec::new(alloc));
         self.operands = operands;
+        self.rooms.push(room)?;
         self.log.truncate(self.height);
         self.height = height;
         Ok(true)
     }
 
     /// Checks the start of the second part of an if, and returns whether it applies.
+    #[inline(never)]
     pub fn second(&mut self, alloc: Global, scope: &Scope) -> Result<bool, Error>
         requires well { IsWell (bare scope.now) self.old }
         ensures ok { IfOk result (λ goes. MatchBool goes
@@ -182,7 +197,8 @@ impl Checker {
         if !self.operands.ends(scope, &self.shape.results) {
             return Ok(false);
         }
-        self.operands = starting(alloc, scope, &self.shape.params)?;
+        let room = replace(&mut self.operands.known, Vec::new(alloc));
+        self.operands = starting(room, scope, &self.shape.params)?;
         self.shape.kind = Kind::Block;
         self.log.truncate(self.height);
         Ok(true)
@@ -198,12 +214,12 @@ impl Checker {
         ensures memory { IfErr result (λ e. e ≡ Error.Memory) }
     {
         match instr {
-            Instr::Block(ty) => self.open(alloc, scope, Kind::Block, *ty),
-            Instr::Loop(ty) => self.open(alloc, scope, Kind::Loop, *ty),
-            Instr::If(ty) => self.open(alloc, scope, Kind::If, *ty),
+            Instr::Block(ty) => self.open(alloc, scope, Kind::Block, ty),
+            Instr::Loop(ty) => self.open(alloc, scope, Kind::Loop, ty),
+            Instr::If(ty) => self.open(alloc, scope, Kind::If, ty),
             Instr::Else => self.second(alloc, scope),
-            Instr::End => self.close(scope),
-            Instr::TryTable(ty, clauses) => self.open_try(alloc, scope, *ty, clauses.as_slice()),
+            Instr::End => self.close(alloc, scope),
+            Instr::TryTable(ty, clauses) => self.open_try(alloc, scope, ty, clauses.as_slice()),
             _ => self.plain(scope, instr),
         }
     }
@@ -218,5 +234,11 @@ impl Checker {
             return self.operands.ends(scope, &self.shape.results);
         }
         false
+    }
+
+    /// Returns the room for the types on the stack in blocks to come.
+    pub fn into_rooms(self) -> Vec<Vec<Slot>> {
+        let Checker { rooms, .. } = self;
+        rooms
     }
 }

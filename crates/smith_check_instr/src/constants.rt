@@ -26,6 +26,7 @@ pub fn numeric(operands: &mut Operands, scope: &Scope, op: NumericInstr) -> Resu
 }
 
 /// Tries a constant of the number type `ty`.
+#[inline(always)]
 pub fn number_const(operands: &mut Operands, scope: &Scope, ty: ValType) -> Result<bool, Error>
     requires known { AreSlotsValid (bare scope.now) operands.old.known.items }
     requires number { IsNumber ty }

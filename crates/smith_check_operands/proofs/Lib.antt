@@ -10,3 +10,4 @@ pub mod ApplyLemmas
 pub mod StepLemmas
 pub mod LabelLemmas
 pub mod EndLemmas
+pub mod PopLemmas

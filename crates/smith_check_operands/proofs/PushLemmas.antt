@@ -20,7 +20,7 @@ pushed context known after results dead then known_valid valid is same =
     (subst (λ xs. Pushes context (values results) (holding known dead) (holding xs dead)) (sym is)
     (push_all context known (values results) dead known_valid (values_valid context results valid)))
 
-valid_last : (context : BodyContext) (rest : List Slot) (value : Slot) → AreSlotsValid context (rest ++ value ∷ [])
+pub valid_last : (context : BodyContext) (rest : List Slot) (value : Slot) → AreSlotsValid context (rest ++ value ∷ [])
     → IsSlotValid context value
 valid_last context rest value valid = All-head (IsSlotValid context) value [] (all_right (IsSlotValid context) rest (value ∷ []) valid)
 

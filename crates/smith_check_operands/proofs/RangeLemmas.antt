@@ -37,7 +37,7 @@ in_range context (Ref reference) valid = heap_in_range context reference.heap_ty
 pub all_in_range : (context : BodyContext) (values : List ValType) → AreValid context values → All (IsValInRange context.types) values
 all_in_range context values valid = All-weaker (IsValid context) (IsValInRange context.types) (in_range context) values valid
 
-slot_in_range : (context : BodyContext) (slot : Slot) → IsSlotValid context slot → IsSlotInRange context.types slot
+pub slot_in_range : (context : BodyContext) (slot : Slot) → IsSlotValid context slot → IsSlotInRange context.types slot
 slot_in_range context Bottom valid = tt
 slot_in_range context SomeRef valid = tt
 slot_in_range context (EitherRef ty) valid = tt

@@ -13,14 +13,14 @@ abbrev pub IsSlotInRange : List SubType → Slot → Type 0
 IsSlotInRange types (Value value) = IsValInRange types value
 IsSlotInRange types _ = Unit {0}
 
--- the place of a type of numbers or vectors among these types, or 5 for references (own rule)
-abbrev pub number_of : ValType → ℕ
-number_of I32 = 0
-number_of I64 = 1
-number_of F32 = 2
-number_of F64 = 3
-number_of V128 = 4
-number_of (Ref reference) = 5
+-- the place of a type of numbers or vectors among these types, or `other` for references (own rule)
+abbrev pub number_or : ℕ → ValType → ℕ
+number_or other I32 = 0
+number_or other I64 = 1
+number_or other F32 = 2
+number_or other F64 = 3
+number_or other V128 = 4
+number_or other (Ref reference) = other
 
 -- the values have the expected types, one by one (Validation, Matching, Result Types)
 abbrev pub AreFit : List SubType → List Slot → List ValType → Type 0

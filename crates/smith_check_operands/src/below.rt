@@ -5,7 +5,7 @@ ghost use Rattle.smith_types.specs.Expressions.{reference_to};
 ghost use Rattle.smith_types.specs.Subtyping.{IsValInRange};
 ghost use Rattle.smith_check_rules.specs.Slots.{IsBelow};
 ghost use Rattle.smith_check_rules.specs.declared.slot.Slot.TheVariants.{Value};
-ghost use Rattle.smith_check_operands.specs.Fits.{AreFit, AreMatched, IsSlotInRange, number_of};
+ghost use Rattle.smith_check_operands.specs.Fits.{AreFit, AreMatched, IsSlotInRange, number_or};
 
 use smith_check_rules::Slot;
 use smith_types::{AbstractHeapType, HeapType, RefType, TypeSpace, ValType};
@@ -20,10 +20,10 @@ fn reference_to(shared: bool, ty: AbstractHeapType) -> ValType
     })
 }
 
-// Returns the place of a type of numbers or vectors among these types, or 5 for references.
+// Returns the place of a type of numbers or vectors among these types, or `other` for references.
 #[inline(always)]
-fn number_of(ty: ValType) -> u32
-    ensures { result ≡ number_of ty }
+fn number_or(other: u32, ty: ValType) -> u32
+    ensures { result ≡ number_or other ty }
 {
     match ty {
         ValType::I32 => 0,
@@ -31,7 +31,7 @@ fn number_of(ty: ValType) -> u32
         ValType::F32 => 2,
         ValType::F64 => 3,
         ValType::V128 => 4,
-        ValType::Ref(_) => 5,
+        ValType::Ref(_) => other,
     }
 }
 
@@ -41,7 +41,7 @@ fn is_same_number(slot: Slot, expected: ValType) -> bool
     ensures { IsTrue result → (types : List SubType) → IsBelow types slot (Value expected) }
 {
     match slot {
-        Slot::Value(value) => number_of(value) < 5 && number_of(value) == number_of(expected),
+        Slot::Value(value) => number_or(5, value) == number_or(6, expected),
         _ => false,
     }
 }
@@ -49,20 +49,31 @@ fn is_same_number(slot: Slot, expected: ValType) -> bool
 // Returns whether a value of the type `slot` may be used as one of the type `expected`. Slower than
 // `is_same_number`.
 #[inline(never)]
-fn slot_matches(types: &TypeSpace, slot: Slot, expected: ValType) -> bool
-    requires lower { IsSlotInRange types.now.types slot }
-    requires upper { IsValInRange types.now.types expected }
-    ensures { IsTrue result ↔ IsBelow types.now.types slot (Value expected) }
+fn slot_matches(types: &TypeSpace, slot: &Slot, expected: &ValType) -> bool
+    requires lower { IsSlotInRange types.now.types slot.now }
+    requires upper { IsValInRange types.now.types expected.now }
+    ensures { IsTrue result ↔ IsBelow types.now.types slot.now (Value expected.now) }
 {
-    match slot {
+    match *slot {
         Slot::Bottom => true,
         Slot::SomeRef => matches!(expected, ValType::Ref(_)),
         Slot::EitherRef(ty) => {
-            types.val_type_is_sub_type(reference_to(false, ty), expected)
-                || types.val_type_is_sub_type(reference_to(true, ty), expected)
+            types.val_type_is_sub_type(reference_to(false, ty), *expected)
+                || types.val_type_is_sub_type(reference_to(true, ty), *expected)
         }
-        Slot::Value(value) => types.val_type_is_sub_type(value, expected),
+        Slot::Value(value) => types.val_type_is_sub_type(value, *expected),
     }
+}
+
+// Returns whether a value of the type `slot` may be used as one of the type `expected`. Neither is
+// copied.
+#[inline(always)]
+pub(crate) fn fits(types: &TypeSpace, slot: &Slot, expected: &ValType) -> bool
+    requires lower { IsSlotInRange types.now.types slot.now }
+    requires upper { IsValInRange types.now.types expected.now }
+    ensures { IsTrue result ↔ IsBelow types.now.types slot.now (Value expected.now) }
+{
+    is_same_number(*slot, *expected) || slot_matches(types, slot, expected)
 }
 
 /// Returns whether a value of the type `slot` may be used as one of the type `expected`
@@ -73,7 +84,7 @@ pub fn slot_fits(types: &TypeSpace, slot: Slot, expected: ValType) -> bool
     requires upper { IsValInRange types.now.types expected }
     ensures { IsTrue result ↔ IsBelow types.now.types slot (Value expected) }
 {
-    is_same_number(slot, expected) || slot_matches(types, slot, expected)
+    fits(types, &slot, &expected)
 }
 
 /// Returns whether there are as many slots as expected types, and each of `slots` may be used as a
@@ -88,7 +99,7 @@ pub fn slots_fit(types: &TypeSpace, slots: &[Slot], expected: &[ValType]) -> boo
         return false;
     }
     for i in 0..slots.len() {
-        if !slot_fits(types, slots[i], expected[i]) {
+        if !fits(types, &slots[i], &expected[i]) {
             return false;
         }
     }

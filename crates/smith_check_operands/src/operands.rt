@@ -1,6 +1,7 @@
-ghost use Rattle.std.specs.Prelude.{◌≡◌, IsTrue, MatchBool, true, [], ◌++◌, IfErr, IfOk, OnOk, MatchOption, All};
+ghost use Rattle.std.specs.Prelude.{◌≡◌, IsTrue, MatchBool, true, [], ◌∷◌, ◌++◌, IfErr, IfOk, OnOk, MatchOption, All};
 ghost use Rattle.smith_types.specs.Subtyping.{IsValInRange};
 ghost use Rattle.smith_check_rules.specs.Slots.{values};
+ghost use Rattle.smith_check_rules.specs.declared.slot.Slot.TheVariants.{Value};
 ghost use Rattle.smith_instr.specs.Contexts.{AreValid};
 ghost use Rattle.smith_check_rules.specs.Slots.{AreSlotsValid};
 ghost use Rattle.smith_check_operands.specs.Scopes.{bare};
@@ -8,15 +9,45 @@ ghost use Rattle.smith_check_operands.specs.Covers.{held, Pops, PopsNothing, Pus
 ghost use Rattle.smith_check_operands.specs.Applies.{Applies, LeavesBy};
 ghost use Rattle.smith_check_operands.specs.Closes.{EndsHere};
 
-use crate::below::slots_fit;
+use crate::below::{fits, slots_fit};
 use crate::frame::Operands;
 use crate::scope::Scope;
 use smith_bytes::Error;
 use smith_check_rules::Slot;
 use smith_types::ValType;
 
+// Appends a slot to a list that has no room for it.
+#[inline(never)]
+fn push_growing(known: &mut Vec<Slot>, slot: Slot) -> Result<(), Error>
+    ensures items { OnOk result (known.new.items ≡ known.old.items ++ slot ∷ []) }
+    ensures memory { IfErr result (λ e. e ≡ Error.Memory) }
+{
+    known.push(slot)?;
+    Ok(())
+}
+
 impl Operands {
+    // Takes a value of the type `expected` off the stack, and returns whether it is there.
+    #[inline(always)]
+    fn pop_one(&mut self, scope: &Scope, expected: &ValType) -> bool
+        requires known { AreSlotsValid (bare scope.now) self.old.known.items }
+        requires expected { IsValInRange scope.now.types.now.types expected.now }
+        ensures { MatchBool result
+            (Pops (bare scope.now) (Value expected.now ∷ []) (held self.old) (held self.new))
+            (PopsNothing (bare scope.now) (Value expected.now ∷ []) (held self.old)) }
+    {
+        let Some(top) = self.known.last() else {
+            return self.dead;
+        };
+        if !fits(scope.types, top, expected) {
+            return false;
+        }
+        let _ = self.known.pop();
+        true
+    }
+
     /// Takes values of the types `expected` off the stack, and returns whether they are there.
+    #[inline(always)]
     pub fn pop_all(&mut self, scope: &Scope, expected: &[ValType]) -> bool
         requires known { AreSlotsValid (bare scope.now) self.old.known.items }
         requires expected { All (IsValInRange scope.now.types.now.types) expected.now }
@@ -24,27 +55,30 @@ impl Operands {
             (Pops (bare scope.now) (values expected.now) (held self.old) (held self.new))
             (PopsNothing (bare scope.now) (values expected.now) (held self.old)) }
     {
-        let known = self.known.len();
-        let wanted = expected.len();
-        if wanted <= known {
-            let base = known - wanted;
-            if !slots_fit(scope.types, &self.known[base..], expected) {
+        for i in (0..expected.len()).rev() {
+            if !self.pop_one(scope, &expected[i]) {
                 return false;
             }
-            self.known.truncate(base);
-            return true;
         }
-        if !self.dead {
-            return false;
-        }
-        if !slots_fit(scope.types, &self.known, &expected[wanted - known..]) {
-            return false;
-        }
-        self.known.clear();
         true
     }
 
+    // Puts a value of the type `value` on the stack.
+    #[inline(always)]
+    fn push_one(&mut self, value: ValType) -> Result<(), Error>
+        ensures known { OnOk result (self.new.known.items ≡ self.old.known.items ++ Value value ∷ []) }
+        ensures dead { OnOk result (self.new.dead ≡ self.old.dead) }
+        ensures memory { IfErr result (λ e. e ≡ Error.Memory) }
+    {
+        if self.known.len() < self.known.capacity() {
+            self.known.push_reserved(Slot::Value(value));
+            return Ok(());
+        }
+        push_growing(&mut self.known, Slot::Value(value))
+    }
+
     /// Puts values of the types `results` on the stack.
+    #[inline(always)]
     pub fn push_all(&mut self, scope: &Scope, results: &[ValType]) -> Result<(), Error>
         requires known { AreSlotsValid (bare scope.now) self.old.known.items }
         requires valid { AreValid (bare scope.now) results.now }
@@ -52,13 +86,14 @@ impl Operands {
         ensures memory { IfErr result (λ e. e ≡ Error.Memory) }
     {
         for value in results {
-            self.known.push(Slot::Value(*value))?;
+            self.push_one(*value)?;
         }
         Ok(())
     }
 
     /// Takes operands off the stack and puts results on it, and returns whether the operands are
     /// there.
+    #[inline(always)]
     pub fn apply(
         &mut self,
         scope: &Scope,
@@ -83,6 +118,7 @@ impl Operands {
 
     /// Takes operands off the stack, `top` above `operands`, and puts results on it, and returns
     /// whether the operands are there.
+    #[inline(always)]
     pub fn apply_below(
         &mut self,
         scope: &Scope,
@@ -119,6 +155,7 @@ impl Operands {
     }
 
     /// Returns whether the stack may be of the types `results`.
+    #[inline(always)]
     pub fn ends(&self, scope: &Scope, results: &[ValType]) -> bool
         requires known { AreSlotsValid (bare scope.now) self.now.known.items }
         requires valid { AreValid (bare scope.now) results.now }

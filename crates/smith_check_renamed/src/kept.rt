@@ -1,4 +1,4 @@
-ghost use Rattle.std.specs.Prelude.{◌≡◌, IsTrue};
+ghost use Rattle.std.specs.Prelude.{◌≡◌, ℕ, IsTrue};
 ghost use Rattle.smith_check_types.specs.Renamed.{renamed_heap, renamed_ref, renamed_val};
 ghost use Rattle.smith_check_types.specs.TypeSections.{canonical_index};
 ghost use Rattle.smith_check_renamed.specs.RenamedInstructions.{
@@ -106,12 +106,31 @@ fn keeps_instr(indices: &[u32], instr: &Instr) -> bool
     }
 }
 
+// Returns whether there are at most `most` types, each of which has its own index.
+fn are_own(indices: &[u32], most: usize) -> bool
+    ensures { IsTrue result → (index : ℕ) → canonical_index indices.now index ≡ index }
+{
+    if indices.len() > most {
+        return false;
+    }
+    for i in 0..indices.len() {
+        let first = indices[i] as usize;
+        if first != i {
+            return false;
+        }
+    }
+    true
+}
+
 /// Returns whether each type that `body` names has its own index in the canonical `indices`, so that
 /// [`canonical_body`](crate::canonical_body) would copy it as it is. Returns false if a `select` names
 /// types.
 pub fn is_canonical_body(indices: &[u32], body: &[Instr]) -> bool
     ensures { IsTrue result → renamed_body (canonical_index indices.now) body.now ≡ body.now }
 {
+    if are_own(indices, body.len()) {
+        return true;
+    }
     for instr in body {
         if !keeps_instr(indices, instr) {
             return false;

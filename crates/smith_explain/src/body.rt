@@ -39,7 +39,7 @@ fn reach(
         (λ checker. IsReached (bare scope.now) checker (take at body.now))) }
     ensures memory { IfErr result (λ e. e ≡ Error.Memory) }
 {
-    let mut checker = begin(alloc, results);
+    let mut checker = begin(alloc, results, Vec::new(alloc));
     for i in 0..at {
         let goes = checker.check(alloc, scope, &body[i])?;
         if !goes {

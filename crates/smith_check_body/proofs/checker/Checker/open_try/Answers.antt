@@ -10,10 +10,10 @@ are_catches-requires-clause-labels c =
 
 pub returns-then-not-are_catches-clause-ok : goal.returns-then-not-are_catches-clause-ok
 returns-then-not-are_catches-clause-ok c =
-    try_uncaught_at (bare c.args.scope.now) c.args.ty c.args.clauses.now c.args.self.now c.deref.result.now c.are_catches.result
+    try_uncaught_at (bare c.args.scope.now) c.args.ty.now c.args.clauses.now c.args.self.now c.deref.result.now c.are_catches.result
     c.deref.ensures.value c.if-not-are_catches.true c.are_catches.ensures
 
 pub returns-clause-ok : goal.returns-clause-ok
 returns-clause-ok c =
-    try_tried (bare c.args.scope.now) c.args.ty c.args.clauses.now c.args.self.now c.open.new.self c.deref.result.now
+    try_tried (bare c.args.scope.now) c.args.ty.now c.args.clauses.now c.args.self.now c.open.new.self c.deref.result.now
     c.are_catches.result c.open.result c.deref.ensures.value c.if-not-are_catches.false c.are_catches.ensures c.open.ensures.ok
