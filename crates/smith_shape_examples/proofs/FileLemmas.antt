@@ -47,7 +47,7 @@ magic_left left why read =
 pub empty_shape : IsShapeBinary (after_preamble []) no_shape
 empty_shape =
     shape_binary (after_preamble []) no_item no_shape
-    (module_forth no_item (after_preamble []) (module_decodes.sound (after_preamble []) no_item empty_read)) refl
+    (module_forth no_item (after_preamble []) (module_decodes.sound (after_preamble []) no_item empty_read)) refl refl
 
 pub magic_no_shape : (shape : Shape) → IsShapeBinary magic shape → ⊥
 magic_no_shape shape file = no_module file.m magic _ magic_read file.binary
