@@ -1,5 +1,5 @@
 use Rattle.std.proofs.Common.{◌∙◌, arith, refl, sym}
-use Rattle.smith_shape_examples.proofs.FileLemmas.{empty_read, magic_left, magic_read}
+use Rattle.smith_shape_examples.proofs.FileLemmas.{empty_read, magic_left, magic_read, none_several, two_several}
 use Rattle.smith_shape_examples.proofs.files.faults.Goals as goal
 
 pub returns-clause-cut_module : goal.returns-clause-cut_module
@@ -22,3 +22,9 @@ returns-clause-binary_in_a_text c = λ (binary, undecoded). absurd (cc binary)
 
 pub returns-clause-text_in_a_binary : goal.returns-clause-text_in_a_binary
 returns-clause-text_in_a_binary c = λ (binary, within). absurd (cc binary)
+
+pub returns-clause-several_supertypes : goal.returns-clause-several_supertypes
+returns-clause-several_supertypes c = (refl, two_several)
+
+pub returns-clause-no_supertype : goal.returns-clause-no_supertype
+returns-clause-no_supertype c = λ (binary, file). none_several file

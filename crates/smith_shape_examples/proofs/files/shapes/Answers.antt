@@ -1,4 +1,4 @@
-use Rattle.smith_shape_examples.proofs.FileLemmas.{empty_shape, magic_no_shape, only_empty}
+use Rattle.smith_shape_examples.proofs.FileLemmas.{empty_shape, magic_no_shape, only_empty, two_no_shape}
 use Rattle.smith_shape_examples.proofs.files.shapes.Goals as goal
 use Rattle.std.proofs.Common.{refl}
 
@@ -13,3 +13,6 @@ returns-clause-of_no_module c = λ shape file. magic_no_shape shape (file refl)
 
 pub returns-clause-of_a_text : goal.returns-clause-of_a_text
 returns-clause-of_a_text c = λ shape binary. absurd (cc binary)
+
+pub returns-clause-of_several_supertypes : goal.returns-clause-of_several_supertypes
+returns-clause-of_several_supertypes c = λ shape file. two_no_shape shape (file refl)
