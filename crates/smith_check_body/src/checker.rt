@@ -42,6 +42,7 @@ fn take_room(alloc: Global, rooms: &mut Vec<Vec<Slot>>) -> Vec<Slot> {
 
 impl Checker {
     /// Checks an instruction that opens and closes no block, and returns whether it applies.
+    #[inline(always)]
     pub fn plain(&mut self, scope: &Scope, instr: &Instr) -> Result<bool, Error>
         requires well { IsWell (bare scope.now) self.old }
         requires scope { IsScope (bare scope.now) }
@@ -205,6 +206,7 @@ impl Checker {
     }
 
     /// Checks an instruction, and returns whether it applies.
+    #[inline(always)]
     pub fn check(&mut self, alloc: Global, scope: &Scope, instr: &Instr) -> Result<bool, Error>
         requires well { IsWell (bare scope.now) self.old }
         requires scope { IsScope (bare scope.now) }

@@ -21,6 +21,7 @@ use smith_check_references::{aggregate, reference, table};
 use smith_instr::{Instr, SetLocals};
 
 /// Tries an instruction that opens and closes no block.
+#[inline(always)]
 #[rattlefmt::skip]
 pub fn step(
     operands: &mut Operands,
